@@ -1,0 +1,57 @@
+-- The index as lists of numbers. Document 01, "The index". For any numbers, an index of the image or not.
+use mathlib.Core.Bool.{cond}
+use mathlib.Core.List.{List}
+use Prim.Native.Nat.{ℕ, zero, suc, _%_, _^_}
+use lib.Dec.{eqb}
+use lib.ListN.{getD, set}
+use Rattle.index.specs.declared.State.{State}
+
+-- "Heads: B numbers of 32 bits .. Next: N + 1 numbers of 32 bits", and "the reuse chain's first and last slot"
+pub record Index : Type 0 where
+  pub heads : List ℕ
+  pub next : List ℕ
+  pub first : ℕ
+  pub last : ℕ
+
+-- the lent slices and the state as an index, and the state of an index with a live count and a next version
+abbrev pub indexOf : (heads next : List ℕ) → State → Index
+indexOf heads next s = record { heads = heads; next = next; first = s .first; last = s .last }
+
+abbrev pub stateOf : Index → (live version : ℕ) → State
+stateOf i live version = record { first = i .first; last = i .last; live = live; version = version }
+
+-- "key k belongs to head k mod B", by the key's low word
+abbrev pub headOf : (key b : ℕ) → ℕ
+headOf key b = key % 2 ^ 64 % b
+
+-- a chain: the one reuse chain, or the chain of a head
+pub data Chain : Type 0 where
+  reuse : Chain
+  head : ℕ → Chain
+
+-- the first slot of a chain
+unfoldable pub start : Index → Chain → ℕ
+start i reuse = i .first
+start i (head h) = getD (i .heads) h 0
+
+-- what follows slot x in a chain; what follows 0 is the chain's first slot
+unfoldable pub ahead : Index → Chain → ℕ → ℕ
+ahead i c zero = start i c
+ahead i c (suc x) = getD (i .next) (suc x) 0
+
+-- ---- one number written
+
+unfoldable pub setNext : Index → (s v : ℕ) → Index
+setNext i s v = record { heads = i .heads; next = set (i .next) s v; first = i .first; last = i .last }
+
+unfoldable pub setStart : Index → Chain → ℕ → Index
+setStart i reuse v = record { heads = i .heads; next = i .next; first = v; last = i .last }
+setStart i (head h) v = record { heads = set (i .heads) h v; next = i .next; first = i .first; last = i .last }
+
+unfoldable pub setLast : Index → ℕ → Index
+setLast i v = record { heads = i .heads; next = i .next; first = i .first; last = v }
+
+-- the link to what follows prev becomes v; prev 0 is the chain's start
+unfoldable pub link : Index → Chain → (prev v : ℕ) → Index
+link i c zero v = setStart i c v
+link i c (suc prev) v = setNext i (suc prev) v

@@ -1,0 +1,4 @@
+pub mod Index
+pub mod Walk
+pub mod Change
+pub mod Chained

@@ -1,0 +1,17 @@
+// The index: chains of slots in two lent slices of numbers, and a state beside them.
+
+// The reuse chain's first and last slot, the live count and the next version.
+pub struct State {
+    pub first: u32,
+    pub last: u32,
+    pub live: u32,
+    pub version: u64,
+}
+
+// What following a key's chain finds: the key's slot, with the slot before it (0 for the head) and the count of slots compared; no slot, with
+// the chain's last slot (0 for the head) and the count; or a chain that no set has.
+pub enum Found {
+    At { slot: u32, prev: u32, compared: u32 },
+    Absent { prev: u32, compared: u32 },
+    Broken,
+}

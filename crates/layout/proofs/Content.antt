@@ -1,0 +1,253 @@
+-- What a verdict and a content say of the two lines of a slot, and the bounds of the fields. Assumes nothing.
+use mathlib.Core.Path.{_≡_, refl, sym, ap, ap₂, _∙_}
+use mathlib.Core.Bool.{true, false, cond}
+use mathlib.Core.Logic.{_⊎_, inl, inr}
+use mathlib.Core.List.{List}
+use Prim.Native.Nat.{ℕ, _+_, _/_, _%_, _^_, _≤_, _<_}
+use native.Mathlib.Nat.{mod-lt, zero-lt-suc}
+use native.Mathlib.Omega.{arith}
+use lib.ListN.{length}
+use lib.Dec.{eqb, ltb, leb}
+use borrow.Author.Tests.{eq-eqb, ne-eqb, eqb-true, eqb-false, ltb-false}
+use Rattle.words.specs.Word.{AreBytes}
+use Rattle.words.proofs.Choice.{pick-true, pick-false, split, true-not-false}
+use Rattle.layout.specs.Line.{lineA, lineB, whole, versionOf, lineTop}
+use Rattle.layout.specs.Slot.{paired, slotTop, verdictOf, lineVerdict}
+use Rattle.layout.specs.Record.{kindOf, lengthOf, keyOf, limit, valueByte, valueFront, valueOf}
+use Rattle.layout.specs.Content.{broken, empty, put, remove, made, contentBy, contentOf, content, top, topOf}
+use Rattle.layout.specs.Fault.{kindFault, wordFault, tailFault, faultOf}
+use Rattle.layout.specs.declared.Verdict.the-variants.{Valid, Empty, Broken}
+use Rattle.layout.proofs.Any.{or-none}
+use Rattle.layout.proofs.Records.{within}
+use Rattle.layout.proofs.Tabulate.{tabulate-length, tabulate-below}
+
+-- ---- the top of a line
+
+pub top-whole : (mark stamp : ℕ) → whole mark stamp ≡ true → lineTop mark stamp ≡ versionOf stamp
+unfolding lineTop
+top-whole mark stamp e = pick-true (whole mark stamp) (versionOf stamp) 0 e
+
+pub top-open : (mark stamp : ℕ) → whole mark stamp ≡ false → lineTop mark stamp ≡ 0
+unfolding lineTop
+top-open mark stamp e = pick-false (whole mark stamp) (versionOf stamp) 0 e
+
+-- ---- pairs
+
+-- what paired ≡ true says
+pub record Pair (markA stampA markB stampB : ℕ) : Type 0 where
+  pub first : whole markA stampA ≡ true
+  pub second : whole markB stampB ≡ true
+  pub one-version : versionOf stampA ≡ versionOf stampB
+
+module _ (mA sA mB sB : ℕ) where
+  pub unpaired : (whole mA sA ≡ true → whole mB sB ≡ true → versionOf sA ≡ versionOf sB → ⊥) → paired mA sA mB sB ≡ false
+  unfolding paired
+  unpaired h = go (split (whole mA sA)) (split (whole mB sB))
+    where
+      go : (whole mA sA ≡ true) ⊎ (whole mA sA ≡ false) → (whole mB sB ≡ true) ⊎ (whole mB sB ≡ false)
+          → cond (whole mA sA) (cond (whole mB sB) (eqb (sA / 2) (sB / 2)) false) false ≡ false
+      go (inr p) q = pick-false (whole mA sA) _ _ p
+      go (inl p) (inr q) = pick-true (whole mA sA) _ _ p ∙ pick-false (whole mB sB) _ _ q
+      go (inl p) (inl q) =
+          pick-true (whole mA sA) _ _ p ∙ pick-true (whole mB sB) _ _ q ∙ ne-eqb (sA / 2) (sB / 2) (h p q)
+
+  pub a-pair : paired mA sA mB sB ≡ true → Pair mA sA mB sB
+  a-pair e = go (split (whole mA sA)) (split (whole mB sB)) (split (eqb (sA / 2) (sB / 2)))
+    where
+      none : (whole mA sA ≡ true → whole mB sB ≡ true → versionOf sA ≡ versionOf sB → ⊥) → ⊥
+      none h = true-not-false (sym e ∙ unpaired h)
+
+      go : (whole mA sA ≡ true) ⊎ (whole mA sA ≡ false) → (whole mB sB ≡ true) ⊎ (whole mB sB ≡ false)
+          → (eqb (sA / 2) (sB / 2) ≡ true) ⊎ (eqb (sA / 2) (sB / 2) ≡ false) → Pair mA sA mB sB
+      go (inr p) q r = absurd (none (λ x y z. true-not-false (sym x ∙ p)))
+      go (inl p) (inr q) r = absurd (none (λ x y z. true-not-false (sym y ∙ q)))
+      go (inl p) (inl q) (inr r) = absurd (none (λ x y z. eqb-false (sA / 2) (sB / 2) r z))
+      go (inl p) (inl q) (inl r) = record { first = p; second = q; one-version = eqb-true (sA / 2) (sB / 2) r }
+
+  pub paired-by : Pair mA sA mB sB → paired mA sA mB sB ≡ true
+  unfolding paired
+  paired-by both =
+      pick-true (whole mA sA) _ _ (both .first) ∙ pick-true (whole mB sB) _ _ (both .second)
+      ∙ eq-eqb (sA / 2) (sB / 2) (both .one-version)
+
+-- ---- verdicts
+
+module _ (A B : ℕ → ℕ) where
+  pub verdict-valid : paired (A 0) (A 7) (B 0) (B 7) ≡ true → (versionOf (A 7) ≡ 0 → ⊥) → lineVerdict A B ≡ Valid (versionOf (A 7))
+  unfolding lineVerdict verdictOf
+  verdict-valid p h =
+      pick-true (paired (A 0) (A 7) (B 0) (B 7)) _ _ p ∙ pick-false (eqb (A 7 / 2) 0) _ _ (ne-eqb (A 7 / 2) 0 h)
+
+  pub verdict-empty : paired (A 0) (A 7) (B 0) (B 7) ≡ true → versionOf (A 7) ≡ 0 → lineVerdict A B ≡ Empty
+  unfolding lineVerdict verdictOf
+  verdict-empty p h =
+      pick-true (paired (A 0) (A 7) (B 0) (B 7)) _ _ p ∙ pick-true (eqb (A 7 / 2) 0) _ _ (eq-eqb (A 7 / 2) 0 h)
+
+  pub verdict-broken : paired (A 0) (A 7) (B 0) (B 7) ≡ false → lineVerdict A B ≡ Broken (slotTop A B)
+  unfolding lineVerdict verdictOf slotTop
+  verdict-broken p = pick-false (paired (A 0) (A 7) (B 0) (B 7)) _ _ p
+
+-- ---- the four kinds of a slot
+
+-- a valid slot, of this version
+pub record ValidAt (A B : ℕ → ℕ) (v : ℕ) : Type 0 where
+  pub pair : paired (A 0) (A 7) (B 0) (B 7) ≡ true
+  pub version : versionOf (A 7) ≡ v
+  pub positive : 0 < v
+
+pub record PutAt (l : ℕ) (A B : ℕ → ℕ) (v k : ℕ) (x : List ℕ) : Type 0 where
+  pub valid : ValidAt A B v
+  pub kind : kindOf (A (l + 1)) ≡ 2 → ⊥
+  pub key : keyOf l A ≡ k
+  pub value : valueOf l A B ≡ x
+
+pub record RemoveAt (l : ℕ) (A B : ℕ → ℕ) (v k : ℕ) : Type 0 where
+  pub valid : ValidAt A B v
+  pub kind : kindOf (A (l + 1)) ≡ 2
+  pub key : keyOf l A ≡ k
+
+pub data Reading (l : ℕ) (A B : ℕ → ℕ) : Type 0 where
+  reads-broken : paired (A 0) (A 7) (B 0) (B 7) ≡ false → contentOf l A B ≡ broken (slotTop A B) → Reading l A B
+  reads-empty : paired (A 0) (A 7) (B 0) (B 7) ≡ true → versionOf (A 7) ≡ 0 → contentOf l A B ≡ empty → Reading l A B
+  reads-put : PutAt l A B (versionOf (A 7)) (keyOf l A) (valueOf l A B)
+      → contentOf l A B ≡ put (versionOf (A 7)) (keyOf l A) (valueOf l A B) → Reading l A B
+  reads-remove : RemoveAt l A B (versionOf (A 7)) (keyOf l A) → contentOf l A B ≡ remove (versionOf (A 7)) (keyOf l A) → Reading l A B
+
+module _ (l : ℕ) (A B : ℕ → ℕ) where
+  pub broken-content : paired (A 0) (A 7) (B 0) (B 7) ≡ false → contentOf l A B ≡ broken (slotTop A B)
+  unfolding contentOf contentBy
+  broken-content p = ap (contentBy l A B) (verdict-broken A B p)
+
+  pub empty-content : paired (A 0) (A 7) (B 0) (B 7) ≡ true → versionOf (A 7) ≡ 0 → contentOf l A B ≡ empty
+  unfolding contentOf contentBy
+  empty-content p h = ap (contentBy l A B) (verdict-empty A B p h)
+
+  pub valid-content : paired (A 0) (A 7) (B 0) (B 7) ≡ true → (versionOf (A 7) ≡ 0 → ⊥)
+      → contentOf l A B ≡ made (kindOf (A (l + 1))) (versionOf (A 7)) (keyOf l A) (valueOf l A B)
+  unfolding contentOf contentBy
+  valid-content p h = ap (contentBy l A B) (verdict-valid A B p h)
+
+  pub reading : Reading l A B
+  unfolding made
+  reading = go (split (paired (A 0) (A 7) (B 0) (B 7))) (split (eqb (A 7 / 2) 0)) (split (eqb (A (l + 1) % 256) 2))
+    where
+      valid : paired (A 0) (A 7) (B 0) (B 7) ≡ true → eqb (A 7 / 2) 0 ≡ false → ValidAt A B (versionOf (A 7))
+      valid p q = record { pair = p; version = refl; positive = omega (arith, eqb-false (A 7 / 2) 0 q) }
+
+      go : (paired (A 0) (A 7) (B 0) (B 7) ≡ true) ⊎ (paired (A 0) (A 7) (B 0) (B 7) ≡ false) → (eqb (A 7 / 2) 0 ≡ true) ⊎ (eqb (A 7 / 2) 0 ≡ false)
+          → (eqb (A (l + 1) % 256) 2 ≡ true) ⊎ (eqb (A (l + 1) % 256) 2 ≡ false) → Reading l A B
+      go (inr p) q r = reads-broken p (broken-content p)
+      go (inl p) (inl q) r = reads-empty p (eqb-true (A 7 / 2) 0 q) (empty-content p (eqb-true (A 7 / 2) 0 q))
+      go (inl p) (inr q) (inl r) =
+          reads-remove (record { valid = valid p q; kind = eqb-true (A (l + 1) % 256) 2 r; key = refl })
+          (valid-content p (eqb-false (A 7 / 2) 0 q) ∙ pick-true (eqb (A (l + 1) % 256) 2) _ _ r)
+      go (inl p) (inr q) (inr r) =
+          reads-put (record { valid = valid p q; kind = eqb-false (A (l + 1) % 256) 2 r; key = refl; value = refl })
+          (valid-content p (eqb-false (A 7 / 2) 0 q) ∙ pick-false (eqb (A (l + 1) % 256) 2) _ _ r)
+
+-- ---- tops
+
+pair-top : (A B : ℕ → ℕ) → paired (A 0) (A 7) (B 0) (B 7) ≡ true → slotTop A B ≡ versionOf (A 7)
+unfolding slotTop
+pair-top A B p =
+    let both = a-pair (A 0) (A 7) (B 0) (B 7) p in
+    omega (arith, top-whole (A 0) (A 7) (both .first), top-whole (B 0) (B 7) (both .second), both .one-version)
+
+-- the content's top is the highest version on a whole line
+pub top-content : (l : ℕ) (A B : ℕ → ℕ) → topOf (contentOf l A B) ≡ slotTop A B
+unfolding topOf
+top-content l A B = go (reading l A B)
+  where
+    go : Reading l A B → topOf (contentOf l A B) ≡ slotTop A B
+    go (reads-broken p e) = ap topOf e
+    go (reads-empty p z e) = ap topOf e ∙ sym (pair-top A B p ∙ z)
+    go (reads-put at e) = ap topOf e ∙ sym (pair-top A B (at .valid .pair))
+    go (reads-remove at e) = ap topOf e ∙ sym (pair-top A B (at .valid .pair))
+
+pub top-is : (l : ℕ) (m : ℕ → ℕ) (s : ℕ) → topOf (content l m s) ≡ top m s
+unfolding content top
+top-is l m s = top-content l (lineA m s) (lineB m s)
+
+-- ---- from a content to its slot
+
+put-not-broken : (t v k : ℕ) (x : List ℕ) → broken t ≡ put v k x → ⊥
+put-not-broken t v k x e = let z : _≡_ {A = ℕ} 0 1 = cc in omega arith
+
+put-not-empty : (v k : ℕ) (x : List ℕ) → empty ≡ put v k x → ⊥
+put-not-empty v k x e = let z : _≡_ {A = ℕ} 0 1 = cc in omega arith
+
+put-not-remove : (w j v k : ℕ) (x : List ℕ) → remove w j ≡ put v k x → ⊥
+put-not-remove w j v k x e = let z : _≡_ {A = ℕ} 0 1 = cc in omega arith
+
+remove-not-broken : (t v k : ℕ) → broken t ≡ remove v k → ⊥
+remove-not-broken t v k e = let z : _≡_ {A = ℕ} 0 1 = cc in omega arith
+
+remove-not-empty : (v k : ℕ) → empty ≡ remove v k → ⊥
+remove-not-empty v k e = let z : _≡_ {A = ℕ} 0 1 = cc in omega arith
+
+put-fields : (w j v k : ℕ) (y x : List ℕ) → put w j y ≡ put v k x → (w ≡ v) × (j ≡ k) × (y ≡ x)
+put-fields w j v k y x e = (cc, cc, cc)
+
+remove-fields : (w j v k : ℕ) → remove w j ≡ remove v k → (w ≡ v) × (j ≡ k)
+remove-fields w j v k e = (cc, cc)
+
+of-version : (A B : ℕ → ℕ) (w v : ℕ) → ValidAt A B w → w ≡ v → ValidAt A B v
+of-version A B w v h e = record { pair = h .pair; version = h .version ∙ e; positive = omega (arith, h .positive, e) }
+
+pub put-at : (l : ℕ) (A B : ℕ → ℕ) (v k : ℕ) (x : List ℕ) → contentOf l A B ≡ put v k x → PutAt l A B v k x
+put-at l A B v k x e = go (reading l A B)
+  where
+    go : Reading l A B → PutAt l A B v k x
+    go (reads-broken p c) = absurd (put-not-broken _ _ _ _ (sym c ∙ e))
+    go (reads-empty p z c) = absurd (put-not-empty _ _ _ (sym c ∙ e))
+    go (reads-remove at c) = absurd (put-not-remove _ _ _ _ _ (sym c ∙ e))
+    go (reads-put at c) =
+        let same = put-fields _ _ _ _ _ _ (sym c ∙ e) in
+        record { valid = of-version A B (versionOf (A 7)) v (at .valid) (same .0); kind = at .kind; key = same .1; value = same .2 }
+
+pub remove-at : (l : ℕ) (A B : ℕ → ℕ) (v k : ℕ) → contentOf l A B ≡ remove v k → RemoveAt l A B v k
+remove-at l A B v k e = go (reading l A B)
+  where
+    go : Reading l A B → RemoveAt l A B v k
+    go (reads-broken p c) = absurd (remove-not-broken _ _ _ (sym c ∙ e))
+    go (reads-empty p z c) = absurd (remove-not-empty _ _ (sym c ∙ e))
+    go (reads-put at c) = absurd (put-not-remove _ _ _ _ _ (sym e ∙ c))
+    go (reads-remove at c) =
+        let same = remove-fields _ _ _ _ (sym c ∙ e) in
+        record { valid = of-version A B (versionOf (A 7)) v (at .valid) (same .0); kind = at .kind; key = same .1 }
+
+-- ---- bounds of the fields
+
+pub version-bound : (A : ℕ → ℕ) → ((i : ℕ) → A i < 2 ^ 64) → versionOf (A 7) < 2 ^ 63
+version-bound A h = omega (arith, h 7)
+
+byte-small : (l : ℕ) (A B : ℕ → ℕ) (k : ℕ) → valueByte l A B k < 256
+unfolding valueByte
+byte-small l A B k = mod-lt _ (zero-lt-suc 255)
+
+pub value-bytes : (l : ℕ) (A B : ℕ → ℕ) → AreBytes (valueOf l A B)
+unfolding valueOf valueFront
+value-bytes l A B = tabulate-below (valueByte l A B) 256 0 (lengthOf (A (l + 1))) (omega arith) (byte-small l A B)
+
+pub value-length : (l : ℕ) (A B : ℕ → ℕ) → length (valueOf l A B) ≡ lengthOf (A (l + 1))
+unfolding valueOf valueFront
+value-length l A B = tabulate-length (valueByte l A B) 0 (lengthOf (A (l + 1)))
+
+-- without a fault the length is within the limit
+pub length-bound : (l : ℕ) (A B : ℕ → ℕ) → faultOf l A B ≡ false → lengthOf (A (l + 1)) ≤ limit l
+unfolding faultOf
+length-bound l A B e = within l (A (l + 1)) (or-none (wordFault l (A (l + 1))) (tailFault l A B (lengthOf (A (l + 1)))) e .0)
+
+-- ---- a slot whose marks and stamps are zero is empty
+
+pub blank-content : (l : ℕ) (m : ℕ → ℕ) (s : ℕ) → lineA m s 0 ≡ 0 → lineA m s 7 ≡ 0 → lineB m s 0 ≡ 0 → lineB m s 7 ≡ 0
+    → content l m s ≡ empty
+unfolding content
+blank-content l m s a b c d =
+    empty-content l (lineA m s) (lineB m s)
+    (paired-by (lineA m s 0) (lineA m s 7) (lineB m s 0) (lineB m s 7)
+    (record { first = clear a b; second = clear c d; one-version = ap (λ (x : ℕ). x / 2) (b ∙ sym d) }))
+    (ap (λ (x : ℕ). x / 2) b)
+  where
+    clear : {mark stamp : ℕ} → mark ≡ 0 → stamp ≡ 0 → whole mark stamp ≡ true
+    clear p q = ap₂ whole p q

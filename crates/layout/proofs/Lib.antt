@@ -1,0 +1,9 @@
+pub mod Refusals
+pub mod Any
+pub mod Tabulate
+pub mod Size
+pub mod Headers
+pub mod Verdicts
+pub mod Records
+pub mod Keys
+pub mod Content

@@ -1,0 +1,43 @@
+-- The slots that a length gives. Assumes nothing.
+use mathlib.Core.Path.{_≡_, ap, _∙_}
+use mathlib.Core.Bool.{not}
+use mathlib.Core.Logic.{by-cases}
+use Prim.Native.Nat.{ℕ, _+_, _-_, _*_, _/_, _%_, _≤_}
+use native.Mathlib.Decide.{decLt, ℕ-discrete}
+use native.Mathlib.Omega.{arith}
+use borrow.Author.Tests.{le-ltb, eq-eqb}
+use Rattle.words.proofs.Tests.{tests}
+use Rattle.layout.specs.Refusal.{say}
+use Rattle.layout.specs.Size.{slotsOf}
+use Rattle.layout.proofs.Refusals.{say-false}
+
+-- what a length that has slots is
+pub record Long (len : ℕ) : Type 0 where
+  pub size : len ≡ 128 * (slotsOf len + 1)
+  pub low : 2 ≤ slotsOf len
+  pub high : slotsOf len ≤ 65535
+
+pub long : (len : ℕ) → (slotsOf len ≡ 0 → ⊥) → Long len
+unfolding slotsOf say
+long len ne =
+    by-cases (decLt len 384) (λ h. absurd (ne (search tests)))
+    (λ h.
+    let h' : 384 ≤ len = omega arith in
+    by-cases (decLt 8388608 len) (λ k. absurd (ne (search tests)))
+    (λ k.
+    let k' : len ≤ 8388608 = omega arith in
+    by-cases (decLt 0 (len % 128))
+    (λ m. let z : len % 128 ≡ 0 → ⊥ = (λ q. omega arith) in absurd (ne (search tests)))
+    (λ m.
+    let z : len % 128 ≡ 0 = omega arith in
+    let e : slotsOf len ≡ len / 128 - 1 = search tests in
+    record { size = omega arith; low = omega arith; high = omega arith })))
+
+pub slots-high : (len : ℕ) → slotsOf len ≤ 65535
+slots-high len = by-cases (ℕ-discrete (slotsOf len) 0) (λ e. omega arith) (λ ne. long len ne .high)
+
+pub sized : (n : ℕ) → 2 ≤ n → n ≤ 65535 → slotsOf (128 * (n + 1)) ≡ n
+unfolding slotsOf
+sized n low high =
+    say-false _ _ _ (le-ltb (128 * (n + 1)) 384 (omega arith)) ∙ say-false _ _ _ (le-ltb 8388608 (128 * (n + 1)) (omega arith))
+    ∙ say-false _ _ _ (ap not (eq-eqb (128 * (n + 1) % 128) 0 (omega arith))) ∙ omega arith

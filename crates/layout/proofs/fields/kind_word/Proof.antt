@@ -1,0 +1,22 @@
+-- `layout::fields::kind_word` meets its contract. Assumes nothing.
+use mathlib.Core.Path.{_∙_}
+use borrow.Author.Needs.{needs}
+use Rattle.words.specs.Word.{word}
+use Rattle.layout.proofs.Records.{kind-at}
+use Rattle.layout.proofs.fields.kind_word.Statement.{statement}
+use Rattle.layout.proofs.fields.kind_word.Tie as tie
+
+returns : tie.Need-returns
+returns c =
+    c .read-word .ensures ∙ kind-at (word (c .before .before .args .image .now)) _ (c .before .before .args .s)
+    (c .before .before .pre .high)
+
+pub kind-word-spec : {M : Type 1} → statement M
+kind-word-spec =
+    tie.close
+    (tie.spec
+    (λ c. search needs)
+    (λ c. search needs)
+    (λ c. search needs)
+    (λ c κs. search needs)
+    returns)

@@ -1,0 +1,28 @@
+-- `layout::slot::slot_verdict` meets its contract. Assumes nothing.
+use borrow.Author.Needs.{needs}
+use Rattle.layout.proofs.Verdicts.{judged-slot}
+use Rattle.layout.proofs.slot.slot_verdict.Statement.{statement}
+use Rattle.layout.proofs.slot.slot_verdict.Tie as tie
+
+returns : tie.Need-returns
+returns c =
+    judged-slot _ _ _ _ _ _ _ (c .judge .ensures) (c .before .before .before .before .read-word .ensures)
+    (c .before .before .before .read-word2 .ensures) (c .before .before .read-word3 .ensures) (c .before .read-word4 .ensures)
+
+pub slot-verdict-spec : {M : Type 1} → statement M
+slot-verdict-spec =
+    tie.close
+    (tie.spec
+    (λ c. search needs)
+    (λ c κs. search needs)
+    (λ c. search needs)
+    (λ c. search needs)
+    (λ c κs. search needs)
+    (λ c. search needs)
+    (λ c. search needs)
+    (λ c κs. search needs)
+    (λ c. search needs)
+    (λ c. search needs)
+    (λ c κs. search needs)
+    (λ c κs. search needs)
+    returns)

@@ -1,0 +1,45 @@
+-- The content of a slot: all that the rules of document 01 read of it.
+use mathlib.Core.Bool.{cond}
+use mathlib.Core.List.{List}
+use Prim.Native.Nat.{ℕ, _+_}
+use lib.Dec.{eqb}
+use Rattle.layout.specs.Line.{lineA, lineB}
+use Rattle.layout.specs.Slot.{slotTop, lineVerdict}
+use Rattle.layout.specs.Record.{kindOf, keyOf, valueOf}
+use Rattle.layout.specs.declared.Verdict.{Verdict}
+use Rattle.layout.specs.declared.Verdict.the-variants.{Valid, Empty, Broken}
+
+-- a broken slot with the highest version on a whole line of it, an empty slot, or a valid one: a put or a remove
+pub data Content : Type 0 where
+  broken : (top : ℕ) → Content
+  empty : Content
+  put : (version key : ℕ) → (value : List ℕ) → Content
+  remove : (version key : ℕ) → Content
+
+-- the record that these fields make: "kind 1 put, 2 remove"
+unfoldable pub made : (kind version key : ℕ) → List ℕ → Content
+made kind version key value = cond (eqb kind 2) (remove version key) (put version key value)
+
+-- what a verdict leaves of lines A and B
+unfoldable pub contentBy : (l : ℕ) → (A B : ℕ → ℕ) → Verdict → Content
+contentBy l A B (Valid version) = made (kindOf (A (l + 1))) version (keyOf l A) (valueOf l A B)
+contentBy l A B Empty = empty
+contentBy l A B (Broken top) = broken top
+
+unfoldable pub contentOf : (l : ℕ) → (A B : ℕ → ℕ) → Content
+contentOf l A B = contentBy l A B (lineVerdict A B)
+
+-- slot s of an image: its table, one content for each slot
+unfoldable pub content : (l : ℕ) → (ℕ → ℕ) → ℕ → Content
+content l m s = contentOf l (lineA m s) (lineB m s)
+
+-- the highest version on a whole line of slot s
+unfoldable pub top : (ℕ → ℕ) → ℕ → ℕ
+top m s = slotTop (lineA m s) (lineB m s)
+
+-- the same, by the content
+unfoldable pub topOf : Content → ℕ
+topOf (broken t) = t
+topOf empty = 0
+topOf (put version key value) = version
+topOf (remove version key) = version

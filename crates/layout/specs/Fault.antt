@@ -1,0 +1,34 @@
+-- What recovery's refusals 5 and 6 ask of one slot. Document 01, "What each operation may say no to".
+use mathlib.Core.Bool.{Bool, true, false, cond, not}
+use Prim.Native.Nat.{ℕ, _+_, _-_}
+use lib.Dec.{eqb, ltb, leb}
+use Rattle.layout.specs.Range.{anyOf}
+use Rattle.layout.specs.Line.{lineA, lineB}
+use Rattle.layout.specs.Slot.{lineVerdict, isValid}
+use Rattle.layout.specs.Record.{kindOf, lengthOf, limit, valueByte}
+
+-- "5 when a mark in slots 1 to N is neither 0 nor 1"
+unfoldable pub markFault : (ℕ → ℕ) → ℕ → Bool
+markFault m s = cond (ltb 1 (lineA m s 0)) true (ltb 1 (lineB m s 0))
+
+-- "another kind"
+unfoldable pub kindFault : ℕ → Bool
+kindFault kind = cond (eqb kind 1) false (cond (eqb kind 2) false true)
+
+-- "6 when a valid slot has another kind, bits above the length byte, a length over 80 .. or a remove with a length": by the kind word
+unfoldable pub wordFault : (l word : ℕ) → Bool
+wordFault l word =
+    cond (kindFault (kindOf word)) true
+    (cond (leb 65536 word) true (cond (ltb (limit l) (lengthOf word)) true (cond (eqb (kindOf word) 2) (ltb 0 (lengthOf word)) false)))
+
+-- a byte of the value from place `size` on is not zero
+unfoldable pub tailFault : (l : ℕ) → (A B : ℕ → ℕ) → (size : ℕ) → Bool
+tailFault l A B size = anyOf (λ k. not (eqb (valueByte l A B k) 0)) size (limit l - size)
+
+-- or "a nonzero byte past the length"
+unfoldable pub faultOf : (l : ℕ) → (A B : ℕ → ℕ) → Bool
+faultOf l A B = cond (wordFault l (A (l + 1))) true (tailFault l A B (lengthOf (A (l + 1))))
+
+-- 6 asks it of a valid slot alone
+unfoldable pub recordFault : (l : ℕ) → (ℕ → ℕ) → ℕ → Bool
+recordFault l m s = cond (isValid (lineVerdict (lineA m s) (lineB m s))) (faultOf l (lineA m s) (lineB m s)) false

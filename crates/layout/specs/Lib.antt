@@ -1,0 +1,11 @@
+pub mod Refusal
+pub mod Answer
+pub mod Range
+pub mod Size
+pub mod Line
+pub mod Slot
+pub mod Record
+pub mod Content
+pub mod Header
+pub mod Fault
+pub mod Inside

@@ -1,0 +1,38 @@
+-- Lines. An image is given by its words, m : ℕ → ℕ. Document 01, "Lines, slots and words", "Which record counts" and "How a call writes".
+use mathlib.Core.Bool.{Bool, cond}
+use Prim.Native.Nat.{ℕ, _+_, _-_, _*_, _/_, _%_}
+use lib.Dec.{eqb}
+
+-- "A line is 64 bytes, 8 words numbered 0 to 7": word i of line n. i counts modulo 8, so that a line speaks of its own eight words alone
+abbrev pub line : (ℕ → ℕ) → ℕ → ℕ → ℕ
+line m n i = m (8 * n + i % 8)
+
+-- "A slot is two lines, A and B, 128 bytes"
+abbrev pub lineA : (ℕ → ℕ) → ℕ → ℕ → ℕ
+lineA m s = line m (2 * s)
+
+abbrev pub lineB : (ℕ → ℕ) → ℕ → ℕ → ℕ
+lineB m s = line m (2 * s + 1)
+
+-- "Word 7 is the stamp: version × 2 + close bit"; word 0 is the mark
+abbrev pub closeBit : ℕ → ℕ
+closeBit stamp = stamp % 2
+
+abbrev pub versionOf : ℕ → ℕ
+versionOf stamp = stamp / 2
+
+-- "A line is whole when its mark equals its close bit; otherwise it is open"
+abbrev pub whole : (mark stamp : ℕ) → Bool
+whole mark stamp = eqb mark (closeBit stamp)
+
+-- the version on a whole line, 0 on an open one
+unfoldable pub lineTop : (mark stamp : ℕ) → ℕ
+lineTop mark stamp = cond (whole mark stamp) (versionOf stamp) 0
+
+-- "Let c be the close bit now in that line. The first store makes the mark 1 − c": the stamp is the one now in the line
+abbrev pub firstWord : ℕ → ℕ
+firstWord stamp = 1 - closeBit stamp
+
+-- "the last makes the stamp version × 2 + (1 − c)"
+abbrev pub lastWord : (stamp version : ℕ) → ℕ
+lastWord stamp version = version * 2 + firstWord stamp

@@ -1,0 +1,50 @@
+-- The fields of a record, for layout l (1 in document 01). Document 01, "Lines, slots and words": "In line A, word 1 is the key, word 2 is
+-- kind + 256 × length (kind 1 put, 2 remove), words 3 to 6 are value bytes 0 to 31. In line B, words 1 to 6 are value bytes 32 to 79."
+-- Layout l has l key words from word 1 on, the kind word at word l + 1, and the value from word l + 2 on.
+use mathlib.Core.Bool.{cond}
+use mathlib.Core.List.{List}
+use Prim.Native.Nat.{ℕ, zero, suc, _+_, _-_, _*_, _/_, _%_, _^_}
+use lib.Dec.{ltb}
+use Rattle.layout.specs.Range.{tabulate}
+
+-- the number whose words, low word first, are n words of A from word i on
+unfoldable pub keyFrom : (ℕ → ℕ) → (i n : ℕ) → ℕ
+keyFrom A i zero = 0
+keyFrom A i (suc n) = A i + 2 ^ 64 * keyFrom A (suc i) n
+
+unfoldable pub keyOf : (l : ℕ) → (A : ℕ → ℕ) → ℕ
+keyOf l A = keyFrom A 1 l
+
+-- word i of a key, low word first
+abbrev pub keyWord : (key i : ℕ) → ℕ
+keyWord key i = key / (2 ^ 64) ^ i % 2 ^ 64
+
+-- kind and length, to the kind word and from it
+abbrev pub kindWord : (kind size : ℕ) → ℕ
+kindWord kind size = kind + 256 * size
+
+abbrev pub kindOf : ℕ → ℕ
+kindOf word = word % 256
+
+abbrev pub lengthOf : ℕ → ℕ
+lengthOf word = word / 256 % 256
+
+-- the greatest length of a value: 80 in layout 1
+abbrev pub limit : ℕ → ℕ
+limit l = 88 - 8 * l
+
+-- word i of the value
+unfoldable pub valueWord : (l : ℕ) → (A B : ℕ → ℕ) → ℕ → ℕ
+valueWord l A B i = cond (ltb (l + 2 + i) 7) (A (l + 2 + i)) (B (l + i - 4))
+
+-- byte k of the value
+unfoldable pub valueByte : (l : ℕ) → (A B : ℕ → ℕ) → ℕ → ℕ
+valueByte l A B k = valueWord l A B (k / 8) / 256 ^ (k % 8) % 256
+
+-- the first n bytes of the value
+unfoldable pub valueFront : (l : ℕ) → (A B : ℕ → ℕ) → ℕ → List ℕ
+valueFront l A B n = tabulate (valueByte l A B) 0 n
+
+-- the value: as many bytes as the length says
+unfoldable pub valueOf : (l : ℕ) → (A B : ℕ → ℕ) → List ℕ
+valueOf l A B = valueFront l A B (lengthOf (A (l + 1)))

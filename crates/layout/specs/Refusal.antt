@@ -1,0 +1,19 @@
+-- Refusals in the order written. A refusal is its number of document 01, and 0 is none.
+use mathlib.Core.Bool.{Bool, true, false}
+use Prim.Native.Nat.{ℕ, zero, suc}
+
+-- k where the test holds; otherwise what comes after
+unfoldable pub say : Bool → ℕ → ℕ → ℕ
+say true k later = k
+say false k later = later
+
+-- the first refusal if there is one; otherwise what comes after
+unfoldable pub orElse : ℕ → ℕ → ℕ
+orElse zero later = later
+orElse (suc k) later = suc k
+
+-- what a call leaves: `new` where it is not refused, else `old`
+module _ {A : Type 0} where
+  unfoldable pub unlessRefused : ℕ → (new old : A) → A
+  unlessRefused zero new old = new
+  unlessRefused (suc k) new old = old

@@ -1,0 +1,127 @@
+// The fields of the record in a slot, and refusal 6. `l` is the layout.
+ghost use mathlib.Core.Path.{_≡_};
+ghost use mathlib.Core.List.{_++_};
+ghost use Prim.Native.Nat.{ℕ, _+_, _*_, _<_, _≤_};
+ghost use lib.ListN.{length, drop};
+ghost use Rattle.words.specs.Word.{word};
+ghost use Rattle.layout.specs.Line.{lineA, lineB};
+ghost use Rattle.layout.specs.Record.{keyOf, kindOf, lengthOf, limit, valueByte, valueFront};
+ghost use Rattle.layout.specs.Fault.{kindFault, wordFault, tailFault, faultOf};
+ghost use Rattle.layout.specs.Inside.{Inside};
+use words::read_word;
+
+// The key in slot s of layout 1.
+pub fn slot_key(image: &[u8], s: usize) -> u64
+    requires { ⌜ 128 * (s + 1) ≤ length (now image) ⌝ }
+    ensures { λ r. ⌜ r ≡ keyOf 1 (lineA (word (now (image .entry))) s) ⌝ }
+{
+    read_word(image, 16 * s + 1)
+}
+
+// The kind word of slot s.
+fn kind_word(image: &[u8], l: usize, s: usize) -> u64
+    requires { ⌜ Inside (now image) l s ⌝ }
+    ensures { λ r. ⌜ r ≡ lineA (word (now (image .entry))) s (l + 1) ⌝ }
+{
+    read_word(image, 16 * s + l + 1)
+}
+
+// The kind in slot s: 1 put, 2 remove.
+pub fn slot_kind(image: &[u8], l: usize, s: usize) -> u64
+    requires { ⌜ Inside (now image) l s ⌝ }
+    ensures { λ r. ⌜ r ≡ kindOf (lineA (word (now (image .entry))) s (l + 1)) ⌝ }
+{
+    kind_word(image, l, s) % 256
+}
+
+// The length of the value in slot s.
+pub fn slot_length(image: &[u8], l: usize, s: usize) -> usize
+    requires { ⌜ Inside (now image) l s ⌝ }
+    ensures { λ r. ⌜ r ≡ lengthOf (lineA (word (now (image .entry))) s (l + 1)) ⌝ }
+{
+    (kind_word(image, l, s) / 256 % 256) as usize
+}
+
+// Byte k of the value in slot s.
+pub fn value_byte(image: &[u8], l: usize, s: usize, k: usize) -> u8
+    requires { ⌜ Inside (now image) l s × (k < limit l) ⌝ }
+    ensures { λ r. ⌜ r ≡ valueByte l (lineA (word (now (image .entry))) s) (lineB (word (now (image .entry))) s) k ⌝ }
+{
+    if k < 40 - 8 * l {
+        return image[128 * s + 8 * l + 16 + k];
+    }
+    image[128 * s + 8 * l + 32 + k]
+}
+
+// The first n bytes of the value in slot s fill the front of out.
+pub fn copy_value(image: &[u8], l: usize, s: usize, out: &mut [u8], n: usize)
+    requires { ⌜ Inside (now image) l s × (n ≤ limit l) × (n ≤ length (now out)) ⌝ }
+    ensures { λ _. ⌜ now (out .exit) ≡ valueFront l (lineA (word (now (image .entry))) s) (lineB (word (now (image .entry))) s) n ++ drop n (now (out .entry)) ⌝ }
+{
+    let mut k = 0;
+    while k < n {
+        out[k] = value_byte(image, l, s, k);
+        k += 1;
+    }
+}
+
+// Is it another kind than put and remove?
+fn kind_fault(kind: u64) -> bool
+    ensures { λ r. ⌜ r ≡ kindFault kind ⌝ }
+{
+    if kind == 1 {
+        return false;
+    }
+    if kind == 2 {
+        return false;
+    }
+    true
+}
+
+// Is the kind word wrong by itself?
+fn word_fault(l: u64, word: u64) -> bool
+    requires { ⌜ l ≤ 2 ⌝ }
+    ensures { λ r. ⌜ r ≡ wordFault l word ⌝ }
+{
+    if kind_fault(word % 256) {
+        return true;
+    }
+    if 65536 <= word {
+        return true;
+    }
+    if 88 - 8 * l < word / 256 % 256 {
+        return true;
+    }
+    if word % 256 == 2 {
+        return 0 < word / 256 % 256;
+    }
+    false
+}
+
+// Is a byte of the value from place size on not zero?
+fn tail_fault(image: &[u8], l: usize, s: usize, size: usize) -> bool
+    requires { ⌜ Inside (now image) l s × (size ≤ limit l) ⌝ }
+    ensures { λ r. ⌜ r ≡ tailFault l (lineA (word (now (image .entry))) s) (lineB (word (now (image .entry))) s) size ⌝ }
+{
+    let end = 88 - 8 * l;
+    let mut k = size;
+    while k < end {
+        if value_byte(image, l, s, k) != 0 {
+            return true;
+        }
+        k += 1;
+    }
+    false
+}
+
+// Has the record in slot s a fault (6)? Asked of valid slots.
+pub fn record_fault(image: &[u8], l: usize, s: usize) -> bool
+    requires { ⌜ Inside (now image) l s ⌝ }
+    ensures { λ r. ⌜ r ≡ faultOf l (lineA (word (now (image .entry))) s) (lineB (word (now (image .entry))) s) ⌝ }
+{
+    let word = kind_word(image, l, s);
+    if word_fault(l as u64, word) {
+        return true;
+    }
+    tail_fault(image, l, s, (word / 256 % 256) as usize)
+}

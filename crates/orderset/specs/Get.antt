@@ -1,0 +1,56 @@
+-- Get. Document 01, "What each operation may say no to", Get.
+use mathlib.Core.List.{List, [], _∷_, _++_}
+use Prim.Native.Nat.{ℕ, _+_}
+use lib.Dec.{ltb}
+use lib.ListN.{length, drop}
+use Rattle.words.specs.Word.{word}
+use Rattle.layout.specs.Refusal.{say, orElse, unlessRefused}
+use Rattle.layout.specs.Answer.{Answer, gives, absent, refused}
+use Rattle.layout.specs.Line.{lineA, lineB}
+use Rattle.layout.specs.Record.{lengthOf, limit, valueOf}
+use Rattle.layout.specs.Header.{lentFault}
+use Rattle.index.specs.Walk.{search}
+use Rattle.index.specs.declared.Found.{Found}
+use Rattle.index.specs.declared.Found.the-variants.{At, Absent, Broken}
+use Rattle.orderset.specs.declared.Got.{Got}
+use Rattle.orderset.specs.declared.Got.the-variants.{Length, Absent as NotHeld, Refused}
+
+-- get's answer and the output that it leaves
+pub record GetResult : Type 0 where
+  pub answer : Answer
+  pub out : List ℕ
+
+unfoldable pub getSays : Got → Answer
+getSays (Length n) = gives (n ∷ [])
+getSays NotHeld = absent
+getSays (Refused number) = refused number
+
+-- the length of the value in slot s
+abbrev pub slotLength : (l : ℕ) → (image : List ℕ) → ℕ → ℕ
+slotLength l image s = lengthOf (lineA (word image) s (l + 1))
+
+-- "11 (chain); then the plain answer absent; 6 when the slot's length byte exceeds 80; 13 when the lent output is shorter than the value"
+unfoldable pub getChecks : (l : ℕ) → (image : List ℕ) → (size : ℕ) → Found → ℕ
+getChecks l image size (At slot prev compared) =
+    say (ltb (limit l) (slotLength l image slot)) 6 (say (ltb size (slotLength l image slot)) 13 0)
+getChecks l image size (Absent prev compared) = 0
+getChecks l image size Broken = 11
+
+unfoldable pub getFault : (l : ℕ) → (image heads next : List ℕ) → (key size : ℕ) → ℕ
+getFault l image heads next key size =
+    orElse (lentFault l image (length heads) (length next)) (getChecks l image size (search l image heads next key))
+
+-- "Otherwise the length is answered, the value fills the front of the output and the bytes after it keep what they had"
+unfoldable pub getDone : (l : ℕ) → (image out : List ℕ) → Found → GetResult
+getDone l image out (At slot prev compared) =
+    record {
+      answer = gives (slotLength l image slot ∷ []);
+      out = valueOf l (lineA (word image) slot) (lineB (word image) slot) ++ drop (slotLength l image slot) out;
+    }
+getDone l image out (Absent prev compared) = record { answer = absent; out = out }
+getDone l image out Broken = record { answer = refused 11; out = out }
+
+unfoldable pub getResult : (l : ℕ) → (image heads next : List ℕ) → (key : ℕ) → (out : List ℕ) → GetResult
+getResult l image heads next key out =
+    unlessRefused (getFault l image heads next key (length out)) (getDone l image out (search l image heads next key))
+    (record { answer = refused (getFault l image heads next key (length out)); out = out })

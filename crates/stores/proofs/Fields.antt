@@ -1,0 +1,150 @@
+-- The fields of a record come back from its two lines, and the record has no fault. Assumes nothing.
+use mathlib.Core.Path.{_≡_, refl, sym, ap, ap₂, _∙_}
+use mathlib.Core.Bool.{true, false, cond, not}
+use mathlib.Core.Logic.{by-cases}
+use mathlib.Core.List.{List}
+use Prim.Native.Nat.{ℕ, _+_, _-_, _/_, _%_, _^_, _≤_, _<_}
+use native.Mathlib.Decide.{decLt}
+use native.Mathlib.Omega.{arith}
+use lib.ListN.{length, getD, List·getD-eq-default}
+use lib.Dec.{eqb, ltb, leb}
+use borrow.Author.Tests.{eq-eqb, ne-eqb, lt-ltb, le-ltb, lt-leb}
+use Rattle.words.specs.Word.{word}
+use Rattle.words.proofs.Choice.{pick-true, pick-false}
+use Rattle.words.proofs.Laws.{word-byte}
+use Rattle.layout.specs.Line.{whole, versionOf}
+use Rattle.layout.specs.Slot.{paired, lineVerdict, isValid}
+use Rattle.layout.specs.Record.{keyOf, keyWord, kindWord, kindOf, lengthOf, limit, valueWord, valueByte, valueFront, valueOf}
+use Rattle.layout.specs.Content.{made, contentOf}
+use Rattle.layout.specs.Fault.{kindFault, wordFault, tailFault, faultOf}
+use Rattle.layout.proofs.Any.{any-clear}
+use Rattle.layout.proofs.Tabulate.{tabulate-list}
+use Rattle.layout.proofs.Keys.{key-again}
+use Rattle.layout.proofs.Content.{paired-by, verdict-valid, valid-content}
+use Rattle.stores.specs.Written.{bodyA, bodyB, newA, newB}
+use Rattle.stores.specs.Cut.{Fields, Lawful, a-put, a-remove}
+use Rattle.stores.proofs.Line.{marked-body, marked-whole, marked-version}
+
+-- ---- the words of the bodies
+
+body-key : (l key kind : ℕ) (value : List ℕ) (j : ℕ) → j < l → bodyA l key kind value (1 + j) ≡ keyWord key j
+unfolding bodyA
+body-key l key kind value j h =
+    pick-true (ltb (1 + j) (l + 1)) _ _ (lt-ltb (1 + j) (l + 1) (omega arith)) ∙ ap (keyWord key) (omega arith)
+
+body-kind : (l key kind : ℕ) (value : List ℕ) → bodyA l key kind value (l + 1) ≡ kindWord kind (length value)
+unfolding bodyA
+body-kind l key kind value =
+    pick-false (ltb (l + 1) (l + 1)) _ _ (le-ltb (l + 1) (l + 1) (omega arith))
+    ∙ pick-true (eqb (l + 1) (l + 1)) _ _ (eq-eqb (l + 1) (l + 1) refl)
+
+body-value : (l key kind : ℕ) (value : List ℕ) (i : ℕ) → bodyA l key kind value (l + 2 + i) ≡ word value i
+unfolding bodyA
+body-value l key kind value i =
+    pick-false (ltb (l + 2 + i) (l + 1)) _ _ (le-ltb (l + 2 + i) (l + 1) (omega arith))
+    ∙ pick-false (eqb (l + 2 + i) (l + 1)) _ _ (ne-eqb (l + 2 + i) (l + 1) (λ (e : l + 2 + i ≡ l + 1). omega arith))
+    ∙ ap (word value) (omega arith)
+
+body-more : (l : ℕ) (value : List ℕ) (i : ℕ) → l ≤ 2 → 7 ≤ l + 2 + i → bodyB l value (l + i - 4) ≡ word value i
+unfolding bodyB
+body-more l value i h p = ap (word value) (omega arith)
+
+-- ---- two lines that hold a record's words, over lines with stamps stampA and stampB
+module _ (l stampA stampB key kind : ℕ) (value : List ℕ) (version : ℕ) (fine : Fields l key kind value) (A B : ℕ → ℕ)
+    (onA : (i : ℕ) → i < 8 → A i ≡ newA l stampA key kind value version i)
+    (onB : (i : ℕ) → i < 8 → B i ≡ newB l stampB value version i) where
+  inA : (i : ℕ) → 0 < i → i < 7 → A i ≡ bodyA l key kind value i
+  inA i h p = onA i (omega arith) ∙ marked-body stampA version (bodyA l key kind value) i h p
+
+  inB : (i : ℕ) → 0 < i → i < 7 → B i ≡ bodyB l value i
+  inB i h p = onB i (omega arith) ∙ marked-body stampB version (bodyB l value) i h p
+
+  pub the-version : versionOf (A 7) ≡ version
+  the-version = ap versionOf (onA 7 (omega arith)) ∙ marked-version stampA version (bodyA l key kind value)
+
+  pub the-pair : paired (A 0) (A 7) (B 0) (B 7) ≡ true
+  the-pair =
+      paired-by (A 0) (A 7) (B 0) (B 7)
+      (record {
+        first = ap₂ whole (onA 0 (omega arith)) (onA 7 (omega arith)) ∙ marked-whole stampA version (bodyA l key kind value);
+        second = ap₂ whole (onB 0 (omega arith)) (onB 7 (omega arith)) ∙ marked-whole stampB version (bodyB l value);
+        one-version = the-version ∙ sym (ap versionOf (onB 7 (omega arith)) ∙ marked-version stampB version (bodyB l value));
+      })
+
+  pub the-kind-word : A (l + 1) ≡ kindWord kind (length value)
+  the-kind-word = inA (l + 1) (omega arith) (omega (arith, fine .layout-high)) ∙ body-kind l key kind value
+
+  pub the-kind : kindOf (A (l + 1)) ≡ kind
+  the-kind = ap kindOf the-kind-word ∙ omega (arith, fine .kind-fits)
+
+  pub the-length : lengthOf (A (l + 1)) ≡ length value
+  the-length = ap lengthOf the-kind-word ∙ omega (arith, fine .kind-fits, fine .size)
+
+  pub the-key : keyOf l A ≡ key
+  the-key =
+      key-again l A key
+      (λ j h. inA (1 + j) (omega arith) (omega (arith, fine .layout-high)) ∙ body-key l key kind value j h) (fine .key-fits)
+
+  pub the-word : (i : ℕ) → l + i < 11 → valueWord l A B i ≡ word value i
+  unfolding valueWord
+  the-word i h =
+      by-cases (decLt (l + 2 + i) 7)
+      (λ p. pick-true (ltb (l + 2 + i) 7) _ _ (lt-ltb (l + 2 + i) 7 p) ∙ inA (l + 2 + i) (omega arith) p ∙ body-value l key kind value i)
+      (λ p.
+      pick-false (ltb (l + 2 + i) 7) _ _ (le-ltb (l + 2 + i) 7 (omega arith))
+      ∙ inB (l + i - 4) (omega arith) (omega arith) ∙ body-more l value i (fine .layout-high) (omega arith))
+
+  pub the-byte : (k : ℕ) → k < limit l → valueByte l A B k ≡ getD value k 0
+  unfolding valueByte
+  the-byte k h = ap (λ (x : ℕ). x / 256 ^ (k % 8) % 256) (the-word (k / 8) (omega arith)) ∙ word-byte value k (fine .bytes)
+
+  pub the-value : valueOf l A B ≡ value
+  unfolding valueOf valueFront
+  the-value =
+      ap (valueFront l A B) the-length
+      ∙ tabulate-list (valueByte l A B) value 0
+      (λ i h. the-byte (0 + i) (omega (arith, fine .size)) ∙ ap (λ (x : ℕ). getD value x 0) (omega arith))
+
+  some-version : 0 < version → versionOf (A 7) ≡ 0 → ⊥
+  some-version h e = omega (arith, the-version, e)
+
+  -- the content is the record
+  pub the-content : 0 < version → contentOf l A B ≡ made kind version key value
+  the-content h = valid-content l A B the-pair (some-version h) ∙ rw (the-kind, the-version, the-key, the-value)
+
+  pub the-valid : 0 < version → isValid (lineVerdict A B) ≡ true
+  unfolding isValid
+  the-valid h = ap isValid (verdict-valid A B the-pair (some-version h))
+
+  -- ---- without a fault
+
+  no-tail : tailFault l A B (length value) ≡ false
+  unfolding tailFault
+  no-tail =
+      any-clear (λ (k : ℕ). not (eqb (valueByte l A B k) 0)) (length value) (limit l - length value)
+      (λ i h.
+      ap not
+      (eq-eqb (valueByte l A B (length value + i)) 0
+      (the-byte (length value + i) (omega arith) ∙ List·getD-eq-default value 0 (omega arith))))
+
+  no-kind : Lawful kind value → kindFault kind ≡ false
+  unfolding kindFault
+  no-kind (a-put e) = rw e
+  no-kind (a-remove e _) = rw e
+
+  no-length : Lawful kind value → cond (eqb kind 2) (ltb 0 (length value)) false ≡ false
+  no-length (a-put e) = rw e
+  no-length (a-remove e f) = rw (e, f)
+
+  no-word : Lawful kind value → wordFault l (A (l + 1)) ≡ false
+  unfolding wordFault
+  no-word good =
+      pick-false (kindFault (kindOf (A (l + 1)))) _ _ (ap kindFault the-kind ∙ no-kind good)
+      ∙ pick-false (leb 65536 (A (l + 1))) _ _ (lt-leb 65536 (A (l + 1)) (omega (arith, the-kind-word, fine .size, fine .kind-fits)))
+      ∙ pick-false (ltb (limit l) (lengthOf (A (l + 1)))) _ _ (le-ltb (limit l) (lengthOf (A (l + 1))) (omega (arith, the-length, fine .size)))
+      ∙ ap₂ (λ (x y : ℕ). cond (eqb x 2) (ltb 0 y) false) the-kind the-length ∙ no-length good
+
+  pub the-fault : Lawful kind value → faultOf l A B ≡ false
+  unfolding faultOf
+  the-fault good =
+      pick-false (wordFault l (A (l + 1))) _ _ (no-word good) ∙ ap (tailFault l A B) the-length ∙ no-tail

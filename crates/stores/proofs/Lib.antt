@@ -1,0 +1,11 @@
+pub mod Records
+pub mod Making
+pub mod Plays
+pub mod Standing
+pub mod Line
+pub mod Fields
+pub mod Slot
+pub mod Table
+pub mod Bytes
+pub mod Halves
+pub mod Blank

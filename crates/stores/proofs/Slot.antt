@@ -1,0 +1,130 @@
+-- What a cut leaves of a slot whose two lines a record is written over: its content, its top, and no new fault. Assumes nothing.
+use mathlib.Core.Path.{_≡_, refl, sym, ap, ap₂, _∙_}
+use mathlib.Core.Bool.{Bool, true, false, cond}
+use mathlib.Core.Logic.{_⊎_, inl, inr}
+use mathlib.Core.List.{List}
+use Prim.Native.Nat.{ℕ, _≤_, _<_}
+use native.Mathlib.Omega.{arith}
+use Rattle.words.proofs.Choice.{pick-false, true-not-false}
+use Rattle.layout.specs.Line.{whole, versionOf, lineTop}
+use Rattle.layout.specs.Slot.{paired, slotTop, lineVerdict, isValid}
+use Rattle.layout.specs.Content.{made, contentOf}
+use Rattle.layout.specs.Fault.{faultOf}
+use Rattle.layout.proofs.Content.{top-whole, top-open, unpaired, verdict-broken, broken-content}
+use Rattle.stores.specs.Written.{marked, bodyA, bodyB, newA, newB}
+use Rattle.stores.specs.Cut.{LineCut, same, torn, full, SlotCut, kept, done, lost, Fields, Lawful}
+use Rattle.stores.proofs.Line.{marked-whole, marked-version}
+use Rattle.stores.proofs.Fields.{the-content, the-fault}
+
+-- ---- a cut line's top
+
+module _ (old now : ℕ → ℕ) (stamp version : ℕ) (body : ℕ → ℕ) (k : ℕ) where
+  full-version : ((i : ℕ) → i < 8 → now i ≡ marked stamp version body i) → versionOf (now 7) ≡ version
+  full-version h = ap versionOf (h 7 (omega arith)) ∙ marked-version stamp version body
+
+  full-top : ((i : ℕ) → i < 8 → now i ≡ marked stamp version body i) → lineTop (now 0) (now 7) ≡ version
+  full-top h =
+      top-whole (now 0) (now 7) (ap₂ whole (h 0 (omega arith)) (h 7 (omega arith)) ∙ marked-whole stamp version body) ∙ full-version h
+
+  cut-top : LineCut old (marked stamp version body) now k → lineTop (old 0) (old 7) < version → lineTop (now 0) (now 7) ≤ version
+  cut-top (same z e) h = rw e (omega arith)
+  cut-top (torn p q o) h = omega (arith, top-open (now 0) (now 7) o)
+  cut-top (full p w) h = omega (arith, full-top w)
+
+  cut-top-full : LineCut old (marked stamp version body) now k → 8 ≤ k → lineTop (now 0) (now 7) ≡ version
+  cut-top-full (same z e) h = absurd (omega arith)
+  cut-top-full (torn p q o) h = absurd (omega arith)
+  cut-top-full (full p w) h = full-top w
+
+  -- an old line that is whole has an older version
+  older : now ≡ old → lineTop (old 0) (old 7) < version → whole (now 0) (now 7) ≡ true → versionOf (now 7) < version
+  older e h = rw e (λ w. omega (arith, top-whole (old 0) (old 7) w))
+
+-- ---- a cut slot: lines A and B before, A′ and B′ after a stores on A and b on B
+
+module _ (l key kind : ℕ) (value : List ℕ) (version : ℕ) (fine : Fields l key kind value) (A A′ B B′ : ℕ → ℕ) (stampA stampB a b : ℕ)
+    (above : slotTop A B < version)
+    (cutA : LineCut A (newA l stampA key kind value version) A′ a) (cutB : LineCut B (newB l stampB value version) B′ b) where
+  above-A : lineTop (A 0) (A 7) < version
+  unfolding slotTop
+  above-A = omega (arith, above)
+
+  above-B : lineTop (B 0) (B 7) < version
+  unfolding slotTop
+  above-B = omega (arith, above)
+
+  below-A : lineTop (A′ 0) (A′ 7) ≤ version
+  below-A = cut-top A A′ stampA version (bodyA l key kind value) a cutA above-A
+
+  below-B : lineTop (B′ 0) (B′ 7) ≤ version
+  below-B = cut-top B B′ stampB version (bodyB l value) b cutB above-B
+
+  pub slot-top : slotTop A′ B′ ≤ version
+  unfolding slotTop
+  slot-top = omega (arith, below-A, below-B)
+
+  pub slot-top-full : (8 ≤ a) ⊎ (8 ≤ b) → slotTop A′ B′ ≡ version
+  unfolding slotTop
+  slot-top-full (inl h) = omega (arith, cut-top-full A A′ stampA version (bodyA l key kind value) a cutA h, below-B)
+  slot-top-full (inr h) = omega (arith, below-A, cut-top-full B B′ stampB version (bodyB l value) b cutB h)
+
+  -- the three ways of a slot: as it was, the record, or no pair
+  data Way : Type 0 where
+    as-was : a ≡ 0 → b ≡ 0 → A′ ≡ A → B′ ≡ B → Way
+    all-new : 8 ≤ a → 8 ≤ b → ((i : ℕ) → i < 8 → A′ i ≡ newA l stampA key kind value version i)
+        → ((i : ℕ) → i < 8 → B′ i ≡ newB l stampB value version i) → Way
+    no-pair : (a ≡ 0 → b ≡ 0 → ⊥) → (8 ≤ a → 8 ≤ b → ⊥) → paired (A′ 0) (A′ 7) (B′ 0) (B′ 7) ≡ false → Way
+
+  open-A : whole (A′ 0) (A′ 7) ≡ false → paired (A′ 0) (A′ 7) (B′ 0) (B′ 7) ≡ false
+  open-A o = unpaired (A′ 0) (A′ 7) (B′ 0) (B′ 7) (λ x y r. true-not-false (sym x ∙ o))
+
+  open-B : whole (B′ 0) (B′ 7) ≡ false → paired (A′ 0) (A′ 7) (B′ 0) (B′ 7) ≡ false
+  open-B o = unpaired (A′ 0) (A′ 7) (B′ 0) (B′ 7) (λ x y r. true-not-false (sym y ∙ o))
+
+  way : Way
+  way = go cutA cutB
+    where
+      go : LineCut A (newA l stampA key kind value version) A′ a → LineCut B (newB l stampB value version) B′ b → Way
+      go (same z e) (same y f) = as-was z y e f
+      go (full p u) (full q w) = all-new p q u w
+      go (torn p q o) (same z e) = no-pair (λ x y. omega arith) (λ x y. omega arith) (open-A o)
+      go (torn p q o) (torn p2 q2 o2) = no-pair (λ x y. omega arith) (λ x y. omega arith) (open-A o)
+      go (torn p q o) (full p2 w) = no-pair (λ x y. omega arith) (λ x y. omega arith) (open-A o)
+      go (same z e) (torn p q o) = no-pair (λ x y. omega arith) (λ x y. omega arith) (open-B o)
+      go (full p w) (torn p2 q2 o) = no-pair (λ x y. omega arith) (λ x y. omega arith) (open-B o)
+      go (full p w) (same z e) =
+          no-pair (λ x y. omega arith) (λ x y. omega arith)
+          (unpaired (A′ 0) (A′ 7) (B′ 0) (B′ 7)
+          (λ x y r.
+          omega (arith, older B B′ stampB version (bodyB l value) b e above-B y, full-version A A′ stampA version (bodyA l key kind value) a w)))
+      go (same z e) (full p w) =
+          no-pair (λ x y. omega arith) (λ x y. omega arith)
+          (unpaired (A′ 0) (A′ 7) (B′ 0) (B′ 7)
+          (λ x y r.
+          omega (arith, older A A′ stampA version (bodyA l key kind value) a e above-A x, full-version B B′ stampB version (bodyB l value) b w)))
+
+  pub slot-cut : SlotCut (contentOf l A B) (made kind version key value) (contentOf l A′ B′) version a b
+  slot-cut = go way
+    where
+      go : Way → SlotCut (contentOf l A B) (made kind version key value) (contentOf l A′ B′) version a b
+      go (as-was x y e f) = kept x y (ap₂ (contentOf l) e f)
+      go (all-new x y u w) = done x y (the-content l stampA stampB key kind value version fine A′ B′ u w (omega (arith, above)))
+      go (no-pair x y e) = lost x y (slotTop A′ B′) slot-top (broken-content l A′ B′ e)
+
+  -- a slot without a fault stays so
+  pub slot-fault : Lawful kind value → cond (isValid (lineVerdict A B)) (faultOf l A B) false ≡ false
+      → cond (isValid (lineVerdict A′ B′)) (faultOf l A′ B′) false ≡ false
+  unfolding isValid
+  slot-fault good h = go way
+    where
+      either : (x : Bool) → cond x false false ≡ false
+      either true = refl
+      either false = refl
+
+      go : Way → cond (isValid (lineVerdict A′ B′)) (faultOf l A′ B′) false ≡ false
+      go (as-was x y e f) = ap₂ (λ (S T : ℕ → ℕ). cond (isValid (lineVerdict S T)) (faultOf l S T) false) e f ∙ h
+      go (all-new x y u w) =
+          ap (λ (t : Bool). cond (isValid (lineVerdict A′ B′)) t false)
+          (the-fault l stampA stampB key kind value version fine A′ B′ u w good)
+          ∙ either (isValid (lineVerdict A′ B′))
+      go (no-pair x y e) = pick-false (isValid (lineVerdict A′ B′)) _ _ (ap isValid (verdict-broken A′ B′ e))

@@ -1,0 +1,53 @@
+-- `stores::play::any_outside` meets its contract. Assumes nothing.
+use mathlib.Core.Path.{_∙_}
+use Prim.Native.Nat.{_+_, _-_, _*_}
+use native.Mathlib.Omega.{arith}
+use lib.Dec.{ltb}
+use lib.ListN.{length, getD}
+use borrow.Author.Needs.{needs}
+use borrow.Author.Tests.{lt-ltb, le-ltb}
+use Rattle.layout.proofs.Any.{Going, any-start, any-hit, any-next, any-end, any-whole}
+use Rattle.stores.proofs.play.any_outside.Statement.{statement}
+use Rattle.stores.proofs.play.any_outside.Tie as tie
+
+abbrev Inv-loop : tie.InvT-loop
+Inv-loop len at i₀ i = Going (λ j. ltb len (8 * getD at j 0 + 8)) (length at) 0 i
+
+abbrev μ-loop : tie.MeasureT-loop
+μ-loop len at i₀ i = length at - i
+
+cast-w : tie.Need-cast-w Inv-loop μ-loop
+cast-w c = omega (arith, c .shared-slice-known .given (c .before .before .loop .i))
+
+mul-if1 : tie.Need-mul-if1 Inv-loop μ-loop
+mul-if1 c = omega (arith, c .shared-slice-known .given (c .before .before .loop .i))
+
+add-if1 : tie.Need-add-if1 Inv-loop μ-loop
+add-if1 c = omega (arith, c .shared-slice-known .given (c .before .before .loop .i))
+
+returns : tie.Need-returns Inv-loop μ-loop
+returns c = any-hit _ _ _ _ (c .before .before .before .loop .inv) (c .before .before .loop-test .taken) (lt-ltb _ _ (c .if1 .taken)) ∙ any-whole _ _
+
+loop-again : tie.Need-loop-again Inv-loop μ-loop
+loop-again c = any-next _ _ _ _ (c .before .before .before .loop .inv) (c .before .before .loop-test .taken) (le-ltb _ _ (c .if1 .left))
+
+returns-2 : tie.Need-returns-2 Inv-loop μ-loop
+returns-2 c = any-end _ _ _ _ (c .before .loop .inv) (c .loop-test .left) ∙ any-whole _ _
+
+pub any-outside-spec : {M : Type 1} → statement M
+any-outside-spec =
+    tie.close
+    (tie.spec
+    Inv-loop
+    μ-loop
+    (λ c. any-start _ _ _ (omega arith))
+    (λ c. search needs)
+    (λ c. search needs)
+    cast-w
+    mul-if1
+    add-if1
+    returns
+    (λ c. search needs)
+    (λ c. search needs)
+    loop-again
+    returns-2)

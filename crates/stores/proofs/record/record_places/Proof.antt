@@ -1,0 +1,36 @@
+-- `stores::record::record_places` meets its contract. Assumes nothing.
+use native.Mathlib.Nat.{add-zero}
+use borrow.Author.Needs.{needs}
+use Rattle.layout.specs.Range.{tabulate}
+use Rattle.stores.specs.Written.{recordPlaces}
+use Rattle.stores.proofs.record.record_places.Statement.{statement}
+use Rattle.stores.proofs.record.record_places.Tie as tie
+
+returns : tie.Need-returns
+unfolding recordPlaces tabulate
+returns c = simp add-zero
+
+pub record-places-spec : {M : Type 1} → statement M
+record-places-spec =
+    tie.close
+    (tie.spec
+    (λ c. search needs)
+    (λ c. search needs)
+    (λ c. search needs)
+    (λ c. search needs)
+    (λ c. search needs)
+    (λ c. search needs)
+    (λ c. search needs)
+    (λ c. search needs)
+    (λ c. search needs)
+    (λ c. search needs)
+    (λ c. search needs)
+    (λ c. search needs)
+    (λ c. search needs)
+    (λ c. search needs)
+    (λ c. search needs)
+    (λ c. search needs)
+    (λ c. search needs)
+    (λ c. search needs)
+    (λ c. search needs)
+    returns)

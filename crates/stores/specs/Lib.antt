@@ -1,0 +1,5 @@
+pub mod Store
+pub mod Written
+pub mod Cut
+pub mod Play
+pub mod Needs

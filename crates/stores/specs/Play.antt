@@ -1,0 +1,57 @@
+-- Play, with two counts and of a list. Document 01, "What each operation may say no to", Play. The stores are lent as word numbers and values.
+use mathlib.Core.Bool.{Bool, true, cond, not}
+use mathlib.Core.List.{List, _++_}
+use Prim.Native.Nat.{ℕ, _+_, _*_, _%_}
+use lib.Dec.{eqb, ltb}
+use lib.ListN.{length, getD, take, drop}
+use Rattle.layout.specs.Refusal.{say, unlessRefused}
+use Rattle.layout.specs.Range.{anyOf}
+use Rattle.layout.specs.Size.{slotsOf}
+use Rattle.stores.specs.Store.{Store, zipped, played}
+
+-- play's answer, a refusal's number or 0, and the bytes that it leaves
+pub record Played : Type 0 where
+  pub answer : ℕ
+  pub bytes : List ℕ
+
+-- what a call of play with this answer left
+abbrev pub playEnd : (answer : ℕ) → (bytes : List ℕ) → Played
+playEnd answer bytes = record { answer = answer; bytes = bytes }
+
+-- the half from store k on is "not words 0 to 7 of one line inside the image, in order"
+unfoldable pub halfFault : (len : ℕ) → (at : List ℕ) → (k : ℕ) → Bool
+halfFault len at k =
+    cond (not (eqb (getD at k 0 % 8) 0)) true
+    (cond (ltb len (8 * getD at k 0 + 64)) true (anyOf (λ i. not (eqb (getD at (k + i) 0) (getD at k 0 + i))) 0 8))
+
+-- 15: "either half is not words 0 to 7 of one line inside the image, in order, or both halves name one line"
+unfoldable pub halvesFault : (len : ℕ) → (at : List ℕ) → ℕ
+halvesFault len at = say (halfFault len at 0) 15 (say (halfFault len at 8) 15 (say (eqb (getD at 0 0) (getD at 8 0)) 15 0))
+
+-- "1; 14 when a count exceeds 8; 15"
+unfoldable pub playFault : (len : ℕ) → (at : List ℕ) → (a b : ℕ) → ℕ
+playFault len at a b = say (eqb (slotsOf len) 0) 1 (say (ltb 8 a) 14 (say (ltb 8 b) 14 (halvesFault len at)))
+
+-- "that many first stores of each half"
+unfoldable pub counted : (a b : ℕ) → List Store → List Store
+counted a b ss = take a ss ++ take b (drop 8 ss)
+
+unfoldable pub playResult : (image at value : List ℕ) → (a b : ℕ) → Played
+playResult image at value a b =
+    record {
+      answer = playFault (length image) at a b;
+      bytes = unlessRefused (playFault (length image) at a b) (played (counted a b (zipped at value)) image) image;
+    }
+
+-- "Given a list of stores without counts it tests only 15, here a word outside the lent bytes"; the two lists must have one length
+unfoldable pub listFault : (len : ℕ) → (at : List ℕ) → (values : ℕ) → ℕ
+listFault len at values =
+    say (not (eqb (length at) values)) 15 (say (anyOf (λ i. ltb len (8 * getD at i 0 + 8)) 0 (length at)) 15 0)
+
+-- "and then makes them all in order"
+unfoldable pub playListResult : (image at value : List ℕ) → Played
+playListResult image at value =
+    record {
+      answer = listFault (length image) at (length value);
+      bytes = unlessRefused (listFault (length image) at (length value)) (played (zipped at value) image) image;
+    }

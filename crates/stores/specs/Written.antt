@@ -1,0 +1,54 @@
+-- The 16 stores of a record for slot s, in layout l. Document 01, "How a call writes".
+use mathlib.Core.Bool.{cond}
+use mathlib.Core.List.{List, [], _∷_, _++_}
+use Prim.Native.Nat.{ℕ, zero, suc, _+_, _-_, _*_}
+use lib.Dec.{eqb, ltb}
+use lib.ListN.{length}
+use Rattle.words.specs.Word.{word}
+use Rattle.layout.specs.Range.{tabulate}
+use Rattle.layout.specs.Line.{line, firstWord, lastWord}
+use Rattle.layout.specs.Record.{keyWord, kindWord}
+use Rattle.stores.specs.Store.{Store}
+
+-- the words of a line that is written over one with this stamp: the mark, six words of the body, and the stamp
+unfoldable pub marked : (stamp version : ℕ) → (body : ℕ → ℕ) → ℕ → ℕ
+marked stamp version body i = cond (eqb i 0) (firstWord stamp) (cond (eqb i 7) (lastWord stamp version) (body i))
+
+-- words 1 to 6 of line A: the key, the kind word and the front of the value. "Value bytes past the length are zero"
+unfoldable pub bodyA : (l key kind : ℕ) → List ℕ → ℕ → ℕ
+bodyA l key kind value i =
+    cond (ltb i (l + 1)) (keyWord key (i - 1)) (cond (eqb i (l + 1)) (kindWord kind (length value)) (word value (i - (l + 2))))
+
+-- words 1 to 6 of line B: the rest of the value
+unfoldable pub bodyB : (l : ℕ) → List ℕ → ℕ → ℕ
+bodyB l value i = word value (i + 4 - l)
+
+-- all eight words of the two lines, over lines with these stamps
+abbrev pub newA : (l stamp key kind : ℕ) → List ℕ → (version : ℕ) → ℕ → ℕ
+newA l stamp key kind value version = marked stamp version (bodyA l key kind value)
+
+abbrev pub newB : (l stamp : ℕ) → List ℕ → (version : ℕ) → ℕ → ℕ
+newB l stamp value version = marked stamp version (bodyB l value)
+
+-- the word numbers and the values of the 16 stores, over lines with stamps a and b
+unfoldable pub recordPlaces : (s : ℕ) → List ℕ
+recordPlaces s = tabulate (λ i. 8 * (2 * s) + i) 0 8 ++ tabulate (λ i. 8 * (2 * s + 1) + i) 0 8
+
+unfoldable pub recordWords : (l a b key kind : ℕ) → List ℕ → (version : ℕ) → List ℕ
+recordWords l a b key kind value version =
+    tabulate (newA l a key kind value version) 0 8 ++ tabulate (newB l b value version) 0 8
+
+-- the stores of words base + k up to base + k + n - 1, in order
+unfoldable pub run : (base : ℕ) → (words : ℕ → ℕ) → (k n : ℕ) → List Store
+run base words k zero = []
+run base words k (suc n) = record { word = base + k; value = words k } ∷ run base words (suc k) n
+
+-- the stores of words 0 to 7 of line n, in order
+unfoldable pub lineStores : (n : ℕ) → (words : ℕ → ℕ) → List Store
+lineStores n words = run (8 * n) words 0 8
+
+-- "eight for line A, then eight for line B, words 0 to 7 in order"; the close bits are those that stand in the words m
+unfoldable pub recordStores : (l : ℕ) → (m : ℕ → ℕ) → (s key kind : ℕ) → List ℕ → (version : ℕ) → List Store
+recordStores l m s key kind value version =
+    lineStores (2 * s) (newA l (line m (2 * s) 7) key kind value version) ++
+    lineStores (2 * s + 1) (newB l (line m (2 * s + 1) 7) value version)

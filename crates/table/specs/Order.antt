@@ -1,0 +1,32 @@
+-- The orders in which recovery chains the slots. Document 01, "The index".
+use mathlib.Core.Bool.{_&&_}
+use mathlib.Core.List.{List, [], _∷_, _++_}
+use Prim.Native.Nat.{ℕ, zero, suc, _+_}
+use lib.Dec.{eqb}
+use Rattle.layout.specs.Content.{Content, broken, empty, put, remove}
+use Rattle.sorting.specs.Sorted.{keep, sorted}
+use Rattle.table.specs.Table.{Table, keyIn, live, spare}
+
+-- "broken slots, then empty slots, .. then the rest by rising version"
+unfoldable pub rankOf : Content → ℕ
+rankOf (broken top) = 0
+rankOf empty = 1
+rankOf (put version key value) = 2 + version
+rankOf (remove version key) = 2 + version
+
+-- 1 to n
+unfoldable pub slots : (n : ℕ) → List ℕ
+slots zero = []
+slots (suc n) = slots n ++ (suc n ∷ [])
+
+-- "should versions tie, by slot number": the sort keeps the order of the slots of one rank
+unfoldable pub ordered : Table → List ℕ → List ℕ
+ordered f xs = sorted (λ s. rankOf (f s)) xs
+
+-- "Recovery orders each head's chain by rising version": the live slots whose key belongs to head h; `head` gives a key's head
+unfoldable pub chainOf : Table → (n : ℕ) → (head : ℕ → ℕ) → (h : ℕ) → List ℕ
+chainOf f n head h = ordered f (keep (λ s. live f n s && eqb (head (keyIn (f s))) h) (slots n))
+
+-- "It orders the reuse chain": the spare slots
+unfoldable pub reuseOf : Table → (n : ℕ) → List ℕ
+reuseOf f n = ordered f (keep (spare f n) (slots n))

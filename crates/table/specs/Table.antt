@@ -1,0 +1,94 @@
+-- The table of an image, f : what each of the slots 1 to n holds. Document 01, "Which record counts" and "How a call writes".
+use mathlib.Core.Bool.{Bool, true, false, cond, not, _&&_}
+use mathlib.Core.Option.{Option, some, none}
+use mathlib.Core.List.{List}
+use Prim.Native.Nat.{ℕ, zero, suc, _-_, max}
+use lib.Dec.{eqb, ltb}
+use Rattle.layout.specs.Range.{anyOf}
+use Rattle.layout.specs.Content.{Content, broken, empty, put, remove, topOf}
+
+abbrev pub Table : Type 0
+Table = ℕ → Content
+
+-- does the slot's record count: is the slot valid?
+unfoldable pub counts : Content → Bool
+counts (broken top) = false
+counts empty = false
+counts (put version key value) = true
+counts (remove version key) = true
+
+-- the key of a record
+unfoldable pub keyIn : Content → ℕ
+keyIn (broken top) = 0
+keyIn empty = 0
+keyIn (put version key value) = key
+keyIn (remove version key) = key
+
+-- one more than the version of a record of key k that counts; 0 for any other content
+unfoldable pub weight : (k : ℕ) → Content → ℕ
+weight k (broken top) = 0
+weight k empty = 0
+weight k (put version key value) = cond (eqb key k) (suc version) 0
+weight k (remove version key) = cond (eqb key k) (suc version) 0
+
+-- the greatest of g 1 to g n, 0 if n is 0
+unfoldable pub greatest : (g : ℕ → ℕ) → (n : ℕ) → ℕ
+greatest g zero = 0
+greatest g (suc n) = max (greatest g n) (g (suc n))
+
+-- the first of 1 to n at which g is greatest, 0 where g is 0 at all of them
+unfoldable pub topmost : (g : ℕ → ℕ) → (n : ℕ) → ℕ
+topmost g zero = 0
+topmost g (suc n) = cond (ltb (greatest g n) (g (suc n))) (suc n) (topmost g n)
+
+-- how many of 1 to n pass a test
+unfoldable pub count : (p : ℕ → Bool) → (n : ℕ) → ℕ
+count p zero = 0
+count p (suc n) = cond (p (suc n)) (suc (count p n)) (count p n)
+
+-- "The next version is one more than the highest version on any whole line of slots 1 to N, lines of broken slots included; with no line whole it is 1"
+unfoldable pub nextVersion : Table → (n : ℕ) → ℕ
+nextVersion f n = suc (greatest (λ s. topOf (f s)) n)
+
+-- "For each key the valid slot with the greatest version decides": that slot, 0 if there is none
+unfoldable pub decider : Table → (n k : ℕ) → ℕ
+decider f n k = topmost (λ s. weight k (f s)) n
+
+-- "a put gives the value, a remove means absent"
+unfoldable pub valueIn : Content → Option (List ℕ)
+valueIn (broken top) = none
+valueIn empty = none
+valueIn (put version key value) = some value
+valueIn (remove version key) = none
+
+unfoldable pub valueAt : Table → ℕ → Option (List ℕ)
+valueAt f zero = none
+valueAt f (suc s) = valueIn (f (suc s))
+
+-- the map of the slots
+unfoldable pub mapOf : Table → (n k : ℕ) → Option (List ℕ)
+mapOf f n k = valueAt f (decider f n k)
+
+unfoldable pub decidingPut : Table → (n s : ℕ) → Content → Bool
+decidingPut f n s (broken top) = false
+decidingPut f n s empty = false
+decidingPut f n s (put version key value) = eqb (decider f n key) s
+decidingPut f n s (remove version key) = false
+
+-- "Such a deciding put is live; all other slots are spare"
+unfoldable pub live : Table → (n s : ℕ) → Bool
+live f n s = decidingPut f n s (f s)
+
+unfoldable pub spare : Table → (n s : ℕ) → Bool
+spare f n s = not (live f n s)
+
+unfoldable pub liveCount : Table → (n : ℕ) → ℕ
+liveCount f n = count (live f n) n
+
+-- "7 when two valid slots share a version"
+unfoldable pub sharedVersion : Table → (n : ℕ) → Bool
+sharedVersion f n = anyOf (λ s. anyOf (λ t. counts (f s) && (counts (f t) && eqb (topOf (f s)) (topOf (f t)))) 1 (s - 1)) 1 n
+
+-- "8 when all N slots are live"
+unfoldable pub allLive : Table → (n : ℕ) → Bool
+allLive f n = eqb (liveCount f n) n

@@ -1,0 +1,1 @@
+// The table of an image: one content for each slot. Definitions alone.

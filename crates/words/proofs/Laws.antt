@@ -1,0 +1,143 @@
+-- Words and bytes: a word after a store (the same, another, length, range), and the bytes of a word. Assumes nothing.
+use mathlib.Core.Path.{_≡_, refl, ap, sym, _∙_}
+use mathlib.Core.List.{List, [], _∷_}
+use mathlib.Core.Logic.{_≢_, by-cases}
+use Prim.Native.Nat.{ℕ, zero, suc, _+_, _*_, _/_, _%_, _^_, _≤_, _<_}
+use native.Mathlib.Nat.{div-add-mod, pow-suc, pow-succ', div-one, div-lt-iff-lt-mul, div-div-eq-div-mul, mod-lt, zero-lt-suc}
+use native.Mathlib.Decide.{decLt, ℕ-discrete}
+use native.Mathlib.Omega.{arith}
+use lib.ListN.{length, getD, set, length-set}
+use lib.Seq.{getD-set-same, getD-set-other, set-out}
+use Rattle.words.specs.Word.{AreBytes, joined, word, setWord}
+
+-- the number of the n bytes from a on
+abbrev from : ℕ → List ℕ → ℕ → ℕ
+from zero s a = 0
+from (suc n) s a = getD s a 0 + 256 * from n s (suc a)
+
+-- the n bytes from a on become those of v
+abbrev into : ℕ → List ℕ → ℕ → ℕ → List ℕ
+into zero s a v = s
+into (suc n) s a v = into n (set s a (v % 256)) (suc a) (v / 256)
+
+into-length : (n : ℕ) (s : List ℕ) (a v : ℕ) → length (into n s a v) ≡ length s
+into-length zero s a v = refl
+into-length (suc n) s a v = into-length n (set s a (v % 256)) (suc a) (v / 256) ∙ length-set s a (v % 256)
+
+into-other : (n : ℕ) (s : List ℕ) (a v k : ℕ) → (a ≤ k → k < a + n → ⊥) → getD (into n s a v) k 0 ≡ getD s k 0
+into-other zero s a v k h = refl
+into-other (suc n) s a v k h =
+    into-other n (set s a (v % 256)) (suc a) (v / 256) k (λ p q. h (omega arith) (omega arith))
+    ∙ getD-set-other s a k (v % 256) 0 (λ e. h (omega arith) (omega arith))
+
+from-same : (n : ℕ) (s t : List ℕ) (a : ℕ) → ((k : ℕ) → a ≤ k → k < a + n → getD s k 0 ≡ getD t k 0) → from n s a ≡ from n t a
+from-same zero s t a h = refl
+from-same (suc n) s t a h =
+    let e : getD s a 0 ≡ getD t a 0 = h a (omega arith) (omega arith) in
+    let f : from n s (suc a) ≡ from n t (suc a) = from-same n s t (suc a) (λ k p q. h k (omega arith) (omega arith)) in
+    omega arith
+
+from-into : (n : ℕ) (s : List ℕ) (a v : ℕ) → a + n ≤ length s → v < 256 ^ n → from n (into n s a v) a ≡ v
+from-into zero s a v h b = omega arith
+from-into (suc n) s a v h b =
+    let t : List ℕ = set s a (v % 256) in
+    let e : getD (into n t (suc a) (v / 256)) a 0 ≡ v % 256 =
+    into-other n t (suc a) (v / 256) a (λ p q. omega arith) ∙ getD-set-same s a (v % 256) 0 (omega arith)
+    in
+    let q : v / 256 < 256 ^ n = div-lt-iff-lt-mul {k = 256} {x = v} {y = 256 ^ n} (omega arith) .1 (rw pow-suc at b) in
+    let f : from n (into n t (suc a) (v / 256)) (suc a) ≡ v / 256 =
+    from-into n t (suc a) (v / 256) (omega (arith, length-set s a (v % 256))) q
+    in
+    omega (arith, div-add-mod v 256)
+
+-- the unary successors of an offset, which the recursions above count by
+sucs : (a : ℕ)
+    → (a + 1 ≡ suc a) × (a + 2 ≡ suc (suc a)) × (a + 3 ≡ suc (suc (suc a))) × (a + 4 ≡ suc (suc (suc (suc a))))
+    × (a + 5 ≡ suc (suc (suc (suc (suc a))))) × (a + 6 ≡ suc (suc (suc (suc (suc (suc a))))))
+    × (a + 7 ≡ suc (suc (suc (suc (suc (suc (suc a)))))))
+sucs a = (omega arith, omega arith, omega arith, omega arith, omega arith, omega arith, omega arith)
+
+word-from : (s : List ℕ) (i : ℕ) → word s i ≡ from 8 s (8 * i)
+unfolding word
+word-from s i =
+    let e = sucs (8 * i) in
+    rw (e .0, e .1, e .2, e .3, e .4, e .5, e .6) (omega arith)
+
+setWord-into : (s : List ℕ) (i v : ℕ) → setWord s i v ≡ into 8 s (8 * i) v
+unfolding setWord
+setWord-into s i v =
+    let e = sucs (8 * i) in
+    simp (div-div-eq-div-mul, e .0, e .1, e .2, e .3, e .4, e .5, e .6)
+
+-- a store keeps the length
+pub setWord-length : (s : List ℕ) (i v : ℕ) → length (setWord s i v) ≡ length s
+setWord-length s i v = ap length (setWord-into s i v) ∙ into-length 8 s (8 * i) v
+
+-- the stored word is read back
+pub word-same : (s : List ℕ) (i v : ℕ) → 8 * i + 8 ≤ length s → v < 2 ^ 64 → word (setWord s i v) i ≡ v
+word-same s i v h b =
+    word-from (setWord s i v) i ∙ ap (λ (t : List ℕ). from 8 t (8 * i)) (setWord-into s i v) ∙ from-into 8 s (8 * i) v h b
+
+-- any other word stays
+pub word-other : (s : List ℕ) (i j v : ℕ) → j ≢ i → word (setWord s i v) j ≡ word s j
+word-other s i j v ne =
+    word-from (setWord s i v) j ∙ ap (λ (t : List ℕ). from 8 t (8 * j)) (setWord-into s i v)
+    ∙ from-same 8 (into 8 s (8 * i) v) s (8 * j)
+    (λ k p q. into-other 8 s (8 * i) v k (λ x y. absurd (ne (between i j k p q x y))))
+    ∙ sym (word-from s j)
+  where
+    between : (i j k : ℕ) → 8 * j ≤ k → k < 8 * j + 8 → 8 * i ≤ k → k < 8 * i + 8 → j ≡ i
+    between i j k p q x y = omega arith
+
+-- a word of bytes is below 2 ^ 64
+pub word-range : (s : List ℕ) (i : ℕ) → AreBytes s → word s i < 2 ^ 64
+unfolding word
+word-range s i h =
+    omega
+    (arith, h (8 * i), h (8 * i + 1), h (8 * i + 2), h (8 * i + 3), h (8 * i + 4), h (8 * i + 5), h (8 * i + 6), h (8 * i + 7))
+
+-- ---- bytes stay bytes
+
+set-bytes : (s : List ℕ) (i v : ℕ) → AreBytes s → v < 256 → AreBytes (set s i v)
+set-bytes s i v h b k =
+    by-cases (ℕ-discrete k i)
+    (λ e.
+    by-cases (decLt i (length s))
+    (λ p. rw e (omega (arith, getD-set-same s i v 0 p)))
+    (λ p. omega (arith, ap (λ (t : List ℕ). getD t k 0) (set-out s i v (omega arith)), h k)))
+    (λ ne. omega (arith, getD-set-other s i k v 0 ne, h k))
+
+into-bytes : (n : ℕ) (s : List ℕ) (a v : ℕ) → AreBytes s → AreBytes (into n s a v)
+into-bytes zero s a v h = h
+into-bytes (suc n) s a v h =
+    into-bytes n (set s a (v % 256)) (suc a) (v / 256) (set-bytes s a (v % 256) h (mod-lt v (zero-lt-suc 255)))
+
+pub setWord-bytes : (s : List ℕ) (i v : ℕ) → AreBytes s → AreBytes (setWord s i v)
+setWord-bytes s i v h = rw setWord-into (into-bytes 8 s (8 * i) v h)
+
+-- ---- the bytes of a word
+
+from-head : (n : ℕ) (s : List ℕ) (a : ℕ) → getD s a 0 < 256 → from (suc n) s a % 256 ≡ getD s a 0
+from-head n s a h = omega arith
+
+from-tail : (n : ℕ) (s : List ℕ) (a : ℕ) → getD s a 0 < 256 → from (suc n) s a / 256 ≡ from n s (suc a)
+from-tail n s a h = omega arith
+
+digit : (n j : ℕ) (s : List ℕ) (a : ℕ) → AreBytes s → j < n → from n s a / 256 ^ j % 256 ≡ getD s (a + j) 0
+digit zero j s a b h = absurd (omega arith)
+digit (suc n) zero s a b h =
+    ap (λ (x : ℕ). x % 256) (div-one (from (suc n) s a)) ∙ from-head n s a (b a) ∙ ap (λ (x : ℕ). getD s x 0) (omega arith)
+digit (suc n) (suc j) s a b h =
+    ap (λ (x : ℕ). from (suc n) s a / x % 256) (pow-succ' 256 j)
+    ∙ ap (λ (x : ℕ). x % 256) (sym (div-div-eq-div-mul (from (suc n) s a) 256 (256 ^ j)))
+    ∙ ap (λ (x : ℕ). x / 256 ^ j % 256) (from-tail n s a (b a))
+    ∙ digit n j s (suc a) b (omega arith) ∙ ap (λ (x : ℕ). getD s x 0) (omega arith)
+
+-- byte j of word i is byte 8 i + j
+pub word-digit : (s : List ℕ) (i j : ℕ) → AreBytes s → j < 8 → word s i / 256 ^ j % 256 ≡ getD s (8 * i + j) 0
+word-digit s i j b h = ap (λ (x : ℕ). x / 256 ^ j % 256) (word-from s i) ∙ digit 8 j s (8 * i) b h
+
+-- byte k stands in word k / 8
+pub word-byte : (s : List ℕ) (k : ℕ) → AreBytes s → word s (k / 8) / 256 ^ (k % 8) % 256 ≡ getD s k 0
+word-byte s k b =
+    word-digit s (k / 8) (k % 8) b (mod-lt k (zero-lt-suc 7)) ∙ ap (λ (x : ℕ). getD s x 0) (div-add-mod k 8)

@@ -1,0 +1,32 @@
+-- `words::padded_word` meets its contract. Assumes nothing.
+use borrow.Author.Needs.{needs}
+use Rattle.words.specs.Word.{word}
+use Rattle.words.proofs.padded_word.Statement.{statement}
+use Rattle.words.proofs.padded_word.Tie as tie
+
+returns : tie.Need-returns
+unfolding word
+returns c = search needs
+
+pub padded-word-spec : {M : Type 1} → statement M
+padded-word-spec =
+    tie.close
+    (tie.spec
+    (λ c. search needs)
+    (λ c κs. search needs)
+    (λ c. search needs)
+    (λ c κs. search needs)
+    (λ c. search needs)
+    (λ c κs. search needs)
+    (λ c. search needs)
+    (λ c κs. search needs)
+    (λ c. search needs)
+    (λ c κs. search needs)
+    (λ c. search needs)
+    (λ c κs. search needs)
+    (λ c. search needs)
+    (λ c κs. search needs)
+    (λ c. search needs)
+    (λ c κs. search needs)
+    (λ c κs. search needs)
+    returns)
