@@ -2,3 +2,4 @@ pub mod Index
 pub mod Walk
 pub mod Change
 pub mod Chained
+pub mod Parts

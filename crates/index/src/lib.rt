@@ -1,4 +1,7 @@
 // The index: chains of slots in two lent slices of numbers, and a state beside them.
+pub mod change;
+pub mod fault;
+pub mod search;
 
 // The reuse chain's first and last slot, the live count and the next version.
 pub struct State {

@@ -18,6 +18,7 @@ use Rattle.index.specs.Change.{putNew, putHeld, removeHeld, roomFault, versionF
 use Rattle.index.specs.declared.State.{State}
 use Rattle.index.specs.declared.Found.{Found}
 use Rattle.index.specs.declared.Found.the-variants.{At, Absent, Broken}
+use Rattle.orderset.specs.declared.Change.{Change}
 use Rattle.orderset.specs.declared.Outcome.{Outcome}
 use Rattle.orderset.specs.declared.Outcome.the-variants.{Stored, Absent as NotHeld, Refused}
 
@@ -34,6 +35,17 @@ unfoldable pub changeSays : Outcome → Answer
 changeSays (Stored slot version) = gives (slot ∷ version ∷ [])
 changeSays NotHeld = absent
 changeSays (Refused number) = refused number
+
+-- what a call of put or remove with this answer left
+abbrev pub changeEnd : Change → (heads next : List ℕ) → ChangeResult
+changeEnd r heads next =
+    record {
+      answer = changeSays (r .outcome);
+      state = r .state;
+      stores = zipped (r .stores .at) (r .stores .value);
+      heads = heads;
+      next = next;
+    }
 
 -- the stores of a call that stores nothing: zeros
 unfoldable pub noStores : List Store
@@ -84,10 +96,14 @@ putResult l image heads next s key value =
 
 -- ---- remove
 
--- the refusals after 1, 2, 3 and 4: 11 (chain); "then, if the key is not held, the plain answer absent"; then "9, 11 (reuse, or a live count of zero)"
-unfoldable pub removeChecks : Found → (next : List ℕ) → (n : ℕ) → State → ℕ
-removeChecks (At old prev compared) next n s =
+-- "9, 11 (reuse, or a live count of zero)"
+unfoldable pub heldChecks : (next : List ℕ) → (n : ℕ) → State → ℕ
+heldChecks next n s =
     orElse (versionFault (s .version)) (orElse (reuseFault next n (s .first) (s .last)) (say (eqb (s .live) 0) 11 0))
+
+-- the refusals after 1, 2, 3 and 4: 11 (chain); "then, if the key is not held, the plain answer absent"; then as above
+unfoldable pub removeChecks : Found → (next : List ℕ) → (n : ℕ) → State → ℕ
+removeChecks (At old prev compared) next n s = heldChecks next n s
 removeChecks (Absent prev compared) next n s = 0
 removeChecks Broken next n s = 11
 

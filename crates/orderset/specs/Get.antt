@@ -25,14 +25,21 @@ getSays (Length n) = gives (n ∷ [])
 getSays NotHeld = absent
 getSays (Refused number) = refused number
 
+-- what a call of get with this answer left
+abbrev pub getEnd : Got → (out : List ℕ) → GetResult
+getEnd r out = record { answer = getSays r; out = out }
+
 -- the length of the value in slot s
 abbrev pub slotLength : (l : ℕ) → (image : List ℕ) → ℕ → ℕ
 slotLength l image s = lengthOf (lineA (word image) s (l + 1))
 
--- "11 (chain); then the plain answer absent; 6 when the slot's length byte exceeds 80; 13 when the lent output is shorter than the value"
+-- "6 when the slot's length byte exceeds 80; 13 when the lent output is shorter than the value"
+unfoldable pub lengthChecks : (l length size : ℕ) → ℕ
+lengthChecks l length size = say (ltb (limit l) length) 6 (say (ltb size length) 13 0)
+
+-- "11 (chain); then the plain answer absent"; then 6 and 13
 unfoldable pub getChecks : (l : ℕ) → (image : List ℕ) → (size : ℕ) → Found → ℕ
-getChecks l image size (At slot prev compared) =
-    say (ltb (limit l) (slotLength l image slot)) 6 (say (ltb size (slotLength l image slot)) 13 0)
+getChecks l image size (At slot prev compared) = lengthChecks l (slotLength l image slot) size
 getChecks l image size (Absent prev compared) = 0
 getChecks l image size Broken = 11
 

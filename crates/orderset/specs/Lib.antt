@@ -1,3 +1,4 @@
 pub mod Format
 pub mod Change
 pub mod Get
+pub mod Plan

@@ -1,6 +1,10 @@
 // The public calls of the set.
+mod calls;
 pub mod format;
+pub mod get;
 pub mod play;
+pub mod put;
+pub mod remove;
 
 use index::State;
 use stores::Stores;
@@ -30,4 +34,18 @@ pub enum Got {
     Length(usize),
     Absent,
     Refused(u32),
+}
+
+// What a put or a remove is to do: refuse, write a key that is not held (prev is the last slot of its chain), or write one that is (old follows prev).
+pub enum Plan {
+    Refuse(u32),
+    New { prev: u32 },
+    Held { prev: u32, old: u32 },
+}
+
+// What a get is to do: refuse, answer absent, or hand out the value of a slot.
+pub enum Reading {
+    Refuse(u32),
+    Nothing,
+    Value { slot: u32, length: usize },
 }

@@ -4,11 +4,8 @@ use Rattle.words.specs.Word.{word}
 use Rattle.words.proofs.padded_word.Statement.{statement}
 use Rattle.words.proofs.padded_word.Tie as tie
 
-returns : tie.Need-returns
-unfolding word
-returns c = search needs
-
 pub padded-word-spec : {M : Type 1} → statement M
+unfolding word
 padded-word-spec =
     tie.close
     (tie.spec
@@ -29,4 +26,4 @@ padded-word-spec =
     (λ c. search needs)
     (λ c κs. search needs)
     (λ c κs. search needs)
-    returns)
+    (λ c. search needs))

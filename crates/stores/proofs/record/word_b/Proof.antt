@@ -4,9 +4,6 @@ use Rattle.stores.specs.Written.{bodyB}
 use Rattle.stores.proofs.record.word_b.Statement.{statement}
 use Rattle.stores.proofs.record.word_b.Tie as tie
 
-returns : tie.Need-returns
-unfolding bodyB
-returns c = search needs
-
 pub word-b-spec : {M : Type 1} → statement M
-word-b-spec = tie.close (tie.spec (λ c. search needs) (λ c. search needs) (λ c κs. search needs) returns)
+unfolding bodyB
+word-b-spec = tie.close (tie.spec (λ c. search needs) (λ c. search needs) (λ c κs. search needs) (λ c. search needs))

@@ -1,0 +1,3 @@
+pub mod Walks
+pub mod Faults
+pub mod Writes

@@ -1,0 +1,126 @@
+-- The parts make up the definitions, and the three calls' changes from what the functions on the way ensure. Assumes nothing.
+use mathlib.Core.Path.{_≡_, refl, sym, ap, _∙_}
+use mathlib.Core.Logic.{by-cases}
+use mathlib.Core.List.{List}
+use Prim.Native.Nat.{ℕ, zero, suc, _+_, _-_, _<_}
+use native.Mathlib.Decide.{decLt}
+use native.Mathlib.Omega.{arith}
+use lib.ListN.{length, getD, set}
+use borrow.Author.Tests.{eq-eqb, ne-eqb}
+use Rattle.index.specs.Index.{Index, reuse, head, indexOf, setNext, setStart, setLast, link}
+use Rattle.index.specs.Change.{take, append, linkNew, putNew, putHeld, removeHeld}
+use Rattle.index.specs.Parts.{Holds, linkHeads, linkNext, takeState, appendNext, appendState}
+use Rattle.index.specs.declared.State.{State}
+
+-- ---- what the parts keep of a state
+
+pub taken-last : (next : List ℕ) (s t : State) → t ≡ takeState next s → s .last < length next → t .last < length next
+unfolding takeState
+taken-last next s t e h =
+    rw e
+    (by-cases (decLt 0 (getD next (s .first) 0)) (λ k. rw (ne-eqb (getD next (s .first) 0) 0 (λ e. omega arith)) h)
+    (λ k. rw (eq-eqb (getD next (s .first) 0) 0 (omega arith)) (omega arith)))
+
+pub taken-live : (next : List ℕ) (s t : State) → t ≡ takeState next s → t .live ≡ s .live
+unfolding takeState
+taken-live next s t e = ap (λ (u : State). u .live) e
+
+pub taken-version : (next : List ℕ) (s t : State) → t ≡ takeState next s → t .version ≡ s .version
+unfolding takeState
+taken-version next s t e = ap (λ (u : State). u .version) e
+
+pub append-last : (s t : State) (slot : ℕ) → t ≡ appendState s slot → t .last ≡ slot
+unfolding appendState
+append-last s t slot e = ap (λ (u : State). u .last) e
+
+pub append-live : (s t : State) (slot : ℕ) → t ≡ appendState s slot → t .live ≡ s .live
+unfolding appendState
+append-live s t slot e = ap (λ (u : State). u .live) e
+
+pub append-version : (s t : State) (slot : ℕ) → t ≡ appendState s slot → t .version ≡ s .version
+unfolding appendState
+append-version s t slot e = ap (λ (u : State). u .version) e
+
+-- ---- the parts make up take, link and append
+
+pub index-take : (heads next : List ℕ) (s : State) → take (indexOf heads next s) ≡ indexOf heads next (takeState next s)
+unfolding take takeState setLast setStart
+index-take heads next s = refl
+
+pub index-link : (heads next : List ℕ) (s : State) (h prev slot : ℕ)
+    → link (indexOf heads next s) (head h) prev slot ≡ indexOf (linkHeads heads h prev slot) (linkNext next prev slot) s
+unfolding link linkHeads linkNext setNext setStart
+index-link heads next s h zero slot = refl
+index-link heads next s h (suc p) slot = rw (ne-eqb (suc p) 0 (λ e. omega arith))
+
+end-link : (heads next : List ℕ) (first last prev slot : ℕ) (live version : ℕ) → prev ≡ last
+    → setLast (link (record { heads = heads; next = next; first = first; last = last }) reuse prev slot) slot
+    ≡ indexOf heads (linkNext next prev slot) (appendState (record { first = first; last = prev; live = live; version = version }) slot)
+unfolding link linkNext setNext setStart setLast appendState
+end-link heads next first last zero slot live version e = refl
+end-link heads next first last (suc p) slot live version e = rw (ne-eqb (suc p) 0 (λ e. omega arith))
+
+pub index-append : (heads next : List ℕ) (s : State) (slot : ℕ)
+    → append (indexOf heads next s) slot ≡ indexOf heads (appendNext next s slot) (appendState s slot)
+unfolding append appendNext setNext
+index-append heads next s slot =
+    end-link heads (set next slot 0) (s .first) (s .last) (s .last) slot (s .live) (s .version) refl
+
+-- ---- the calls' changes
+
+module _ (heads next : List ℕ) (s rest : State) (h prev : ℕ) (er : rest ≡ takeState next s) where
+  took : take (indexOf heads next s) ≡ indexOf heads next rest
+  took = index-take heads next s ∙ ap (indexOf heads next) (sym er)
+
+  pub put-new : (heads′ next′ : List ℕ) → heads′ ≡ linkHeads heads h prev (s .first)
+      → next′ ≡ linkNext (set next (s .first) 0) prev (s .first)
+      → Holds heads′ next′ (record { first = rest .first; last = rest .last; live = rest .live + 1; version = rest .version + 1 })
+      (putNew (indexOf heads next s) h prev) (s .live + 1) (s .version + 1)
+  unfolding putNew linkNew setNext
+  put-new heads′ next′ eh en =
+      record {
+        index =
+            sym
+            (ap (λ (i : Index). link (setNext i (s .first) 0) (head h) prev (s .first)) took
+            ∙ index-link heads (set next (s .first) 0) rest h prev (s .first) ∙ cc);
+        live-count = omega (arith, taken-live next s rest er);
+        next-version = omega (arith, taken-version next s rest er);
+      }
+
+  module _
+      (old : ℕ) (heads′ next₁ next₂ : List ℕ) (back : State) (eb : back ≡ appendState rest old)
+      (en : next₂ ≡ appendNext next₁ rest old) where
+    pub put-held : heads′ ≡ linkHeads heads h prev (s .first)
+        → next₁ ≡ linkNext (set next (s .first) (getD next old 0)) prev (s .first)
+        → Holds heads′ next₂ (record { first = back .first; last = back .last; live = back .live; version = back .version + 1 })
+        (putHeld (indexOf heads next s) h prev old) (s .live) (s .version + 1)
+    unfolding putHeld linkNew setNext
+    put-held eh e₁ =
+        record {
+          index =
+              sym
+              (ap (λ (i : Index). append (link (setNext i (s .first) (getD (i .next) old 0)) (head h) prev (s .first)) old) took
+              ∙ ap (λ (i : Index). append i old) (index-link heads (set next (s .first) (getD next old 0)) rest h prev (s .first))
+              ∙ index-append _ _ rest old ∙ cc);
+          live-count = append-live rest back old eb ∙ taken-live next s rest er;
+          next-version = omega (arith, append-version rest back old eb, taken-version next s rest er);
+        }
+
+    pub remove-held : (next₃ : List ℕ) (all : State) → heads′ ≡ linkHeads heads h prev (getD next old 0)
+        → next₁ ≡ linkNext next prev (getD next old 0) → all ≡ appendState back (s .first) → next₃ ≡ appendNext next₂ back (s .first)
+        → Holds heads′ next₃ (record { first = all .first; last = all .last; live = all .live - 1; version = all .version + 1 })
+        (removeHeld (indexOf heads next s) h prev old) (s .live - 1) (s .version + 1)
+    unfolding removeHeld
+    remove-held next₃ all eh e₁ ea e₃ =
+        record {
+          index =
+              sym
+              (ap (λ (i : Index). append (append (link i (head h) prev (getD (i .next) old 0)) old) (s .first)) took
+              ∙ ap (λ (i : Index). append (append i old) (s .first)) (index-link heads next rest h prev (getD next old 0))
+              ∙ ap (λ (i : Index). append i (s .first)) (index-append _ _ rest old)
+              ∙ index-append _ _ (appendState rest old) (s .first) ∙ cc);
+          live-count =
+              omega (arith, append-live back all (s .first) ea, append-live rest back old eb, taken-live next s rest er);
+          next-version =
+              omega (arith, append-version back all (s .first) ea, append-version rest back old eb, taken-version next s rest er);
+        }

@@ -1,0 +1,39 @@
+-- What is lent and not refused: its sizes. Assumes nothing.
+use mathlib.Core.Path.{_≡_, sym}
+use mathlib.Core.List.{List}
+use Prim.Native.Nat.{ℕ, _+_, _≤_}
+use native.Mathlib.Omega.{arith}
+use lib.ListN.{length}
+use borrow.Author.Tests.{ltb-false, eqb-true, eqb-false, not-false}
+use Rattle.layout.specs.Size.{slotsOf}
+use Rattle.layout.specs.Header.{imageFault, indexFault, lentFault}
+use Rattle.layout.proofs.Refusals.{say-zero, orElse-zero}
+use Rattle.layout.proofs.Size.{Long, long}
+use Rattle.index.specs.Parts.{Sized}
+
+image-long : (l : ℕ) (image : List ℕ) → imageFault l image ≡ 0 → Long (length image)
+unfolding imageFault
+image-long l image e = long (length image) (eqb-false (slotsOf (length image)) 0 (say-zero _ _ _ e (omega arith) .0))
+
+index-sized : (n heads next : ℕ) → indexFault n heads next ≡ 0 → (1 ≤ heads) × (next ≡ n + 1)
+unfolding indexFault
+index-sized n heads next e =
+    let a = say-zero _ _ _ e (omega arith) in
+    let b = say-zero _ _ _ (a .1) (omega arith) in
+    let c = say-zero _ _ _ (b .1) (omega arith) in
+    (ltb-false heads 1 (a .0), eqb-true next (n + 1) (not-false _ (c .0)))
+
+pub lent-sized : (l : ℕ) (image heads next : List ℕ) (n : ℕ) → n ≡ slotsOf (length image)
+    → lentFault l image (length heads) (length next) ≡ 0 → Sized image heads next n
+unfolding lentFault
+lent-sized l image heads next n e z =
+    let a = orElse-zero _ _ z in
+    let i = image-long l image (a .0) in
+    let x = index-sized (slotsOf (length image)) (length heads) (length next) (a .1) in
+    record {
+      slots = sym e;
+      image-size = omega (arith, e, i .size);
+      next-size = omega (arith, e, x .1);
+      some-head = x .0;
+      few = omega (arith, e, i .high);
+    }
