@@ -1,3 +1,17 @@
 pub mod Walks
 pub mod Faults
 pub mod Writes
+pub mod Runs
+pub mod Owners
+pub mod Links
+pub mod Moves
+pub mod Calls
+pub mod Count
+pub mod Searches
+pub mod Builds
+pub mod Sits
+pub mod Tally
+pub mod Linked
+pub mod Pushes
+pub mod Chained
+pub mod Lents

@@ -3,3 +3,7 @@ pub mod Walk
 pub mod Change
 pub mod Chained
 pub mod Parts
+pub mod Linked
+pub mod Build
+pub mod Sought
+pub mod Tally

@@ -1,4 +1,5 @@
 // The index: chains of slots in two lent slices of numbers, and a state beside them.
+pub mod build;
 pub mod change;
 pub mod fault;
 pub mod search;

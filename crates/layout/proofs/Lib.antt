@@ -7,3 +7,4 @@ pub mod Verdicts
 pub mod Records
 pub mod Keys
 pub mod Content
+pub mod Tails

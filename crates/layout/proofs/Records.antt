@@ -100,6 +100,17 @@ within l kind clear =
     let bits-fine = or-none (leb 65536 kind) _ (kind-fine .1) in
     ltb-false (limit l) (lengthOf kind) (or-none (ltb (limit l) (lengthOf kind)) _ (bits-fine .1) .0)
 
+-- ---- value_word
+
+module _ (m : ℕ → ℕ) (l s i r : ℕ) (low : 1 ≤ l) (high : l ≤ 2) (h : l + i < 11) where
+  pub word-in-a : l + 2 + i < 7 → r ≡ m (16 * s + l + 2 + i) → r ≡ valueWord l (lineA m s) (lineB m s) i
+  unfolding valueWord
+  word-in-a p e = e ∙ ap m (omega arith) ∙ sym (pick-true (ltb (l + 2 + i) 7) _ _ (lt-ltb (l + 2 + i) 7 p))
+
+  pub word-in-b : 7 ≤ l + 2 + i → r ≡ m (16 * s + 4 + l + i) → r ≡ valueWord l (lineA m s) (lineB m s) i
+  unfolding valueWord
+  word-in-b p e = e ∙ ap m (omega arith) ∙ sym (pick-false (ltb (l + 2 + i) 7) _ _ (le-ltb (l + 2 + i) 7 p))
+
 -- ---- record_fault: kind is the kind word, and t says whether it is a fault by itself
 
 module _ (l : ℕ) (A B : ℕ → ℕ) (kind : ℕ) (e : kind ≡ A (l + 1)) (t : Bool) (f : t ≡ wordFault l kind) where

@@ -5,7 +5,7 @@ ghost use Prim.Native.Nat.{ℕ, _+_, _*_, _<_, _≤_};
 ghost use lib.ListN.{length, drop};
 ghost use Rattle.words.specs.Word.{word};
 ghost use Rattle.layout.specs.Line.{lineA, lineB};
-ghost use Rattle.layout.specs.Record.{keyOf, kindOf, lengthOf, limit, valueByte, valueFront};
+ghost use Rattle.layout.specs.Record.{keyOf, kindOf, lengthOf, limit, valueWord, valueByte, valueFront};
 ghost use Rattle.layout.specs.Fault.{kindFault, wordFault, tailFault, faultOf};
 ghost use Rattle.layout.specs.Inside.{Inside};
 use words::read_word;
@@ -98,18 +98,32 @@ fn word_fault(l: u64, word: u64) -> bool
     false
 }
 
-// Is a byte of the value from place size on not zero?
+// Word i of the value in slot s.
+fn value_word(image: &[u8], l: usize, s: usize, i: usize) -> u64
+    requires { ⌜ Inside (now image) l s × (l + i < 11) ⌝ }
+    ensures { λ r. ⌜ r ≡ valueWord l (lineA (word (now (image .entry))) s) (lineB (word (now (image .entry))) s) i ⌝ }
+{
+    if l + 2 + i < 7 {
+        return read_word(image, 16 * s + l + 2 + i);
+    }
+    read_word(image, 16 * s + 4 + l + i)
+}
+
+// Is a byte of the value from place size on not zero? Word by word, the first one from place size % 8 on.
 fn tail_fault(image: &[u8], l: usize, s: usize, size: usize) -> bool
     requires { ⌜ Inside (now image) l s × (size ≤ limit l) ⌝ }
     ensures { λ r. ⌜ r ≡ tailFault l (lineA (word (now (image .entry))) s) (lineB (word (now (image .entry))) s) size ⌝ }
 {
-    let end = 88 - 8 * l;
-    let mut k = size;
-    while k < end {
-        if value_byte(image, l, s, k) != 0 {
+    let words = 11 - l;
+    let mut i = size / 8;
+    let mut bits: u64 = 8 * ((size % 8) as u64);
+    while i < words {
+        let w = value_word(image, l, s, i);
+        if w >> bits != 0 {
             return true;
         }
-        k += 1;
+        bits = 0;
+        i += 1;
     }
     false
 }

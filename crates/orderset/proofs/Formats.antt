@@ -1,25 +1,34 @@
 -- The bytes that format leaves: the clear loop, format's result, and a formatted image: its words, its header and its table. Assumes nothing.
 use mathlib.Core.Path.{_≡_, refl, sym, ap, ap₂, _∙_}
-use mathlib.Core.Bool.{not}
+use mathlib.Core.Bool.{true, false, cond, not}
 use mathlib.Core.List.{List, [], _∷_, _++_, append-nil}
-use Prim.Native.Nat.{ℕ, zero, suc, _+_, _^_, _≤_, _<_}
+use Prim.Native.Nat.{ℕ, zero, suc, _+_, _*_, _/_, _%_, _^_, _≤_, _<_}
 use native.Mathlib.Omega.{arith}
-use lib.Dec.{eqb}
+use lib.Dec.{eqb, ltb}
 use lib.ListN.{length, getD, set, drop, replicate, length-replicate, drop-of-length-le}
 use borrow.Author.Fill.{fill-more}
 use borrow.Author.Tests.{eq-eqb, ne-eqb}
 use Rattle.words.specs.Word.{AreBytes, word, setWord}
 use Rattle.words.proofs.Choice.{pick-false}
 use Rattle.words.proofs.Laws.{setWord-length, word-same, word-other, setWord-bytes}
-use Rattle.layout.specs.Refusal.{say, unlessRefused}
+use Rattle.layout.specs.Refusal.{say, orElse, unlessRefused}
 use Rattle.layout.specs.Answer.{gives, refused}
 use Rattle.layout.specs.Size.{slotsOf}
-use Rattle.layout.specs.Header.{headerWord, headerFault, imageFault}
+use Rattle.layout.specs.Header.{headerWord, headerFault, imageFault, indexFault, lentFault}
+use Rattle.layout.specs.Line.{line, lineA, lineB, whole, versionOf}
+use Rattle.layout.specs.Slot.{lineVerdict, isValid}
+use Rattle.layout.specs.declared.Verdict.{Verdict}
+use Rattle.layout.specs.declared.Verdict.the-variants.{Empty}
+use Rattle.layout.specs.Fault.{markFault, faultOf, recordFault}
 use Rattle.layout.specs.Content.{empty, content}
-use Rattle.layout.proofs.Refusals.{say-true, say-false}
+use Rattle.layout.proofs.Refusals.{say-true, say-false, orElse-later}
+use Rattle.layout.proofs.Content.{verdict-empty, paired-by}
 use Rattle.layout.proofs.Size.{long}
 use Rattle.layout.proofs.Any.{any-clear}
 use Rattle.stores.proofs.Blank.{blank-table}
+use Rattle.recovery.specs.Recover.{slotsFault, recoverFault}
+use Rattle.recovery.specs.Represents.{Fresh}
+use Rattle.recovery.proofs.Unwritten.{unwritten-fine, formatted-recovery}
 use Rattle.orderset.specs.Format.{FormatResult, formatFault, formatted, formatResult}
 
 -- ---- clear
@@ -139,3 +148,55 @@ formatted-fault l len ne b =
 -- a formatted image's table is all empty
 pub formatted-content : (l k len s : ℕ) → (slotsOf len ≡ 0 → ⊥) → l < 2 ^ 64 → 1 ≤ s → content k (word (formatted l len)) s ≡ empty
 formatted-content l k len s ne b h = blank-table k (word (formatted l len)) (λ i g. formatted-later l len ne b i (omega arith)) s h
+
+-- ---- a formatted image is accepted
+
+-- the words of a formatted image
+abbrev words-of : (l len : ℕ) → ℕ → ℕ
+words-of l len = word (formatted l len)
+
+module _ (l len : ℕ) (ne : slotsOf len ≡ 0 → ⊥) (b : l < 2 ^ 64) (s : ℕ) (h : 1 ≤ s) where
+  zero-at : (n i : ℕ) → 2 ≤ n → line (words-of l len) n i ≡ 0
+  zero-at n i k = formatted-later l len ne b (8 * n + i % 8) (omega arith)
+
+  no-mark : markFault (words-of l len) s ≡ false
+  unfolding markFault
+  no-mark =
+      pick-false (ltb 1 (lineA (words-of l len) s 0)) true (ltb 1 (lineB (words-of l len) s 0)) (ap (ltb 1) (zero-at (2 * s) 0 (omega arith)))
+      ∙ ap (ltb 1) (zero-at (2 * s + 1) 0 (omega arith))
+
+  is-empty : lineVerdict (lineA (words-of l len) s) (lineB (words-of l len) s) ≡ Empty
+  is-empty =
+      verdict-empty (lineA (words-of l len) s) (lineB (words-of l len) s)
+      (paired-by (lineA (words-of l len) s 0) (lineA (words-of l len) s 7) (lineB (words-of l len) s 0) (lineB (words-of l len) s 7)
+      (record {
+        first = ap₂ whole (zero-at (2 * s) 0 (omega arith)) (zero-at (2 * s) 7 (omega arith));
+        second = ap₂ whole (zero-at (2 * s + 1) 0 (omega arith)) (zero-at (2 * s + 1) 7 (omega arith));
+        one-version = ap (λ (x : ℕ). x / 2) (zero-at (2 * s) 7 (omega arith) ∙ sym (zero-at (2 * s + 1) 7 (omega arith)));
+      }))
+      (ap (λ (x : ℕ). x / 2) (zero-at (2 * s) 7 (omega arith)))
+
+  no-record : recordFault l (words-of l len) s ≡ false
+  unfolding recordFault isValid
+  no-record = ap (λ (v : Verdict). cond (isValid v) (faultOf l (lineA (words-of l len) s) (lineB (words-of l len) s)) false) is-empty
+
+-- 5, 6, 7 and 8 do not hold, and the index is that of a set without records: every slot in reuse, in slot order, live 0, version 1
+pub formatted-slots : (l len : ℕ) → (slotsOf len ≡ 0 → ⊥) → l < 2 ^ 64 → slotsFault l (word (formatted l len)) (slotsOf len) ≡ 0
+unfolding slotsFault
+formatted-slots l len ne b =
+    say-false _ _ _ (any-clear _ 1 (slotsOf len) (λ i h. no-mark l len ne b (1 + i) (omega arith)))
+    ∙ say-false _ _ _ (any-clear _ 1 (slotsOf len) (λ i h. no-record l len ne b (1 + i) (omega arith)))
+    ∙ unwritten-fine (content l (word (formatted l len))) (slotsOf len) (λ s i. formatted-content l l len s ne b (i .0))
+    (omega (arith, long len ne .low))
+
+pub formatted-accepted : (len heads next : ℕ) → (slotsOf len ≡ 0 → ⊥) → indexFault (slotsOf len) heads next ≡ 0
+    → recoverFault 1 (formatted 1 len) heads next ≡ 0
+unfolding recoverFault lentFault
+formatted-accepted len heads next ne e =
+    ap (λ (k : ℕ). orElse (orElse (imageFault 1 (formatted 1 len)) (indexFault (slotsOf k) heads next)) (slotsFault 1 (word (formatted 1 len)) (slotsOf k))) (formatted-length 1 len)
+    ∙ orElse-later _ _ (orElse-later _ _ (formatted-fault 1 len ne (omega arith)) ∙ e) ∙ formatted-slots 1 len ne (omega arith)
+
+pub formatted-fresh : (l len : ℕ) → (slotsOf len ≡ 0 → ⊥) → l < 2 ^ 64 → Fresh (content l (word (formatted l len))) (slotsOf len)
+formatted-fresh l len ne b =
+    formatted-recovery (content l (word (formatted l len))) (slotsOf len) (λ s i. formatted-content l l len s ne b (i .0))
+    (omega (arith, long len ne .low))

@@ -1,5 +1,4 @@
 pub mod Formats
-pub mod Lents
 pub mod Plans
 pub mod Changes
 pub mod Gets

@@ -24,7 +24,7 @@ use Rattle.orderset.specs.Change.{ChangeResult, unchanged, putChecks, pu
 use Rattle.orderset.specs.Plan.{planOf, Writable, PutReady, RemoveReady}
 use Rattle.orderset.specs.declared.Plan.{Plan}
 use Rattle.orderset.specs.declared.Plan.the-variants.{Refuse, New, Held}
-use Rattle.orderset.proofs.Lents.{lent-sized}
+use Rattle.index.proofs.Lents.{lent-sized}
 
 -- ---- refusals in order: the first refusal is what the whole row says, or it is none and the rest says it
 

@@ -1,1 +1,5 @@
 pub mod Recover
+pub mod Scan
+pub mod Decide
+pub mod Judge
+pub mod Represents

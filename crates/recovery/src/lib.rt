@@ -1,8 +1,39 @@
 // Recovery: the refusals 5 to 8 and the index of an accepted image.
+pub mod judging;
+pub mod ordering;
+pub mod rebuilding;
+pub mod recover;
+pub mod scanning;
+
 use index::State;
 
 // Recovery's answer: the state beside the rebuilt index, or a refusal.
 pub enum Recovered {
     Index(State),
     Refused(u32),
+}
+
+// What is kept of one slot: its rank in recovery's order, its key, its chain as a number (0 is the reuse chain), the highest version on a whole line,
+// and whether it has a bad mark (5) or a bad record (6).
+pub struct Summary {
+    pub rank: u64,
+    pub key: u64,
+    pub place: u32,
+    pub top: u64,
+    pub mark: bool,
+    pub fault: bool,
+}
+
+// What all slots together say: a bad mark, a bad record, and the highest version on a whole line.
+pub struct Scan {
+    pub mark: bool,
+    pub fault: bool,
+    pub top: u64,
+}
+
+// What recovery finds before it writes anything: a refusal from 5 to 8 or 0, the live count, and the highest version on a whole line.
+pub struct Judged {
+    pub fault: u32,
+    pub live: u32,
+    pub top: u64,
 }

@@ -1,7 +1,7 @@
 -- `orderset::get::get_plan` meets its contract. Assumes nothing.
 use mathlib.Core.Path.{sym, _∙_}
 use borrow.Author.Needs.{needs}
-use Rattle.orderset.proofs.Lents.{lent-sized}
+use Rattle.index.proofs.Lents.{lent-sized}
 use Rattle.orderset.proofs.Gets.{plan-refused, plan-at, plan-absent, plan-broken, found-inside}
 use Rattle.orderset.proofs.get.get_plan.Statement.{statement}
 use Rattle.orderset.proofs.get.get_plan.Tie as tie

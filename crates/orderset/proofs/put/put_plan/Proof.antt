@@ -7,7 +7,7 @@ use borrow.Author.Tests.{lt-ltb}
 use Rattle.layout.proofs.Size.{slots-high}
 use Rattle.layout.proofs.Refusals.{say-true}
 use Rattle.orderset.specs.Change.{putFault}
-use Rattle.orderset.proofs.Lents.{lent-sized}
+use Rattle.index.proofs.Lents.{lent-sized}
 use Rattle.orderset.proofs.Plans.{said, passed, refuses, put-fault, put-goes-on}
 use Rattle.orderset.proofs.put.put_plan.Statement.{statement}
 use Rattle.orderset.proofs.put.put_plan.Tie as tie

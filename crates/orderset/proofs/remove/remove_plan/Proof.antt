@@ -5,7 +5,7 @@ use lib.ListN.{length}
 use borrow.Author.Needs.{needs}
 use Rattle.layout.proofs.Size.{slots-high}
 use Rattle.orderset.specs.Change.{removeFault}
-use Rattle.orderset.proofs.Lents.{lent-sized}
+use Rattle.index.proofs.Lents.{lent-sized}
 use Rattle.orderset.proofs.Plans.{said, refuses, remove-fault, remove-goes-on}
 use Rattle.orderset.proofs.remove.remove_plan.Statement.{statement}
 use Rattle.orderset.proofs.remove.remove_plan.Tie as tie

@@ -9,19 +9,19 @@ use Rattle.layout.specs.Size.{slotsOf}
 use Rattle.layout.specs.Header.{imageFault, indexFault, lentFault}
 use Rattle.layout.proofs.Refusals.{say-zero, orElse-zero}
 use Rattle.layout.proofs.Size.{Long, long}
 use Rattle.index.specs.Parts.{Sized}
 
 image-long : (l : ℕ) (image : List ℕ) → imageFault l image ≡ 0 → Long (length image)
 unfolding imageFault
 image-long l image e = long (length image) (eqb-false (slotsOf (length image)) 0 (say-zero _ _ _ e (omega arith) .0))
 
-index-sized : (n heads next : ℕ) → indexFault n heads next ≡ 0 → (1 ≤ heads) × (next ≡ n + 1)
+index-sized : (n heads next : ℕ) → indexFault n heads next ≡ 0 → (1 ≤ heads) × (heads ≤ 65536) × (next ≡ n + 1)
 unfolding indexFault
 index-sized n heads next e =
     let a = say-zero _ _ _ e (omega arith) in
     let b = say-zero _ _ _ (a .1) (omega arith) in
     let c = say-zero _ _ _ (b .1) (omega arith) in
-    (ltb-false heads 1 (a .0), eqb-true next (n + 1) (not-false _ (c .0)))
+    (ltb-false heads 1 (a .0), ltb-false 65536 heads (b .0), eqb-true next (n + 1) (not-false _ (c .0)))
 
 pub lent-sized : (l : ℕ) (image heads next : List ℕ) (n : ℕ) → n ≡ slotsOf (length image)
     → lentFault l image (length heads) (length next) ≡ 0 → Sized image heads next n
@@ -33,7 +33,15 @@ lent-sized l image heads next n e z =
     record {
       slots = sym e;
       image-size = omega (arith, e, i .size);
-      next-size = omega (arith, e, x .1);
+      next-size = omega (arith, e, x .2);
       some-head = x .0;
       few = omega (arith, e, i .high);
     }
+
+pub lent-heads : (l : ℕ) (image heads next : List ℕ) → lentFault l image (length heads) (length next) ≡ 0 → length heads ≤ 65536
+unfolding lentFault
+lent-heads l image heads next z = index-sized (slotsOf (length image)) (length heads) (length next) (orElse-zero _ _ z .1) .1
+
+pub lent-slots : (l : ℕ) (image : List ℕ) (heads next n : ℕ) → n ≡ slotsOf (length image) → lentFault l image heads next ≡ 0 → 2 ≤ n
+unfolding lentFault
+lent-slots l image heads next n e z = omega (arith, e, image-long l image (orElse-zero _ _ z .0) .low)

@@ -1,0 +1,113 @@
+// Recovers an image of three slots, whole and with one or two bytes changed, and prints the answer and the index each time. Every refusal from 1 to 8 is among them.
+mod show;
+
+use recovery::recover::recover;
+
+// Slot 1: a put of key 7, version 2, one byte. Slot 2: its remove, version 4. Slot 3: a put of key 8, version 3, no bytes.
+fn image() -> [u8; 512] {
+    let mut a = [0u8; 512];
+    a[0] = 3;
+    a[8] = 1;
+    a[136] = 7;
+    a[144] = 1;
+    a[145] = 1;
+    a[152] = 5;
+    a[184] = 4;
+    a[248] = 4;
+    a[264] = 7;
+    a[272] = 2;
+    a[312] = 8;
+    a[376] = 8;
+    a[392] = 8;
+    a[400] = 1;
+    a[440] = 6;
+    a[504] = 6;
+    a
+}
+
+fn set_byte(image: &mut [u8], place: usize, byte: u8) {
+    if place < image.len() {
+        image[place] = byte;
+    }
+}
+
+fn show_recover(image: &[u8], heads: &mut [u32], next: &mut [u32]) {
+    let r = recover(image, heads, next);
+    show::recovered(r, heads, next);
+}
+
+fn change(image: &mut [u8], place: usize, byte: u8, second: usize, other: u8) {
+    set_byte(image, place, byte);
+    set_byte(image, second, other);
+}
+
+// Recovery of a changed image, with two heads and an index that held other numbers.
+fn changed(image: &mut [u8], place: usize, byte: u8, second: usize, other: u8) {
+    change(image, place, byte, second, other);
+    let mut heads = [9u32, 9];
+    let mut next = [9u32, 9, 9, 9];
+    show_recover(image, &mut heads, &mut next);
+}
+
+fn with(place: usize, byte: u8, second: usize, other: u8) {
+    show::text(b"byte");
+    show::number(place as u64);
+    show::number(byte as u64);
+    show::text(b" byte");
+    show::number(second as u64);
+    show::number(other as u64);
+    let mut a = image();
+    changed(&mut a, place, byte, second, other);
+}
+
+fn short_image() {
+    show::text(b"511 bytes:");
+    let a = [0u8; 511];
+    let mut heads = [9u32];
+    let mut next = [9u32, 9, 9, 9];
+    show_recover(&a, &mut heads, &mut next);
+}
+
+fn no_head() {
+    show::text(b"no head:");
+    let a = image();
+    let mut heads = [9u32; 0];
+    let mut next = [9u32, 9, 9, 9];
+    show_recover(&a, &mut heads, &mut next);
+}
+
+fn short_next() {
+    show::text(b"next of 3:");
+    let a = image();
+    let mut heads = [9u32];
+    let mut next = [9u32, 9, 9];
+    show_recover(&a, &mut heads, &mut next);
+}
+
+fn main() {
+    short_image();
+    no_head();
+    short_next();
+    with(511, 0, 511, 0);
+    with(0, 0, 511, 0);
+    with(0, 2, 511, 0);
+    with(8, 2, 511, 0);
+    with(56, 1, 511, 0);
+    with(64, 1, 511, 0);
+    with(128, 2, 511, 0);
+    with(384, 1, 448, 3);
+    with(144, 3, 511, 0);
+    with(146, 1, 511, 0);
+    with(145, 81, 511, 0);
+    with(153, 1, 511, 0);
+    with(200, 1, 511, 0);
+    with(273, 1, 511, 0);
+    with(440, 8, 504, 8);
+    with(440, 4, 504, 4);
+    with(272, 1, 264, 9);
+    with(312, 10, 511, 0);
+    with(128, 1, 511, 0);
+    with(312, 0, 376, 0);
+    with(312, 0, 144, 9);
+    with(184, 5, 248, 5);
+}

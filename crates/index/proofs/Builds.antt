@@ -1,0 +1,167 @@
+-- Pushing the slots of a list from its end makes a good index whose chains are filters of the list. Assumes nothing.
+use mathlib.Core.Path.{_≡_, refl, sym, ap, _∙_, fun-ext}
+use mathlib.Core.Bool.{Bool, true, false, not, cond}
+use mathlib.Core.Logic.{inl, inr}
+use mathlib.Core.List.{List, [], _∷_}
+use Prim.Native.Nat.{ℕ, _<_}
+use native.Mathlib.Omega.{arith}
+use lib.Dec.{eqb}
+use lib.ListN.{length, getD}
+use borrow.Author.Tests.{eq-eqb, ne-eqb}
+use Rattle.sorting.specs.Sorted.{keep}
+use Rattle.index.specs.Index.{Chain, reuse, head, Index, start, ahead, setNext, setLast}
+use Rattle.index.specs.Change.{linkNew}
+use Rattle.index.specs.Build.{push, build}
+use Rattle.sorting.specs.Members.{In, Once}
+use Rattle.index.specs.Linked.{endOf, Owner, free, of, same, give, withChain, Slot, Woven, Good, Room, ownerOf, chainsOf, placeOf, Full}
+use Rattle.index.proofs.Runs.{end-in}
+use Rattle.index.proofs.Owners.{Told, is, isnt, told, Which, that, other, which, free-of, reuse-apart, give-same, give-other, with-same, with-other}
+use Rattle.index.proofs.Links.{set-here, set-else, set-heads, set-last, set-size, link-last, slot-size, room-size}
+use Rattle.index.proofs.Calls.{linkNew-next, linkNew-heads}
+use Rattle.index.proofs.Moves.{woven-set, woven-last, woven-insert}
+
+starts : (i : Index) → ((h : ℕ) → getD (i .heads) h 0 ≡ 0) → i .first ≡ 0 → (c : Chain) → ahead i c 0 ≡ 0
+unfolding ahead start
+starts i h f reuse = f
+starts i h f (head k) = h k
+
+-- an index of empty chains
+pub good-empty : (i : Index) → ((h : ℕ) → getD (i .heads) h 0 ≡ 0) → i .first ≡ 0 → i .last ≡ 0 → Good i (λ _. free) (λ _. [])
+good-empty i h f l = record {
+  woven =
+      record {
+        runs = starts i h f;
+        owned = record { mine = λ c x m. absurd m; has = λ c x e. absurd (free-of c e) };
+        slot = λ c x e. absurd (free-of c e);
+      };
+  ends = l;
+}
+
+-- a slot that nobody has, at the front of a chain
+woven-front : (i : Index) (owner : ℕ → Owner) (chains : Chain → List ℕ) (c : Chain) (s n : ℕ) → Woven i owner chains → Room i c
+    → Slot i s → owner s ≡ free → n ≡ ahead i c 0
+    → Woven (linkNew i c 0 s n) (give owner s (of c)) (withChain chains c (s ∷ chains c))
+unfolding linkNew
+woven-front i owner chains c s n w a t f e =
+    let v : Woven (setNext i s n) owner chains = woven-set _ _ _ s n w (t .low) f in
+    woven-insert _ _ _ c [] s (chains c) v refl (room-size _ _ c (set-heads i s n) a)
+    (slot-size _ _ s (set-size i s n) t) f
+    (set-here i s n c t ∙ e ∙ sym (set-else i s n c 0 (λ d. omega (arith, t .low))))
+
+front-ends : (l s : ℕ) (xs : List ℕ) → ((x : ℕ) → In x xs → 0 < x) → l ≡ endOf 0 xs → cond (eqb l 0) s l ≡ endOf s xs
+front-ends l s [] p e = rw (eq-eqb l 0 e)
+front-ends l s (y ∷ ys) p e = rw (ne-eqb l 0 (λ z. omega (arith, p (endOf y ys) (end-in y ys)))) e
+
+pub good-push : (i : Index) (owner : ℕ → Owner) (chains : Chain → List ℕ) (c : Chain) (s : ℕ) → Good i owner chains → Room i c
+    → Slot i s → owner s ≡ free
+    → Good (push i c s) (give owner s (of c)) (withChain chains c (s ∷ chains c))
+unfolding push setLast ahead start
+good-push i owner chains reuse s g a t f = record {
+  woven = woven-last _ _ _ _ (woven-front _ _ _ reuse s (i .first) (g .woven) a t f refl);
+  ends =
+      rw with-same (front-ends (i .last) s (chains reuse) (λ x m. g .woven .slot reuse x (g .woven .owned .mine reuse x m) .low)
+      (g .ends));
+}
+good-push i owner chains (head h) s g a t f = record {
+  woven = woven-front _ _ _ (head h) s (getD (i .heads) h 0) (g .woven) a t f refl;
+  ends =
+      unfold linkNew in link-last _ _ _ _ ∙ set-last _ _ _ ∙ g .ends ∙ ap (endOf 0)
+      (sym (with-other chains (head h) _ reuse (reuse-apart h)));
+}
+
+-- ---- whose each slot is
+
+pub owner-in : (place : ℕ → Chain) (l : List ℕ) (x : ℕ) → In x l → ownerOf place l x ≡ of (place x)
+unfolding ownerOf
+owner-in place (s ∷ l) x (inl d) = give-same (ownerOf place l) s (of (place s)) x d ∙ ap (λ (y : ℕ). of (place y)) (sym d)
+owner-in place (s ∷ l) x (inr m) = go (told x s) (owner-in place l x m)
+  where
+    go : Told x s → ownerOf place l x ≡ of (place x) → give (ownerOf place l) s (of (place s)) x ≡ of (place x)
+    go (is t d) h = give-same (ownerOf place l) s (of (place s)) x d ∙ ap (λ (y : ℕ). of (place y)) (sym d)
+    go (isnt t n) h = give-other (ownerOf place l) s (of (place s)) x n ∙ h
+
+pub owner-out : (place : ℕ → Chain) (l : List ℕ) (x : ℕ) → (In x l → ⊥) → ownerOf place l x ≡ free
+unfolding ownerOf
+owner-out place [] x n = refl
+owner-out place (s ∷ l) x n = give-other (ownerOf place l) s (of (place s)) x (λ d. n (inl d)) ∙ owner-out place l x (λ m. n (inr m))
+
+chains-that : (place : ℕ → Chain) (s : ℕ) (l : List ℕ) (c : Chain) → same c (place s) ≡ true
+    → chainsOf place (s ∷ l) c ≡ s ∷ chainsOf place l c
+unfolding chainsOf keep
+chains-that place s l c t = rw t
+
+chains-other : (place : ℕ → Chain) (s : ℕ) (l : List ℕ) (c : Chain) → same c (place s) ≡ false
+    → chainsOf place (s ∷ l) c ≡ chainsOf place l c
+unfolding chainsOf keep
+chains-other place s l c t = rw t
+
+good-chains : (i : Index) (o : ℕ → Owner) (c d : Chain → List ℕ) → c ≡ d → Good i o c → Good i o d
+good-chains i o c d e g = rw (← e) g
+
+-- one more slot in front of its chain
+chains-more : (place : ℕ → Chain) (s : ℕ) (l : List ℕ)
+    → withChain (chainsOf place l) (place s) (s ∷ chainsOf place l (place s)) ≡ chainsOf place (s ∷ l)
+chains-more place s l = fun-ext (λ c. go c (which c (place s)))
+  where
+    go : (c : Chain) → Which c (place s)
+        → withChain (chainsOf place l) (place s) (s ∷ chainsOf place l (place s)) c ≡ chainsOf place (s ∷ l) c
+    go c (that t e) =
+        (rw e (with-same (chainsOf place l) (place s) (s ∷ chainsOf place l (place s)))) ∙ sym
+        (chains-that place s l c t ∙ ap (λ (k : Chain). s ∷ chainsOf place l k) e)
+    go c (other t n) = with-other (chainsOf place l) (place s) _ c n ∙ sym (chains-other place s l c t)
+
+-- ---- sizes
+
+push-next : (i : Index) (c : Chain) (s : ℕ) → length (push i c s .next) ≡ length (i .next)
+unfolding push setLast
+push-next i reuse s = linkNew-next _ _ _ _ _
+push-next i (head h) s = linkNew-next _ _ _ _ _
+
+push-heads : (i : Index) (c : Chain) (s : ℕ) → length (push i c s .heads) ≡ length (i .heads)
+unfolding push setLast
+push-heads i reuse s = linkNew-heads _ _ _ _ _
+push-heads i (head h) s = linkNew-heads _ _ _ _ _
+
+pub build-next : (place : ℕ → Chain) (i : Index) (l : List ℕ) → length (build place i l .next) ≡ length (i .next)
+unfolding build
+build-next place i [] = refl
+build-next place i (s ∷ l) = push-next (build place i l) (place s) s ∙ build-next place i l
+
+pub build-heads : (place : ℕ → Chain) (i : Index) (l : List ℕ) → length (build place i l .heads) ≡ length (i .heads)
+unfolding build
+build-heads place i [] = refl
+build-heads place i (s ∷ l) = push-heads (build place i l) (place s) s ∙ build-heads place i l
+
+-- recovery's last step
+pub good-build : (place : ℕ → Chain) (i : Index) (l : List ℕ) → Good i (λ _. free) (λ _. []) → Once l → ((x : ℕ) → In x l → Slot i x)
+    → ((x : ℕ) → In x l → Room i (place x)) → Good (build place i l) (ownerOf place l) (chainsOf place l)
+unfolding build ownerOf chainsOf keep
+good-build place i [] g a h m = g
+good-build place i (s ∷ l) g a h m =
+    let j = build place i l in
+    good-chains (push j (place s) s) _ _ _ (chains-more place s l)
+    (good-push _ _ _ (place s) s (good-build place i l g (a .1) (λ x k. h x (inr k)) (λ x k. m x (inr k)))
+    (room-size i j (place s) (build-heads place i l) (m s (inl refl))) (slot-size i j s (build-next place i l) (h s (inl refl)))
+    (owner-out place l s (a .0)))
+
+-- every slot stands in a chain, where the list has them all
+pub full-build : (place : ℕ → Chain) (i : Index) (l : List ℕ) → ((x : ℕ) → Slot i x → In x l) → Full (build place i l) (ownerOf place l)
+full-build place i l h x t = (place x, owner-in place l x (h x (slot-size (build place i l) i x (sym (build-next place i l)) t)))
+
+-- with the live slots in their heads' chains and the others in reuse, the chains are filters of the list
+pub build-reuse : (live : ℕ → Bool) (hd : ℕ → ℕ) (l : List ℕ) → chainsOf (placeOf live hd) l reuse ≡ keep (λ s. not (live s)) l
+unfolding chainsOf placeOf
+build-reuse live hd l = ap (λ (p : ℕ → Bool). keep p l) (fun-ext (λ s. go (hd s) (live s)))
+  where
+    go : (h : ℕ) (b : Bool) → same reuse (cond b (head h) reuse) ≡ not b
+    go h true = refl
+    go h false = refl
+
+pub build-head : (live : ℕ → Bool) (hd : ℕ → ℕ) (l : List ℕ) (h : ℕ)
+    → chainsOf (placeOf live hd) l (head h) ≡ keep (λ s. cond (live s) (eqb h (hd s)) false) l
+unfolding chainsOf placeOf
+build-head live hd l h = ap (λ (p : ℕ → Bool). keep p l) (fun-ext (λ s. go (hd s) (live s)))
+  where
+    go : (k : ℕ) (b : Bool) → same (head h) (cond b (head k) reuse) ≡ cond b (eqb h k) false
+    go k true = refl
+    go k false = refl

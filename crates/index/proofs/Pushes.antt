@@ -1,0 +1,118 @@
+-- The ways out of push_front, chain_up's loop, and the clearing of a list. Assumes nothing.
+use mathlib.Core.Path.{_≡_, refl, sym, ap, _∙_}
+use mathlib.Core.List.{List, _∷_, _++_, append-nil}
+use Prim.Native.Nat.{ℕ, suc, _+_, _-_, _≤_, _<_}
+use native.Mathlib.Omega.{arith}
+use lib.ListN.{length, getD, set, drop, replicate, drop-of-length-le}
+use lib.Seq.{drop-length, drop-cons}
+use borrow.Author.Fill.{fill-more}
+use borrow.Author.Tests.{eq-eqb, ne-eqb}
+use Rattle.index.specs.Index.{Index, indexOf, setNext, setStart, setLast, link}
+use Rattle.index.specs.Change.{linkNew}
+use Rattle.index.specs.Build.{push, build, chainOf, placeIn, unbuilt}
+use Rattle.index.specs.Parts.{Holds}
+use Rattle.index.specs.declared.State.{State}
+
+-- ---- push_front
+
+module _ (heads next : List ℕ) (s : State) (place slot : ℕ) where
+  -- to the front of reuse, which was empty
+  pub front-only : place ≡ 0 → s .last ≡ 0
+      → Holds heads (set next slot (s .first)) (record { first = slot; last = slot; live = s .live; version = s .version })
+      (push (indexOf heads next s) (chainOf place) slot) (s .live) (s .version)
+  unfolding push chainOf linkNew link setNext setStart setLast
+  front-only e l = record { index = rw (e, eq-eqb (s .last) 0 l) refl; live-count = refl; next-version = refl }
+
+  -- or was not
+  pub front-reuse : place ≡ 0 → (s .last ≡ 0 → ⊥)
+      → Holds heads (set next slot (s .first)) (record { first = slot; last = s .last; live = s .live; version = s .version })
+      (push (indexOf heads next s) (chainOf place) slot) (s .live) (s .version)
+  unfolding push chainOf linkNew link setNext setStart setLast
+  front-reuse e l = record { index = rw (e, ne-eqb (s .last) 0 l) refl; live-count = refl; next-version = refl }
+
+  -- to the front of a head's chain
+  pub front-head : (place ≡ 0 → ⊥)
+      → Holds (set heads (place - 1) slot) (set next slot (getD heads (place - 1) 0)) s
+      (push (indexOf heads next s) (chainOf place) slot) (s .live) (s .version)
+  unfolding push chainOf linkNew link setNext setStart
+  front-head n =
+      let e : place ≡ suc (place - 1) = omega arith in
+      record {
+        index = sym (ap (λ (p : ℕ). push (indexOf heads next s) (chainOf p) slot) e);
+        live-count = refl;
+        next-version = refl;
+      }
+
+-- ---- chain_up
+
+-- before a turn: the slots from `left` on are pushed
+pub record Going (heads₀ next₀ order places heads next : List ℕ) (s : State) (left : ℕ) : Type 0 where
+  pub place : left ≤ length order
+  pub heads-size : length heads ≡ length heads₀
+  pub next-size : length next ≡ length next₀
+  pub done : Holds heads next s (build (placeIn places) (unbuilt heads₀ next₀) (drop left order)) 0 0
+
+pub going-starts : (heads next order places : List ℕ)
+    → Going heads next order places heads next (record { first = 0; last = 0; live = 0; version = 0 }) (length order)
+unfolding build
+going-starts heads next order places =
+    record {
+      place = omega arith;
+      heads-size = refl;
+      next-size = refl;
+      done = rw (drop-length order) (record { index = refl; live-count = refl; next-version = refl });
+    }
+
+module _
+    (heads₀ next₀ order places heads next : List ℕ) (s : State) (left : ℕ)
+    (g : Going heads₀ next₀ order places heads next s left) where
+  pub going-slot : 0 < left → left - 1 < length order
+  going-slot h = omega (arith, g .place)
+
+  pub going-on : (heads′ next′ : List ℕ) (s′ : State) → 0 < left → length heads′ ≡ length heads → length next′ ≡ length next
+      → Holds heads′ next′ s′
+      (push (indexOf heads next s) (chainOf (getD places (getD order (left - 1) 0) 0)) (getD order (left - 1) 0)) (s .live) (s .version)
+      → Going heads₀ next₀ order places heads′ next′ s′ (left - 1)
+  unfolding build placeIn
+  going-on heads′ next′ s′ h lh ln p =
+      let x = getD order (left - 1) 0 in
+      let e : suc (left - 1) ≡ left = omega arith in
+      let d : drop (left - 1) order ≡ x ∷ drop left order =
+      drop-cons order (left - 1) 0 (going-slot h) ∙ ap (λ (m : ℕ). x ∷ drop m order) e in
+      record {
+        place = omega (arith, g .place);
+        heads-size = lh ∙ g .heads-size;
+        next-size = ln ∙ g .next-size;
+        done =
+            record {
+              index =
+                  p .index ∙ ap (λ (i : Index). push i (chainOf (getD places x 0)) x) (g .done .index)
+                  ∙ sym (ap (build (placeIn places) (unbuilt heads₀ next₀)) d);
+              live-count = p .live-count ∙ g .done .live-count;
+              next-version = p .next-version ∙ g .done .next-version;
+            };
+      }
+
+  pub going-ends : left ≤ 0 → Holds heads next s (build (placeIn places) (unbuilt heads₀ next₀) order) 0 0
+  going-ends h =
+      let e : left ≡ 0 = omega arith in
+      record {
+        index = g .done .index ∙ ap (λ (k : ℕ). build (placeIn places) (unbuilt heads₀ next₀) (drop k order)) e;
+        live-count = g .done .live-count;
+        next-version = g .done .next-version;
+      }
+
+-- ---- clear
+
+pub cleared-more : (k : ℕ) (old list : List ℕ) → k < length old → list ≡ replicate k 0 ++ drop k old
+    → set list k 0 ≡ replicate (k + 1) 0 ++ drop (k + 1) old
+cleared-more k old list h e = ap (λ (t : List ℕ). set t k 0) e ∙ fill-more k 0 old h
+
+pub cleared-all : (k : ℕ) (old list : List ℕ) → length old ≤ k → k ≤ length old → list ≡ replicate k 0 ++ drop k old
+    → list ≡ replicate (length old) 0
+cleared-all k old list h g e =
+    e ∙ ap (λ (t : List ℕ). replicate k 0 ++ t) (drop-of-length-le old h) ∙ append-nil (replicate k 0)
+    ∙ ap (λ (x : ℕ). replicate x 0) same
+  where
+    same : k ≡ length old
+    same = omega arith

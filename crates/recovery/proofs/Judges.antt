@@ -1,0 +1,202 @@
+-- What judging leans on: the refusals 5 to 8 from what was found, and the arranged slots of an accepted image. Assumes nothing.
+use mathlib.Core.Path.{_≡_, refl, sym, ap, ap₂, _∙_}
+use mathlib.Core.Bool.{Bool, true, false, cond}
+use mathlib.Core.Logic.{_⊎_, inl, inr}
+use mathlib.Core.List.{List}
+use Prim.Native.Nat.{ℕ, suc, _+_, _-_, _*_, _^_, _≤_, _<_}
+use native.Mathlib.Omega.{arith}
+use lib.Dec.{eqb}
+use lib.ListN.{length, getD}
+use borrow.Author.Tests.{eq-eqb, ne-eqb}
+use Rattle.words.specs.Word.{AreBytes, word}
+use Rattle.words.proofs.Laws.{word-range}
+use Rattle.words.proofs.Choice.{pick-true, pick-false, split}
+use Rattle.layout.specs.Refusal.{say}
+use Rattle.layout.specs.Range.{anyOf}
+use Rattle.layout.specs.Line.{lineA, lineB, whole, versionOf, lineTop}
+use Rattle.layout.specs.Slot.{slotTop}
+use Rattle.layout.specs.Content.{content, top, topOf}
+use Rattle.layout.specs.Fault.{markFault, recordFault}
+use Rattle.layout.proofs.Refusals.{say-true, say-false, say-zero}
+use Rattle.layout.proofs.Content.{top-is}
+use Rattle.sorting.specs.Sorted.{sorted}
+use Rattle.sorting.specs.Members.{slotsUpTo}
+use Rattle.sorting.proofs.Order.{sorted-alike}
+use Rattle.table.specs.Table.{Table, liveCount, nextVersion, sharedVersion, allLive}
+use Rattle.table.specs.Order.{rankOf, slots, ordered}
+use Rattle.table.specs.Write.{Distinct}
+use Rattle.table.proofs.Most.{greatest-least}
+use Rattle.table.proofs.Distinct.{shared-distinct}
+use Rattle.recovery.specs.Recover.{slotsFault}
+use Rattle.recovery.specs.Scan.{Scanned}
+use Rattle.recovery.specs.Decide.{twins, decided, placedCount, livePlace, Within}
+use Rattle.recovery.specs.Judge.{foundFault, Judgement}
+use Rattle.recovery.specs.declared.Scan.{Scan}
+use Rattle.recovery.proofs.Orders.{up-in, up-slots, length-order, length-order-twice, within-sorted, within-sorted-twice}
+use Rattle.recovery.proofs.Twins.{twins-shared}
+use Rattle.recovery.proofs.Decides.{decided-live, counted-live}
+
+-- ---- the refusals
+
+module _ (mark fault shared : Bool) (live n : ℕ) where
+  pub found-mark : mark ≡ true → 5 ≡ foundFault mark fault shared live n
+  unfolding foundFault
+  found-mark e = sym (say-true mark 5 _ e)
+
+  module _ (a : mark ≡ false) where
+    pub found-record : fault ≡ true → 6 ≡ foundFault mark fault shared live n
+    unfolding foundFault
+    found-record e = sym (say-false mark 5 _ a ∙ say-true fault 6 _ e)
+
+    module _ (b : fault ≡ false) where
+      pub found-shared : shared ≡ true → 7 ≡ foundFault mark fault shared live n
+      unfolding foundFault
+      found-shared e = sym (say-false mark 5 _ a ∙ say-false fault 6 _ b ∙ say-true shared 7 _ e)
+
+      module _ (c : shared ≡ false) where
+        rest : foundFault mark fault shared live n ≡ say (eqb live n) 8 0
+        unfolding foundFault
+        rest = say-false mark 5 _ a ∙ say-false fault 6 _ b ∙ say-false shared 7 _ c
+
+        pub found-all : live ≡ n → 8 ≡ foundFault mark fault shared live n
+        found-all e = sym (rest ∙ say-true (eqb live n) 8 0 (eq-eqb live n e))
+
+        pub found-none : (live ≡ n → ⊥) → 0 ≡ foundFault mark fault shared live n
+        found-none e = sym (rest ∙ say-false (eqb live n) 8 0 (ne-eqb live n e))
+
+-- ---- versions fit
+
+line-small : (mark stamp : ℕ) → stamp < 2 ^ 64 → lineTop mark stamp < 2 ^ 63
+unfolding lineTop
+line-small mark stamp h = go (split (whole mark stamp))
+  where
+    go : (whole mark stamp ≡ true) ⊎ (whole mark stamp ≡ false) → cond (whole mark stamp) (versionOf stamp) 0 < 2 ^ 63
+    go (inl e) = omega (arith, pick-true (whole mark stamp) (versionOf stamp) 0 e)
+    go (inr e) = omega (arith, pick-false (whole mark stamp) (versionOf stamp) 0 e)
+
+top-small : (image : List ℕ) (s : ℕ) → AreBytes image → topOf (content 1 (word image) s) < 2 ^ 63
+unfolding top slotTop
+top-small image s b =
+    omega (
+      arith,
+      top-is 1 (word image) s,
+      line-small (lineA (word image) s 0) (lineA (word image) s 7) (word-range image (8 * (2 * s) + 7) b),
+      line-small (lineB (word image) s 0) (lineB (word image) s 7) (word-range image (8 * (2 * s + 1) + 7) b),
+    )
+
+-- ---- judge
+
+module _ (image : List ℕ) (n b : ℕ) (ranks keys places₁ order by-key places : List ℕ) (all : Scan) (shared : Bool) (live-count : ℕ)
+    (bytes : AreBytes image) (size : length places₁ ≡ n + 1) (s : Scanned (word image) n b ranks keys places₁ all)
+    (in-order : order ≡ sorted (λ x. getD ranks x 0) (slotsUpTo n)) (twin : shared ≡ anyOf (twins ranks order) 0 (n - 1))
+    (keyed : by-key ≡ sorted (λ x. getD keys x 0) order) (done : places ≡ decided keys by-key n places₁)
+    (counted : live-count ≡ placedCount places n) where
+  f : Table
+  f = content 1 (word image)
+
+  shared-is : shared ≡ sharedVersion f n
+  unfolding f
+  shared-is = twin ∙ twins-shared f n ranks order (s .listed .rank-at) in-order
+
+  order-is : order ≡ ordered f (slots n)
+  unfolding f ordered
+  order-is =
+      in-order
+      ∙ sorted-alike (λ x. getD ranks x 0) (λ x. rankOf (f x)) (slotsUpTo n)
+      (λ x i. let t = up-in n x i in s .listed .rank-at x (omega (arith, t .0)) (t .1))
+      ∙ ap (sorted (λ x. rankOf (f x))) (up-slots n)
+
+  module _ (fine : sharedVersion f n ≡ false) where
+    apart-versions : Distinct f n
+    apart-versions = shared-distinct f n fine
+
+    place-is : (t : ℕ) → 0 < t → t ≤ n → getD places t 0 ≡ livePlace f n b t
+    unfolding f
+    place-is t low high =
+        ap (λ (p : List ℕ). getD p t 0) done
+        ∙ decided-live f n b ranks keys places₁ order by-key (s .listed) size apart-versions order-is keyed t low high
+
+    live-is : live-count ≡ liveCount f n
+    unfolding f
+    live-is =
+        counted ∙ ap (λ (p : List ℕ). placedCount p n) done
+        ∙ counted-live f n b ranks keys places₁ order by-key (s .listed) size apart-versions order-is keyed
+
+  late : say (sharedVersion f n) 7 (say (eqb live-count n) 8 0) ≡ say (sharedVersion f n) 7 (say (allLive f n) 8 0)
+  unfolding allLive
+  late = go (split (sharedVersion f n))
+    where
+      go : (sharedVersion f n ≡ true) ⊎ (sharedVersion f n ≡ false)
+          → say (sharedVersion f n) 7 (say (eqb live-count n) 8 0) ≡ say (sharedVersion f n) 7 (say (eqb (liveCount f n) n) 8 0)
+      go (inl e) = say-true (sharedVersion f n) 7 _ e ∙ sym (say-true (sharedVersion f n) 7 _ e)
+      go (inr e) = ap (λ (x : ℕ). say (sharedVersion f n) 7 (say (eqb x n) 8 0)) (live-is e)
+
+  fault-is : foundFault (all .mark) (all .fault) shared live-count n ≡ slotsFault 1 (word image) n
+  unfolding foundFault slotsFault f
+  fault-is =
+      ap₂ (λ (x y : Bool). say x 5 (say y 6 (say shared 7 (say (eqb live-count n) 8 0)))) (s .marks-are) (s .faults-are)
+      ∙ ap (λ (z : Bool). say (anyOf (markFault (word image)) 1 n) 5 (say (anyOf (recordFault 1 (word image)) 1 n) 6 (say z 7 (say (eqb live-count n) 8 0)))) shared-is
+      ∙ ap (λ (k : ℕ). say (anyOf (markFault (word image)) 1 n) 5 (say (anyOf (recordFault 1 (word image)) 1 n) 6 k)) late
+
+  none-shared : slotsFault 1 (word image) n ≡ 0 → sharedVersion f n ≡ false
+  unfolding slotsFault f
+  none-shared e =
+      let a = say-zero _ _ _ e (omega arith) in
+      let c = say-zero _ _ _ (a .1) (omega arith) in
+      say-zero _ _ _ (c .1) (omega arith) .0
+
+  top-fits : all .top < 2 ^ 63
+  top-fits =
+      omega (
+        arith,
+        s .top-is,
+        greatest-least (λ t. topOf (content 1 (word image) t)) n (2 ^ 63 - 1) (λ t i. let h = top-small image t bytes in omega arith),
+      )
+
+  pub judged : (fault : ℕ) → fault ≡ foundFault (all .mark) (all .fault) shared live-count n
+      → Judgement (word image) n b order places (record { fault = fault; live = live-count; top = all .top })
+  unfolding f nextVersion
+  judged fault e =
+      record {
+        fault-is = e ∙ fault-is;
+        arranged =
+            λ z.
+            let fine = none-shared (sym (e ∙ fault-is) ∙ z) in
+            record {
+              order-is = order-is;
+              place-is = place-is fine;
+              live-is = live-is fine;
+              top-is = ap suc (s .top-is);
+              top-fits = top-fits;
+            };
+      }
+
+-- ---- what the functions that judge calls ask for
+
+by-rank : (order₀ order ranks : List ℕ) (n : ℕ) → order ≡ sorted (λ x. getD ranks x 0) (slotsUpTo (length order₀)) → length order₀ ≡ n
+    → order ≡ sorted (λ x. getD ranks x 0) (slotsUpTo n)
+by-rank order₀ order ranks n e h = e ∙ ap (λ (k : ℕ). sorted (λ x. getD ranks x 0) (slotsUpTo k)) h
+
+module _ (order₀ order ranks₀ ranks : List ℕ) (n : ℕ) (e : order ≡ sorted (λ x. getD ranks x 0) (slotsUpTo (length order₀)))
+    (size : length order₀ ≡ n) where
+  pub in-rank : order ≡ sorted (λ x. getD ranks x 0) (slotsUpTo n)
+  in-rank = by-rank order₀ order ranks n e size
+
+  pub twins-ready : 1 ≤ n → length ranks ≡ length ranks₀ → length ranks₀ ≡ n + 1
+      → (length order ≡ n) × (1 ≤ n) × (length ranks ≡ n + 1) × Within order n
+  twins-ready some p q =
+      (length-order (λ x. getD ranks x 0) n order in-rank, some, p ∙ q, within-sorted (λ x. getD ranks x 0) n order in-rank)
+
+  pub decide-ready : (keys₀ keys places₀ places by-key : List ℕ) → by-key ≡ sorted (λ x. getD keys x 0) order → n ≤ 65535
+      → length keys ≡ length keys₀ → length keys₀ ≡ n + 1 → length places ≡ length places₀ → length places₀ ≡ n + 1
+      → (length by-key ≡ n) × (n ≤ 65535) × (length keys ≡ n + 1) × (length places ≡ n + 1) × Within by-key n
+  decide-ready keys₀ keys places₀ places by-key k few p q r t = (
+    length-order-twice (λ x. getD ranks x 0) (λ x. getD keys x 0) n by-key twice,
+    few,
+    p ∙ q,
+    r ∙ t,
+    within-sorted-twice (λ x. getD ranks x 0) (λ x. getD keys x 0) n by-key twice,
+  )
+    where
+      twice : by-key ≡ sorted (λ x. getD keys x 0) (sorted (λ x. getD ranks x 0) (slotsUpTo n))
+      twice = k ∙ ap (sorted (λ x. getD keys x 0)) in-rank

@@ -1,0 +1,12 @@
+pub mod Scans
+pub mod Orders
+pub mod Twins
+pub mod Standing
+pub mod Decides
+pub mod Rebuilt
+pub mod Judges
+pub mod Recovers
+pub mod Represents
+pub mod Lent
+pub mod Answers
+pub mod Unwritten

@@ -1,0 +1,211 @@
+-- The index that is built from recovery's order and places is the index of document 01's chains. Assumes nothing.
+use mathlib.Core.Path.{_≡_, refl, sym, ap, ap₂, _∙_, subst, fun-ext}
+use mathlib.Core.Bool.{Bool, true, false, cond, not, _&&_}
+use mathlib.Core.Logic.{_⊎_, inl, inr, by-cases}
+use mathlib.Core.List.{List, [], _∷_}
+use Prim.Native.Nat.{ℕ, zero, suc, _+_, _%_, _^_, _≤_, _<_}
+use native.Mathlib.Nat.{mod-lt}
+use native.Mathlib.Decide.{ℕ-discrete}
+use native.Mathlib.Omega.{arith}
+use lib.Dec.{eqb}
+use lib.ListN.{length, getD, replicate, length-replicate}
+use borrow.Author.Tests.{eq-eqb, ne-eqb}
+use Rattle.words.proofs.Choice.{pick-true, pick-false, split}
+use Rattle.layout.specs.Range.{tabulate}
+use Rattle.sorting.specs.Sorted.{keep, sorted}
+use Rattle.sorting.specs.Members.{In, Once}
+use Rattle.sorting.proofs.Order.{sorted-in, in-sorted, once-sorted, keep-sorted}
+use Rattle.table.specs.Table.{Table, keyIn, live, spare}
+use Rattle.table.specs.Order.{rankOf, slots, ordered, chainOf, reuseOf}
+use Rattle.table.proofs.Lists.{slots-in, in-slots, once-slots}
+use Rattle.index.specs.Index.{Index, Chain, reuse, head, headOf}
+use Rattle.index.specs.Chained.{firstOf, lastOf, after, nextIn, chained}
+use Rattle.index.specs.Parts.{Holds}
+use Rattle.index.specs.declared.State.{State}
+use Rattle.index.specs.Build.{build, placeIn, unbuilt, Ordered}
+use Rattle.index.specs.Build as building
+use Rattle.index.specs.Linked.{same}
+use Rattle.index.proofs.Chained.{built-chained}
+use Rattle.recovery.specs.Recover.{chainsOf, placeOf, recoveredIndex}
+use Rattle.recovery.specs.Decide.{livePlace}
+use Rattle.recovery.specs.Judge.{Arranged}
+
+-- ---- lists and tables that agree where it counts
+
+pub keep-alike : (p q : ℕ → Bool) (l : List ℕ) → ((x : ℕ) → In x l → p x ≡ q x) → keep p l ≡ keep q l
+unfolding keep
+keep-alike p q [] h = refl
+keep-alike p q (x ∷ l) h =
+    ap₂ (λ (b : Bool) (t : List ℕ). cond b (x ∷ t) t) (h x (inl refl)) (keep-alike p q l (λ y i. h y (inr i)))
+
+tabulate-alike : (f g : ℕ → ℕ) (k n : ℕ) → ((i : ℕ) → k ≤ i → i < k + n → f i ≡ g i) → tabulate f k n ≡ tabulate g k n
+unfolding tabulate
+tabulate-alike f g k zero h = refl
+tabulate-alike f g k (suc n) h =
+    ap₂ (λ (x : ℕ) (t : List ℕ). x ∷ t) (h k (omega arith) (omega arith))
+    (tabulate-alike f g (suc k) n (λ i p q. h i (omega arith) (omega arith)))
+
+next-alike : (n : ℕ) (chains : Chain → List ℕ) (p q : ℕ → Chain) → ((s : ℕ) → 0 < s → s ≤ n → p s ≡ q s) → (i : ℕ) → i ≤ n
+    → nextIn chains p i ≡ nextIn chains q i
+unfolding nextIn
+next-alike n chains p q h zero l = refl
+next-alike n chains p q h (suc s) l = ap (λ (c : Chain). after (suc s) (chains c)) (h (suc s) (omega arith) l)
+
+chained-alike : (n b : ℕ) (chains : Chain → List ℕ) (p q : ℕ → Chain) → ((s : ℕ) → 0 < s → s ≤ n → p s ≡ q s)
+    → chained n b chains p ≡ chained n b chains q
+unfolding chained
+chained-alike n b chains p q h =
+    ap
+    (λ (t : List ℕ).
+    record {
+      heads = tabulate (λ h. firstOf (chains (head h))) 0 b;
+      next = t;
+      first = firstOf (chains reuse);
+      last = lastOf (chains reuse);
+    })
+    (tabulate-alike (nextIn chains p) (nextIn chains q) 0 (n + 1) (λ i low high. next-alike n chains p q h i (omega arith)))
+
+pub zeros : (n i : ℕ) → _≡_ {A = ℕ} (getD (replicate n 0) i 0) 0
+zeros zero i = refl
+zeros (suc n) zero = refl
+zeros (suc n) (suc i) = zeros n i
+
+-- ---- the chains
+
+eqb-swap : (x y : ℕ) → eqb x y ≡ eqb y x
+eqb-swap x y =
+    by-cases (ℕ-discrete x y) (λ e. eq-eqb x y e ∙ sym (eq-eqb y x (sym e)))
+    (λ ne. ne-eqb x y ne ∙ sym (ne-eqb y x (λ e. ne (sym e))))
+
+-- a slot's chain by its number is its chain by the table
+place-of : (f : Table) (n b s : ℕ) → building.chainOf (livePlace f n b s) ≡ placeOf f n b s
+unfolding building.chainOf livePlace placeOf
+place-of f n b s = go (split (live f n s))
+  where
+    next : headOf (keyIn (f s)) b + 1 ≡ suc (headOf (keyIn (f s)) b)
+    next = omega arith
+
+    go : (live f n s ≡ true) ⊎ (live f n s ≡ false) → building.chainOf (cond (live f n s) (headOf (keyIn (f s)) b + 1) 0) ≡ cond (live f n s) (head (headOf (keyIn (f s)) b)) reuse
+    go (inl e) =
+        ap building.chainOf (pick-true (live f n s) _ _ e ∙ next) ∙ sym (pick-true (live f n s) (head (headOf (keyIn (f s)) b)) reuse e)
+    go (inr e) = ap building.chainOf (pick-false (live f n s) _ _ e) ∙ sym (pick-false (live f n s) (head (headOf (keyIn (f s)) b)) reuse e)
+
+-- the test for a chain by place is the test of document 01's chain
+pub in-reuse : (f : Table) (n b s : ℕ) → same reuse (placeOf f n b s) ≡ spare f n s
+unfolding placeOf spare
+in-reuse f n b s = go (split (live f n s))
+  where
+    go : (live f n s ≡ true) ⊎ (live f n s ≡ false) → same reuse (cond (live f n s) (head (headOf (keyIn (f s)) b)) reuse) ≡ not (live f n s)
+    go (inl e) = rw e
+    go (inr e) = rw e
+
+pub in-head : (f : Table) (n b h s : ℕ) → same (head h) (placeOf f n b s) ≡ (live f n s && eqb (headOf (keyIn (f s)) b) h)
+unfolding placeOf
+in-head f n b h s = go (split (live f n s))
+  where
+    go : (live f n s ≡ true) ⊎ (live f n s ≡ false) → same (head h) (cond (live f n s) (head (headOf (keyIn (f s)) b)) reuse) ≡ (live f n s && eqb (headOf (keyIn (f s)) b) h)
+    go (inl e) = rw e (eqb-swap h (headOf (keyIn (f s)) b))
+    go (inr e) = rw e
+
+pub head-in : (f : Table) (n b s h : ℕ) → 1 ≤ b → placeOf f n b s ≡ head h → h < b
+unfolding placeOf
+head-in f n b s h few e = go (split (live f n s))
+  where
+    below : (x : ℕ) → x % b < b
+    below x = mod-lt x few
+
+    own : (x y : ℕ) → head x ≡ head y → x ≡ y
+    own x y q = cc
+
+    other : reuse ≡ head h → ⊥
+    other q = let z : _≡_ {A = ℕ} 0 1 = cc in omega arith
+
+    go : (live f n s ≡ true) ⊎ (live f n s ≡ false) → h < b
+    go (inl t) =
+        omega (
+          arith,
+          below (keyIn (f s) % 2 ^ 64),
+          own _ h (sym (pick-true (live f n s) (head (headOf (keyIn (f s)) b)) reuse t) ∙ e),
+        )
+    go (inr t) = absurd (other (sym (pick-false (live f n s) (head (headOf (keyIn (f s)) b)) reuse t) ∙ e))
+
+in-same : {l m : List ℕ} → l ≡ m → (x : ℕ) → In x l → In x m
+in-same e x i = subst (λ (t : List ℕ). In x t) e i
+
+once-same : {l m : List ℕ} → l ≡ m → Once l → Once m
+once-same e o = subst (λ (t : List ℕ). Once t) e o
+
+module _ (f : Table) (n b : ℕ) (order places : List ℕ) (live-count top : ℕ) (few : 1 ≤ b) (a : Arranged f n b order places live-count top) where
+  at-place : (s : ℕ) → 0 < s → s ≤ n → placeIn places s ≡ placeOf f n b s
+  unfolding placeIn
+  at-place s low high = ap building.chainOf (a .place-is s low high) ∙ place-of f n b s
+
+  ranked : List ℕ → List ℕ
+  ranked = sorted (λ s. rankOf (f s))
+
+  order-is : order ≡ ranked (slots n)
+  unfolding ordered ranked
+  order-is = a .order-is
+
+  pub arranged-in : (x : ℕ) → In x order → (0 < x) × (x ≤ n)
+  unfolding ranked
+  arranged-in x i =
+      let t = slots-in n x (sorted-in (λ s. rankOf (f s)) x (slots n) (in-same order-is x i)) in
+      (omega (arith, t .0), t .1)
+
+  in-order : (x : ℕ) → 0 < x → x ≤ n → In x order
+  unfolding ranked
+  in-order x low high = in-same (sym order-is) x (in-sorted (λ s. rankOf (f s)) x (slots n) (in-slots n x (omega arith, high)))
+
+  order-once : Once order
+  unfolding ranked
+  order-once = once-same (sym order-is) (once-sorted (λ s. rankOf (f s)) (slots n) (once-slots n))
+
+  kept : (p q : ℕ → Bool) → ((s : ℕ) → 0 < s → s ≤ n → p s ≡ q s) → keep p order ≡ ranked (keep q (slots n))
+  unfolding ranked
+  kept p q h =
+      ap (keep p) order-is ∙ keep-sorted (λ s. rankOf (f s)) p (slots n)
+      ∙ ap ranked (keep-alike p q (slots n) (λ x i. let t = slots-in n x i in h x (omega (arith, t .0)) (t .1)))
+
+  chains-are : (c : Chain) → keep (λ s. same c (placeIn places s)) order ≡ chainsOf f n b c
+  unfolding chainsOf reuseOf chainOf ordered ranked
+  chains-are reuse =
+      kept (λ s. same reuse (placeIn places s)) (spare f n) (λ s low high. ap (same reuse) (at-place s low high) ∙ in-reuse f n b s)
+  chains-are (head h) =
+      kept (λ s. same (head h) (placeIn places s)) (λ s. live f n s && eqb (headOf (keyIn (f s)) b) h)
+      (λ s low high. ap (same (head h)) (at-place s low high) ∙ in-head f n b h s)
+
+  heads-in : (s h : ℕ) → In s order → placeIn places s ≡ head h → h < b
+  heads-in s h i e = let t = arranged-in s i in head-in f n b s h few (sym (at-place s (t .0) (t .1)) ∙ e)
+
+  -- THE INDEX: what is built is what document 01 lays down
+  pub arranged-index : build (placeIn places) (unbuilt (replicate b 0) (replicate (n + 1) 0)) order ≡ recoveredIndex f n b
+  unfolding recoveredIndex
+  arranged-index =
+      built-chained n b (placeIn places) order (replicate b 0) (replicate (n + 1) 0) order-once arranged-in in-order heads-in
+      (length-replicate b 0) (length-replicate (n + 1) 0) (zeros b) (zeros (n + 1) 0)
+      ∙ ap (λ (chains : Chain → List ℕ). chained n b chains (placeIn places)) (fun-ext chains-are)
+      ∙ chained-alike n b (chainsOf f n b) (placeIn places) (placeOf f n b) at-place
+
+-- ---- rebuild
+
+pub ordered-kept : (heads next heads′ next′ order places : List ℕ) → length heads′ ≡ length heads → length next′ ≡ length next
+    → Ordered heads next order places → Ordered heads′ next′ order places
+ordered-kept heads next heads′ next′ order places p q o =
+    record {
+      slot-in = λ k h. omega (arith, o .slot-in k h);
+      place-in = o .place-in;
+      head-in = λ k h. omega (arith, o .head-in k h);
+    }
+
+pub rebuilt : (heads next order places heads₁ next₁ heads′ next′ : List ℕ) (built : State) (live-count top : ℕ)
+    → heads₁ ≡ replicate (length heads) 0 → next₁ ≡ replicate (length next) 0
+    → Holds heads′ next′ built (build (placeIn places) (unbuilt heads₁ next₁) order) 0 0
+    → Holds heads′ next′ (record { first = built .first; last = built .last; live = live-count; version = top + 1 })
+    (build (placeIn places) (unbuilt (replicate (length heads) 0) (replicate (length next) 0)) order) live-count (top + 1)
+rebuilt heads next order places heads₁ next₁ heads′ next′ built live-count top p q h =
+    record {
+      index = h .index ∙ ap₂ (λ (x y : List ℕ). build (placeIn places) (unbuilt x y) order) p q;
+      live-count = refl;
+      next-version = refl;
+    }

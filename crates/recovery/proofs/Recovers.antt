@@ -1,0 +1,149 @@
+-- What recover leans on: its result from what was judged and rebuilt. Assumes nothing.
+use mathlib.Core.Path.{_≡_, refl, sym, ap, ap₂, _∙_}
+use mathlib.Core.Bool.{Bool, true, false, cond}
+use mathlib.Core.Logic.{_⊎_, inl, inr}
+use mathlib.Core.List.{List, [], _∷_}
+use Prim.Native.Nat.{ℕ, suc, _+_, _*_, _%_, _^_, _≤_, _<_}
+use native.Mathlib.Nat.{mod-lt}
+use native.Mathlib.Omega.{arith}
+use lib.ListN.{length, getD, take, replicate}
+use lib.Seq.{length-take-le}
+use Rattle.words.specs.Word.{word}
+use Rattle.words.proofs.Choice.{pick-true, pick-false, split}
+use Rattle.layout.specs.Answer.{gives, refused}
+use Rattle.layout.specs.Size.{slotsOf}
+use Rattle.layout.specs.Header.{lentFault}
+use Rattle.layout.specs.Content.{content}
+use Rattle.layout.proofs.Refusals.{orElse-first, orElse-later, taken-leaves, refused-keeps}
+use Rattle.table.specs.Table.{Table, keyIn, live, liveCount, nextVersion}
+use Rattle.index.specs.Index.{Index, headOf, indexOf}
+use Rattle.index.specs.Parts.{Holds, Sized}
+use Rattle.index.specs.Build.{build, placeIn, unbuilt, Ordered}
+use Rattle.index.specs.declared.State.{State}
+use Rattle.sorting.proofs.Order.{at-in}
+use Rattle.recovery.specs.Recover.{Result, stateValues, slotsFault, recoverFault, recoveredIndex, recoveredState, recovered, recoverResult}
+use Rattle.recovery.specs.Decide.{livePlace}
+use Rattle.recovery.specs.Judge.{Judgeable, Arranged, Judgement}
+use Rattle.recovery.specs.declared.Judged.{Judged}
+use Rattle.recovery.proofs.Rebuilt.{arranged-index, arranged-in}
+
+-- the result by the refusal's number
+module _ (image heads next : List ℕ) (fault : ℕ) (e : recoverFault 1 image (length heads) (length next) ≡ fault) where
+  result-refused : (fault ≡ 0 → ⊥) → record { answer = refused fault; heads = heads; next = next } ≡ recoverResult 1 image heads next
+  unfolding recoverResult
+  result-refused ne =
+      sym
+      (refused-keeps (recovered (content 1 (word image)) (slotsOf (length image)) (length heads))
+      (record { answer = refused (recoverFault 1 image (length heads) (length next)); heads = heads; next = next })
+      (recoverFault 1 image (length heads) (length next)) (λ z. ne (sym e ∙ z))
+      ∙ ap (λ (k : ℕ). record { answer = refused k; heads = heads; next = next }) e)
+
+  result-taken : fault ≡ 0 → recovered (content 1 (word image)) (slotsOf (length image)) (length heads) ≡ recoverResult 1 image heads next
+  unfolding recoverResult
+  result-taken z =
+      sym
+      (taken-leaves (recovered (content 1 (word image)) (slotsOf (length image)) (length heads))
+      (record { answer = refused (recoverFault 1 image (length heads) (length next)); heads = heads; next = next })
+      (recoverFault 1 image (length heads) (length next)) (e ∙ z))
+
+-- 1 to 4
+pub lent-refused : (image heads next : List ℕ) (fault : ℕ) → fault ≡ lentFault 1 image (length heads) (length next) → (fault ≡ 0 → ⊥)
+    → record { answer = refused fault; heads = heads; next = next } ≡ recoverResult 1 image heads next
+unfolding recoverFault
+lent-refused image heads next fault e ne =
+    result-refused image heads next fault (orElse-first _ _ (λ z. ne (e ∙ z)) ∙ sym e) ne
+
+-- 5 to 8, and the index
+module _ (image heads next : List ℕ) (n : ℕ) (fine : lentFault 1 image (length heads) (length next) ≡ 0) (size : slotsOf (length image) ≡ n) where
+  by-slots : (fault : ℕ) → fault ≡ slotsFault 1 (word image) n → recoverFault 1 image (length heads) (length next) ≡ fault
+  unfolding recoverFault
+  by-slots fault e = orElse-later _ _ fine ∙ ap (slotsFault 1 (word image)) size ∙ sym e
+
+  pub slots-refused : (fault : ℕ) → fault ≡ slotsFault 1 (word image) n → (fault ≡ 0 → ⊥)
+      → record { answer = refused fault; heads = heads; next = next } ≡ recoverResult 1 image heads next
+  slots-refused fault e ne = result-refused image heads next fault (by-slots fault e) ne
+
+  -- the result of an index with this live count and this next version
+  shown : Index → (live-count version : ℕ) → Result
+  shown i live-count version =
+      record { answer = gives (i .first ∷ i .last ∷ live-count ∷ version ∷ []); heads = i .heads; next = i .next }
+
+  pub slots-taken : (fault : ℕ) → fault ≡ slotsFault 1 (word image) n → fault ≡ 0 → 1 ≤ length heads → length next ≡ n + 1
+      → (order places heads′ next′ : List ℕ) (live-count top : ℕ) (r : State)
+      → Arranged (content 1 (word image)) n (length heads) order places live-count top
+      → Holds heads′ next′ r (build (placeIn places) (unbuilt (replicate (length heads) 0) (replicate (length next) 0)) order) live-count (top + 1)
+      → record { answer = gives (stateValues r); heads = heads′; next = next′ } ≡ recoverResult 1 image heads next
+  unfolding shown recovered recoveredState
+  slots-taken fault e z few wide order places heads′ next′ live-count top r a h =
+      ap (λ (i : Index). shown i (r .live) (r .version)) (h .index ∙ built)
+      ∙ ap₂ (shown (recoveredIndex f n (length heads))) (h .live-count ∙ a .live-is) (h .next-version ∙ next-is)
+      ∙ ap (λ (k : ℕ). recovered f k (length heads)) (sym size)
+      ∙ result-taken image heads next fault (by-slots fault e) z
+    where
+      f : Table
+      f = content 1 (word image)
+
+      built : build (placeIn places) (unbuilt (replicate (length heads) 0) (replicate (length next) 0)) order ≡ recoveredIndex f n (length heads)
+      built =
+          ap (λ (k : ℕ). build (placeIn places) (unbuilt (replicate (length heads) 0) (replicate k 0)) order) wide
+          ∙ arranged-index f n (length heads) order places live-count top few a
+
+      next-is : top + 1 ≡ nextVersion f n
+      next-is = omega (arith, a .top-is)
+
+-- ---- rebuild can write
+
+place-small : (f : Table) (n b s : ℕ) → 1 ≤ b → livePlace f n b s ≤ b
+unfolding livePlace
+place-small f n b s few = go (split (live f n s))
+  where
+    below : (x : ℕ) → x % b < b
+    below x = mod-lt x few
+
+    go : (live f n s ≡ true) ⊎ (live f n s ≡ false) → cond (live f n s) (headOf (keyIn (f s)) b + 1) 0 ≤ b
+    go (inl e) = omega (arith, pick-true (live f n s) (headOf (keyIn (f s)) b + 1) 0 e, below (keyIn (f s) % 2 ^ 64))
+    go (inr e) = omega (arith, pick-false (live f n s) (headOf (keyIn (f s)) b + 1) 0 e)
+
+pub rebuild-ready : (f : Table) (n : ℕ) (heads next order places : List ℕ) (live-count top : ℕ) → 1 ≤ length heads → length next ≡ n + 1
+    → length places ≡ n + 1 → Arranged f n (length heads) order places live-count top → Ordered heads next order places × (top < 2 ^ 63)
+rebuild-ready f n heads next order places live-count top few wide size a = (ordered-by, a .top-fits)
+  where
+    inside : (k : ℕ) → k < length order → (0 < getD order k 0) × (getD order k 0 ≤ n)
+    inside k h = arranged-in f n (length heads) order places live-count top few a (getD order k 0) (at-in order k h)
+
+    ordered-by : Ordered heads next order places
+    ordered-by =
+        record {
+          slot-in = λ k h. omega (arith, inside k h .1);
+          place-in = λ k h. omega (arith, inside k h .1);
+          head-in =
+              λ k h.
+              omega (
+                arith,
+                a .place-is (getD order k 0) (inside k h .0) (inside k h .1),
+                place-small f n (length heads) (getD order k 0) few,
+              );
+        }
+
+-- ---- the fronts of the scratch lists
+
+pub front : (k : ℕ) (list : List ℕ) → k ≤ length list → k ≡ length (take k list)
+front k list h = sym (length-take-le k list h)
+
+pub judgeable : (image heads next ranks keys places order by-key spare : List ℕ) (n : ℕ) → Sized image heads next n → length heads ≤ 65536 → 1 ≤ n
+    → n < length ranks → n < length keys → n < length places → n < length order → n < length by-key → n < length spare
+    → Judgeable image (take (n + 1) ranks) (take (n + 1) keys) (take (n + 1) places) (take n order) (take n by-key) (take n spare) n (length heads)
+judgeable image heads next ranks keys places order by-key spare n s high some a b c d e f =
+    record {
+      image-size = s .image-size;
+      ranks-size = length-take-le (n + 1) ranks (omega arith);
+      keys-size = length-take-le (n + 1) keys (omega arith);
+      places-size = length-take-le (n + 1) places (omega arith);
+      order-size = length-take-le n order (omega arith);
+      by-key-size = length-take-le n by-key (omega arith);
+      spare-size = length-take-le n spare (omega arith);
+      some-slots = some;
+      few = s .few;
+      heads-low = s .some-head;
+      heads-high = high;
+    }

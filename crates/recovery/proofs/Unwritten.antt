@@ -1,0 +1,121 @@
+-- A table of empty slots, such as format leaves: what recovery reads of it. Assumes nothing.
+use mathlib.Core.Path.{_≡_, refl, ap, _∙_}
+use mathlib.Core.Bool.{Bool, true, false, not, _&&_}
+use mathlib.Core.Logic.{inl, inr}
+use mathlib.Core.List.{List, [], _∷_}
+use Prim.Native.Nat.{ℕ, zero, suc, _+_, _-_, _≤_}
+use native.Mathlib.Omega.{arith}
+use lib.Dec.{eqb}
+use Rattle.words.proofs.Choice.{pick-true, pick-false}
+use Rattle.layout.specs.Refusal.{say}
+use Rattle.layout.specs.Range.{anyOf}
+use Rattle.layout.specs.Content.{empty, topOf}
+use Rattle.layout.proofs.Refusals.{say-false}
+use Rattle.layout.proofs.Any.{any-clear}
+use Rattle.sorting.specs.Sorted.{keep, sorted}
+use Rattle.sorting.specs.Members.{In, Rising}
+use Rattle.sorting.proofs.Order.{sorted-rising}
+use Rattle.table.specs.Table.{Table, counts, keyIn, count, nextVersion, decidingPut, live, spare, liveCount, sharedVersion, allLive}
+use Rattle.table.specs.Order.{rankOf, slots, ordered, chainOf, reuseOf}
+use Rattle.table.specs.Write.{Slot}
+use Rattle.table.proofs.Lists.{slots-in}
+use Rattle.table.proofs.LiveCount.{room-all}
+use Rattle.table.proofs.Most.{greatest-least}
+use Rattle.recovery.specs.Represents.{Fresh}
+
+-- ---- tests that hold everywhere or nowhere
+
+count-none : (p : ℕ → Bool) (n : ℕ) → ((t : ℕ) → Slot n t → p t ≡ false) → count p n ≡ 0
+unfolding count
+count-none p zero h = refl
+count-none p (suc n) h =
+    pick-false (p (suc n)) _ _ (h (suc n) (omega arith)) ∙ count-none p n (λ t i. h t (omega arith))
+
+keep-all : (p : ℕ → Bool) (l : List ℕ) → ((x : ℕ) → In x l → p x ≡ true) → keep p l ≡ l
+unfolding keep
+keep-all p [] h = refl
+keep-all p (x ∷ l) h =
+    pick-true (p x) _ _ (h x (inl refl)) ∙ ap (λ (t : List ℕ). x ∷ t) (keep-all p l (λ y i. h y (inr i)))
+
+keep-none : (p : ℕ → Bool) (l : List ℕ) → ((x : ℕ) → In x l → p x ≡ false) → keep p l ≡ []
+unfolding keep
+keep-none p [] h = refl
+keep-none p (x ∷ l) h = pick-false (p x) _ _ (h x (inl refl)) ∙ keep-none p l (λ y i. h y (inr i))
+
+-- one rank throughout
+rising-flat : (g : ℕ → ℕ) (c : ℕ) (l : List ℕ) → ((x : ℕ) → In x l → g x ≡ c) → Rising g l
+rising-flat g c [] h = tt
+rising-flat g c (x ∷ l) h = ((λ y i. omega (arith, h x (inl refl), h y (inr i))), rising-flat g c l (λ y i. h y (inr i)))
+
+-- ---- a table of empty slots
+
+module _ (f : Table) (n : ℕ) (blank : (s : ℕ) → Slot n s → f s ≡ empty) where
+  pub unwritten-live : (s : ℕ) → Slot n s → live f n s ≡ false
+  unfolding live decidingPut
+  unwritten-live s i = ap (decidingPut f n s) (blank s i)
+
+  pub unwritten-count : liveCount f n ≡ 0
+  unfolding liveCount
+  unwritten-count = count-none (live f n) n unwritten-live
+
+  top-zero : (s : ℕ) → Slot n s → topOf (f s) ≡ 0
+  unfolding topOf
+  top-zero s i = ap topOf (blank s i)
+
+  pub unwritten-version : nextVersion f n ≡ 1
+  unfolding nextVersion
+  unwritten-version = omega (arith, greatest-least (λ s. topOf (f s)) n 0 (λ t i. omega (arith, top-zero t i)))
+
+  rank-one : (s : ℕ) → Slot n s → rankOf (f s) ≡ 1
+  unfolding rankOf
+  rank-one s i = ap rankOf (blank s i)
+
+  spare-all : (s : ℕ) → Slot n s → spare f n s ≡ true
+  unfolding spare
+  spare-all s i = ap not (unwritten-live s i)
+
+  pub unwritten-reuse : reuseOf f n ≡ slots n
+  unfolding reuseOf ordered
+  unwritten-reuse =
+      ap (sorted (λ s. rankOf (f s))) (keep-all (spare f n) (slots n) (λ x i. spare-all x (slots-in n x i)))
+      ∙ sorted-rising (λ s. rankOf (f s)) (slots n) (rising-flat (λ s. rankOf (f s)) 1 (slots n) (λ x i. rank-one x (slots-in n x i)))
+
+  pub unwritten-chain : (head : ℕ → ℕ) (h : ℕ) → chainOf f n head h ≡ []
+  unfolding chainOf ordered sorted
+  unwritten-chain head h =
+      ap (sorted (λ s. rankOf (f s)))
+      (keep-none (λ s. live f n s && eqb (head (keyIn (f s))) h) (slots n)
+      (λ x i. ap (λ (t : Bool). t && eqb (head (keyIn (f x))) h) (unwritten-live x (slots-in n x i))))
+
+  counts-not : (s : ℕ) → Slot n s → counts (f s) ≡ false
+  unfolding counts
+  counts-not s i = ap counts (blank s i)
+
+  pub unwritten-shared : sharedVersion f n ≡ false
+  unfolding sharedVersion
+  unwritten-shared =
+      any-clear (λ s. anyOf (λ t. counts (f s) && (counts (f t) && eqb (topOf (f s)) (topOf (f t)))) 1 (s - 1)) 1 n
+      (λ i l.
+      any-clear (λ t. counts (f (1 + i)) && (counts (f t) && eqb (topOf (f (1 + i))) (topOf (f t)))) 1 (1 + i - 1)
+      (λ j k.
+      ap (λ (b : Bool). b && (counts (f (1 + j)) && eqb (topOf (f (1 + i))) (topOf (f (1 + j)))))
+      (counts-not (1 + i) (omega arith))))
+
+  pub unwritten-room : 1 ≤ n → allLive f n ≡ false
+  unwritten-room some = room-all f n (omega (arith, unwritten-count))
+
+  -- neither 7 nor 8
+  pub unwritten-fine : 1 ≤ n → say (sharedVersion f n) 7 (say (allLive f n) 8 0) ≡ 0
+  unwritten-fine some = say-false _ 7 _ unwritten-shared ∙ say-false _ 8 _ (unwritten-room some)
+
+  -- THE FORMATTED TABLE
+  pub formatted-recovery : 1 ≤ n → Fresh f n
+  formatted-recovery some =
+      record {
+        live-count = unwritten-count;
+        next-version = unwritten-version;
+        all-spare = unwritten-reuse;
+        no-chain = unwritten-chain;
+        none-shared = unwritten-shared;
+        some-room = unwritten-room some;
+      }

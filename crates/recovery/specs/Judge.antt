@@ -1,0 +1,49 @@
+-- What recovery finds before it writes anything, and what it leaves.
+use mathlib.Core.Path.{_≡_}
+use mathlib.Core.Bool.{Bool}
+use mathlib.Core.List.{List}
+use Prim.Native.Nat.{ℕ, suc, _+_, _*_, _^_, _≤_, _<_}
+use lib.Dec.{eqb}
+use lib.ListN.{length, getD}
+use Rattle.layout.specs.Refusal.{say}
+use Rattle.layout.specs.Content.{content}
+use Rattle.table.specs.Table.{Table, liveCount, nextVersion}
+use Rattle.table.specs.Order.{slots, ordered}
+use Rattle.recovery.specs.Recover.{Result, recoverSays, slotsFault}
+use Rattle.recovery.specs.Decide.{livePlace}
+use Rattle.recovery.specs.declared.Judged.{Judged}
+use Rattle.recovery.specs.declared.Recovered.{Recovered}
+
+-- the image has n slots, there are b heads, and the scratch lists have their sizes
+pub record Judgeable (image ranks keys places order by-key spare : List ℕ) (n b : ℕ) : Type 0 where
+  pub image-size : length image ≡ 128 * (n + 1)
+  pub ranks-size : length ranks ≡ n + 1
+  pub keys-size : length keys ≡ n + 1
+  pub places-size : length places ≡ n + 1
+  pub order-size : length order ≡ n
+  pub by-key-size : length by-key ≡ n
+  pub spare-size : length spare ≡ n
+  pub some-slots : 1 ≤ n
+  pub few : n ≤ 65535
+  pub heads-low : 1 ≤ b
+  pub heads-high : b ≤ 65536
+
+-- 5, 6, 7, 8 from what was found
+unfoldable pub foundFault : (mark fault shared : Bool) → (live n : ℕ) → ℕ
+foundFault mark fault shared live n = say mark 5 (say fault 6 (say shared 7 (say (eqb live n) 8 0)))
+
+-- of an accepted table f: the order of all slots, the chain of each as a number, the live count and the highest version
+pub record Arranged (f : Table) (n b : ℕ) (order places : List ℕ) (live top : ℕ) : Type 0 where
+  pub order-is : order ≡ ordered f (slots n)
+  pub place-is : (s : ℕ) → 0 < s → s ≤ n → getD places s 0 ≡ livePlace f n b s
+  pub live-is : live ≡ liveCount f n
+  pub top-is : suc top ≡ nextVersion f n
+  pub top-fits : top < 2 ^ 63
+
+pub record Judgement (m : ℕ → ℕ) (n b : ℕ) (order places : List ℕ) (r : Judged) : Type 0 where
+  pub fault-is : r .fault ≡ slotsFault 1 m n
+  pub arranged : r .fault ≡ 0 → Arranged (content 1 m) n b order places (r .live) (r .top)
+
+-- what a call of recover with this answer left
+abbrev pub recoverEnd : Recovered → (heads next : List ℕ) → Result
+recoverEnd r heads next = record { answer = recoverSays r; heads = heads; next = next }

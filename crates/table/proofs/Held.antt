@@ -1,0 +1,67 @@
+-- A key that is held, and the slot that holds it. Assumes nothing.
+use mathlib.Core.Path.{_≡_, refl, sym, ap, _∙_}
+use mathlib.Core.Bool.{Bool, true, false, cond}
+use mathlib.Core.Option.{Option, some, none}
+use mathlib.Core.List.{List}
+use Prim.Native.Nat.{ℕ}
+use native.Mathlib.Omega.{arith}
+use lib.Dec.{ltb}
+use borrow.Author.Tests.{lt-ltb, le-ltb}
+use Rattle.table.specs.Table.{Table, weight, decider, valueIn, valueAt, mapOf, live}
+use Rattle.table.specs.Write.{Slot, holder, isHeld}
+use Rattle.table.proofs.Content.{puts, Says, removes, value-at, says}
+use Rattle.table.proofs.Most.{nowhere, there, First}
+use Rattle.table.proofs.Map.{is-live, live-remove, decider-is, lives}
+
+pub some-none : {v : List ℕ} {o : Option (List ℕ)} → o ≡ some v → o ≡ none → ⊥
+some-none {v} {o} p q = let z : _≡_ {A = ℕ} 0 1 = cc in omega arith
+
+pub data Held (f : Table) (n k : ℕ) : Type 0 where
+  held : (v : List ℕ) → Slot n (decider f n k) → live f n (decider f n k) ≡ true → mapOf f n k ≡ some v → Held f n k
+  unheld : ((t : ℕ) → Slot n t → decider f n k ≡ t → live f n t ≡ false) → mapOf f n k ≡ none → Held f n k
+
+pub held-or : (f : Table) (n k : ℕ) → Held f n k
+unfolding mapOf valueAt valueIn
+held-or f n k = go (decider-is f n k)
+  where
+    at : Slot n (decider f n k) → Says k (f (decider f n k)) → Held f n k
+    at i (puts w v e) = held v i (is-live f n (decider f n k) (lives w k v e refl)) (value-at f n (decider f n k) i ∙ ap valueIn e)
+    at i (removes w e) =
+        unheld (λ t j q. live-remove f n t w k (ap f (sym q) ∙ e)) (value-at f n (decider f n k) i ∙ ap valueIn e)
+
+    go : First (λ t. weight k (f t)) n (decider f n k) → Held f n k
+    go (nowhere z h) = unheld (λ t j q. absurd (omega arith)) (ap (valueAt f) z)
+    go (there i p h b) = at i (says k (f (decider f n k)) p)
+
+pub holder-held : (f : Table) (n k : ℕ) → live f n (decider f n k) ≡ true → holder f n k ≡ decider f n k
+unfolding holder
+holder-held f n k e = ap (λ (x : Bool). cond x (decider f n k) 0) e
+
+pub holder-none : (f : Table) (n k : ℕ) → ((t : ℕ) → Slot n t → decider f n k ≡ t → live f n t ≡ false) → holder f n k ≡ 0
+unfolding holder
+holder-none f n k h = go (decider-is f n k)
+  where
+    zeros : (x : Bool) (b : ℕ) → b ≡ 0 → cond x b 0 ≡ 0
+    zeros true b e = e
+    zeros false b e = refl
+
+    go : First (λ t. weight k (f t)) n (decider f n k) → holder f n k ≡ 0
+    go (nowhere z a) = zeros (live f n (decider f n k)) (decider f n k) z
+    go (there i p a b) = ap (λ (x : Bool). cond x (decider f n k) 0) (h (decider f n k) i refl)
+
+-- the holder gives the map its value, and there is none exactly where the key is not held
+pub holder-value : (f : Table) (n k : ℕ) → valueAt f (holder f n k) ≡ mapOf f n k
+unfolding mapOf valueAt
+holder-value f n k = go (held-or f n k)
+  where
+    go : Held f n k → valueAt f (holder f n k) ≡ mapOf f n k
+    go (held v i e m) = ap (valueAt f) (holder-held f n k e)
+    go (unheld a m) = ap (valueAt f) (holder-none f n k a) ∙ sym m
+
+pub holder-test : (f : Table) (n k : ℕ) → ltb 0 (holder f n k) ≡ isHeld (mapOf f n k)
+unfolding isHeld
+holder-test f n k = go (held-or f n k)
+  where
+    go : Held f n k → ltb 0 (holder f n k) ≡ isHeld (mapOf f n k)
+    go (held v i e m) = lt-ltb 0 (holder f n k) (omega (arith, holder-held f n k e)) ∙ sym (ap isHeld m)
+    go (unheld a m) = le-ltb 0 (holder f n k) (omega (arith, holder-none f n k a)) ∙ sym (ap isHeld m)

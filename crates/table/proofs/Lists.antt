@@ -1,0 +1,64 @@
+-- Membership in lists put together, and the list of all slots. Assumes nothing.
+use mathlib.Core.Path.{_≡_, refl}
+use mathlib.Core.Bool.{Bool, true, false}
+use mathlib.Core.Logic.{_⊎_, inl, inr, ⊎-elim}
+use mathlib.Core.List.{List, [], _∷_, _++_}
+use Prim.Native.Nat.{ℕ, zero, suc}
+use native.Mathlib.Omega.{arith}
+use lib.Dec.{eqb}
+use borrow.Author.Tests.{eqb-true, eqb-false}
+use Rattle.sorting.specs.Members.{In, Once}
+use Rattle.table.specs.Order.{slots}
+use Rattle.table.specs.Write.{Slot}
+
+pub in-append : (t : ℕ) (l m : List ℕ) → In t (l ++ m) → In t l ⊎ In t m
+in-append t [] m i = inr i
+in-append t (x ∷ l) m (inl e) = inl (inl e)
+in-append t (x ∷ l) m (inr i) = ⊎-elim (λ a. inl (inr a)) (λ b. inr b) (in-append t l m i)
+
+pub in-left : (t : ℕ) (l m : List ℕ) → In t l → In t (l ++ m)
+in-left t [] m i = absurd i
+in-left t (x ∷ l) m (inl e) = inl e
+in-left t (x ∷ l) m (inr i) = inr (in-left t l m i)
+
+pub in-right : (t : ℕ) (l m : List ℕ) → In t m → In t (l ++ m)
+in-right t [] m i = i
+in-right t (x ∷ l) m i = inr (in-right t l m i)
+
+pub in-at : (x y : ℕ) (l : List ℕ) → x ≡ y → In x l → In y l
+in-at x y l e i = rw e at i
+
+pub once-append : (l m : List ℕ) → Once l → Once m → ((t : ℕ) → In t l → In t m → ⊥) → Once (l ++ m)
+once-append [] m a b h = b
+once-append (x ∷ l) m a b h = (
+  (λ i. ⊎-elim (λ p. a .0 p) (λ q. h x (inl refl) q) (in-append x l m i)),
+  once-append l m (a .1) b (λ t i j. h t (inr i) j),
+)
+
+pub slots-in : (n t : ℕ) → In t (slots n) → Slot n t
+unfolding slots
+slots-in zero t i = absurd i
+slots-in (suc n) t i = go (in-append t (slots n) (suc n ∷ []) i) (slots-in n t)
+  where
+    go : In t (slots n) ⊎ In t (suc n ∷ []) → (In t (slots n) → Slot n t) → Slot (suc n) t
+    go (inl j) ih = omega (arith, ih j)
+    go (inr (inl e)) ih = omega arith
+    go (inr (inr b)) ih = absurd b
+
+pub in-slots : (n t : ℕ) → Slot n t → In t (slots n)
+unfolding slots
+in-slots zero t i = absurd (omega arith)
+in-slots (suc n) t i = go (eqb t (suc n)) refl (in-slots n t)
+  where
+    go : (b : Bool) → eqb t (suc n) ≡ b → (Slot n t → In t (slots n)) → In t (slots n ++ (suc n ∷ []))
+    go true e ih = in-right t (slots n) (suc n ∷ []) (inl (eqb-true t (suc n) e))
+    go false e ih = in-left t (slots n) (suc n ∷ []) (ih (omega (arith, eqb-false t (suc n) e)))
+
+pub once-slots : (n : ℕ) → Once (slots n)
+unfolding slots
+once-slots zero = tt
+once-slots (suc n) = once-append (slots n) (suc n ∷ []) (once-slots n) ((λ b. b), tt) apart
+  where
+    apart : (t : ℕ) → In t (slots n) → In t (suc n ∷ []) → ⊥
+    apart t i (inl e) = omega (arith, slots-in n t i)
+    apart t i (inr b) = b
