@@ -1,12 +1,11 @@
--- The bytes that format leaves: the clear loop, format's result, and a formatted image: its words, its header and its table. Assumes nothing.
+-- The bytes that format leaves: format's result, and a formatted image: its words, its header and its table. Assumes nothing.
 use mathlib.Core.Path.{_≡_, refl, sym, ap, ap₂, _∙_}
 use mathlib.Core.Bool.{true, false, cond, not}
-use mathlib.Core.List.{List, [], _∷_, _++_, append-nil}
+use mathlib.Core.List.{List, [], _∷_}
 use Prim.Native.Nat.{ℕ, zero, suc, _+_, _*_, _/_, _%_, _^_, _≤_, _<_}
 use native.Mathlib.Omega.{arith}
 use lib.Dec.{eqb, ltb}
-use lib.ListN.{length, getD, set, drop, replicate, length-replicate, drop-of-length-le}
-use borrow.Author.Fill.{fill-more}
+use lib.ListN.{length, getD, replicate, length-replicate}
 use borrow.Author.Tests.{eq-eqb, ne-eqb}
 use Rattle.words.specs.Word.{AreBytes, word, setWord}
 use Rattle.words.proofs.Choice.{pick-false}
@@ -15,7 +14,7 @@ use Rattle.layout.specs.Refusal.{say, orElse, unlessRefused}
 use Rattle.layout.specs.Answer.{gives, refused}
 use Rattle.layout.specs.Size.{slotsOf}
 use Rattle.layout.specs.Header.{headerWord, headerFault, imageFault, indexFault, lentFault}
-use Rattle.layout.specs.Line.{line, lineA, lineB, whole, versionOf}
+use Rattle.layout.specs.Line.{line, lineA, lineB, whole}
 use Rattle.layout.specs.Slot.{lineVerdict, isValid}
 use Rattle.layout.specs.declared.Verdict.{Verdict}
 use Rattle.layout.specs.declared.Verdict.the-variants.{Empty}
@@ -30,21 +29,6 @@ use Rattle.recovery.specs.Recover.{slotsFault, recoverFault}
 use Rattle.recovery.specs.Represents.{Fresh}
 use Rattle.recovery.proofs.Unwritten.{unwritten-fine, formatted-recovery}
 use Rattle.orderset.specs.Format.{FormatResult, formatFault, formatted, formatResult}
-
--- ---- clear
-
-pub cleared-more : (k : ℕ) (old image : List ℕ) → k < length old → image ≡ replicate k 0 ++ drop k old
-    → set image k 0 ≡ replicate (k + 1) 0 ++ drop (k + 1) old
-cleared-more k old image h e = ap (λ (t : List ℕ). set t k 0) e ∙ fill-more k 0 old h
-
-pub cleared-all : (k : ℕ) (old image : List ℕ) → length old ≤ k → k ≤ length old → image ≡ replicate k 0 ++ drop k old
-    → image ≡ replicate (length old) 0
-cleared-all k old image h g e =
-    e ∙ ap (λ (t : List ℕ). replicate k 0 ++ t) (drop-of-length-le old h) ∙ append-nil (replicate k 0)
-    ∙ ap (λ (x : ℕ). replicate x 0) same
-  where
-    same : k ≡ length old
-    same = omega arith
 
 -- ---- format_as: n is the slots of the image
 

@@ -1,4 +1,4 @@
--- A search along the recovered chains finds what the map of the slots says. Assumes nothing.
+-- A search along the chains of a table, and so along the recovered ones, finds what the map of the slots says. Assumes nothing.
 use mathlib.Core.Path.{_≡_, refl, sym, ap, _∙_, subst}
 use mathlib.Core.Bool.{true, false}
 use mathlib.Core.Option.{none}
@@ -20,7 +20,7 @@ use Rattle.sorting.specs.Members.{In}
 use Rattle.table.specs.Table.{Table, keyIn, decider, valueIn, valueAt, mapOf, live, allLive}
 use Rattle.table.specs.Order.{chainOf, reuseOf}
 use Rattle.table.specs.Write.{Slot}
-use Rattle.table.specs.Chains.{seek}
+use Rattle.table.specs.Chains.{Chains, seek}
 use Rattle.table.proofs.Content.{value-at, weight-key}
 use Rattle.table.proofs.Count.{Gap, gap}
 use Rattle.table.proofs.Held.{Held, held, unheld, held-or, holder-value}
@@ -35,8 +35,9 @@ use Rattle.index.specs.Walk.{slotKey, search}
 use Rattle.index.specs.Sought.{sought}
 use Rattle.index.specs.declared.Found.{Found}
 use Rattle.index.proofs.Searches.{good-search, Hit, Missed, sought-hit, sought-missed, never-broken}
-use Rattle.recovery.specs.Recover.{Result, slotsFault, recoverFault, chainsOf, placeOf, recoveredIndex, recovered, recoverResult}
+use Rattle.recovery.specs.Recover.{Result, recoverFault, chainsOf, placeOf, recoveredIndex, recovered, recoverResult}
 use Rattle.recovery.specs.Represents.{Answers}
+use Rattle.recovery.proofs.Clear.{slots-clear}
 use Rattle.recovery.proofs.Represents.{recovered-sits}
 use Rattle.recovery.proofs.Lent.{recovery-taken}
 
@@ -57,12 +58,9 @@ passed-heads l image heads next z =
 
 pub passed-room : (l : ℕ) (image : List ℕ) (heads next : ℕ) → recoverFault l image heads next ≡ 0
     → allLive (content l (word image)) (slotsOf (length image)) ≡ false
-unfolding recoverFault slotsFault
+unfolding recoverFault
 passed-room l image heads next z =
-    let a = say-zero _ 5 _ (orElse-zero (lentFault l image heads next) _ z .1) (omega arith) in
-    let b = say-zero _ 6 _ (a .1) (omega arith) in
-    let c = say-zero _ 7 _ (b .1) (omega arith) in
-    say-zero _ 8 _ (c .1) (omega arith) .0
+    slots-clear l (word image) (slotsOf (length image)) (orElse-zero (lentFault l image heads next) _ z .1) .room
 
 -- with room the reuse chain has a slot
 some-spare : (f : Table) (n b : ℕ) → allLive f n ≡ false → (s : ℕ) × In s (chainsOf f n b reuse)
@@ -74,7 +72,7 @@ some-spare f n b e = go (room-spare f n (all-room f n e))
 
 -- ---- a live slot's key, by line A alone
 
-live-slot-key : (l : ℕ) (image : List ℕ) (n s : ℕ) → live (content l (word image)) n s ≡ true
+pub live-slot-key : (l : ℕ) (image : List ℕ) (n s : ℕ) → live (content l (word image)) n s ≡ true
     → keyIn (content l (word image) s) ≡ slotKey l image s
 unfolding keyIn content
 live-slot-key l image n s e = go (live-is (content l (word image)) n s e)
@@ -84,42 +82,46 @@ live-slot-key l image n s e = go (live-is (content l (word image)) n s e)
 
 -- ---- the search
 
-module _ (l : ℕ) (image : List ℕ) (f : Table) (n b key : ℕ) (keys : (s : ℕ) → live f n s ≡ true → keyIn (f s) ≡ slotKey l image s) where
-  chain-holds : (s prev count : ℕ) → Hit (slotKey l image) key (chainOf f n (λ k. headOf k b) (headOf key b)) s prev count
+-- f's chains are ch, in any order; keys gives a live slot's key by line A alone
+module _
+    (l : ℕ) (image : List ℕ) (f : Table) (n b key : ℕ) (keys : (s : ℕ) → live f n s ≡ true → keyIn (f s) ≡ slotKey l image s)
+    (ch : ℕ → List ℕ) (cs : Chains f n (λ k. headOf k b) ch) where
+  -- the slot that was found decides the key
+  pub chain-at : (s prev count : ℕ) → Hit (slotKey l image) key (ch (headOf key b)) s prev count
+      → (decider f n key ≡ s) × (live f n s ≡ true) × Slot n s
+  chain-at s prev count h =
+      let m : In s (ch (headOf key b)) =
+      subst (λ (t : List ℕ). In s t) (sym (h .parts)) (in-right s (h .before) (s ∷ h .behind) (inl refl)) in
+      let e : live f n s ≡ true = cs .alive (headOf key b) s m in
+      (chain-decider f n (λ k. headOf k b) ch cs key s (headOf key b) m (keys s e ∙ h .key-is), e, cs .slot (headOf key b) s m)
+
+  chain-holds : (s prev count : ℕ) → Hit (slotKey l image) key (ch (headOf key b)) s prev count
       → (mapOf f n key ≡ valueIn (f s)) × (live f n s ≡ true) × Slot n s
   unfolding mapOf
   chain-holds s prev count h =
-      let cs = recovery-chains f n (λ k. headOf k b) in
-      let m : In s (chainOf f n (λ k. headOf k b) (headOf key b)) =
-      subst (λ (t : List ℕ). In s t) (sym (h .parts)) (in-right s (h .before) (s ∷ h .behind) (inl refl)) in
-      let e : live f n s ≡ true = cs .alive (headOf key b) s m in
-      let i : Slot n s = cs .slot (headOf key b) s m in (
-        ap (valueAt f)
-            (chain-decider f n (λ k. headOf k b) (chainOf f n (λ k. headOf k b)) cs key s (headOf key b) m (keys s e ∙ h .key-is))
-            ∙ value-at f n s i,
-        e,
-        i,
-      )
+      let a = chain-at s prev count h in (ap (valueAt f) (a .0) ∙ value-at f n s (a .2), a .1, a .2)
 
-  chain-absent : (prev count : ℕ) → Missed (slotKey l image) key (chainOf f n (λ k. headOf k b) (headOf key b)) prev count
-      → mapOf f n key ≡ none
+  pub chain-absent : (prev count : ℕ) → Missed (slotKey l image) key (ch (headOf key b)) prev count → mapOf f n key ≡ none
   chain-absent prev count h = go (held-or f n key)
     where
       go : Held f n key → mapOf f n key ≡ none
       go (held v i e m) =
-          absurd (h .none (decider f n key)
-          (chain-has f n (λ k. headOf k b) (chainOf f n (λ k. headOf k b)) (recovery-chains f n (λ k. headOf k b)) key i e)
+          absurd (h .none (decider f n key) (chain-has f n (λ k. headOf k b) ch cs key i e)
           (sym (keys (decider f n key) e) ∙ weight-key key (f (decider f n key)) (decider-weight f n key (decider f n key) i refl)))
       go (unheld a m) = m
 
-  pub sought-answers : (found : Found) → found ≡ sought (slotKey l image) key 0 0 (chainsOf f n b (head (headOf key b))) → Answers f n key found
-  unfolding chainsOf
+  pub sought-answers : (found : Found) → found ≡ sought (slotKey l image) key 0 0 (ch (headOf key b)) → Answers f n key found
   sought-answers found e =
       record {
         holds = λ slot prev compared q. chain-holds slot prev compared (sought-hit _ _ _ _ _ _ (sym e ∙ q));
         absent = λ prev compared q. chain-absent prev compared (sought-missed _ _ _ _ _ (sym e ∙ q));
         unbroken = λ q. never-broken _ _ _ (sym e ∙ q);
       }
+
+-- recovery's chains hold the live slots
+chains-hold : (f : Table) (n b : ℕ) → Chains f n (λ k. headOf k b) (λ h. chainsOf f n b (head h))
+unfolding chainsOf
+chains-hold f n b = recovery-chains f n (λ k. headOf k b)
 
 searched : (l : ℕ) (image : List ℕ) (f : Table) (n b key : ℕ) (i : Index) → slotsOf (length image) ≡ n → Sits n b (placeOf f n b) i (chainsOf f n b)
     → allLive f n ≡ false
@@ -136,7 +138,8 @@ pub recovered-search : (l : ℕ) (image heads next : List ℕ) → recoverFault 
     (recoveredIndex (content l (word image)) (slotsOf (length image)) (length heads) .next) key)
 recovered-search l image heads next z key =
     sought-answers l image (content l (word image)) (slotsOf (length image)) (length heads) key
-    (live-slot-key l image (slotsOf (length image))) _
+    (live-slot-key l image (slotsOf (length image))) (λ h. chainsOf (content l (word image)) (slotsOf (length image)) (length heads) (head h))
+    (chains-hold (content l (word image)) (slotsOf (length image)) (length heads)) _
     (searched l image (content l (word image)) (slotsOf (length image)) (length heads) key
     (recoveredIndex (content l (word image)) (slotsOf (length image)) (length heads)) refl
     (recovered-sits (content l (word image)) (slotsOf (length image)) (length heads) (passed-heads l image (length heads) (length next) z))

@@ -1,5 +1,5 @@
 -- What judging leans on: the refusals 5 to 8 from what was found, and the arranged slots of an accepted image. Assumes nothing.
-use mathlib.Core.Path.{_≡_, refl, sym, ap, ap₂, _∙_}
+use mathlib.Core.Path.{_≡_, sym, ap, ap₂, _∙_}
 use mathlib.Core.Bool.{Bool, true, false, cond}
 use mathlib.Core.Logic.{_⊎_, inl, inr}
 use mathlib.Core.List.{List}
@@ -17,7 +17,7 @@ use Rattle.layout.specs.Line.{lineA, lineB, whole, versionOf, lineTop}
 use Rattle.layout.specs.Slot.{slotTop}
 use Rattle.layout.specs.Content.{content, top, topOf}
 use Rattle.layout.specs.Fault.{markFault, recordFault}
-use Rattle.layout.proofs.Refusals.{say-true, say-false, say-zero}
+use Rattle.layout.proofs.Refusals.{say-true, say-false}
 use Rattle.layout.proofs.Content.{top-is}
 use Rattle.sorting.specs.Sorted.{sorted}
 use Rattle.sorting.specs.Members.{slotsUpTo}
@@ -32,6 +32,7 @@ use Rattle.recovery.specs.Scan.{Scanned}
 use Rattle.recovery.specs.Decide.{twins, decided, placedCount, livePlace, Within}
 use Rattle.recovery.specs.Judge.{foundFault, Judgement}
 use Rattle.recovery.specs.declared.Scan.{Scan}
+use Rattle.recovery.proofs.Clear.{slots-clear}
 use Rattle.recovery.proofs.Orders.{up-in, up-slots, length-order, length-order-twice, within-sorted, within-sorted-twice}
 use Rattle.recovery.proofs.Twins.{twins-shared}
 use Rattle.recovery.proofs.Decides.{decided-live, counted-live}
@@ -139,11 +140,8 @@ module _ (image : List ℕ) (n b : ℕ) (ranks keys places₁ order by-key place
       ∙ ap (λ (k : ℕ). say (anyOf (markFault (word image)) 1 n) 5 (say (anyOf (recordFault 1 (word image)) 1 n) 6 k)) late
 
   none-shared : slotsFault 1 (word image) n ≡ 0 → sharedVersion f n ≡ false
-  unfolding slotsFault f
-  none-shared e =
-      let a = say-zero _ _ _ e (omega arith) in
-      let c = say-zero _ _ _ (a .1) (omega arith) in
-      say-zero _ _ _ (c .1) (omega arith) .0
+  unfolding f
+  none-shared e = slots-clear 1 (word image) n e .versions
 
   top-fits : all .top < 2 ^ 63
   top-fits =

@@ -1,3 +1,4 @@
+pub mod Clear
 pub mod Scans
 pub mod Orders
 pub mod Twins

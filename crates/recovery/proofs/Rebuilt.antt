@@ -18,7 +18,7 @@ use Rattle.sorting.proofs.Order.{sorted-in, in-sorted, once-sorted, keep-sorted
 use Rattle.table.specs.Table.{Table, keyIn, live, spare}
 use Rattle.table.specs.Order.{rankOf, slots, ordered, chainOf, reuseOf}
 use Rattle.table.proofs.Lists.{slots-in, in-slots, once-slots}
-use Rattle.index.specs.Index.{Index, Chain, reuse, head, headOf}
+use Rattle.index.specs.Index.{Chain, reuse, head, headOf}
 use Rattle.index.specs.Chained.{firstOf, lastOf, after, nextIn, chained}
 use Rattle.index.specs.Parts.{Holds}
 use Rattle.index.specs.declared.State.{State}

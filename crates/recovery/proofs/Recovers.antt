@@ -1,13 +1,15 @@
 -- What recover leans on: its result from what was judged and rebuilt. Assumes nothing.
 use mathlib.Core.Path.{_≡_, refl, sym, ap, ap₂, _∙_}
-use mathlib.Core.Bool.{Bool, true, false, cond}
+use mathlib.Core.Bool.{true, false, cond}
 use mathlib.Core.Logic.{_⊎_, inl, inr}
 use mathlib.Core.List.{List, [], _∷_}
-use Prim.Native.Nat.{ℕ, suc, _+_, _*_, _%_, _^_, _≤_, _<_}
+use Prim.Native.Nat.{ℕ, zero, suc, _+_, _%_, _^_, _≤_, _<_}
 use native.Mathlib.Nat.{mod-lt}
 use native.Mathlib.Omega.{arith}
 use lib.ListN.{length, getD, take, replicate}
 use lib.Seq.{length-take-le}
+use lib.Dec.{eqb}
+use borrow.Author.Tests.{eq-eqb, ne-eqb}
 use Rattle.words.specs.Word.{word}
 use Rattle.words.proofs.Choice.{pick-true, pick-false, split}
 use Rattle.layout.specs.Answer.{gives, refused}
@@ -15,16 +17,18 @@ use Rattle.layout.specs.Size.{slotsOf}
 use Rattle.layout.specs.Header.{lentFault}
 use Rattle.layout.specs.Content.{content}
 use Rattle.layout.proofs.Refusals.{orElse-first, orElse-later, taken-leaves, refused-keeps}
-use Rattle.table.specs.Table.{Table, keyIn, live, liveCount, nextVersion}
-use Rattle.index.specs.Index.{Index, headOf, indexOf}
-use Rattle.index.specs.Parts.{Holds, Sized}
+use Rattle.table.specs.Table.{Table, keyIn, live, nextVersion}
+use Rattle.index.specs.Index.{Index, headOf}
+use Rattle.index.specs.Parts.{Holds}
 use Rattle.index.specs.Build.{build, placeIn, unbuilt, Ordered}
 use Rattle.index.specs.declared.State.{State}
+use Rattle.index.proofs.Lents.{lent-sized, lent-heads, lent-slots}
 use Rattle.sorting.proofs.Order.{at-in}
-use Rattle.recovery.specs.Recover.{Result, stateValues, slotsFault, recoverFault, recoveredIndex, recoveredState, recovered, recoverResult}
+use Rattle.recovery.specs.Recover.{Result, stateValues, recoverSays, slotsFault, recoverFault, recoveredIndex, recoveredState, recovered, recoverResult}
 use Rattle.recovery.specs.Decide.{livePlace}
-use Rattle.recovery.specs.Judge.{Judgeable, Arranged, Judgement}
-use Rattle.recovery.specs.declared.Judged.{Judged}
+use Rattle.recovery.specs.Judge.{Ready, Roomy, Judgeable, Arranged, Left, answered, recoverEnd}
+use Rattle.recovery.specs.declared.Recovered.{Recovered}
+use Rattle.recovery.specs.declared.Recovered.the-variants.{Index as Rebuilt, Refused}
 use Rattle.recovery.proofs.Rebuilt.{arranged-index, arranged-in}
 
 -- the result by the refusal's number
@@ -53,13 +57,17 @@ unfolding recoverFault
 lent-refused image heads next fault e ne =
     result-refused image heads next fault (orElse-first _ _ (λ z. ne (e ∙ z)) ∙ sym e) ne
 
+zero-or-not : (k : ℕ) → (k ≡ 0) ⊎ (k ≡ 0 → ⊥)
+zero-or-not zero = inl refl
+zero-or-not (suc k) = inr (λ e. omega arith)
+
 -- 5 to 8, and the index
-module _ (image heads next : List ℕ) (n : ℕ) (fine : lentFault 1 image (length heads) (length next) ≡ 0) (size : slotsOf (length image) ≡ n) where
+module _ (image heads next : List ℕ) (n : ℕ) (ready : Ready image heads next n) where
   by-slots : (fault : ℕ) → fault ≡ slotsFault 1 (word image) n → recoverFault 1 image (length heads) (length next) ≡ fault
   unfolding recoverFault
-  by-slots fault e = orElse-later _ _ fine ∙ ap (slotsFault 1 (word image)) size ∙ sym e
+  by-slots fault e = orElse-later _ _ (ready .lent) ∙ ap (slotsFault 1 (word image)) (ready .sized .slots) ∙ sym e
 
-  pub slots-refused : (fault : ℕ) → fault ≡ slotsFault 1 (word image) n → (fault ≡ 0 → ⊥)
+  slots-refused : (fault : ℕ) → fault ≡ slotsFault 1 (word image) n → (fault ≡ 0 → ⊥)
       → record { answer = refused fault; heads = heads; next = next } ≡ recoverResult 1 image heads next
   slots-refused fault e ne = result-refused image heads next fault (by-slots fault e) ne
 
@@ -68,16 +76,15 @@ module _ (image heads next : List ℕ) (n : ℕ) (fine : lentFault 1 image (leng
   shown i live-count version =
       record { answer = gives (i .first ∷ i .last ∷ live-count ∷ version ∷ []); heads = i .heads; next = i .next }
 
-  pub slots-taken : (fault : ℕ) → fault ≡ slotsFault 1 (word image) n → fault ≡ 0 → 1 ≤ length heads → length next ≡ n + 1
-      → (order places heads′ next′ : List ℕ) (live-count top : ℕ) (r : State)
+  slots-taken : (fault : ℕ) → fault ≡ slotsFault 1 (word image) n → fault ≡ 0 → (order places heads′ next′ : List ℕ) (live-count top : ℕ) (r : State)
       → Arranged (content 1 (word image)) n (length heads) order places live-count top
       → Holds heads′ next′ r (build (placeIn places) (unbuilt (replicate (length heads) 0) (replicate (length next) 0)) order) live-count (top + 1)
       → record { answer = gives (stateValues r); heads = heads′; next = next′ } ≡ recoverResult 1 image heads next
   unfolding shown recovered recoveredState
-  slots-taken fault e z few wide order places heads′ next′ live-count top r a h =
+  slots-taken fault e z order places heads′ next′ live-count top r a h =
       ap (λ (i : Index). shown i (r .live) (r .version)) (h .index ∙ built)
       ∙ ap₂ (shown (recoveredIndex f n (length heads))) (h .live-count ∙ a .live-is) (h .next-version ∙ next-is)
-      ∙ ap (λ (k : ℕ). recovered f k (length heads)) (sym size)
+      ∙ ap (λ (k : ℕ). recovered f k (length heads)) (sym (ready .sized .slots))
       ∙ result-taken image heads next fault (by-slots fault e) z
     where
       f : Table
@@ -85,11 +92,33 @@ module _ (image heads next : List ℕ) (n : ℕ) (fine : lentFault 1 image (leng
 
       built : build (placeIn places) (unbuilt (replicate (length heads) 0) (replicate (length next) 0)) order ≡ recoveredIndex f n (length heads)
       built =
-          ap (λ (k : ℕ). build (placeIn places) (unbuilt (replicate (length heads) 0) (replicate k 0)) order) wide
-          ∙ arranged-index f n (length heads) order places live-count top few a
+          ap (λ (k : ℕ). build (placeIn places) (unbuilt (replicate (length heads) 0) (replicate k 0)) order)
+          (ready .sized .next-size)
+          ∙ arranged-index f n (length heads) order places live-count top (ready .sized .some-head) a
 
       next-is : top + 1 ≡ nextVersion f n
       next-is = omega (arith, a .top-is)
+
+-- both ways of a call, by the refusal's number
+pub slots-answered : (image heads next order places : List ℕ) (n fault live-count top : ℕ) (heads′ next′ : List ℕ) (state : State) (r : Recovered)
+    → Ready image heads next n → fault ≡ slotsFault 1 (word image) n
+    → (fault ≡ 0 → Arranged (content 1 (word image)) n (length heads) order places live-count top)
+    → Left fault heads next order places live-count top heads′ next′ state → r ≡ answered fault state
+    → recoverEnd r heads′ next′ ≡ recoverResult 1 image heads next
+unfolding recoverSays answered
+slots-answered image heads next order places n fault live-count top heads′ next′ state r ready e a v q = go (zero-or-not fault)
+  where
+    says : (w : Recovered) → answered fault state ≡ w → recoverEnd r heads′ next′ ≡ recoverEnd w heads′ next′
+    says w u = ap (λ (x : Recovered). recoverEnd x heads′ next′) (q ∙ u)
+
+    go : (fault ≡ 0) ⊎ (fault ≡ 0 → ⊥) → recoverEnd r heads′ next′ ≡ recoverResult 1 image heads next
+    go (inl z) =
+        says (Rebuilt state) (pick-true (eqb fault 0) (Rebuilt state) (Refused fault) (eq-eqb fault 0 z))
+        ∙ slots-taken image heads next n ready fault e z order places heads′ next′ live-count top state (a z) (v .rebuilt z)
+    go (inr ne) =
+        says (Refused fault) (pick-false (eqb fault 0) (Rebuilt state) (Refused fault) (ne-eqb fault 0 ne))
+        ∙ ap₂ (λ (h x : List ℕ). recoverEnd (Refused fault) h x) (v .kept ne .0) (v .kept ne .1)
+        ∙ slots-refused image heads next n ready fault e ne
 
 -- ---- rebuild can write
 
@@ -104,17 +133,26 @@ place-small f n b s few = go (split (live f n s))
     go (inl e) = omega (arith, pick-true (live f n s) (headOf (keyIn (f s)) b + 1) 0 e, below (keyIn (f s) % 2 ^ 64))
     go (inr e) = omega (arith, pick-false (live f n s) (headOf (keyIn (f s)) b + 1) 0 e)
 
-pub rebuild-ready : (f : Table) (n : ℕ) (heads next order places : List ℕ) (live-count top : ℕ) → 1 ≤ length heads → length next ≡ n + 1
-    → length places ≡ n + 1 → Arranged f n (length heads) order places live-count top → Ordered heads next order places × (top < 2 ^ 63)
-rebuild-ready f n heads next order places live-count top few wide size a = (ordered-by, a .top-fits)
+pub rebuild-ready : (image heads next order places : List ℕ) (n live-count top : ℕ) → Ready image heads next n → length places ≡ n + 1
+    → Arranged (content 1 (word image)) n (length heads) order places live-count top → Ordered heads next order places × (top < 2 ^ 63)
+rebuild-ready image heads next order places n live-count top ready size a = (ordered-by, a .top-fits)
   where
+    f : Table
+    f = content 1 (word image)
+
+    few : 1 ≤ length heads
+    few = ready .sized .some-head
+
+    wide : length next ≡ n + 1
+    wide = ready .sized .next-size
+
     inside : (k : ℕ) → k < length order → (0 < getD order k 0) × (getD order k 0 ≤ n)
     inside k h = arranged-in f n (length heads) order places live-count top few a (getD order k 0) (at-in order k h)
 
     ordered-by : Ordered heads next order places
     ordered-by =
         record {
-          slot-in = λ k h. omega (arith, inside k h .1);
+          slot-in = λ k h. omega (arith, wide, inside k h .1);
           place-in = λ k h. omega (arith, inside k h .1);
           head-in =
               λ k h.
@@ -130,20 +168,31 @@ rebuild-ready f n heads next order places live-count top few wide size a = (orde
 pub front : (k : ℕ) (list : List ℕ) → k ≤ length list → k ≡ length (take k list)
 front k list h = sym (length-take-le k list h)
 
-pub judgeable : (image heads next ranks keys places order by-key spare : List ℕ) (n : ℕ) → Sized image heads next n → length heads ≤ 65536 → 1 ≤ n
-    → n < length ranks → n < length keys → n < length places → n < length order → n < length by-key → n < length spare
+pub judgeable : (image heads next ranks keys places order by-key spare : List ℕ) (n : ℕ) → Ready image heads next n
+    → Roomy ranks keys places order by-key spare n
     → Judgeable image (take (n + 1) ranks) (take (n + 1) keys) (take (n + 1) places) (take n order) (take n by-key) (take n spare) n (length heads)
-judgeable image heads next ranks keys places order by-key spare n s high some a b c d e f =
+judgeable image heads next ranks keys places order by-key spare n ready room =
     record {
-      image-size = s .image-size;
+      image-size = ready .sized .image-size;
       ranks-size = length-take-le (n + 1) ranks (omega arith);
       keys-size = length-take-le (n + 1) keys (omega arith);
       places-size = length-take-le (n + 1) places (omega arith);
       order-size = length-take-le n order (omega arith);
       by-key-size = length-take-le n by-key (omega arith);
       spare-size = length-take-le n spare (omega arith);
-      some-slots = some;
-      few = s .few;
-      heads-low = s .some-head;
-      heads-high = high;
+      some-slots = ready .some-slots;
+      few = ready .sized .few;
+      heads-low = ready .sized .some-head;
+      heads-high = ready .heads-high;
+    }
+
+-- what is lent and not refused with 1 to 4
+pub lent-ready : (image heads next : List ℕ) (fault n : ℕ) → fault ≡ lentFault 1 image (length heads) (length next) → fault ≡ 0
+    → n ≡ slotsOf (length image) → Ready image heads next n
+lent-ready image heads next fault n e z size =
+    record {
+      lent = sym e ∙ z;
+      sized = lent-sized 1 image heads next n size (sym e ∙ z);
+      heads-high = lent-heads 1 image heads next (sym e ∙ z);
+      some-slots = omega (arith, lent-slots 1 image (length heads) (length next) n size (sym e ∙ z));
     }

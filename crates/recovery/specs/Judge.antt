@@ -1,18 +1,23 @@
 -- What recovery finds before it writes anything, and what it leaves.
 use mathlib.Core.Path.{_≡_}
-use mathlib.Core.Bool.{Bool}
+use mathlib.Core.Bool.{Bool, cond}
 use mathlib.Core.List.{List}
 use Prim.Native.Nat.{ℕ, suc, _+_, _*_, _^_, _≤_, _<_}
 use lib.Dec.{eqb}
-use lib.ListN.{length, getD}
+use lib.ListN.{length, getD, replicate}
 use Rattle.layout.specs.Refusal.{say}
 use Rattle.layout.specs.Content.{content}
+use Rattle.layout.specs.Header.{lentFault}
+use Rattle.index.specs.Parts.{Sized, Holds}
+use Rattle.index.specs.Build.{build, placeIn, unbuilt}
+use Rattle.index.specs.declared.State.{State}
 use Rattle.table.specs.Table.{Table, liveCount, nextVersion}
 use Rattle.table.specs.Order.{slots, ordered}
 use Rattle.recovery.specs.Recover.{Result, recoverSays, slotsFault}
 use Rattle.recovery.specs.Decide.{livePlace}
 use Rattle.recovery.specs.declared.Judged.{Judged}
 use Rattle.recovery.specs.declared.Recovered.{Recovered}
+use Rattle.recovery.specs.declared.Recovered.the-variants.{Index as Rebuilt, Refused}
 
 -- the image has n slots, there are b heads, and the scratch lists have their sizes
 pub record Judgeable (image ranks keys places order by-key spare : List ℕ) (n b : ℕ) : Type 0 where
@@ -27,6 +32,22 @@ pub record Judgeable (image ranks keys places order by-key spare : List ℕ) (n 
   pub few : n ≤ 65535
   pub heads-low : 1 ≤ b
   pub heads-high : b ≤ 65536
+
+-- what is lent has no fault of 1 to 4, and the image has n slots
+pub record Ready (image heads next : List ℕ) (n : ℕ) : Type 0 where
+  pub lent : lentFault 1 image (length heads) (length next) ≡ 0
+  pub sized : Sized image heads next n
+  pub heads-high : length heads ≤ 65536
+  pub some-slots : 1 ≤ n
+
+-- each scratch list has more than n entries
+pub record Roomy (ranks keys places order by-key spare : List ℕ) (n : ℕ) : Type 0 where
+  pub ranks-room : n < length ranks
+  pub keys-room : n < length keys
+  pub places-room : n < length places
+  pub order-room : n < length order
+  pub by-key-room : n < length by-key
+  pub spare-room : n < length spare
 
 -- 5, 6, 7, 8 from what was found
 unfoldable pub foundFault : (mark fault shared : Bool) → (live n : ℕ) → ℕ
@@ -43,6 +64,15 @@ pub record Arranged (f : Table) (n b : ℕ) (order places : List ℕ) (live top 
 pub record Judgement (m : ℕ → ℕ) (n b : ℕ) (order places : List ℕ) (r : Judged) : Type 0 where
   pub fault-is : r .fault ≡ slotsFault 1 m n
   pub arranged : r .fault ≡ 0 → Arranged (content 1 m) n b order places (r .live) (r .top)
+
+-- what is left of the lent heads and next: the chains of the order and the state r beside them, or with a refusal what was lent
+pub record Left (fault : ℕ) (heads next order places : List ℕ) (live top : ℕ) (heads′ next′ : List ℕ) (r : State) : Type 0 where
+  pub rebuilt : fault ≡ 0
+      → Holds heads′ next′ r (build (placeIn places) (unbuilt (replicate (length heads) 0) (replicate (length next) 0)) order) live (top + 1)
+  pub kept : (fault ≡ 0 → ⊥) → (heads′ ≡ heads) × (next′ ≡ next)
+
+unfoldable pub answered : ℕ → State → Recovered
+answered fault state = cond (eqb fault 0) (Rebuilt state) (Refused fault)
 
 -- what a call of recover with this answer left
 abbrev pub recoverEnd : Recovered → (heads next : List ℕ) → Result

@@ -4,6 +4,7 @@ pub mod ordering;
 pub mod rebuilding;
 pub mod recover;
 pub mod scanning;
+pub mod scratch;
 
 use index::State;
 

@@ -5,7 +5,7 @@ use Prim.Native.Nat.{_-_, _≤_}
 use native.Mathlib.Omega.{arith}
 use lib.ListN.{length, drop, replicate, length-set}
 use borrow.Author.Needs.{needs}
-use Rattle.orderset.proofs.Formats.{cleared-more, cleared-all}
+use Rattle.index.proofs.Pushes.{cleared-more, cleared-all}
 use Rattle.orderset.proofs.format.clear.Statement.{statement}
 use Rattle.orderset.proofs.format.clear.Tie as tie
 

@@ -1,10 +1,9 @@
 -- `recovery::recover::recover` meets its contract. Assumes nothing.
-use mathlib.Core.Path.{sym, _∙_}
+use mathlib.Core.Path.{_∙_}
 use native.Mathlib.Omega.{arith}
 use borrow.Author.Needs.{needs}
-use Rattle.index.proofs.Lents.{lent-sized, lent-heads, lent-slots}
 use Rattle.recovery.specs.Recover.{recoverSays}
-use Rattle.recovery.proofs.Recovers.{lent-refused}
+use Rattle.recovery.proofs.Recovers.{lent-refused, lent-ready}
 use Rattle.recovery.proofs.recover.recover.Statement.{statement}
 use Rattle.recovery.proofs.recover.recover.Tie as tie
 
@@ -12,31 +11,25 @@ returns : tie.Need-returns
 unfolding recoverSays
 returns c = lent-refused _ (c .before .before .before .before .before .args .heads .now) (c .before .before .before .before .before .args .next .now) _ (c .before .lent-fault .ensures) (c .if1 .taken)
 
-recover-tiny-requires : tie.Need-recover-tiny-requires
-recover-tiny-requires c κs = (
-  (sym (c .before .before .before .before .before .lent-fault .ensures) ∙ c .before .before .before .before .if1 .left),
-  lent-sized 1 _ (c .before .before .before .before .before .before .before .before .before .args .heads .now) (c .before .before .before .before .before .before .before .before .before .args .next .now) _ (c .before .before .before .slots .ensures) (sym (c .before .before .before .before .before .lent-fault .ensures) ∙ c .before .before .before .before .if1 .left),
-  lent-heads 1 (c .before .before .before .before .before .before .before .before .before .args .image .now) (c .before .before .before .before .before .before .before .before .before .args .heads .now) (c .before .before .before .before .before .before .before .before .before .args .next .now) (sym (c .before .before .before .before .before .lent-fault .ensures) ∙ c .before .before .before .before .if1 .left),
-  (let h = lent-slots 1 _ _ _ _ (c .before .before .before .slots .ensures) (sym (c .before .before .before .before .before .lent-fault .ensures) ∙ c .before .before .before .before .if1 .left) in omega arith),
-  c .before .before .if2 .taken,
-)
+recover-64-requires : tie.Need-recover-64-requires
+recover-64-requires c κs = (lent-ready _ (c .before .before .before .before .before .before .before .before .before .args .heads .now) (c .before .before .before .before .before .before .before .before .before .args .next .now) _ _ (c .before .before .before .before .before .lent-fault .ensures) (c .before .before .before .before .if1 .left) (c .before .before .before .slots .ensures), c .before .before .if2 .taken)
 
-recover-small-requires : tie.Need-recover-small-requires
-recover-small-requires c κs = (
-  (sym (c .before .before .before .before .before .before .lent-fault .ensures) ∙ c .before .before .before .before .before .if1 .left),
-  lent-sized 1 _ (c .before .before .before .before .before .before .before .before .before .before .args .heads .now) (c .before .before .before .before .before .before .before .before .before .before .args .next .now) _ (c .before .before .before .before .slots .ensures) (sym (c .before .before .before .before .before .before .lent-fault .ensures) ∙ c .before .before .before .before .before .if1 .left),
-  lent-heads 1 (c .before .before .before .before .before .before .before .before .before .before .args .image .now) (c .before .before .before .before .before .before .before .before .before .before .args .heads .now) (c .before .before .before .before .before .before .before .before .before .before .args .next .now) (sym (c .before .before .before .before .before .before .lent-fault .ensures) ∙ c .before .before .before .before .before .if1 .left),
-  (let h = lent-slots 1 _ _ _ _ (c .before .before .before .before .slots .ensures) (sym (c .before .before .before .before .before .before .lent-fault .ensures) ∙ c .before .before .before .before .before .if1 .left) in omega arith),
-  c .before .before .if3 .taken,
-)
+recover-256-requires : tie.Need-recover-256-requires
+recover-256-requires c κs = (lent-ready _ (c .before .before .before .before .before .before .before .before .before .before .args .heads .now) (c .before .before .before .before .before .before .before .before .before .before .args .next .now) _ _ (c .before .before .before .before .before .before .lent-fault .ensures) (c .before .before .before .before .before .if1 .left) (c .before .before .before .before .slots .ensures), c .before .before .if3 .taken)
 
-recover-large-requires : tie.Need-recover-large-requires
-recover-large-requires c κs = (
-  (sym (c .before .before .before .before .before .before .lent-fault .ensures) ∙ c .before .before .before .before .before .if1 .left),
-  lent-sized 1 _ (c .before .before .before .before .before .before .before .before .before .before .args .heads .now) (c .before .before .before .before .before .before .before .before .before .before .args .next .now) _ (c .before .before .before .before .slots .ensures) (sym (c .before .before .before .before .before .before .lent-fault .ensures) ∙ c .before .before .before .before .before .if1 .left),
-  lent-heads 1 (c .before .before .before .before .before .before .before .before .before .before .args .image .now) (c .before .before .before .before .before .before .before .before .before .before .args .heads .now) (c .before .before .before .before .before .before .before .before .before .before .args .next .now) (sym (c .before .before .before .before .before .before .lent-fault .ensures) ∙ c .before .before .before .before .before .if1 .left),
-  (let h = lent-slots 1 _ _ _ _ (c .before .before .before .before .slots .ensures) (sym (c .before .before .before .before .before .before .lent-fault .ensures) ∙ c .before .before .before .before .before .if1 .left) in omega arith),
-)
+recover-1024-requires : tie.Need-recover-1024-requires
+recover-1024-requires c κs = (lent-ready _ (c .before .before .before .before .before .before .before .before .before .before .before .args .heads .now) (c .before .before .before .before .before .before .before .before .before .before .before .args .next .now) _ _ (c .before .before .before .before .before .before .before .lent-fault .ensures) (c .before .before .before .before .before .before .if1 .left) (c .before .before .before .before .before .slots .ensures), c .before .before .if4 .taken)
+
+recover-4096-requires : tie.Need-recover-4096-requires
+recover-4096-requires c κs = (lent-ready _ (c .before .before .before .before .before .before .before .before .before .before .before .before .args .heads .now) (c .before .before .before .before .before .before .before .before .before .before .before .before .args .next .now) _ _ (c .before .before .before .before .before .before .before .before .lent-fault .ensures) (c .before .before .before .before .before .before .before .if1 .left) (c .before .before .before .before .before .before .slots .ensures), c .before .before .if5 .taken)
+
+recover-16384-requires : tie.Need-recover-16384-requires
+recover-16384-requires c κs = (lent-ready _ (c .before .before .before .before .before .before .before .before .before .before .before .before .before .args .heads .now) (c .before .before .before .before .before .before .before .before .before .before .before .before .before .args .next .now) _ _ (c .before .before .before .before .before .before .before .before .before .lent-fault .ensures) (c .before .before .before .before .before .before .before .before .if1 .left) (c .before .before .before .before .before .before .before .slots .ensures), c .before .before .if6 .taken)
+
+recover-65536-requires : tie.Need-recover-65536-requires
+recover-65536-requires c κs =
+    let ready = lent-ready _ (c .before .before .before .before .before .before .before .before .before .before .before .before .before .args .heads .now) (c .before .before .before .before .before .before .before .before .before .before .before .before .before .args .next .now) _ _ (c .before .before .before .before .before .before .before .before .before .lent-fault .ensures) (c .before .before .before .before .before .before .before .before .if1 .left) (c .before .before .before .before .before .before .before .slots .ensures) in
+    (ready, omega (arith, ready .sized .few))
 
 pub recover-spec : {M : Type 1} → statement M
 recover-spec =
@@ -45,15 +38,27 @@ recover-spec =
     (λ c κs. search needs)
     returns
     (λ c κs. search needs)
-    recover-tiny-requires
+    recover-64-requires
     (λ c. search needs)
     (λ c. search needs)
     (λ c. search needs)
-    recover-small-requires
+    recover-256-requires
     (λ c. search needs)
     (λ c. search needs)
     (λ c. search needs)
-    recover-large-requires
+    recover-1024-requires
+    (λ c. search needs)
+    (λ c. search needs)
+    (λ c. search needs)
+    recover-4096-requires
+    (λ c. search needs)
+    (λ c. search needs)
+    (λ c. search needs)
+    recover-16384-requires
+    (λ c. search needs)
+    (λ c. search needs)
+    (λ c. search needs)
+    recover-65536-requires
     (λ c. search needs)
     (λ c. search needs)
     (λ c. search needs))

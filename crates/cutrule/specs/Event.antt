@@ -1,0 +1,69 @@
+-- Calls that a power cut may strike. Document 01, "The plain map and the cut rule": "A cut may strike any call: play makes the counted stores, if there are any, and
+-- recovery comes next, whatever its index held."
+use mathlib.Core.Path.{_≡_}
+use mathlib.Core.Bool.{Bool, true, cond, _&&_}
+use mathlib.Core.List.{List, [], _∷_}
+use Prim.Native.Nat.{ℕ, _≤_}
+use lib.Dec.{eqb}
+use lib.ListN.{length}
+use Rattle.layout.specs.Header.{indexFault}
+use Rattle.plainmap.specs.World.{World, Call, called, playing, finished, recoveredWorld}
+use Rattle.plainmap.specs.Plain.{PlainMap, operation, plainStep, isRefusal}
+use Rattle.plainmap.specs.Claims.{Sized}
+
+-- a cut: a stores of the call's line A stand and b of its line B; heads and next are lent to the recovery after it
+pub record Cut : Type 0 where
+  pub a : ℕ
+  pub b : ℕ
+  pub heads : List ℕ
+  pub next : List ℕ
+
+-- a call with all its stores played, or a call that a cut struck
+pub data Event : Type 0 where
+  done : Call → Event
+  struck : Call → Cut → Event
+
+abbrev pub callOf : Event → Call
+callOf (done call) = call
+callOf (struck call cut) = call
+
+-- ---- the set
+
+-- the image that a cut leaves
+unfoldable pub cutImage : (l : ℕ) → World → Call → Cut → List ℕ
+cutImage l w call cut = playing (w .image) (called l w call .stores) (cut .a) (cut .b)
+
+unfoldable pub step : (l : ℕ) → World → Event → World
+step l w (done call) = finished l w call
+step l w (struck call cut) = recoveredWorld l (cutImage l w call cut) (cut .heads) (cut .next)
+
+-- ---- the plain map
+
+-- do all stores stand?
+unfoldable pub allStand : Event → Bool
+allStand (done call) = true
+allStand (struck call cut) = eqb (cut .a) 8 && eqb (cut .b) 8
+
+-- "A struck put or remove that was not refused takes its step, wholly done, if all its stores stand; else it is wholly absent and changes nothing"
+unfoldable pub plainEvent : Event → (isRefused : Bool) → PlainMap → PlainMap
+plainEvent event isRefused m = cond (allStand event) (plainStep (operation (callOf event)) isRefused m) m
+
+-- the plain map after an event in world w, which tells it whether the rules refuse the call
+abbrev pub plainAfter : (l : ℕ) → World → PlainMap → Event → PlainMap
+plainAfter l w m event = plainEvent event (isRefusal (called l w (callOf event) .answer)) m
+
+-- ---- what an event may be, in an image of n slots
+
+-- a line has eight stores; "That index has the right size when 4 is not due; B may be another"
+pub record CutFits (n : ℕ) (cut : Cut) : Type 0 where
+  pub few-a : cut .a ≤ 8
+  pub few-b : cut .b ≤ 8
+  pub size : indexFault n (length (cut .heads)) (length (cut .next)) ≡ 0
+
+pub data Fits (l n : ℕ) : Event → Type 0 where
+  done-fits : {call : Call} → Sized l call → Fits l n (done call)
+  struck-fits : {call : Call} {cut : Cut} → Sized l call → CutFits n cut → Fits l n (struck call cut)
+
+pub data AllFit (l n : ℕ) : List Event → Type 0 where
+  none-left : AllFit l n []
+  one-more : {event : Event} {events : List Event} → Fits l n event → AllFit l n events → AllFit l n (event ∷ events)

@@ -1,0 +1,3 @@
+pub mod Event
+pub mod Rule
+pub mod Trial

@@ -1,0 +1,14 @@
+pub mod Accepted
+pub mod Playing
+pub mod Struck
+pub mod Sees
+pub mod Values
+pub mod Refuses
+pub mod Gets
+pub mod Sounds
+pub mod Moves
+pub mod Runs
+pub mod Rights
+pub mod Steps
+pub mod Afters
+pub mod Lists

@@ -1,0 +1,87 @@
+-- What it is that the calls are a plain map: the statements of the laws of this crate. The fields of the calls are numbers of their size, the only side condition.
+use mathlib.Core.Path.{_≡_}
+use mathlib.Core.List.{List, [], _∷_}
+use Prim.Native.Nat.{ℕ, _^_, _≤_, _<_}
+use lib.ListN.{length}
+use Rattle.words.specs.Word.{AreBytes}
+use Rattle.layout.specs.Answer.{absent}
+use Rattle.layout.specs.Record.{limit}
+use Rattle.table.specs.Table.{mapOf, liveCount, nextVersion}
+use Rattle.index.specs.Index.{Chain}
+use Rattle.orderset.specs.Get.{getResult}
+use Rattle.plainmap.specs.World.{World, tableOf, slotsIn, Call, put, remove, get, outOf, Called, called, finished}
+use Rattle.plainmap.specs.Plain.{PlainMap, operation, plainStep, ruleFault, lengthAnswer, filled, plainAnswer, plainOut, refusalIn, isRefusal}
+use Rattle.plainmap.specs.Sound.{Accepted, Sound}
+
+-- the layout is 1 or 2
+pub record Layout (l : ℕ) : Type 0 where
+  pub low : 1 ≤ l
+  pub high : l ≤ 2
+
+-- a key has l words, a value is bytes
+pub data Sized (l : ℕ) : Call → Type 0 where
+  put-sized : {key : ℕ} {value : List ℕ} → key < (2 ^ 64) ^ l → AreBytes value → Sized l (put key value)
+  remove-sized : {key : ℕ} → key < (2 ^ 64) ^ l → Sized l (remove key)
+  get-sized : {key : ℕ} {out : List ℕ} → Sized l (get key out)
+
+-- the map of the slots
+abbrev pub slotsMap : (l : ℕ) → (image : List ℕ) → PlainMap
+slotsMap l image k = mapOf (tableOf l image) (slotsIn image) k
+
+-- ---- one call
+
+-- the rules' number for a call, by the plain map m and by what the image holds
+abbrev pub dueFault : (l : ℕ) → World → PlainMap → Call → ℕ
+dueFault l w m call =
+    ruleFault l (slotsIn (w .image)) (liveCount (tableOf l (w .image)) (slotsIn (w .image)))
+    (nextVersion (tableOf l (w .image)) (slotsIn (w .image))) m call
+
+-- the call changes nothing
+pub record Untouched (w : World) (call : Call) (r : Called) : Type 0 where
+  pub out : r .out ≡ outOf call
+  pub stores : r .stores ≡ []
+  pub heads : r .heads ≡ w .heads
+  pub next : r .next ≡ w .next
+  pub state : r .state ≡ w .state
+
+-- the answer is right: refused exactly where the rules refuse it, and otherwise as the plain map m answers
+pub record Right (l : ℕ) (w : World) (m : PlainMap) (call : Call) : Type 0 where
+  pub refusal : refusalIn (called l w call .answer) ≡ dueFault l w m call
+  pub answer :
+      dueFault l w m call ≡ 0
+      → called l w call .answer ≡ plainAnswer (w .state .first) (nextVersion (tableOf l (w .image)) (slotsIn (w .image))) m call
+  pub out : dueFault l w m call ≡ 0 → called l w call .out ≡ plainOut m call
+  -- "A refused call changes no lent byte, index number or state", nor does one that answers absent
+  pub refused-still : (dueFault l w m call ≡ 0 → ⊥) → Untouched w call (called l w call)
+  pub absent-still : called l w call .answer ≡ absent → Untouched w call (called l w call)
+
+-- ---- between calls
+
+-- the image is accepted, the index is its own, and the map of its slots is m
+pub record Agrees (l : ℕ) (w : World) (m : PlainMap) : Type 0 where
+  pub accepted : Accepted l (w .image)
+  pub chains : Chain → List ℕ
+  pub sound : Sound l w chains
+  pub slots : (k : ℕ) → slotsMap l (w .image) k ≡ m k
+
+-- a get with room for any value gives what m has
+abbrev pub Reads : (l : ℕ) → World → PlainMap → Type 0
+Reads l w m =
+    (key : ℕ) (out : List ℕ) → limit l ≤ length out
+    → getResult l (w .image) (w .heads) (w .next) key out ≡ record { answer = lengthAnswer (m key); out = filled (m key) out }
+
+-- ---- every list of calls, without cuts
+
+pub data AllSized (l : ℕ) : List Call → Type 0 where
+  none-left : AllSized l []
+  one-more : {call : Call} {calls : List Call} → Sized l call → AllSized l calls → AllSized l (call ∷ calls)
+
+-- the plain map after a call with all its stores played
+abbrev pub plainAfter : (l : ℕ) → World → PlainMap → Call → PlainMap
+plainAfter l w m call = plainStep (operation call) (isRefusal (called l w call .answer)) m
+
+-- at each call the set is the plain map, by its slots and by get, and the call answers right; so it is at the end
+abbrev pub PlainRule : (l : ℕ) → World → PlainMap → List Call → Type 0
+PlainRule l w m [] = Agrees l w m × Reads l w m
+PlainRule l w m (call ∷ calls) =
+    Agrees l w m × Reads l w m × Right l w m call × PlainRule l (finished l w call) (plainAfter l w m call) calls

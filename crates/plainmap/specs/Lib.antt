@@ -1,0 +1,4 @@
+pub mod World
+pub mod Plain
+pub mod Sound
+pub mod Claims

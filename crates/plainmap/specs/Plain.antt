@@ -1,0 +1,83 @@
+-- The plain map. Document 01, "The plain map and the cut rule".
+use mathlib.Core.Bool.{Bool, true, false, cond, not, _&&_}
+use mathlib.Core.Option.{Option, some, none}
+use mathlib.Core.List.{List, [], _∷_, _++_}
+use Prim.Native.Nat.{ℕ, _+_}
+use lib.Dec.{eqb, ltb, leb}
+use lib.ListN.{length, drop}
+use Rattle.layout.specs.Refusal.{say}
+use Rattle.layout.specs.Answer.{Answer, gives, absent, refused}
+use Rattle.layout.specs.Record.{limit}
+use Rattle.table.specs.Write.{isHeld}
+use Rattle.index.specs.Change.{versionFault}
+use Rattle.plainmap.specs.World.{Call, put, remove, get}
+
+-- "Its state is a set of keys with a value each, perhaps of 0 bytes"
+abbrev pub PlainMap : Type 0
+PlainMap = ℕ → Option (List ℕ)
+
+-- "fed only which call it is, its key, a put's value"
+pub data Operation : Type 0 where
+  putting : (key : ℕ) → (value : List ℕ) → Operation
+  removing : (key : ℕ) → Operation
+  getting : (key : ℕ) → Operation
+
+unfoldable pub operation : Call → Operation
+operation (put key value) = putting key value
+operation (remove key) = removing key
+operation (get key out) = getting key
+
+-- "A put gives its key the value, held before or not. A remove drops a held key"
+unfoldable pub plainNext : Operation → PlainMap → PlainMap
+plainNext (putting key value) m k = cond (eqb k key) (some value) (m k)
+plainNext (removing key) m k = cond (eqb k key) none (m k)
+plainNext (getting key) m k = m k
+
+-- "A refused call changes nothing"; isRefused is "whether these rules refuse it"
+unfoldable pub plainStep : Operation → (isRefused : Bool) → PlainMap → PlainMap
+plainStep op isRefused m = cond isRefused m (plainNext op m)
+
+-- ---- what a call answers, by the plain map before it
+
+-- the length of a key's value, 0 for none
+unfoldable pub sizeOf : Option (List ℕ) → ℕ
+sizeOf none = 0
+sizeOf (some value) = length value
+
+-- where the rules refuse a call on an image with its own index: n slots, `count` keys held, the next version. A put with 10, 12 or 9, a remove with 9, a get with 13
+unfoldable pub ruleFault : (l n count version : ℕ) → PlainMap → Call → ℕ
+ruleFault l n count version m (put key value) =
+    say (ltb (limit l) (length value)) 10 (say (not (isHeld (m key)) && leb n (count + 1)) 12 (versionFault version))
+ruleFault l n count version m (remove key) = cond (isHeld (m key)) (versionFault version) 0
+ruleFault l n count version m (get key out) = say (ltb (length out) (sizeOf (m key))) 13 0
+
+-- "A get answers the value and its length, or absent"
+unfoldable pub lengthAnswer : Option (List ℕ) → Answer
+lengthAnswer none = absent
+lengthAnswer (some value) = gives (length value ∷ [])
+
+unfoldable pub filled : Option (List ℕ) → (out : List ℕ) → List ℕ
+filled none out = out
+filled (some value) out = value ++ drop (length value) out
+
+-- a call that is not refused: put and remove answer the slot taken and the version; "A remove drops a held key; for another it answers absent"
+unfoldable pub plainAnswer : (slot version : ℕ) → PlainMap → Call → Answer
+plainAnswer slot version m (put key value) = gives (slot ∷ version ∷ [])
+plainAnswer slot version m (remove key) = cond (isHeld (m key)) (gives (slot ∷ version ∷ [])) absent
+plainAnswer slot version m (get key out) = lengthAnswer (m key)
+
+unfoldable pub plainOut : PlainMap → Call → List ℕ
+plainOut m (put key value) = []
+plainOut m (remove key) = []
+plainOut m (get key out) = filled (m key) out
+
+-- the number of a refusal, 0 for any other answer
+unfoldable pub refusalIn : Answer → ℕ
+refusalIn (gives given) = 0
+refusalIn absent = 0
+refusalIn (refused number) = number
+
+unfoldable pub isRefusal : Answer → Bool
+isRefusal (gives given) = false
+isRefusal absent = false
+isRefusal (refused number) = true

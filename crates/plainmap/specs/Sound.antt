@@ -1,0 +1,39 @@
+-- An index that is the image's own. Document 01, "The index", and the order of reuse that keeps a withdrawn order from returning.
+use mathlib.Core.Path.{_≡_}
+use mathlib.Core.List.{List, _∷_}
+use Prim.Native.Nat.{ℕ}
+use lib.ListN.{length}
+use Rattle.words.specs.Word.{word}
+use Rattle.layout.specs.Header.{imageFault, indexFault}
+use Rattle.table.specs.Table.{liveCount, nextVersion}
+use Rattle.table.specs.Reuse.{HiddenFirst}
+use Rattle.index.specs.Index.{Chain, reuse, indexOf}
+use Rattle.index.specs.Linked.{Sits}
+use Rattle.recovery.specs.Recover.{slotsFault, placeOf}
+use Rattle.plainmap.specs.World.{World, tableOf, slotsIn}
+
+-- "an accepted image, one that recovery does not refuse": 1, 2, 3 and 5 to 8 are not due. 4 is about the lent index
+pub record Accepted (l : ℕ) (image : List ℕ) : Type 0 where
+  pub header : imageFault l image ≡ 0
+  pub slots : slotsFault l (word image) (slotsIn image) ≡ 0
+
+-- "That index has the right size when 4 is not due"
+abbrev pub RightSize : (image heads next : List ℕ) → Type 0
+RightSize image heads next = indexFault (slotsIn image) (length heads) (length next) ≡ 0
+
+-- a list that is not empty
+pub data Starts (xs : List ℕ) : Type 0 where
+  starts : (s : ℕ) → (rest : List ℕ) → xs ≡ s ∷ rest → Starts xs
+
+pub record Sound (l : ℕ) (w : World) (chains : Chain → List ℕ) : Type 0 where
+  pub size : RightSize (w .image) (w .heads) (w .next)
+  -- along the links go `chains`; each slot stands in just one of them and once: a live slot in that of its key's head, any other in reuse
+  pub index :
+      Sits (slotsIn (w .image)) (length (w .heads)) (placeOf (tableOf l (w .image)) (slotsIn (w .image)) (length (w .heads)))
+      (indexOf (w .heads) (w .next) (w .state)) chains
+  -- in reuse no slot stands after a remove that decides its key and hides that slot's record
+  pub hidden : HiddenFirst (tableOf l (w .image)) (slotsIn (w .image)) (chains reuse)
+  -- reuse is not empty
+  pub some-spare : Starts (chains reuse)
+  pub live-count : w .state .live ≡ liveCount (tableOf l (w .image)) (slotsIn (w .image))
+  pub next-version : w .state .version ≡ nextVersion (tableOf l (w .image)) (slotsIn (w .image))

@@ -1,0 +1,55 @@
+-- `recovery::scratch::recover_in` meets its contract. Assumes nothing.
+use native.Mathlib.Omega.{arith}
+use borrow.Author.Needs.{needs}
+use Rattle.recovery.proofs.Recovers.{front, judgeable}
+use Rattle.recovery.proofs.scratch.recover_in.Statement.{statement}
+use Rattle.recovery.proofs.scratch.recover_in.Tie as tie
+
+slice-aggregate-recover-with : tie.Need-slice-aggregate-recover-with
+slice-aggregate-recover-with c = front _ (c .before .before .before .before .before .before .before .before .before .before .before .before .args .ranks .now) (omega (arith, c .before .before .before .before .before .before .before .before .before .before .before .before .pre .1 .ranks-room))
+
+slice-aggregate-recover-with-2 : tie.Need-slice-aggregate-recover-with-2
+slice-aggregate-recover-with-2 c = front _ (c .before .before .before .before .before .before .before .before .before .before .before .before .before .args .keys .now) (omega (arith, c .before .before .before .before .before .before .before .before .before .before .before .before .before .pre .1 .keys-room))
+
+slice-aggregate-recover-with-3 : tie.Need-slice-aggregate-recover-with-3
+slice-aggregate-recover-with-3 c = front _ (c .before .before .before .before .before .before .before .before .before .before .before .before .before .before .args .places .now) (omega (arith, c .before .before .before .before .before .before .before .before .before .before .before .before .before .before .pre .1 .places-room))
+
+slice-aggregate-recover-with-4 : tie.Need-slice-aggregate-recover-with-4
+slice-aggregate-recover-with-4 c = front _ (c .before .before .before .before .before .before .before .before .before .before .before .before .before .before .before .args .order .now) (omega (arith, c .before .before .before .before .before .before .before .before .before .before .before .before .before .before .before .pre .1 .order-room))
+
+slice-aggregate-recover-with-5 : tie.Need-slice-aggregate-recover-with-5
+slice-aggregate-recover-with-5 c = front _ (c .before .before .before .before .before .before .before .before .before .before .before .before .before .before .before .before .args .by-key .now) (omega (arith, c .before .before .before .before .before .before .before .before .before .before .before .before .before .before .before .before .pre .1 .by-key-room))
+
+slice-aggregate-recover-with-6 : tie.Need-slice-aggregate-recover-with-6
+slice-aggregate-recover-with-6 c = front _ (c .before .before .before .before .before .before .before .before .before .before .before .before .before .before .before .before .before .args .spare .now) (omega (arith, c .before .before .before .before .before .before .before .before .before .before .before .before .before .before .before .before .before .pre .1 .spare-room))
+
+recover-with-requires : tie.Need-recover-with-requires
+recover-with-requires c κs = (c .before .before .before .before .before .before .before .before .before .before .before .before .before .before .before .before .before .pre .0, judgeable _ _ _ _ _ _ _ _ _ _ (c .before .before .before .before .before .before .before .before .before .before .before .before .before .before .before .before .before .pre .0) (c .before .before .before .before .before .before .before .before .before .before .before .before .before .before .before .before .before .pre .1))
+
+pub recover-in-spec : {M : Type 1} → statement M
+recover-in-spec =
+    tie.close
+    (tie.spec
+    (λ c. search needs)
+    (λ c. search needs)
+    slice-aggregate-recover-with
+    (λ c. search needs)
+    slice-aggregate-recover-with-2
+    (λ c. search needs)
+    slice-aggregate-recover-with-3
+    (λ c. search needs)
+    slice-aggregate-recover-with-4
+    (λ c. search needs)
+    slice-aggregate-recover-with-5
+    (λ c. search needs)
+    slice-aggregate-recover-with-6
+    recover-with-requires
+    (λ c. search needs)
+    (λ c. search needs)
+    (λ c. search needs)
+    (λ c. search needs)
+    (λ c. search needs)
+    (λ c. search needs)
+    (λ c. search needs)
+    (λ c. search needs)
+    (λ c. search needs))
