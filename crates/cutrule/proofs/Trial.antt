@@ -3,13 +3,12 @@ use mathlib.Core.Path.{_≡_, refl}
 use Prim.Native.Nat.{ℕ, zero, suc, _^_, _≤_, _<_}
 use native.Mathlib.Omega.{arith}
 use lib.ListN.{length, getD, replicate}
-use Rattle.words.specs.Word.{AreBytes}
-use Rattle.plainmap.specs.World.{put}
+use Rattle.words.specs.Word.{AreBytes, word, setWord}
+use Rattle.plainmap.specs.World.{put, toPlay, calledChange, calledGet, called, playing, finished, valuesOf, worldAfter, recoveredWorld}
 use Rattle.plainmap.specs.Claims.{Sized, put-sized, remove-sized, get-sized, slotsMap}
-use Rattle.cutrule.specs.Event.{CutFits, done-fits, struck-fits, AllFit, none-left, one-more}
+use Rattle.cutrule.specs.Event.{CutFits, done-fits, struck-fits, AllFit, none-left, one-more, cutImage, step}
 use Rattle.cutrule.specs.Rule.{Holds}
 use Rattle.cutrule.proofs.CutRule.{cut-rule}
-use Rattle.words.specs.Word.{word, setWord}
 use Rattle.layout.specs.Refusal.{say, orElse, unlessRefused}
 use Rattle.layout.specs.Range.{anyOf, tabulate}
 use Rattle.layout.specs.Size.{slotsOf}
@@ -21,7 +20,7 @@ use Rattle.layout.specs.Header.{headerWord, headerFault, imageFault, indexFault
 use Rattle.layout.specs.Fault.{markFault, kindFault, wordFault, tailFault, faultOf, recordFault}
 use Rattle.stores.specs.Store.{zipped, played}
 use Rattle.stores.specs.Written.{marked, bodyA, bodyB, run, lineStores, recordStores}
-use Rattle.stores.specs.Play.{halfFault, halvesFault, playFault, counted, playResult}
+use Rattle.stores.specs.Play.{halfFault, halvesFault, playFault, counted, playResult, places, values}
 use Rattle.sorting.specs.Sorted.{keep, insert, sorted}
 use Rattle.table.specs.Table.{counts, keyIn, weight, greatest, topmost, count, nextVersion, decider, valueIn, valueAt, mapOf, decidingPut, live, spare, liveCount, sharedVersion, allLive}
 use Rattle.table.specs.Order.{rankOf, slots, ordered, chainOf, reuseOf}
@@ -29,12 +28,10 @@ use Rattle.index.specs.Index.{start, ahead, setNext, setStart, setLast, link}
 use Rattle.index.specs.Chained.{firstOf, lastOf, after, nextIn, chained}
 use Rattle.index.specs.Change.{take, linkNew, append, putNew, putHeld, removeHeld, roomFault, versionFault, reuseFault}
 use Rattle.index.specs.Walk.{walk, search, chainFault}
-use Rattle.recovery.specs.Recover.{slotsFault, recoverFault, chainsOf, placeOf, recoveredIndex, recoveredState, recovered, recoverResult}
+use Rattle.recovery.specs.Recover.{slotsFault, recoverFault, chainsOf, placeOf, recoveredIndex, recoveredState, recovered, recoverResult, stateIn}
 use Rattle.orderset.specs.Format.{formatted}
 use Rattle.orderset.specs.Change.{noStores, unchanged, changed, putChecks, putFault, putDone, putResult, heldChecks, removeChecks, removeFault, removeDone, removeResult}
 use Rattle.orderset.specs.Get.{lengthChecks, getChecks, getFault, getDone, getResult}
-use Rattle.plainmap.specs.World.{toPlay, calledChange, calledGet, called, places, values, playing, finished, valuesOf, stateIn, worldAfter, recoveredWorld}
-use Rattle.cutrule.specs.Event.{cutImage, step}
 use Rattle.cutrule.specs.Trial.{answers, outputs, small, oneHead, twoSlots, cut, fresh, session, expected, expectedOutputs}
 
 -- THE SESSION answers as document 01 says

@@ -12,3 +12,4 @@ pub mod Rights
 pub mod Steps
 pub mod Afters
 pub mod Lists
+pub mod Map

@@ -17,11 +17,11 @@ use Rattle.layout.proofs.Refusals.{taken-leaves, alike}
 use Rattle.layout.proofs.Tabulate.{tabulate-length, tabulate-get}
 use Rattle.stores.specs.Store.{Store, zipped, played, standing}
 use Rattle.stores.specs.Written.{newA, newB, run, lineStores, recordPlaces, recordStores}
-use Rattle.stores.specs.Play.{halfFault, playFault, counted, playResult}
+use Rattle.stores.specs.Play.{halfFault, playFault, counted, playResult, places, values}
 use Rattle.stores.proofs.Line.{stores-length}
 use Rattle.stores.proofs.Plays.{half-order, halves-fine, play-halves}
 use Rattle.stores.proofs.Halves.{AllOn, line-on, counted-stands}
-use Rattle.plainmap.specs.World.{places, values, playing}
+use Rattle.plainmap.specs.World.{playing}
 
 -- the stores are their word numbers and values
 pub zipped-stores : (ss : List Store) → zipped (places ss) (values ss) ≡ ss

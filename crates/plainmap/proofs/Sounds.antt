@@ -20,10 +20,10 @@ use Rattle.table.proofs.Recovery.{recovery-hidden}
 use Rattle.index.specs.Index.{Index, Chain, reuse, stateOf}
 use Rattle.index.specs.Linked.{Sits}
 use Rattle.index.proofs.Sits.{sits-has}
-use Rattle.recovery.specs.Recover.{Result, chainsOf, placeOf, recoveredIndex, recoveredState, recovered}
+use Rattle.recovery.specs.Recover.{Result, chainsOf, placeOf, recoveredIndex, recoveredState, recovered, stateIn}
 use Rattle.recovery.proofs.Represents.{recovered-sits}
 use Rattle.recovery.proofs.Lent.{recovery-taken}
-use Rattle.plainmap.specs.World.{tableOf, slotsIn, worldAfter, valuesOf, stateIn, recoveredWorld}
+use Rattle.plainmap.specs.World.{tableOf, slotsIn, worldAfter, valuesOf, recoveredWorld}
 use Rattle.plainmap.specs.Sound.{Accepted, RightSize, Starts, starts, Sound}
 use Rattle.plainmap.proofs.Sees.{place-idle}
 use Rattle.plainmap.proofs.Accepted.{accepted-distinct, accepted-room, accepted-recovers}

@@ -2,3 +2,4 @@ pub mod World
 pub mod Plain
 pub mod Sound
 pub mod Claims
+pub mod Map

@@ -1,16 +1,16 @@
 -- The lent image and index with the state beside them, and what calls and recovery make of them: nothing but the definitions that the contracts of the public calls cite.
 use mathlib.Core.List.{List, [], _∷_}
 use Prim.Native.Nat.{ℕ}
-use lib.ListN.{length, getD}
+use lib.ListN.{length}
 use Rattle.words.specs.Word.{word}
 use Rattle.layout.specs.Answer.{Answer, gives, absent, refused}
 use Rattle.layout.specs.Size.{slotsOf}
 use Rattle.layout.specs.Content.{content}
 use Rattle.stores.specs.Store.{Store}
-use Rattle.stores.specs.Play.{playResult}
+use Rattle.stores.specs.Play.{places, values, playResult}
 use Rattle.table.specs.Table.{Table}
 use Rattle.index.specs.declared.State.{State}
-use Rattle.recovery.specs.Recover.{Result, recoverResult}
+use Rattle.recovery.specs.Recover.{Result, stateIn, recoverResult}
 use Rattle.orderset.specs.Change.{ChangeResult, putResult, removeResult}
 use Rattle.orderset.specs.Get.{GetResult, getResult}
 
@@ -81,15 +81,6 @@ called l w (get key out) = calledGet w (getResult l (w .image) (w .heads) (w .ne
 
 -- ---- play
 
--- the stores as play is given them
-unfoldable pub places : List Store → List ℕ
-places [] = []
-places (s ∷ ss) = s .word ∷ places ss
-
-unfoldable pub values : List Store → List ℕ
-values [] = []
-values (s ∷ ss) = s .value ∷ values ss
-
 -- "play makes the counted stores, if there are any"
 unfoldable pub playing : (image : List ℕ) → List Store → (a b : ℕ) → List ℕ
 playing image [] a b = image
@@ -107,14 +98,11 @@ finished l w call =
 
 -- ---- recovery
 
--- the state that recovery answers
+-- the values that an answer gives
 unfoldable pub valuesOf : Answer → List ℕ
 valuesOf (gives given) = given
 valuesOf absent = []
 valuesOf (refused number) = []
-
-unfoldable pub stateIn : List ℕ → State
-stateIn given = record { first = getD given 0 0; last = getD given 1 0; live = getD given 2 0; version = getD given 3 0 }
 
 -- "with the index and state it leaves"
 unfoldable pub worldAfter : (image : List ℕ) → Result → World

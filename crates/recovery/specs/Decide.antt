@@ -1,6 +1,5 @@
 -- How recovery finds 7 and 8: neighbours in the order by rank, and the last slot of each key in the order by key and rank.
-use mathlib.Core.Path.{_≡_}
-use mathlib.Core.Bool.{Bool, true, false, cond, not}
+use mathlib.Core.Bool.{Bool, false, cond, not}
 use mathlib.Core.List.{List}
 use Prim.Native.Nat.{ℕ, zero, suc, _+_, _≤_, _<_}
 use lib.Dec.{eqb, ltb}

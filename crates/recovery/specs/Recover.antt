@@ -2,7 +2,7 @@
 use mathlib.Core.Bool.{cond}
 use mathlib.Core.List.{List, [], _∷_}
 use Prim.Native.Nat.{ℕ}
-use lib.ListN.{length}
+use lib.ListN.{length, getD}
 use Rattle.words.specs.Word.{word}
 use Rattle.layout.specs.Refusal.{say, orElse, unlessRefused}
 use Rattle.layout.specs.Answer.{Answer, gives, refused}
@@ -25,9 +25,12 @@ pub record Result : Type 0 where
   pub heads : List ℕ
   pub next : List ℕ
 
--- the answer's values: first, last, live count, next version
+-- the answer's values: first, last, live count, next version; and back
 abbrev pub stateValues : State → List ℕ
 stateValues s = s .first ∷ s .last ∷ s .live ∷ s .version ∷ []
+
+unfoldable pub stateIn : (values : List ℕ) → State
+stateIn values = record { first = getD values 0 0; last = getD values 1 0; live = getD values 2 0; version = getD values 3 0 }
 
 unfoldable pub recoverSays : Recovered → Answer
 recoverSays (Rebuilt s) = gives (stateValues s)

@@ -1,7 +1,6 @@
 // Recovery's own scratch lists, as long as the number of slots asks for.
 ghost use mathlib.Core.Path.{_≡_};
 ghost use Prim.Native.Nat.{ℕ, _<_};
-ghost use lib.ListN.{length};
 ghost use Rattle.recovery.specs.Recover.{recoverResult};
 ghost use Rattle.recovery.specs.Judge.{Ready, Roomy, recoverEnd};
 use crate::Recovered;

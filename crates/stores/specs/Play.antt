@@ -1,6 +1,6 @@
 -- Play, with two counts and of a list. Document 01, "What each operation may say no to", Play. The stores are lent as word numbers and values.
 use mathlib.Core.Bool.{Bool, true, cond, not}
-use mathlib.Core.List.{List, _++_}
+use mathlib.Core.List.{List, [], _∷_, _++_}
 use Prim.Native.Nat.{ℕ, _+_, _*_, _%_}
 use lib.Dec.{eqb, ltb}
 use lib.ListN.{length, getD, take, drop}
@@ -17,6 +17,15 @@ pub record Played : Type 0 where
 -- what a call of play with this answer left
 abbrev pub playEnd : (answer : ℕ) → (bytes : List ℕ) → Played
 playEnd answer bytes = record { answer = answer; bytes = bytes }
+
+-- the stores as play is given them: their word numbers and their values
+unfoldable pub places : List Store → List ℕ
+places [] = []
+places (s ∷ ss) = s .word ∷ places ss
+
+unfoldable pub values : List Store → List ℕ
+values [] = []
+values (s ∷ ss) = s .value ∷ values ss
 
 -- the half from store k on is "not words 0 to 7 of one line inside the image, in order"
 unfoldable pub halfFault : (len : ℕ) → (at : List ℕ) → (k : ℕ) → Bool

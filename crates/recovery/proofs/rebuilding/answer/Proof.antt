@@ -1,6 +1,5 @@
 -- `recovery::rebuilding::answer` meets its contract. Assumes nothing.
 use mathlib.Core.Path.{sym}
-use lib.Dec.{eqb}
 use borrow.Author.Tests.{eq-eqb, ne-eqb}
 use Rattle.words.proofs.Choice.{pick-true, pick-false}
 use Rattle.recovery.specs.Judge.{answered}

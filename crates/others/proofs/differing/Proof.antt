@@ -1,0 +1,37 @@
+-- `others::differing` meets its contract. Assumes nothing.
+use Prim.Native.Nat.{_-_, _≤_}
+use mathlib.Core.Logic.{⊎-elim}
+use native.Mathlib.Omega.{arith}
+use lib.ListN.{length}
+use borrow.Author.Tests.{ltb-true}
+use borrow.Author.Needs.{needs}
+use Rattle.others.proofs.differing.Statement.{statement}
+use Rattle.others.proofs.differing.Tie as tie
+
+abbrev Inv-loop : tie.InvT-loop
+Inv-loop image before n₀ i₀ n i = (n ≤ i) × (i ≤ length image)
+
+abbrev μ-loop : tie.MeasureT-loop
+μ-loop image before n₀ i₀ n i = length image - i
+
+shared-slice-read-if2-2 : tie.Need-shared-slice-read-if2-2 Inv-loop μ-loop
+shared-slice-read-if2-2 c = omega (arith, ltb-true)
+
+loop-again : tie.Need-loop-again Inv-loop μ-loop
+loop-again c = ⊎-elim (λ w. omega arith) (λ w. omega arith) (c .if2 .came)
+
+pub differing-spec : {M : Type 1} → statement M
+differing-spec =
+    tie.close
+    (tie.spec
+    Inv-loop
+    μ-loop
+    (λ c. search needs)
+    (λ c. search needs)
+    shared-slice-read-if2-2
+    (λ c. search needs)
+    (λ c. search needs)
+    (λ c. search needs)
+    loop-again
+    (λ c. search needs)
+    (λ c. search needs))

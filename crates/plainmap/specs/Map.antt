@@ -1,0 +1,45 @@
+-- DEMAND 2 as one statement: together the calls are a plain map from key to value, for every history without cuts.
+use mathlib.Core.Path.{_≡_}
+use mathlib.Core.Logic.{_↔_}
+use mathlib.Core.Option.{none}
+use mathlib.Core.List.{List}
+use Prim.Native.Nat.{ℕ, _+_, _≤_}
+use lib.ListN.{length}
+use Rattle.layout.specs.Size.{slotsOf}
+use Rattle.layout.specs.Record.{limit}
+use Rattle.table.specs.Table.{liveCount}
+use Rattle.index.specs.Index.{Chain}
+use Rattle.index.specs.Walk.{search}
+use Rattle.recovery.specs.Recover.{chainsOf}
+use Rattle.recovery.specs.Represents.{Answers}
+use Rattle.orderset.specs.Format.{formatted}
+use Rattle.orderset.specs.Change.{putFault}
+use Rattle.plainmap.specs.World.{World, tableOf, slotsIn, Call, finished, recoveredWorld}
+use Rattle.plainmap.specs.Plain.{PlainMap}
+use Rattle.plainmap.specs.Sound.{Accepted, RightSize, Sound}
+use Rattle.plainmap.specs.Claims.{Sized, slotsMap, Right, Agrees, Reads, AllSized, plainAfter, PlainRule}
+
+pub record IsMap (l : ℕ) : Type 0 where
+  -- recovery of an accepted image leaves an index that is its own
+  pub recovers : (image heads next : List ℕ) → Accepted l image → RightSize image heads next
+      → Sound l (recoveredWorld l image heads next) (chainsOf (tableOf l image) (slotsIn image) (length heads))
+  -- in such an index a search finds a slot exactly for the keys that the map of the slots holds, that slot is the live one, and no chain gives 11
+  pub finds : (w : World) (chains : Chain → List ℕ) → Sound l w chains → (key : ℕ)
+      → Answers (tableOf l (w .image)) (slotsIn (w .image)) key (search l (w .image) (w .heads) (w .next) key)
+  -- every call is refused exactly where the rules refuse it, and otherwise answers as the plain map does; a refused call and an absent one change nothing
+  pub answers : (w : World) (m : PlainMap) → Agrees l w m → (call : Call) → Sized l call → Right l w m call
+  -- with its stores played it leaves an accepted image, an index that is its own, and the plain map's next map
+  pub keeps : (w : World) (m : PlainMap) → Agrees l w m → (call : Call) → Sized l call → Agrees l (finished l w call) (plainAfter l w m call)
+  -- "A put is refused for room only when one slot is left that holds no open key": exactly then, for a key that is not held
+  pub room : (w : World) (chains : Chain → List ℕ) → Accepted l (w .image) → Sound l w chains → (key : ℕ) (value : List ℕ)
+      → (putFault l (w .image) (w .heads) (w .next) (w .state) key (length value) ≡ 12)
+      ↔ ((length value ≤ limit l) × (slotsMap l (w .image) key ≡ none)
+      × (liveCount (tableOf l (w .image)) (slotsIn (w .image)) + 1 ≡ slotsIn (w .image)))
+  -- "reading an accepted image slot by slot gives the same map as the recovered index"
+  pub reads : (image heads next : List ℕ) → Accepted l image → RightSize image heads next → Reads l (recoveredWorld l image heads next) (slotsMap l image)
+  -- a formatted image's map is empty
+  pub empty : (len : ℕ) → (slotsOf len ≡ 0 → ⊥) → (key : ℕ) → slotsMap l (formatted l len) key ≡ none
+  -- every list of calls answers as the plain map does, and so does every list from a formatted image
+  pub lists : (w : World) (m : PlainMap) (calls : List Call) → Agrees l w m → AllSized l calls → PlainRule l w m calls
+  pub fresh : (len : ℕ) (heads next : List ℕ) → (slotsOf len ≡ 0 → ⊥) → RightSize (formatted l len) heads next
+      → (calls : List Call) → AllSized l calls → PlainRule l (recoveredWorld l (formatted l len) heads next) (λ k. none) calls

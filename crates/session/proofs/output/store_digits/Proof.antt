@@ -1,0 +1,46 @@
+-- `session::output::store_digits` meets its contract. Assumes nothing.
+use native.Mathlib.Omega.{arith}
+use lib.ListN.{length-set}
+use mathlib.Core.Path.{sym, _∙_}
+use Rattle.session.proofs.Storing.{Filling, filling-begins, filling-more, filling-last}
+use borrow.Author.Needs.{needs}
+use Rattle.session.proofs.output.store_digits.Statement.{statement}
+use Rattle.session.proofs.output.store_digits.Tie as tie
+
+abbrev Inv-loop : tie.InvT-loop
+Inv-loop n space₀ i₀ rest₀ space i rest = Filling n i rest space
+
+abbrev μ-loop : tie.MeasureT-loop
+μ-loop n space₀ i₀ rest₀ space i rest = rest
+
+loop-holds : tie.Need-loop-holds Inv-loop μ-loop
+loop-holds c = filling-begins _ _ (omega arith) (search needs)
+
+loop-again : tie.Need-loop-again Inv-loop μ-loop
+loop-again c = filling-more _ _ _ _ (c .before .loop .inv) (search needs)
+
+same-length : tie.Need-same-length Inv-loop μ-loop
+same-length c = simp length-set (c .before .loop .inv .size ∙ sym (c .before .before .pre))
+
+returns : tie.Need-returns Inv-loop μ-loop
+returns c = (omega (arith, c .before .loop .inv .high, c .before .loop .inv .low), filling-last _ _ _ _ (c .before .loop .inv) (omega arith))
+
+pub store-digits-spec : {M : Type 1} → statement M
+store-digits-spec =
+    tie.close
+    (tie.spec
+    Inv-loop
+    μ-loop
+    loop-holds
+    (λ c. search needs)
+    (λ c. search needs)
+    (λ c. search needs)
+    (λ c. search needs)
+    (λ c. search needs)
+    loop-again
+    (λ c. search needs)
+    (λ c. search needs)
+    (λ c. search needs)
+    (λ c. search needs)
+    same-length
+    returns)

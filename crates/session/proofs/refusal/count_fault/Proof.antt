@@ -1,0 +1,15 @@
+-- `session::refusal::count_fault` meets its contract. Assumes nothing.
+use Rattle.words.proofs.Tests.{tests}
+use Rattle.layout.specs.Refusal.{say}
+use Rattle.session.specs.Step.{countFault}
+use Rattle.session.proofs.refusal.count_fault.Statement.{statement}
+use Rattle.session.proofs.refusal.count_fault.Tie as tie
+
+pub count-fault-spec : {M : Type 1} → statement M
+unfolding countFault say
+count-fault-spec =
+    tie.close
+    (tie.spec
+    (λ c. search tests)
+    (λ c. search tests)
+    (λ c. search tests))

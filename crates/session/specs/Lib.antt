@@ -1,0 +1,5 @@
+pub mod Forms
+pub mod Parsing
+pub mod Output
+pub mod Step
+pub mod Stream

@@ -1,0 +1,187 @@
+-- One line of the session is carried out. Document 01, "The trial session".
+use mathlib.Core.List.{List, _++_}
+use Prim.Native.Nat.{ℕ, _+_, _*_}
+use lib.Dec.{ltb}
+use lib.ListN.{length, take, drop, replicate}
+use Rattle.words.specs.Word.{word, setWord}
+use Rattle.layout.specs.Refusal.{say, orElse, unlessRefused}
+use Rattle.layout.specs.Answer.{Answer, gives, absent, refused}
+use Rattle.stores.specs.Store.{Store}
+use Rattle.stores.specs.Play.{places, values, playResult}
+use Rattle.index.specs.declared.State.{State}
+use Rattle.recovery.specs.Recover.{Result, stateIn, recoverResult}
+use Rattle.orderset.specs.Format.{FormatResult, formatResult}
+use Rattle.orderset.specs.Change.{ChangeResult, putResult, removeResult}
+use Rattle.orderset.specs.Get.{GetResult, getResult}
+use Rattle.session.specs.Output.{Printed, ok, found, cut, replySays}
+use Rattle.session.specs.Output.{absent as notHeld, refused as no}
+use Rattle.session.specs.declared.Line.{Line}
+use Rattle.session.specs.declared.Line.the-variants.{New, Put, Remove, Get, Cut, Bad}
+use Rattle.session.specs.declared.Waiting.{Waiting}
+use Rattle.session.specs.declared.Waiting.the-variants.{Nothing, Counts}
+use Rattle.session.specs.declared.Session.{Session}
+use Rattle.session.specs.declared.Stepped.{Stepped}
+
+-- the answer, the session after it, and the lent image and index
+pub record StepResult : Type 0 where
+  pub answer : Printed
+  pub session : Session
+  pub image : List ℕ
+  pub heads : List ℕ
+  pub next : List ℕ
+
+abbrev pub leaves : Printed → Session → (image heads next : List ℕ) → StepResult
+leaves p s image heads next = record { answer = p; session = s; image = image; heads = heads; next = next }
+
+-- what a step with this answer left
+abbrev pub stepEnd : Stepped → (image heads next : List ℕ) → StepResult
+stepEnd r image heads next = leaves (replySays (r .reply)) (r .session) image heads next
+
+-- before an accepted n: no slots, and no cut waits
+unfoldable pub noSet : Session
+noSet = record { n = 0; state = record { first = 0; last = 0; live = 0; version = 0 }; waiting = Nothing }
+
+-- ---- refusals
+
+-- "16 is a line not of these forms or with a number past 64 bits"
+unfoldable pub formFault : Line → ℕ
+formFault (New n) = 0
+formFault (Put key word) = 0
+formFault (Remove key) = 0
+formFault (Get key) = 0
+formFault (Cut a b) = 0
+formFault Bad = 16
+
+-- the slots that a line is carried out with: those of a new set, or of the set there is
+unfoldable pub slotsFor : Line → Session → ℕ
+slotsFor (New n) s = n
+slotsFor (Put key word) s = s .n
+slotsFor (Remove key) s = s .n
+slotsFor (Get key) s = s .n
+slotsFor (Cut a b) s = s .n
+slotsFor Bad s = s .n
+
+-- "any other line before an accepted n, or n out of range, gives 1"; so does an image or an index that is too short for n slots and one head
+unfoldable pub sizeFault : (n image heads next : ℕ) → ℕ
+sizeFault n image heads next =
+    say (ltb n 2) 1
+    (say (ltb 511 n) 1 (say (ltb image (128 * (n + 1))) 1 (say (ltb heads 1) 1 (say (ltb next (n + 1)) 1 0))))
+
+-- "`no 14` for a count above 8"
+unfoldable pub countFault : (a b : ℕ) → ℕ
+countFault a b = say (ltb 8 a) 14 (say (ltb 8 b) 14 0)
+
+unfoldable pub cutFault : Line → ℕ
+cutFault (New n) = 0
+cutFault (Put key word) = 0
+cutFault (Remove key) = 0
+cutFault (Get key) = 0
+cutFault (Cut a b) = countFault a b
+cutFault Bad = 0
+
+-- 16 "tested first", then 1, then 14; image, heads and next are lengths
+unfoldable pub lineFault : Line → Session → (image heads next : ℕ) → ℕ
+lineFault line s image heads next =
+    orElse (formFault line) (orElse (sizeFault (slotsFor line s) image heads next) (cutFault line))
+
+-- ---- recovery, after which the session goes on; no cut waits any more
+
+-- p is what the line prints. Where recovery refuses an image there is no set any more (it answers no absent)
+unfoldable pub recoveredAs : (p : Printed) → (n : ℕ) → (image heads next : List ℕ) → Answer → StepResult
+recoveredAs p n image heads next (gives values) =
+    leaves p (record { n = n; state = stateIn values; waiting = Nothing }) image heads next
+recoveredAs p n image heads next absent = leaves notHeld noSet image heads next
+recoveredAs p n image heads next (refused number) = leaves (no number) noSet image heads next
+
+unfoldable pub recoveredBy : (p : Printed) → (n : ℕ) → (image : List ℕ) → Result → StepResult
+recoveredBy p n image r = recoveredAs p n image (r .heads) (r .next) (r .answer)
+
+unfoldable pub recoverStep : (p : Printed) → (n : ℕ) → (image heads next : List ℕ) → StepResult
+recoverStep p n image heads next = recoveredBy p n image (recoverResult 1 image heads next)
+
+-- ---- `n N` "formats and recovers": `ok N`. "A new n drops a waiting cut" (format answers no absent)
+
+unfoldable pub madeAs : (n : ℕ) → Session → (image heads next : List ℕ) → Answer → StepResult
+madeAs n s image heads next (gives values) = recoverStep (ok values) n image heads next
+madeAs n s image heads next absent = leaves notHeld s image heads next
+madeAs n s image heads next (refused number) = leaves (no number) s image heads next
+
+unfoldable pub madeBy : (n : ℕ) → Session → (heads next : List ℕ) → FormatResult → StepResult
+madeBy n s heads next r = madeAs n s (r .bytes) heads next (r .answer)
+
+unfoldable pub makeStep : (n : ℕ) → Session → (image heads next : List ℕ) → StepResult
+makeStep n s image heads next = madeBy n s heads next (formatResult 1 image)
+
+-- ---- `p K W` and `r K`
+
+-- the image after play of these stores with these counts
+unfoldable pub playedOn : (image : List ℕ) → List Store → (a b : ℕ) → List ℕ
+playedOn image stores a b = playResult image (places stores) (values stores) a b .bytes
+
+-- "`ok slot version`". A waiting cut: "the next accepted p, or r that stores, plays only A and B stores, and recovery runs"
+unfoldable pub storedWith : (n : ℕ) → (values : List ℕ) → State → List Store → (image heads next : List ℕ) → Waiting → StepResult
+storedWith n values state stores image heads next Nothing =
+    leaves (ok values) (record { n = n; state = state; waiting = Nothing }) (playedOn image stores 8 8) heads next
+storedWith n values state stores image heads next (Counts a b) =
+    recoverStep (ok values) n (playedOn image stores a b) heads next
+
+-- by the answer of the call; "the same, or `absent`", or its refusal, with which a cut goes on waiting
+unfoldable pub changedAs : Session → State → List Store → (image heads next : List ℕ) → Answer → StepResult
+changedAs s state stores image heads next (gives values) =
+    storedWith (s .n) values state stores image heads next (s .waiting)
+changedAs s state stores image heads next absent = leaves notHeld s image heads next
+changedAs s state stores image heads next (refused number) = leaves (no number) s image heads next
+
+unfoldable pub changeStep : Session → (image : List ℕ) → ChangeResult → StepResult
+changeStep s image r = changedAs s (r .state) (r .stores) image (r .heads) (r .next) (r .answer)
+
+-- "the 8-byte word W"
+unfoldable pub wordBytes : (w : ℕ) → List ℕ
+wordBytes w = setWord (replicate 8 0) 0 w
+
+-- ---- `g K`: "`found W`, or `absent`"
+
+unfoldable pub gotAs : (out : List ℕ) → Answer → Printed
+gotAs out (gives values) = found (word out 0)
+gotAs out absent = notHeld
+gotAs out (refused number) = no number
+
+unfoldable pub gotBy : GetResult → Printed
+gotBy r = gotAs (r .out) (r .answer)
+
+-- the word of the value, with 80 bytes of output
+unfoldable pub wordFound : (image heads next : List ℕ) → (key : ℕ) → Printed
+wordFound image heads next key = gotBy (getResult 1 image heads next key (replicate 80 0))
+
+-- ---- `c A B`: "`cut A B`"; "a later c replaces a waiting one"
+
+unfoldable pub waitingFor : Session → (a b : ℕ) → Session
+waitingFor s a b = record { n = s .n; state = s .state; waiting = Counts a b }
+
+-- ---- a line on an image and an index of the set's size
+
+unfoldable pub lineStep : Line → Session → (image heads next : List ℕ) → StepResult
+lineStep (New n) s image heads next = makeStep n s image heads next
+lineStep (Put key w) s image heads next = changeStep s image (putResult 1 image heads next (s .state) key (wordBytes w))
+lineStep (Remove key) s image heads next = changeStep s image (removeResult 1 image heads next (s .state) key)
+lineStep (Get key) s image heads next = leaves (wordFound image heads next key) s image heads next
+lineStep (Cut a b) s image heads next = leaves (cut a b) (waitingFor s a b) image heads next
+lineStep Bad s image heads next = leaves (no 16) s image heads next
+
+-- what follows the fronts that a step uses stays as it was
+unfoldable pub followedBy : (image heads next : List ℕ) → StepResult → StepResult
+followedBy image heads next r =
+    leaves (r .answer) (r .session) (r .image ++ image) (r .heads ++ heads) (r .next ++ next)
+
+-- the fronts are the image of m - 1 slots, one head and m numbers of next
+unfoldable pub frontStep : Line → Session → (m : ℕ) → (image heads next : List ℕ) → StepResult
+frontStep line s m image heads next =
+    followedBy (drop (128 * m) image) (drop 1 heads) (drop m next)
+    (lineStep line s (take (128 * m) image) (take 1 heads) (take m next))
+
+-- a refused line "changes nothing"
+unfoldable pub stepResult : Line → Session → (image heads next : List ℕ) → StepResult
+stepResult line s image heads next =
+    unlessRefused (lineFault line s (length image) (length heads) (length next))
+    (frontStep line s (slotsFor line s + 1) image heads next)
+    (leaves (no (lineFault line s (length image) (length heads) (length next))) s image heads next)

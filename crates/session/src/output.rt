@@ -1,0 +1,121 @@
+// An answer as a line of output.
+ghost use mathlib.Core.Path.{_≡_};
+ghost use mathlib.Core.List.{[], _∷_};
+ghost use Prim.Native.Nat.{_+_, _≤_, _<_};
+ghost use lib.ListN.{length, drop};
+ghost use Rattle.session.specs.Output.{text, replySays, decimal, numbersText, written, Wrote, renderEnd, renderResult};
+use crate::Reply;
+
+// The bytes are stored from place at on.
+fn store_bytes(out: &mut [u8], at: usize, bytes: &[u8])
+    requires { ⌜ at + length (now bytes) ≤ length (now out) ⌝ }
+    ensures { λ _. ⌜ now (out .exit) ≡ written (now (out .entry)) at (now (bytes .entry)) ⌝ }
+{
+    let mut i = 0;
+    while i < bytes.len() {
+        out[at + i] = bytes[i];
+        i += 1;
+    }
+}
+
+// The decimal digits of n fill the end of the 20 bytes: the place of the first one.
+fn store_digits(n: u64, space: &mut [u8]) -> usize
+    requires { ⌜ length (now space) ≡ 20 ⌝ }
+    ensures { λ r. ⌜ (r < 20) × (drop r (now (space .exit)) ≡ decimal n) ⌝ }
+{
+    let mut i = 20;
+    let mut rest = n;
+    while 10 <= rest {
+        i -= 1;
+        space[i] = (48 + rest % 10) as u8;
+        rest /= 10;
+    }
+    i -= 1;
+    space[i] = (48 + rest) as u8;
+    i
+}
+
+// A space and the number n: the place after them.
+fn store_number(out: &mut [u8], at: usize, n: u64) -> usize
+    requires { ⌜ at + 21 ≤ length (now out) ⌝ }
+    ensures { λ r. ⌜ Wrote (now (out .entry)) (now (out .exit)) at r (32 ∷ decimal n) ⌝ }
+{
+    let mut space = [0u8; 20];
+    let from = store_digits(n, &mut space);
+    store_bytes(out, at, b" ");
+    store_bytes(out, at + 1, &space[from..]);
+    at + 1 + (20 - from)
+}
+
+// The end of the line.
+fn store_end(out: &mut [u8], at: usize) -> usize
+    requires { ⌜ at + 1 ≤ length (now out) ⌝ }
+    ensures { λ r. ⌜ Wrote (now (out .entry)) (now (out .exit)) at r (numbersText []) ⌝ }
+{
+    store_bytes(out, at, b"\n");
+    at + 1
+}
+
+// The last number, and the end of the line.
+fn store_one(out: &mut [u8], at: usize, n: u64) -> usize
+    requires { ⌜ at + 22 ≤ length (now out) ⌝ }
+    ensures { λ r. ⌜ Wrote (now (out .entry)) (now (out .exit)) at r (numbersText (n ∷ [])) ⌝ }
+{
+    let after = store_number(out, at, n);
+    store_end(out, after)
+}
+
+// The last two numbers, and the end of the line.
+fn store_two(out: &mut [u8], at: usize, m: u64, n: u64) -> usize
+    requires { ⌜ at + 43 ≤ length (now out) ⌝ }
+    ensures { λ r. ⌜ Wrote (now (out .entry)) (now (out .exit)) at r (numbersText (m ∷ n ∷ [])) ⌝ }
+{
+    let after = store_number(out, at, m);
+    store_one(out, after, n)
+}
+
+// The answer's line, where 64 bytes are left.
+fn store_reply(reply: Reply, out: &mut [u8], at: usize) -> usize
+    requires { ⌜ at + 64 ≤ length (now out) ⌝ }
+    ensures { λ r. ⌜ Wrote (now (out .entry)) (now (out .exit)) at r (text (replySays reply)) ⌝ }
+{
+    match reply {
+        Reply::Made(n) => {
+            store_bytes(out, at, b"ok");
+            store_one(out, at + 2, n)
+        }
+        Reply::Stored { slot, version } => {
+            store_bytes(out, at, b"ok");
+            store_two(out, at + 2, slot as u64, version)
+        }
+        Reply::Found(word) => {
+            store_bytes(out, at, b"found");
+            store_one(out, at + 5, word)
+        }
+        Reply::Absent => {
+            store_bytes(out, at, b"absent");
+            store_end(out, at + 6)
+        }
+        Reply::Cut { a, b } => {
+            store_bytes(out, at, b"cut");
+            store_two(out, at + 3, a, b)
+        }
+        Reply::Refused(number) => {
+            store_bytes(out, at, b"no");
+            store_one(out, at + 2, number as u64)
+        }
+    }
+}
+
+// The answer's line is stored from place at on: the place after it. Where fewer than 64 bytes are left, nothing is stored.
+pub fn render(reply: Reply, out: &mut [u8], at: usize) -> usize
+    ensures { λ r. ⌜ renderEnd r (now (out .exit)) ≡ renderResult (replySays reply) (now (out .entry)) at ⌝ }
+{
+    if out.len() < at {
+        return at;
+    }
+    if out.len() - at < 64 {
+        return at;
+    }
+    store_reply(reply, out, at)
+}
