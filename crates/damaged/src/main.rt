@@ -1,6 +1,4 @@
 // Recovers an image of three slots, whole and with one or two bytes changed, and prints the answer and the index each time. Every refusal from 1 to 8 is among them.
-mod show;
-
 use recovery::recover::recover;
 
 // Slot 1: a put of key 7, version 2, one byte. Slot 2: its remove, version 4. Slot 3: a put of key 8, version 3, no bytes.
@@ -33,7 +31,8 @@ fn set_byte(image: &mut [u8], place: usize, byte: u8) {
 
 fn show_recover(image: &[u8], heads: &mut [u32], next: &mut [u32]) {
     let r = recover(image, heads, next);
-    show::recovered(r, heads, next);
+    show::recovered(r);
+    show::index(heads, next);
 }
 
 fn change(image: &mut [u8], place: usize, byte: u8, second: usize, other: u8) {

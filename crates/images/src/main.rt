@@ -1,22 +1,20 @@
 // Formats lent bytes and plays stores that are written out by hand, and prints each answer and some of the bytes that are left.
-use libc::STDOUT_FILENO;
 use orderset::Formatted;
 use orderset::format::format;
 use orderset::play::play;
 use orderset::play::play_list;
 use stores::Stores;
 
-fn show(label: &[u8], n: u64) {
-    io::write_all(STDOUT_FILENO, label);
-    io::write_all(STDOUT_FILENO, b" ");
-    io::print_decimal(STDOUT_FILENO, n);
-    io::write_all(STDOUT_FILENO, b"\n");
+fn line(label: &[u8], n: u64) {
+    show::text(label);
+    show::number(n);
+    show::text(b"\n");
 }
 
 fn show_formatted(r: Formatted) {
     match r {
-        Formatted::Slots(n) => show(b"slots", n as u64),
-        Formatted::Refused(k) => show(b"no", k as u64),
+        Formatted::Slots(n) => line(b"slots", n as u64),
+        Formatted::Refused(k) => line(b"no", k as u64),
     }
 }
 
@@ -85,28 +83,28 @@ fn one_line() -> Stores {
 fn show_formats() {
     let mut short = [9u8; 383];
     show_formatted(format(&mut short));
-    show(b"byte 0", byte_at(&short, 0));
+    line(b"byte 0", byte_at(&short, 0));
     let mut image = [9u8; 384];
     show_formatted(format(&mut image));
-    show(b"byte 0", byte_at(&image, 0));
-    show(b"byte 8", byte_at(&image, 8));
-    show(b"byte 383", byte_at(&image, 383));
+    line(b"byte 0", byte_at(&image, 0));
+    line(b"byte 8", byte_at(&image, 8));
+    line(b"byte 383", byte_at(&image, 383));
 }
 
 fn show_plays() {
     let mut image = [0u8; 384];
     show_formatted(format(&mut image));
-    show(b"play 9 0:", play(&mut image, one_line(), 9, 0) as u64);
-    show(b"play 8 0:", play(&mut image, one_line(), 8, 0) as u64);
-    show(b"mark", byte_at(&image, 128));
-    show(b"play 3 0:", play(&mut image, put_stores(), 3, 0) as u64);
-    show(b"mark", byte_at(&image, 128));
-    show(b"kind", byte_at(&image, 144));
-    show(b"value", byte_at(&image, 152));
-    show(b"play 8 8:", play(&mut image, put_stores(), 8, 8) as u64);
-    show(b"value", byte_at(&image, 152));
-    show(b"stamp A", byte_at(&image, 184));
-    show(b"stamp B", byte_at(&image, 248));
+    line(b"play 9 0:", play(&mut image, one_line(), 9, 0) as u64);
+    line(b"play 8 0:", play(&mut image, one_line(), 8, 0) as u64);
+    line(b"mark", byte_at(&image, 128));
+    line(b"play 3 0:", play(&mut image, put_stores(), 3, 0) as u64);
+    line(b"mark", byte_at(&image, 128));
+    line(b"kind", byte_at(&image, 144));
+    line(b"value", byte_at(&image, 152));
+    line(b"play 8 8:", play(&mut image, put_stores(), 8, 8) as u64);
+    line(b"value", byte_at(&image, 152));
+    line(b"stamp A", byte_at(&image, 184));
+    line(b"stamp B", byte_at(&image, 248));
 }
 
 fn show_lists() {
@@ -114,14 +112,14 @@ fn show_lists() {
     let at = [0u32, 1];
     let outside = [0u32, 2];
     let value = [513u64, 18446744073709551615];
-    show(b"list:", play_list(&mut bytes, &outside, &value) as u64);
-    show(b"byte 0", byte_at(&bytes, 0));
-    show(b"list:", play_list(&mut bytes, &at, &value[..1]) as u64);
-    show(b"list:", play_list(&mut bytes, &at, &value) as u64);
-    show(b"byte 0", byte_at(&bytes, 0));
-    show(b"byte 1", byte_at(&bytes, 1));
-    show(b"byte 15", byte_at(&bytes, 15));
-    show(b"byte 16", byte_at(&bytes, 16));
+    line(b"list:", play_list(&mut bytes, &outside, &value) as u64);
+    line(b"byte 0", byte_at(&bytes, 0));
+    line(b"list:", play_list(&mut bytes, &at, &value[..1]) as u64);
+    line(b"list:", play_list(&mut bytes, &at, &value) as u64);
+    line(b"byte 0", byte_at(&bytes, 0));
+    line(b"byte 1", byte_at(&bytes, 1));
+    line(b"byte 15", byte_at(&bytes, 15));
+    line(b"byte 16", byte_at(&bytes, 16));
 }
 
 fn main() {

@@ -62,3 +62,14 @@ any-clear p k zero h = refl
 any-clear p k (suc n) h =
     pick-false (p k) _ _ (ap p (omega arith) ∙ h 0 (omega arith))
     ∙ any-clear p (suc k) n (λ i l. ap p (omega arith) ∙ h (suc i) (omega arith))
+
+-- a test that holds somewhere
+pub any-some : (p : ℕ → Bool) (k n i : ℕ) → i < n → p (k + i) ≡ true → anyOf p k n ≡ true
+unfolding anyOf
+any-some p k zero i h e = absurd (omega arith)
+any-some p k (suc n) zero h e = pick-true (p k) _ _ (ap p (omega arith) ∙ e)
+any-some p k (suc n) (suc i) h e = either (p k) _ (any-some p (suc k) n i (omega arith) (ap p (omega arith) ∙ e))
+  where
+    either : (a b : Bool) → b ≡ true → cond a true b ≡ true
+    either true b q = refl
+    either false b q = q

@@ -2,7 +2,10 @@
 use mathlib.Core.Path.{_≡_, sym, ap, _∙_}
 use mathlib.Core.Bool.{Bool, true, false, not}
 use mathlib.Core.List.{List}
-use Prim.Native.Nat.{ℕ}
+use mathlib.Core.Logic.{_≢_, by-cases}
+use Prim.Native.Nat.{ℕ, _+_, _-_, _≤_, _<_}
+use native.Mathlib.Decide.{decLt, ℕ-discrete}
+use native.Mathlib.Omega.{arith}
 use lib.Dec.{eqb}
 use lib.ListN.{length}
 use borrow.Author.Tests.{eq-eqb, ne-eqb}
@@ -10,24 +13,90 @@ use Rattle.words.specs.Word.{word}
 use Rattle.layout.specs.Range.{anyOf}
 use Rattle.layout.specs.Size.{slotsOf}
 use Rattle.layout.specs.Header.{headerWord, headerFault, imageFault, indexFault, lentFault}
+use Rattle.words.proofs.Choice.{pick-false, true-not-false}
+use Rattle.layout.proofs.Any.{any-some, any-none, any-clear}
 use Rattle.layout.proofs.Refusals.{say-true, say-false, orElse-first, orElse-later}
 
--- header_fault: v is header word 0, and b says whether a word of the header is other than laid down
-module _ (l n : ℕ) (m : ℕ → ℕ) (v : ℕ) (e : v ≡ m 0) where
-  pub header-none : v ≡ 0 → 2 ≡ headerFault l n m
+-- rest_differs: the words from 2 on are compared with word 7, and word 7 with zero
+abbrev nonzero : (ℕ → ℕ) → ℕ → Bool
+nonzero m i = not (eqb (m i) 0)
+
+nonzero-at : (m : ℕ → ℕ) (i : ℕ) → 2 ≤ i → i < 8 → (m i ≡ 0 → ⊥) → anyOf (nonzero m) 2 6 ≡ true
+nonzero-at m i low high ne =
+    let e : 2 + (i - 2) ≡ i = omega arith in
+    any-some (nonzero m) 2 6 (i - 2) (omega arith) (ap (nonzero m) e ∙ ap not (ne-eqb (m i) 0 ne))
+
+-- the words from 2 up to i are the same as the last
+pub record Alike (m : ℕ → ℕ) (last i : ℕ) : Type 0 where
+  pub low : 2 ≤ i
+  pub high : i ≤ 7
+  pub same : (j : ℕ) → 2 ≤ j → j < i → m j ≡ last
+
+pub alike-start : (m : ℕ → ℕ) (last : ℕ) → Alike m last 2
+alike-start m last = record { low = omega arith; high = omega arith; same = λ j p q. absurd (omega (arith, p, q)) }
+
+pub alike-next : (m : ℕ → ℕ) (last i : ℕ) → Alike m last i → i < 7 → (v : ℕ) → v ≡ m i → v ≡ last → Alike m last (i + 1)
+alike-next m last i a h v e f =
+    record {
+      low = omega (arith, a .low);
+      high = omega arith;
+      same = λ j p q. by-cases (decLt j i) (λ (l : j < i). a .same j p l) (λ (l : j < i → ⊥). (let k : j ≡ i = omega (arith, q, l) in ap m k) ∙ sym e ∙ f);
+    }
+
+pub rest-other : (m : ℕ → ℕ) (i v last : ℕ) → v ≡ m i → last ≡ m 7 → 2 ≤ i → i < 7 → (v ≡ last → ⊥) → true ≡ anyOf (nonzero m) 2 6
+rest-other m i v last e f low high ne =
+    by-cases (decLt 0 (m i)) (λ (h : 0 < m i). sym (nonzero-at m i low (omega arith) (λ z. omega (arith, z, h))))
+    (λ (h : 0 < m i → ⊥). sym (nonzero-at m 7 (omega arith) (omega arith) (λ z. ne (e ∙ (let q : m i ≡ 0 = omega (arith, h) in q ∙ sym z) ∙ sym f))))
+
+pub rest-end : (m : ℕ → ℕ) (last : ℕ) → last ≡ m 7 → ((i : ℕ) → 2 ≤ i → i < 7 → m i ≡ last) → not (eqb last 0) ≡ anyOf (nonzero m) 2 6
+rest-end m last f same =
+    by-cases (decLt 0 last)
+    (λ (h : 0 < last). ap not (ne-eqb last 0 (λ z. omega (arith, z, h))) ∙ sym (nonzero-at m 7 (omega arith) (omega arith) (λ z. omega (arith, z, f, h))))
+    (λ (h : 0 < last → ⊥).
+    let z : last ≡ 0 = omega (arith, h) in
+    ap not (eq-eqb last 0 z) ∙ sym (any-clear (nonzero m) 2 6 (λ i l. ap not (eq-eqb (m (2 + i)) 0 (zero-at i l z)))))
+  where
+    zero-at : (i : ℕ) → i < 6 → last ≡ 0 → m (2 + i) ≡ 0
+    zero-at i l z = by-cases (decLt i 5) (λ (h : i < 5). same (2 + i) (omega arith) (omega arith) ∙ z) (λ (h : i < 5 → ⊥). (let e : 2 + i ≡ 7 = omega (arith, l, h) in ap m e) ∙ sym f ∙ z)
+
+-- header_differs, by the words 0 and 1 and the rest
+module _ (l n : ℕ) (m : ℕ → ℕ) where
+  abbrev differs : ℕ → Bool
+  differs i = not (eqb (m i) (headerWord l n i))
+
+  pub first-other : (v : ℕ) → v ≡ m 0 → (v ≡ n → ⊥) → true ≡ anyOf differs 0 8
+  unfolding headerWord
+  first-other v e ne = sym (any-some differs 0 8 0 (omega arith) (ap not (ne-eqb (m 0) n (λ q. ne (e ∙ q)))))
+
+  pub second-other : (v : ℕ) → v ≡ m 1 → (v ≡ l → ⊥) → true ≡ anyOf differs 0 8
+  unfolding headerWord
+  second-other v e ne = sym (any-some differs 0 8 1 (omega arith) (ap not (ne-eqb (m 1) l (λ q. ne (e ∙ q)))))
+
+  pub rest-decides : (v w : ℕ) → v ≡ m 0 → w ≡ m 1 → v ≡ n → w ≡ l → (r : Bool) → r ≡ anyOf (nonzero m) 2 6 → r ≡ anyOf differs 0 8
+  unfolding headerWord anyOf
+  rest-decides v w e f p q r g =
+      g ∙ sym (pick-false (differs 0) _ _ (ap not (eq-eqb (m 0) n (sym e ∙ p))) ∙ pick-false (differs 1) _ _ (ap not (eq-eqb (m 1) l (sym f ∙ q))))
+
+  first-same : anyOf differs 0 8 ≡ false → m 0 ≡ n
+  unfolding headerWord
+  first-same e = by-cases (ℕ-discrete (m 0) n) (λ (q : m 0 ≡ n). q) (λ (ne : m 0 ≢ n). absurd (true-not-false (sym (ap not (ne-eqb (m 0) n ne)) ∙ any-none differs 0 8 e 0 (omega arith))))
+
+-- header_fault: b says whether a word of the header is other than laid down, v is header word 0
+module _ (l n : ℕ) (m : ℕ → ℕ) (b : Bool) (f : b ≡ anyOf (λ i. not (eqb (m i) (headerWord l n i))) 0 8) where
+  pub header-right : 1 ≤ n → b ≡ false → 0 ≡ headerFault l n m
   unfolding headerFault
-  header-none z = sym (say-true _ _ _ (eq-eqb (m 0) 0 (sym e ∙ z)))
+  header-right some t =
+      sym (say-false _ _ _ (ne-eqb (m 0) 0 (λ q. omega (arith, some, q, first-same l n m (sym f ∙ t)))) ∙ say-false _ _ _ (sym f ∙ t))
 
-  module _ (ne : v ≡ 0 → ⊥) (b : Bool) (f : b ≡ anyOf (λ i. not (eqb (m i) (headerWord l n i))) 0 8) where
-    pub header-other : b ≡ true → 3 ≡ headerFault l n m
+  module _ (v : ℕ) (e : v ≡ m 0) where
+    pub header-none : v ≡ 0 → 2 ≡ headerFault l n m
     unfolding headerFault
-    header-other t =
+    header-none z = sym (say-true _ _ _ (eq-eqb (m 0) 0 (sym e ∙ z)))
+
+    pub header-other : (v ≡ 0 → ⊥) → b ≡ true → 3 ≡ headerFault l n m
+    unfolding headerFault
+    header-other ne t =
         sym (say-false _ _ _ (ne-eqb (m 0) 0 (λ q. ne (e ∙ q))) ∙ say-true _ _ _ (sym f ∙ t))
-
-    pub header-right : b ≡ false → 0 ≡ headerFault l n m
-    unfolding headerFault
-    header-right t =
-        sym (say-false _ _ _ (ne-eqb (m 0) 0 (λ q. ne (e ∙ q))) ∙ say-false _ _ _ (sym f ∙ t))
 
 -- image_fault: n is the slots of the image
 module _ (l : ℕ) (image : List ℕ) (n : ℕ) (e : n ≡ slotsOf (length image)) where

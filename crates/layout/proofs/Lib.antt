@@ -8,3 +8,4 @@ pub mod Records
 pub mod Keys
 pub mod Content
 pub mod Tails
+pub mod Copies

@@ -26,17 +26,20 @@ pub fn slots(len: usize) -> usize
     len / 128 - 1
 }
 
-// Word i of the header of layout l for n slots.
-pub fn header_word(l: u64, n: u64, i: usize) -> u64
-    ensures { λ r. ⌜ r ≡ headerWord l n i ⌝ }
+// Is one of the words 2 to 7 of the header other than zero? Each is compared with the last: a comparison of two words is one instruction, one with zero is not.
+fn rest_differs(image: &[u8]) -> bool
+    requires { ⌜ 64 ≤ length (now image) ⌝ }
+    ensures { λ r. ⌜ r ≡ anyOf (λ i. not (eqb (word (now (image .entry)) i) 0)) 2 6 ⌝ }
 {
-    if i == 0 {
-        return n;
+    let last = read_word(image, 7);
+    let mut i = 2;
+    while i < 7 {
+        if read_word(image, i) != last {
+            return true;
+        }
+        i += 1;
     }
-    if i == 1 {
-        return l;
-    }
-    0
+    last != 0
 }
 
 // Is a word of the header other than laid down?
@@ -44,25 +47,24 @@ fn header_differs(image: &[u8], l: u64, n: u64) -> bool
     requires { ⌜ 64 ≤ length (now image) ⌝ }
     ensures { λ r. ⌜ r ≡ anyOf (λ i. not (eqb (word (now (image .entry)) i) (headerWord l n i))) 0 8 ⌝ }
 {
-    let mut i = 0;
-    while i < 8 {
-        if read_word(image, i) != header_word(l, n, i) {
-            return true;
-        }
-        i += 1;
+    if read_word(image, 0) != n {
+        return true;
     }
-    false
+    if read_word(image, 1) != l {
+        return true;
+    }
+    rest_differs(image)
 }
 
 // 2 or 3 by the header, else 0.
 fn header_fault(image: &[u8], l: u64, n: u64) -> u32
-    requires { ⌜ 64 ≤ length (now image) ⌝ }
+    requires { ⌜ (64 ≤ length (now image)) × (1 ≤ n) ⌝ }
     ensures { λ r. ⌜ r ≡ headerFault l n (word (now (image .entry))) ⌝ }
 {
-    if read_word(image, 0) == 0 {
-        return 2;
-    }
     if header_differs(image, l, n) {
+        if read_word(image, 0) == 0 {
+            return 2;
+        }
         return 3;
     }
     0

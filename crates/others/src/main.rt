@@ -1,7 +1,5 @@
 // The examples of document 01 after E12, executed: a value of 0 bytes is held, unlike absent; a header whose word 1 is 2 gives 3; play with
 // counts 0 and 0 changes nothing; 9 in a count gives 14.
-mod show;
-
 use index::State;
 use orderset::Change;
 use orderset::format::format;
@@ -28,6 +26,7 @@ fn show_recover(image: &[u8], heads: &mut [u32], next: &mut [u32]) -> State {
     show::text(b"recover");
     let r = recover(image, heads, next);
     show::recovered(r);
+    show::text(b"\n");
     state_of(r)
 }
 
@@ -39,6 +38,7 @@ fn show_put(image: &[u8], heads: &mut [u32], next: &mut [u32], s: State, key: u6
     let r = put(image, heads, next, s, key, &nothing);
     let answer = r.outcome;
     show::outcome(answer);
+    show::text(b"\n");
     r
 }
 
@@ -80,6 +80,7 @@ fn show_play(image: &mut [u8], before: &[u8], r: Change, a: usize, b: usize) {
 fn begin(image: &mut [u8], heads: &mut [u32], next: &mut [u32]) -> Change {
     show::text(b"format");
     show::formatted(format(image));
+    show::text(b"\n");
     let s = show_recover(image, heads, next);
     show_put(image, heads, next, s, 5)
 }

@@ -1,7 +1,5 @@
 // Calls put, get and remove on an image of two slots that is written out byte by byte, with its own index and with damaged ones, and prints
 // every answer, state, store and index.
-mod show;
-
 use index::State;
 use orderset::Change;
 use orderset::get::get;
@@ -41,6 +39,7 @@ fn show_put(
     show::number(key);
     let r = put(image, heads, next, s, key, value);
     show::change(r);
+    show::text(b" ");
     show::index(heads, next);
     r
 }
@@ -50,6 +49,7 @@ fn show_remove(image: &[u8], heads: &mut [u32], next: &mut [u32], s: State, key:
     show::number(key);
     let r = remove(image, heads, next, s, key);
     show::change(r);
+    show::text(b" ");
     show::index(heads, next);
     r
 }

@@ -6,7 +6,7 @@ use Prim.Native.Nat.{ℕ, zero, suc, _+_, _*_, _/_, _%_, _^_, _≤_, _<_}
 use native.Mathlib.Nat.{div-add-mod, pow-suc, pow-succ', div-one, div-lt-iff-lt-mul, div-div-eq-div-mul, mod-lt, zero-lt-suc}
 use native.Mathlib.Decide.{decLt, ℕ-discrete}
 use native.Mathlib.Omega.{arith}
-use lib.ListN.{length, getD, set, length-set}
+use lib.ListN.{length, getD, set, length-set, List·getD-eq-default}
 use lib.Seq.{getD-set-same, getD-set-other, set-out}
 use Rattle.words.specs.Word.{AreBytes, joined, word, setWord}
 
@@ -141,3 +141,20 @@ word-digit s i j b h = ap (λ (x : ℕ). x / 256 ^ j % 256) (word-from s i) ∙ 
 pub word-byte : (s : List ℕ) (k : ℕ) → AreBytes s → word s (k / 8) / 256 ^ (k % 8) % 256 ≡ getD s k 0
 word-byte s k b =
     word-digit s (k / 8) (k % 8) b (mod-lt k (zero-lt-suc 7)) ∙ ap (λ (x : ℕ). getD s x 0) (div-add-mod k 8)
+
+-- a word past the end is 0
+pub word-past : (s : List ℕ) (i : ℕ) → length s ≤ 8 * i → word s i ≡ 0
+unfolding word
+word-past s i past =
+    let zero-at : (k : ℕ) → 8 * i ≤ k → getD s k 0 ≡ 0 = λ k far. List·getD-eq-default s 0 {n = k} (omega (arith, past, far)) in
+    omega (
+      arith,
+      zero-at (8 * i) (omega arith),
+      zero-at (8 * i + 1) (omega arith),
+      zero-at (8 * i + 2) (omega arith),
+      zero-at (8 * i + 3) (omega arith),
+      zero-at (8 * i + 4) (omega arith),
+      zero-at (8 * i + 5) (omega arith),
+      zero-at (8 * i + 6) (omega arith),
+      zero-at (8 * i + 7) (omega arith),
+    )

@@ -66,12 +66,18 @@ fn byte_or_zero(value: &[u8], i: usize) -> u8
     0
 }
 
-// Word i of the value, with zeros past its end.
+// Word i of the value, with zeros past its end: a whole word, no byte of one, or the bytes that there are.
 pub fn padded_word(value: &[u8], i: usize) -> u64
     requires { ⌜ i ≤ 65536 ⌝ }
     ensures { λ r. ⌜ r ≡ word (now (value .entry)) i ⌝ }
 {
     let at = 8 * i;
+    if at + 8 <= value.len() {
+        return read_word(value, i);
+    }
+    if value.len() <= at {
+        return 0;
+    }
     join(
         byte_or_zero(value, at),
         byte_or_zero(value, at + 1),

@@ -1,46 +1,25 @@
 -- `layout::header::header_differs` meets its contract. Assumes nothing.
-use mathlib.Core.Bool.{not}
-use Prim.Native.Nat.{_-_}
-use native.Mathlib.Omega.{arith}
-use lib.Dec.{eqb}
 use borrow.Author.Needs.{needs}
-use Rattle.words.specs.Word.{word}
-use Rattle.layout.specs.Header.{headerWord}
-use Rattle.layout.proofs.Refusals.{apart, alike}
-use Rattle.layout.proofs.Any.{Going, any-start, any-hit, any-next, any-end}
+use Rattle.layout.proofs.Headers.{first-other, second-other, rest-decides}
 use Rattle.layout.proofs.header.header_differs.Statement.{statement}
 use Rattle.layout.proofs.header.header_differs.Tie as tie
 
-abbrev Inv-loop : tie.InvT-loop
-Inv-loop image l n i₀ i = Going (λ j. not (eqb (word image j) (headerWord l n j))) 8 0 i
+returns : tie.Need-returns
+returns c = first-other _ _ _ _ (c .before .read-word .ensures) (c .if1 .taken)
 
-abbrev μ-loop : tie.MeasureT-loop
-μ-loop image l n i₀ i = 8 - i
+returns-2 : tie.Need-returns-2
+returns-2 c = second-other _ _ _ _ (c .before .read-word2 .ensures) (c .if2 .taken)
 
-returns : tie.Need-returns Inv-loop μ-loop
-returns c =
-    any-hit _ _ _ _ (c .before .before .before .before .loop .inv) (c .before .before .before .loop-test .taken)
-    (apart _ _ _ _ (c .before .before .read-word .ensures) (c .before .header-word .ensures) (c .if1 .taken))
-
-loop-again : tie.Need-loop-again Inv-loop μ-loop
-loop-again c =
-    any-next _ _ _ _ (c .before .before .before .before .loop .inv) (c .before .before .before .loop-test .taken)
-    (alike _ _ _ _ (c .before .before .read-word .ensures) (c .before .header-word .ensures) (c .if1 .left))
-
-returns-2 : tie.Need-returns-2 Inv-loop μ-loop
-returns-2 c = any-end _ _ _ _ (c .before .loop .inv) (c .loop-test .left)
+returns-3 : tie.Need-returns-3
+returns-3 c = rest-decides _ _ _ _ _ (c .before .before .before .before .read-word .ensures) (c .before .before .read-word2 .ensures) (c .before .before .before .if1 .left) (c .before .if2 .left) _ (c .rest-differs .ensures)
 
 pub header-differs-spec : {M : Type 1} → statement M
 header-differs-spec =
     tie.close
     (tie.spec
-    Inv-loop
-    μ-loop
-    (λ c. any-start _ _ _ (omega arith))
-    (λ c κs. search needs)
     (λ c κs. search needs)
     returns
-    (λ c. search needs)
-    (λ c. search needs)
-    loop-again
-    returns-2)
+    (λ c κs. search needs)
+    returns-2
+    (λ c κs. search needs)
+    returns-3)

@@ -11,7 +11,7 @@ returns : tie.Need-returns
 returns c = no-slots _ _ _ (c .before .slots .ensures) (c .if1 .taken)
 
 header-fault-requires : tie.Need-header-fault-requires
-header-fault-requires c κs = omega (arith, long _ (λ e. c .if1 .left (c .before .slots .ensures ∙ e)) .size)
+header-fault-requires c κs = (omega (arith, long _ (λ e. c .if1 .left (c .before .slots .ensures ∙ e)) .size), omega arith)
 
 returns-2 : tie.Need-returns-2
 returns-2 c = by-header _ _ _ (c .before .before .slots .ensures) (c .before .if1 .left) _ (c .header-fault .ensures)

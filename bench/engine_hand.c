@@ -1,0 +1,14 @@
+/* (a): the same method written by hand in C, with the persist of the header. */
+#include "bench.h"
+
+#define FILE_NAME "/dev/shm/orderset_bench_hand"
+#include "hand_engine.inc"
+
+static inline void durable(void) {
+    orderset_persist(set.image, stores.at, stores.value, flush);
+}
+
+#define ENGINE engine_hand
+#define ENGINE_NAME "by hand"
+#define ENGINE_HEADS 1
+#include "workload.inc"

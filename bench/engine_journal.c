@@ -1,0 +1,28 @@
+/* (b): a journal with two waits. As (a), but a record counts by a commit word that is written after the rest is durable: stores, flush, fence, then the
+ * commit word, flush, fence. */
+#include "bench.h"
+
+#define FILE_NAME "/dev/shm/orderset_bench_journal"
+#include "hand_engine.inc"
+
+static inline void fence(void) {
+    __asm__ volatile("sfence" ::: "memory");
+    ORDERSET_FENCED();
+}
+
+static inline void durable(void) {
+    uint64_t commit = stores.value[7];
+    stores.value[7] = 0;
+    uint64_t *a = orderset_store_line(set.image, stores.at[0], stores.value), *b = orderset_store_line(set.image, stores.at[8], stores.value + 8);
+    orderset_flush_line(a, flush);
+    orderset_flush_line(b, flush);
+    fence();
+    orderset_store(a + 7, commit);
+    orderset_flush_line(a, flush);
+    fence();
+}
+
+#define ENGINE engine_journal
+#define ENGINE_NAME "two waits"
+#define ENGINE_HEADS 1
+#include "workload.inc"

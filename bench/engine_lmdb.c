@@ -1,0 +1,68 @@
+/* LMDB: one write transaction for each put and remove, one renewed read transaction for each get; a writable map, which is its faster mode, synced by msync. */
+#include "bench.h"
+
+#include <lmdb.h>
+#include <string.h>
+#include <unistd.h>
+
+#define FILE_NAME "/dev/shm/orderset_bench_lmdb"
+#define MAP_BYTES ((size_t)128 << 20)
+
+static MDB_env *env;
+static MDB_dbi dbi;
+static MDB_txn *reader;
+
+static void remove_files(void) {
+    unlink(FILE_NAME);
+    unlink(FILE_NAME "-lock");
+}
+
+static int e_open(const struct config *c) {
+    MDB_txn *txn;
+    (void)c;
+    remove_files();
+    if (mdb_env_create(&env) || mdb_env_set_mapsize(env, MAP_BYTES) || mdb_env_open(env, FILE_NAME, MDB_NOSUBDIR | MDB_WRITEMAP, 0600))
+        return 1;
+    if (mdb_txn_begin(env, NULL, 0, &txn) || mdb_dbi_open(txn, NULL, MDB_INTEGERKEY, &dbi) || mdb_txn_commit(txn))
+        return 2;
+    if (mdb_txn_begin(env, NULL, MDB_RDONLY, &reader))
+        return 3;
+    mdb_txn_reset(reader);
+    return 0;
+}
+
+static void e_close(void) {
+    mdb_txn_abort(reader);
+    mdb_env_close(env);
+    remove_files();
+}
+
+static NOINLINE int e_put(uint64_t key, const uint8_t *bytes, size_t size) {
+    MDB_txn *txn;
+    MDB_val k = {sizeof key, &key}, v = {size, (void *)bytes};
+    return mdb_txn_begin(env, NULL, 0, &txn) || mdb_put(txn, dbi, &k, &v, 0) || mdb_txn_commit(txn);
+}
+
+static NOINLINE int e_remove(uint64_t key) {
+    MDB_txn *txn;
+    MDB_val k = {sizeof key, &key};
+    return mdb_txn_begin(env, NULL, 0, &txn) || mdb_del(txn, dbi, &k, NULL) || mdb_txn_commit(txn);
+}
+
+static NOINLINE int e_get(uint64_t key, uint8_t *out) {
+    MDB_val k = {sizeof key, &key}, v;
+    if (mdb_txn_renew(reader) || mdb_get(reader, dbi, &k, &v))
+        return -1;
+    memcpy(out, v.mv_data, v.mv_size);
+    mdb_txn_reset(reader);
+    return (int)v.mv_size;
+}
+
+static int e_recover(void) {
+    return 0;
+}
+
+#define ENGINE engine_lmdb
+#define ENGINE_NAME "LMDB"
+#define ENGINE_HEADS 0
+#include "workload.inc"

@@ -1,0 +1,69 @@
+/* SQLite: write-ahead log, synchronous FULL, one statement for each call, prepared once. */
+#include "bench.h"
+
+#include <sqlite3.h>
+#include <string.h>
+#include <unistd.h>
+
+#define FILE_NAME "/dev/shm/orderset_bench_sqlite"
+
+static sqlite3 *db;
+static sqlite3_stmt *putting, *getting, *removing;
+
+static void remove_files(void) {
+    unlink(FILE_NAME);
+    unlink(FILE_NAME "-wal");
+    unlink(FILE_NAME "-shm");
+}
+
+static int e_open(const struct config *c) {
+    static const char *const start = "pragma journal_mode=wal; pragma synchronous=full; pragma locking_mode=exclusive;"
+                                     "create table orders(key integer primary key, value blob)";
+    (void)c;
+    remove_files();
+    if (sqlite3_open(FILE_NAME, &db) || sqlite3_exec(db, start, NULL, NULL, NULL))
+        return 1;
+    return sqlite3_prepare_v2(db, "insert or replace into orders values(?, ?)", -1, &putting, NULL)
+           || sqlite3_prepare_v2(db, "select value from orders where key = ?", -1, &getting, NULL)
+           || sqlite3_prepare_v2(db, "delete from orders where key = ?", -1, &removing, NULL);
+}
+
+static void e_close(void) {
+    sqlite3_finalize(putting);
+    sqlite3_finalize(getting);
+    sqlite3_finalize(removing);
+    sqlite3_close(db);
+    remove_files();
+}
+
+static NOINLINE int e_put(uint64_t key, const uint8_t *bytes, size_t size) {
+    sqlite3_bind_int64(putting, 1, (sqlite3_int64)key);
+    sqlite3_bind_blob(putting, 2, bytes, (int)size, SQLITE_STATIC);
+    int bad = sqlite3_step(putting) != SQLITE_DONE;
+    return bad | sqlite3_reset(putting);
+}
+
+static NOINLINE int e_remove(uint64_t key) {
+    sqlite3_bind_int64(removing, 1, (sqlite3_int64)key);
+    int bad = sqlite3_step(removing) != SQLITE_DONE;
+    return bad | sqlite3_reset(removing);
+}
+
+static NOINLINE int e_get(uint64_t key, uint8_t *out) {
+    sqlite3_bind_int64(getting, 1, (sqlite3_int64)key);
+    if (sqlite3_step(getting) != SQLITE_ROW)
+        return -1;
+    int size = sqlite3_column_bytes(getting, 0);
+    memcpy(out, sqlite3_column_blob(getting, 0), (size_t)size);
+    sqlite3_reset(getting);
+    return size;
+}
+
+static int e_recover(void) {
+    return 0;
+}
+
+#define ENGINE engine_sqlite
+#define ENGINE_NAME "SQLite"
+#define ENGINE_HEADS 0
+#include "workload.inc"

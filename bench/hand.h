@@ -1,0 +1,37 @@
+/* hand.h: (a), the same method written by hand in C: document 01's layout, index, refusals and recovery, for the speed that a C programmer gets. */
+#ifndef HAND_H
+#define HAND_H
+
+#include <stddef.h>
+#include <stdint.h>
+
+struct hand_set {
+    uint64_t *image;
+    size_t length;
+    uint32_t *heads;
+    size_t heads_length;
+    uint32_t *next;
+    size_t next_length;
+    uint32_t first, last, live;
+    uint64_t version;
+};
+
+struct hand_stores {
+    uint32_t at[16];
+    uint64_t value[16];
+};
+
+enum { HAND_ABSENT = 100 };
+struct hand_answer {
+    uint32_t code; /* 0, HAND_ABSENT, or a refusal */
+    uint32_t slot; /* put and remove: the slot taken; get: the length */
+    uint64_t version;
+};
+
+uint32_t hand_format(uint64_t *image, size_t length);
+uint32_t hand_recover(struct hand_set *set);
+struct hand_answer hand_put(struct hand_set *set, uint64_t key, const uint8_t *bytes, size_t size, struct hand_stores *stores);
+struct hand_answer hand_remove(struct hand_set *set, uint64_t key, struct hand_stores *stores);
+struct hand_answer hand_get(const struct hand_set *set, uint64_t key, uint8_t *out, size_t room);
+
+#endif

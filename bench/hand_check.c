@@ -1,0 +1,89 @@
+/* The functions of orderset.h by (a), so that the differential test shows that (a) is the same method. */
+#include "hand_check.h"
+
+#include <string.h>
+
+#include "hand.h"
+#include "orderset.h"
+
+static struct hand_set lend(const uint8_t *image, size_t length, const uint32_t *heads, size_t heads_length, const uint32_t *next, size_t next_length) {
+    return (struct hand_set){(uint64_t *)image, length, (uint32_t *)heads, heads_length, (uint32_t *)next, next_length, 0, 0, 0, 0};
+}
+
+static void read_state(struct hand_set *s, const uint32_t *state, const uint64_t *version) {
+    s->first = state[ORDERSET_FIRST];
+    s->last = state[ORDERSET_LAST];
+    s->live = state[ORDERSET_LIVE];
+    s->version = version[0];
+}
+
+static void write_state(const struct hand_set *s, uint32_t *state, uint64_t *version) {
+    state[ORDERSET_FIRST] = s->first;
+    state[ORDERSET_LAST] = s->last;
+    state[ORDERSET_LIVE] = s->live;
+    version[0] = s->version;
+}
+
+static uint32_t answer_change(struct hand_answer a, const struct hand_stores *stores, uint32_t *at, uint64_t *value, uint64_t *answer) {
+    if (a.code && a.code != HAND_ABSENT)
+        return a.code;
+    answer[0] = a.code == 0;
+    answer[ORDERSET_SLOT] = a.slot;
+    answer[ORDERSET_VERSION] = a.version;
+    if (!a.code) {
+        memcpy(at, stores->at, sizeof stores->at);
+        memcpy(value, stores->value, sizeof stores->value);
+    }
+    return 0;
+}
+
+uint32_t orderset_format(uint8_t *image, size_t length, uint64_t answer[ORDERSET_ANSWER]) {
+    uint32_t code = hand_format((uint64_t *)image, length);
+    if (!code) {
+        answer[0] = ORDERSET_GIVEN;
+        answer[ORDERSET_SLOTS] = length / 128 - 1;
+    }
+    return code;
+}
+
+uint32_t orderset_recover(const uint8_t *image, size_t length, uint32_t *heads, size_t heads_length, uint32_t *next, size_t next_length,
+                          uint32_t state[ORDERSET_STATE], uint64_t version[1]) {
+    struct hand_set s = lend(image, length, heads, heads_length, next, next_length);
+    uint32_t code = hand_recover(&s);
+    if (!code)
+        write_state(&s, state, version);
+    return code;
+}
+
+uint32_t orderset_put(const uint8_t *image, size_t length, uint32_t *heads, size_t heads_length, uint32_t *next, size_t next_length,
+                      uint32_t state[ORDERSET_STATE], uint64_t version[1], uint64_t key, const uint8_t *bytes, size_t size, uint32_t at[ORDERSET_STORES],
+                      uint64_t value[ORDERSET_STORES], uint64_t answer[ORDERSET_CHANGE_ANSWER]) {
+    struct hand_set s = lend(image, length, heads, heads_length, next, next_length);
+    struct hand_stores stores;
+    read_state(&s, state, version);
+    struct hand_answer a = hand_put(&s, key, bytes, size, &stores);
+    write_state(&s, state, version);
+    return answer_change(a, &stores, at, value, answer);
+}
+
+uint32_t orderset_remove(const uint8_t *image, size_t length, uint32_t *heads, size_t heads_length, uint32_t *next, size_t next_length,
+                         uint32_t state[ORDERSET_STATE], uint64_t version[1], uint64_t key, uint32_t at[ORDERSET_STORES], uint64_t value[ORDERSET_STORES],
+                         uint64_t answer[ORDERSET_CHANGE_ANSWER]) {
+    struct hand_set s = lend(image, length, heads, heads_length, next, next_length);
+    struct hand_stores stores;
+    read_state(&s, state, version);
+    struct hand_answer a = hand_remove(&s, key, &stores);
+    write_state(&s, state, version);
+    return answer_change(a, &stores, at, value, answer);
+}
+
+uint32_t orderset_get(const uint8_t *image, size_t length, const uint32_t *heads, size_t heads_length, const uint32_t *next, size_t next_length, uint64_t key,
+                      uint8_t *out, size_t room, uint64_t answer[ORDERSET_ANSWER]) {
+    struct hand_set s = lend(image, length, heads, heads_length, next, next_length);
+    struct hand_answer a = hand_get(&s, key, out, room);
+    if (a.code && a.code != HAND_ABSENT)
+        return a.code;
+    answer[0] = a.code == 0;
+    answer[ORDERSET_LENGTH] = a.slot;
+    return 0;
+}

@@ -1,0 +1,6 @@
+/* Puts (a) under the names that the differential test calls. */
+#define orderset_format hand_as_format
+#define orderset_recover hand_as_recover
+#define orderset_put hand_as_put
+#define orderset_remove hand_as_remove
+#define orderset_get hand_as_get

@@ -1,0 +1,22 @@
+// Format.
+ghost use mathlib.Core.Path.{_≡_};
+ghost use Prim.Native.Nat.{ℕ};
+ghost use Rattle.orderset.specs.Format.{formatResult};
+ghost use Rattle.orderset_c.specs.Call.{formatLeft, formatCall};
+use orderset::Formatted;
+use orderset::format::format;
+
+// The bytes become an empty image; the answer is the number of its slots.
+#[no_mangle]
+pub extern "C" fn orderset_format(image: &mut [u8], answer: &mut [u64; 2]) -> u32
+    ensures { λ r. ⌜ formatLeft r (now (answer .exit)) (now (image .exit)) ≡ formatCall (formatResult 1 (now (image .entry))) (now (answer .entry)) ⌝ }
+{
+    let formatted = format(image);
+    match formatted {
+        Formatted::Refused(number) => number,
+        Formatted::Slots(n) => {
+            *answer = [1, n as u64];
+            0
+        }
+    }
+}

@@ -1,0 +1,9 @@
+// The calls for a program in C, C++ or Rust. Each returns 0 or the number of its refusal; what it answers goes into lent numbers.
+mod answer;
+pub mod format;
+pub mod get;
+pub mod play;
+pub mod put;
+pub mod recover;
+pub mod remove;
+mod state;

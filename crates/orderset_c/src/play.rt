@@ -1,0 +1,35 @@
+// Play, with two counts and of a list.
+ghost use mathlib.Core.Path.{_≡_};
+ghost use Prim.Native.Nat.{ℕ};
+ghost use Rattle.stores.specs.Play.{playEnd, playResult, playListResult};
+use orderset::play::play;
+use orderset::play::play_list;
+use stores::Stores;
+
+// The first a stores of the first half and the first b of the second are made.
+#[no_mangle]
+pub extern "C" fn orderset_play(
+    image: &mut [u8],
+    at: &[u32; 16],
+    value: &[u64; 16],
+    a: usize,
+    b: usize,
+) -> u32
+    ensures { λ r. ⌜ playEnd r (now (image .exit)) ≡ playResult (now (image .entry)) (now (at .entry)) (now (value .entry)) a b ⌝ }
+{
+    let places = *at;
+    let words = *value;
+    let stores = Stores {
+        at: places,
+        value: words,
+    };
+    play(image, stores, a, b)
+}
+
+// All stores of a list are made, in order.
+#[no_mangle]
+pub extern "C" fn orderset_play_list(image: &mut [u8], at: &[u32], value: &[u64]) -> u32
+    ensures { λ r. ⌜ playEnd r (now (image .exit)) ≡ playListResult (now (image .entry)) (now (at .entry)) (now (value .entry)) ⌝ }
+{
+    play_list(image, at, value)
+}

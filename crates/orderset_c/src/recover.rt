@@ -1,0 +1,30 @@
+// Recover.
+ghost use mathlib.Core.Path.{_≡_};
+ghost use Prim.Native.Nat.{ℕ};
+ghost use Rattle.recovery.specs.Recover.{recoverResult};
+ghost use Rattle.orderset_c.specs.State.{stateFrom};
+ghost use Rattle.orderset_c.specs.Call.{recoverLeft, recoverCall};
+use crate::state::keep_state;
+use recovery::Recovered;
+use recovery::recover::recover;
+
+// The index of the image is rebuilt; the answer is the state beside it.
+#[no_mangle]
+pub extern "C" fn orderset_recover(
+    image: &[u8],
+    heads: &mut [u32],
+    next: &mut [u32],
+    state: &mut [u32; 3],
+    version: &mut [u64; 1],
+) -> u32
+    ensures { λ r. ⌜ recoverLeft r (stateFrom (now (state .exit)) (now (version .exit))) (now (heads .exit)) (now (next .exit)) ≡ recoverCall (recoverResult 1 (now (image .entry)) (now (heads .entry)) (now (next .entry))) (stateFrom (now (state .entry)) (now (version .entry))) ⌝ }
+{
+    let recovered = recover(image, heads, next);
+    match recovered {
+        Recovered::Refused(number) => number,
+        Recovered::Index(after) => {
+            keep_state(after, state, version);
+            0
+        }
+    }
+}

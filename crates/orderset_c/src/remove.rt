@@ -1,0 +1,30 @@
+// Remove.
+ghost use mathlib.Core.Path.{_≡_};
+ghost use Prim.Native.Nat.{ℕ};
+ghost use Rattle.stores.specs.Store.{zipped};
+ghost use Rattle.orderset.specs.Change.{removeResult};
+ghost use Rattle.orderset_c.specs.State.{stateFrom};
+ghost use Rattle.orderset_c.specs.Call.{changeLeft, changeCall};
+use crate::answer::hand_out;
+use crate::state::state_from;
+use orderset::remove::remove;
+
+// The key is dropped; the answer is the slot taken and the version, or absent, and the stores are to be made by the caller.
+#[no_mangle]
+pub extern "C" fn orderset_remove(
+    image: &[u8],
+    heads: &mut [u32],
+    next: &mut [u32],
+    state: &mut [u32; 3],
+    version: &mut [u64; 1],
+    key: u64,
+    at: &mut [u32; 16],
+    value: &mut [u64; 16],
+    answer: &mut [u64; 3],
+) -> u32
+    ensures { λ r. ⌜ changeLeft r (now (answer .exit)) (stateFrom (now (state .exit)) (now (version .exit))) (zipped (now (at .exit)) (now (value .exit))) (now (heads .exit)) (now (next .exit)) ≡ changeCall (removeResult 1 (now (image .entry)) (now (heads .entry)) (now (next .entry)) (stateFrom (now (state .entry)) (now (version .entry))) key) (now (answer .entry)) (zipped (now (at .entry)) (now (value .entry))) ⌝ }
+{
+    let before = state_from(state, version);
+    let change = remove(image, heads, next, before, key);
+    hand_out(change, state, version, at, value, answer)
+}

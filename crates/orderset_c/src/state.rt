@@ -1,0 +1,25 @@
+// The state as lent numbers: first, last and live count of 32 bits, and the next version of 64.
+ghost use mathlib.Core.Path.{_≡_};
+ghost use Prim.Native.Nat.{ℕ};
+ghost use Rattle.orderset_c.specs.State.{stateFrom};
+use index::State;
+
+// The state in the lent numbers.
+pub fn state_from(state: &[u32; 3], version: &[u64; 1]) -> State
+    ensures { λ r. ⌜ r ≡ stateFrom (now (state .entry)) (now (version .entry)) ⌝ }
+{
+    State {
+        first: state[0],
+        last: state[1],
+        live: state[2],
+        version: version[0],
+    }
+}
+
+// The lent numbers become those of the state.
+pub fn keep_state(after: State, state: &mut [u32; 3], version: &mut [u64; 1])
+    ensures { λ _. ⌜ stateFrom (now (state .exit)) (now (version .exit)) ≡ after ⌝ }
+{
+    *state = [after.first, after.last, after.live];
+    *version = [after.version];
+}

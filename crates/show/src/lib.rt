@@ -1,0 +1,147 @@
+// Printing to standard output: labels, numbers and lists of them, and the answers of the calls.
+use index::State;
+use libc::STDOUT_FILENO;
+use orderset::Change;
+use orderset::Formatted;
+use orderset::Got;
+use orderset::Outcome;
+use recovery::Recovered;
+use stores::Stores;
+
+pub fn text(label: &[u8]) {
+    io::write_all(STDOUT_FILENO, label);
+}
+
+pub fn number(n: u64) {
+    text(b" ");
+    io::print_decimal(STDOUT_FILENO, n);
+}
+
+fn wide(n: u32) -> u64 {
+    n as u64
+}
+
+fn numbers(list: &[u32]) {
+    let mut i = 0;
+    while i < list.len() {
+        number(wide(list[i]));
+        i += 1;
+    }
+}
+
+fn values(list: &[u64]) {
+    let mut i = 0;
+    while i < list.len() {
+        number(list[i]);
+        i += 1;
+    }
+}
+
+fn byte(n: u8) -> u64 {
+    n as u64
+}
+
+// The bytes of a list from place `from` on, at most four of them.
+pub fn bytes(list: &[u8], from: usize) {
+    let mut i = 0;
+    while i < list.len() {
+        if from <= i {
+            if i - from < 4 {
+                number(byte(list[i]));
+            }
+        }
+        i += 1;
+    }
+}
+
+fn refused(k: u32) {
+    text(b" no");
+    number(k as u64);
+}
+
+// Format's answer.
+pub fn formatted(r: Formatted) {
+    match r {
+        Formatted::Slots(n) => {
+            text(b" ok");
+            number(n as u64);
+        }
+        Formatted::Refused(k) => refused(k),
+    }
+}
+
+pub fn state(s: State) {
+    text(b" state");
+    number(s.first as u64);
+    number(s.last as u64);
+    number(s.live as u64);
+    number(s.version);
+}
+
+// Recovery's answer.
+pub fn recovered(r: Recovered) {
+    match r {
+        Recovered::Index(s) => state(s),
+        Recovered::Refused(k) => refused(k),
+    }
+}
+
+// The answer of a put or a remove.
+pub fn outcome(r: Outcome) {
+    match r {
+        Outcome::Stored { slot, version } => {
+            text(b" ok");
+            number(slot as u64);
+            number(version);
+        }
+        Outcome::Absent => text(b" absent"),
+        Outcome::Refused(k) => refused(k),
+    }
+}
+
+fn words_of(stores: Stores) {
+    let at = stores.at;
+    numbers(&at);
+}
+
+fn values_of(stores: Stores) {
+    let value = stores.value;
+    values(&value);
+}
+
+// The answer, the state and the stores that a put or a remove handed out.
+pub fn change(r: Change) {
+    let answer = r.outcome;
+    outcome(answer);
+    let after = r.state;
+    text(b"\n ");
+    state(after);
+    let stores = r.stores;
+    text(b"\n  words");
+    words_of(stores);
+    text(b"\n  values");
+    values_of(stores);
+    text(b"\n");
+}
+
+// The index.
+pub fn index(heads: &[u32], next: &[u32]) {
+    text(b" heads");
+    numbers(heads);
+    text(b" next");
+    numbers(next);
+    text(b"\n");
+}
+
+// The answer of a get.
+pub fn got(r: Got) {
+    match r {
+        Got::Length(n) => {
+            text(b" length");
+            number(n as u64);
+        }
+        Got::Absent => text(b" absent"),
+        Got::Refused(k) => refused(k),
+    }
+    text(b"\n");
+}

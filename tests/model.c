@@ -1,0 +1,404 @@
+/* The order set of document 01 as a plain program. The quotations are its sentences. */
+#include "model.h"
+
+#include <stdlib.h>
+#include <string.h>
+
+/* ---- "Lines, slots and words" */
+
+/* "A word is 8 bytes, low byte first" */
+uint64_t m_word(const uint8_t *image, size_t i) {
+    uint64_t w = 0;
+    for (int k = 7; k >= 0; k--)
+        w = w << 8 | image[8 * i + (size_t)k];
+    return w;
+}
+
+void m_set_word(uint8_t *image, size_t i, uint64_t value) {
+    for (size_t k = 0; k < 8; k++, value >>= 8)
+        image[8 * i + k] = (uint8_t)value;
+}
+
+/* "its length is 128 × (N + 1); N is 2 to 65,535" */
+uint32_t m_slots(size_t length) {
+    size_t parts = length / 128;
+    return length % 128 == 0 && parts >= 3 && parts <= 65536 ? (uint32_t)parts - 1 : 0;
+}
+
+enum kind { BROKEN, EMPTY, PUT, REMOVE, ILL }; /* ILL: valid, with another kind */
+
+/* What a reader of the image sees in one slot. */
+struct slot {
+    enum kind kind;
+    int bad_mark;
+    int bad_record;
+    uint64_t key, version, highest; /* highest: the highest version on a whole line of it, 0 if none is whole */
+};
+
+static uint8_t value_byte(const uint8_t *slot, size_t i) {
+    return i < 32 ? slot[24 + i] : slot[72 + (i - 32)];
+}
+
+/* "6 when a valid slot has another kind, bits above the length byte, a length over 80, a nonzero byte past the length, or a remove with a length" */
+static int record_is_bad(const uint8_t *slot) {
+    uint64_t word = m_word(slot, 2);
+    unsigned kind = word & 0xff;
+    size_t size = word >> 8 & 0xff;
+    if (kind != 1 && kind != 2)
+        return 1;
+    if (word >> 16 || size > 80)
+        return 1;
+    for (size_t i = size; i < 80; i++)
+        if (value_byte(slot, i))
+            return 1;
+    return kind == 2 && size > 0;
+}
+
+/* "A line is whole when its mark equals its close bit", "A slot is valid when both lines are whole and carry the same version, at least 1" */
+static struct slot look(const uint8_t *image, uint32_t s) {
+    const uint8_t *slot = image + 128 * (size_t)s;
+    struct slot seen = {.kind = BROKEN, .key = m_word(slot, 1)};
+    uint64_t version[2];
+    int whole[2];
+    for (size_t line = 0; line < 2; line++) {
+        uint64_t mark = m_word(slot, 8 * line), stamp = m_word(slot, 8 * line + 7);
+        version[line] = stamp >> 1;
+        whole[line] = mark == (stamp & 1);
+        if (mark != 0 && mark != 1)
+            seen.bad_mark = 1;
+        if (whole[line] && version[line] > seen.highest)
+            seen.highest = version[line];
+    }
+    if (!whole[0] || !whole[1] || version[0] != version[1])
+        return seen;
+    seen.version = version[0];
+    if (seen.version == 0) {
+        seen.kind = EMPTY;
+        return seen;
+    }
+    unsigned kind = m_word(slot, 2) & 0xff;
+    seen.kind = kind == 1 ? PUT : kind == 2 ? REMOVE : ILL;
+    seen.bad_record = record_is_bad(slot);
+    return seen;
+}
+
+/* ---- the refusals 1, 2, 3, 4 */
+
+static int refuse_lent(const uint8_t *image, size_t length, size_t heads, size_t next) {
+    uint64_t n = m_slots(length);
+    if (n == 0)
+        return 1;
+    if (m_word(image, 0) == 0)
+        return 2;
+    uint64_t header[8] = {n, 1};
+    for (size_t i = 0; i < 8; i++)
+        if (m_word(image, i) != header[i])
+            return 3;
+    return heads < 1 || heads > 65536 || next != n + 1 ? 4 : 0;
+}
+
+int m_format(uint8_t *image, size_t length) {
+    if (m_slots(length) == 0)
+        return 1;
+    for (size_t i = 0; i < length; i++)
+        image[i] = 0;
+    m_set_word(image, 0, m_slots(length));
+    m_set_word(image, 1, 1);
+    return 0;
+}
+
+/* ---- recovery */
+
+struct entry {
+    uint64_t key, version;
+    uint32_t slot;
+};
+
+static int by_version(const void *x, const void *y) {
+    const struct entry *a = x, *b = y;
+    return (a->version > b->version) - (a->version < b->version);
+}
+
+static int by_key(const void *x, const void *y) {
+    const struct entry *a = x, *b = y;
+    return a->key != b->key ? (a->key > b->key) - (a->key < b->key) : by_version(x, y);
+}
+
+/* The chains as they grow: each slot is put at the end of its own. */
+struct chain {
+    uint32_t first, last;
+};
+
+static void join(struct chain *chain, uint32_t *next, uint32_t slot) {
+    next[slot] = 0;
+    if (chain->first)
+        next[chain->last] = slot;
+    else
+        chain->first = slot;
+    chain->last = slot;
+}
+
+/* "For each key the valid slot with the greatest version decides .. Such a deciding put is live": marks the live slots and counts them. */
+static uint32_t mark_live(const struct slot *slot, const struct entry *valid, uint32_t count, uint8_t *live) {
+    struct entry *sorted = malloc((count + 1) * sizeof *sorted);
+    uint32_t found = 0;
+    memcpy(sorted, valid, count * sizeof *sorted);
+    qsort(sorted, count, sizeof *sorted, by_key);
+    for (uint32_t i = 0; i < count; i++)
+        if ((i + 1 == count || sorted[i + 1].key != sorted[i].key) && slot[sorted[i].slot].kind == PUT) {
+            live[sorted[i].slot] = 1;
+            found++;
+        }
+    free(sorted);
+    return found;
+}
+
+/* "Recovery orders each head's chain by rising version. It orders the reuse chain: broken slots, then empty slots, each by slot number, then the rest by
+ * rising version" */
+static void build(const struct slot *slot, uint32_t n, const struct entry *valid, uint32_t count, const uint8_t *live, struct m_index *index) {
+    struct chain *chain = calloc(index->heads_length, sizeof *chain), reuse = {0, 0};
+    index->next[0] = 0;
+    for (uint32_t s = 1; s <= n; s++)
+        if (slot[s].kind == BROKEN)
+            join(&reuse, index->next, s);
+    for (uint32_t s = 1; s <= n; s++)
+        if (slot[s].kind == EMPTY)
+            join(&reuse, index->next, s);
+    for (uint32_t i = 0; i < count; i++)
+        join(live[valid[i].slot] ? &chain[valid[i].key % index->heads_length] : &reuse, index->next, valid[i].slot);
+    for (size_t h = 0; h < index->heads_length; h++)
+        index->heads[h] = chain[h].first;
+    index->state.first = reuse.first;
+    index->state.last = reuse.last;
+    free(chain);
+}
+
+static int recover_slots(const struct slot *slot, uint32_t n, struct entry *valid, uint8_t *live, struct m_index *index) {
+    uint32_t count = 0;
+    uint64_t highest = 0;
+    for (uint32_t s = 1; s <= n; s++)
+        if (slot[s].bad_mark)
+            return 5;
+    for (uint32_t s = 1; s <= n; s++) {
+        if (slot[s].bad_record)
+            return 6;
+        if (slot[s].highest > highest)
+            highest = slot[s].highest;
+        if (slot[s].kind == PUT || slot[s].kind == REMOVE)
+            valid[count++] = (struct entry){slot[s].key, slot[s].version, s};
+    }
+    qsort(valid, count, sizeof *valid, by_version);
+    for (uint32_t i = 1; i < count; i++)
+        if (valid[i].version == valid[i - 1].version)
+            return 7;
+    uint32_t found = mark_live(slot, valid, count, live);
+    if (found == n)
+        return 8;
+    build(slot, n, valid, count, live, index);
+    index->state.live = found;
+    index->state.version = highest + 1;
+    return 0;
+}
+
+int m_recover(const uint8_t *image, size_t length, struct m_index *index) {
+    int refusal = refuse_lent(image, length, index->heads_length, index->next_length);
+    if (refusal)
+        return refusal;
+    uint32_t n = m_slots(length);
+    struct slot *slot = calloc(n + 1, sizeof *slot);
+    struct entry *valid = calloc(n + 1, sizeof *valid);
+    uint8_t *live = calloc(n + 1, 1);
+    for (uint32_t s = 1; s <= n; s++)
+        slot[s] = look(image, s);
+    refusal = recover_slots(slot, n, valid, live, index);
+    free(slot);
+    free(valid);
+    free(live);
+    return refusal;
+}
+
+/* ---- the key's chain */
+
+/* "following the key's chain up to the first slot with that key or the end, a link above N is met or N slots pass without the key" */
+struct walk {
+    int refusal;
+    uint32_t slot, before; /* slot 0: not held, and before is the chain's last slot. before 0: the head */
+};
+
+static struct walk follow(const uint8_t *image, uint32_t n, const struct m_index *index, uint64_t key) {
+    uint32_t before = 0, passed = 0, at = index->heads[key % index->heads_length];
+    while (at != 0) {
+        if (at > n)
+            return (struct walk){.refusal = 11};
+        if (m_word(image, 16 * (size_t)at + 1) == key)
+            return (struct walk){.slot = at, .before = before};
+        if (++passed == n)
+            return (struct walk){.refusal = 11};
+        before = at;
+        at = index->next[at];
+    }
+    return (struct walk){.before = before};
+}
+
+/* "11 when the reuse chain's first or last slot is zero or above N, or the first's next is above N" */
+static int reuse_is_bad(const struct m_index *index, uint32_t n) {
+    uint32_t first = index->state.first, last = index->state.last;
+    return first == 0 || first > n || last == 0 || last > n || index->next[first] > n;
+}
+
+/* ---- "The index is written in this order" */
+
+static uint32_t take(struct m_index *index) {
+    uint32_t slot = index->state.first;
+    index->state.first = index->next[slot];
+    if (index->state.first == 0)
+        index->state.last = 0;
+    return slot;
+}
+
+static void append(struct m_index *index, uint32_t slot) {
+    index->next[slot] = 0;
+    if (index->state.last)
+        index->next[index->state.last] = slot;
+    else
+        index->state.first = slot;
+    index->state.last = slot;
+}
+
+static void link_after(struct m_index *index, uint64_t key, uint32_t before, uint32_t slot) {
+    if (before)
+        index->next[before] = slot;
+    else
+        index->heads[key % index->heads_length] = slot;
+}
+
+/* ---- "How a call writes" */
+
+/* "Let c be the close bit now in that line. The first store makes the mark 1 − c; the last makes the stamp version × 2 + (1 − c)" */
+static void write_record(const uint8_t *image, struct m_change *c, uint64_t key, unsigned kind, const uint8_t *bytes, size_t size) {
+    uint8_t padded[80] = {0};
+    memcpy(padded, bytes, size);
+    for (uint32_t i = 0; i < 16; i++) {
+        uint64_t open = 1 - (m_word(image, 16 * (size_t)c->slot + (i < 8 ? 7 : 15)) & 1), v;
+        if (i % 8 == 0)
+            v = open;
+        else if (i % 8 == 7)
+            v = c->version * 2 + open;
+        else if (i == 1)
+            v = key;
+        else if (i == 2)
+            v = kind + 256 * (uint64_t)size;
+        else
+            v = m_word(padded, i < 8 ? i - 3 : i - 5);
+        c->store[i] = (struct m_store){16 * c->slot + i, v};
+    }
+}
+
+static struct m_change refuse(int number) {
+    return (struct m_change){.refusal = number};
+}
+
+struct m_change m_put(const uint8_t *image, size_t length, struct m_index *index, uint64_t key, const uint8_t *bytes, size_t size) {
+    int refusal = refuse_lent(image, length, index->heads_length, index->next_length);
+    if (refusal)
+        return refuse(refusal);
+    if (size > 80)
+        return refuse(10);
+    uint32_t n = m_slots(length);
+    struct walk walk = follow(image, n, index, key);
+    if (walk.refusal)
+        return refuse(11);
+    if (!walk.slot && (uint64_t)index->state.live + 1 >= n)
+        return refuse(12);
+    if (index->state.version >> 63)
+        return refuse(9);
+    if (reuse_is_bad(index, n))
+        return refuse(11);
+    struct m_change c = {.version = index->state.version};
+    c.slot = take(index);
+    write_record(image, &c, key, 1, bytes, size);
+    index->next[c.slot] = walk.slot ? index->next[walk.slot] : 0;
+    link_after(index, key, walk.before, c.slot);
+    if (walk.slot)
+        append(index, walk.slot);
+    else
+        index->state.live++;
+    index->state.version++;
+    return c;
+}
+
+struct m_change m_remove(const uint8_t *image, size_t length, struct m_index *index, uint64_t key) {
+    int refusal = refuse_lent(image, length, index->heads_length, index->next_length);
+    if (refusal)
+        return refuse(refusal);
+    uint32_t n = m_slots(length);
+    struct walk walk = follow(image, n, index, key);
+    if (walk.refusal)
+        return refuse(11);
+    if (!walk.slot)
+        return (struct m_change){.absent = 1};
+    if (index->state.version >> 63)
+        return refuse(9);
+    if (reuse_is_bad(index, n) || index->state.live == 0)
+        return refuse(11);
+    struct m_change c = {.version = index->state.version};
+    c.slot = take(index);
+    write_record(image, &c, key, 2, (const uint8_t *)"", 0);
+    link_after(index, key, walk.before, index->next[walk.slot]);
+    append(index, walk.slot);
+    append(index, c.slot);
+    index->state.live--;
+    index->state.version++;
+    return c;
+}
+
+struct m_got m_get(const uint8_t *image, size_t length, const struct m_index *index, uint64_t key, uint8_t *out, size_t room) {
+    int refusal = refuse_lent(image, length, index->heads_length, index->next_length);
+    if (refusal)
+        return (struct m_got){.refusal = refusal};
+    struct walk walk = follow(image, m_slots(length), index, key);
+    if (walk.refusal)
+        return (struct m_got){.refusal = 11};
+    if (!walk.slot)
+        return (struct m_got){.absent = 1};
+    const uint8_t *slot = image + 128 * (size_t)walk.slot;
+    size_t size = slot[17];
+    if (size > 80)
+        return (struct m_got){.refusal = 6};
+    if (room < size)
+        return (struct m_got){.refusal = 13};
+    for (size_t i = 0; i < size; i++)
+        out[i] = value_byte(slot, i);
+    return (struct m_got){.length = size};
+}
+
+/* ---- play */
+
+/* "15 when either half is not words 0 to 7 of one line inside the image, in order, or both halves name one line" */
+int m_play(uint8_t *image, size_t length, const uint32_t at[16], const uint64_t value[16], size_t a, size_t b) {
+    if (m_slots(length) == 0)
+        return 1;
+    if (a > 8 || b > 8)
+        return 14;
+    for (size_t i = 0; i < 16; i++)
+        if (at[i] % 8 != i % 8 || at[i] / 8 != at[i / 8 * 8] / 8 || at[i] / 8 >= length / 64)
+            return 15;
+    if (at[0] / 8 == at[8] / 8)
+        return 15;
+    for (size_t i = 0; i < 16; i++)
+        if (i < 8 ? i < a : i - 8 < b)
+            m_set_word(image, at[i], value[i]);
+    return 0;
+}
+
+/* "it tests only 15, here a word outside the lent bytes, and then makes them all in order" */
+int m_play_list(uint8_t *bytes, size_t length, const uint32_t *at, size_t places, const uint64_t *value, size_t values) {
+    if (places != values)
+        return 15;
+    for (size_t i = 0; i < places; i++)
+        if (8 * (uint64_t)at[i] + 8 > length)
+            return 15;
+    for (size_t i = 0; i < places; i++)
+        m_set_word(bytes, at[i], value[i]);
+    return 0;
+}

@@ -1,0 +1,53 @@
+/* model.h: the order set of document 01, written from its sentences for the tests. Plain and slow, and nothing of the archive is used in it. */
+#ifndef MODEL_H
+#define MODEL_H
+
+#include <stddef.h>
+#include <stdint.h>
+
+struct m_state {
+    uint32_t first, last, live;
+    uint64_t version;
+};
+
+struct m_index {
+    uint32_t *heads;
+    size_t heads_length;
+    uint32_t *next;
+    size_t next_length;
+    struct m_state state;
+};
+
+struct m_store {
+    uint32_t at;
+    uint64_t value;
+};
+
+/* What put and remove answer: a refusal, or absent, or slot, version and stores. */
+struct m_change {
+    int refusal;
+    int absent;
+    uint32_t slot;
+    uint64_t version;
+    struct m_store store[16];
+};
+
+struct m_got {
+    int refusal;
+    int absent;
+    size_t length;
+};
+
+uint32_t m_slots(size_t length); /* N, or 0 where no image has that length */
+int m_format(uint8_t *image, size_t length);
+int m_recover(const uint8_t *image, size_t length, struct m_index *index);
+struct m_change m_put(const uint8_t *image, size_t length, struct m_index *index, uint64_t key, const uint8_t *bytes, size_t size);
+struct m_change m_remove(const uint8_t *image, size_t length, struct m_index *index, uint64_t key);
+struct m_got m_get(const uint8_t *image, size_t length, const struct m_index *index, uint64_t key, uint8_t *out, size_t room);
+int m_play(uint8_t *image, size_t length, const uint32_t at[16], const uint64_t value[16], size_t a, size_t b);
+int m_play_list(uint8_t *bytes, size_t length, const uint32_t *at, size_t places, const uint64_t *value, size_t values);
+
+uint64_t m_word(const uint8_t *image, size_t i);
+void m_set_word(uint8_t *image, size_t i, uint64_t value);
+
+#endif
