@@ -9,8 +9,8 @@ use Rattle.layout.proofs.Refusals.{orElse-zero}
 use Rattle.recovery.specs.Recover.{Result, recoverFault, recovered, recoverResult}
 use Rattle.recovery.proofs.Lent.{recovery-taken, same-recovery}
 use Rattle.table.proofs.Keys.{live-keys}
-use Rattle.plainmap.specs.World.{World, tableOf, slotsIn, Call, called, finished, worldAfter, recoveredWorld}
-use Rattle.plainmap.specs.Plain.{PlainMap, refusalIn, isRefusal}
+use Rattle.plainmap.specs.World.{World, tableOf, slotsIn, Call, finished, worldAfter, recoveredWorld}
+use Rattle.plainmap.specs.Plain.{PlainMap, refusalIn}
 use Rattle.plainmap.specs.Sound.{Accepted, RightSize}
 use Rattle.plainmap.specs.Claims.{Layout, Sized, slotsMap, Agrees, Reads}
 use Rattle.plainmap.proofs.Accepted.{accepted-recovers, recovers-accepted}
@@ -59,7 +59,7 @@ module _ (l : ℕ) (lay : Layout l) (w : World) (m : PlainMap) (g : Agrees l w m
   unfolding cutImage plainEvent allStand
   struck-map call cut s c k =
       after call (cut .a) (cut .b) s (c .few-a) (c .few-b) .map k
-      ∙ ap (λ (x : PlainMap). (plainEvent (struck call cut) (isRefusal (called l w call .answer)) x) k) (fun-ext (g .slots))
+      ∙ ap (λ (x : PlainMap). plainAfter l w x (struck call cut) k) (fun-ext (g .slots))
 
   -- ONE EVENT keeps the set and the plain map together
   pub event-agrees : (event : Event) → Fits l (slotsIn (w .image)) event → Agrees l (step l w event) (plainAfter l w m event)

@@ -8,7 +8,7 @@ use lib.Dec.{eqb}
 use lib.ListN.{length}
 use Rattle.layout.specs.Header.{indexFault}
 use Rattle.plainmap.specs.World.{World, Call, called, playing, finished, recoveredWorld}
-use Rattle.plainmap.specs.Plain.{PlainMap, operation, plainStep, isRefusal}
+use Rattle.plainmap.specs.Plain.{PlainMap, Operation, operation, plainStep, isRefusal}
 use Rattle.plainmap.specs.Claims.{Sized}
 
 -- a cut: a stores of the call's line A stand and b of its line B; heads and next are lent to the recovery after it
@@ -45,12 +45,13 @@ allStand (done call) = true
 allStand (struck call cut) = eqb (cut .a) 8 && eqb (cut .b) 8
 
 -- "A struck put or remove that was not refused takes its step, wholly done, if all its stores stand; else it is wholly absent and changes nothing"
-unfoldable pub plainEvent : Event → (isRefused : Bool) → PlainMap → PlainMap
-plainEvent event isRefused m = cond (allStand event) (plainStep (operation (callOf event)) isRefused m) m
+unfoldable pub plainEvent : (stand : Bool) → Operation → (isRefused : Bool) → PlainMap → PlainMap
+plainEvent stand op isRefused m = cond stand (plainStep op isRefused m) m
 
--- the plain map after an event in world w, which tells it whether the rules refuse the call
+-- the plain map after an event in world w: it is told whether all stores stand, the operation, and whether the rules refuse the call
 abbrev pub plainAfter : (l : ℕ) → World → PlainMap → Event → PlainMap
-plainAfter l w m event = plainEvent event (isRefusal (called l w (callOf event) .answer)) m
+plainAfter l w m event =
+    plainEvent (allStand event) (operation (callOf event)) (isRefusal (called l w (callOf event) .answer)) m
 
 -- ---- what an event may be, in an image of n slots
 

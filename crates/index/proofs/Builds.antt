@@ -1,6 +1,6 @@
 -- Pushing the slots of a list from its end makes a good index whose chains are filters of the list. Assumes nothing.
 use mathlib.Core.Path.{_≡_, refl, sym, ap, _∙_, fun-ext}
-use mathlib.Core.Bool.{Bool, true, false, not, cond}
+use mathlib.Core.Bool.{true, false, cond}
 use mathlib.Core.Logic.{inl, inr}
 use mathlib.Core.List.{List, [], _∷_}
 use Prim.Native.Nat.{ℕ, _<_}
@@ -13,7 +13,7 @@ use Rattle.index.specs.Index.{Chain, reuse, head, Index, start, ahead, s
 use Rattle.index.specs.Change.{linkNew}
 use Rattle.index.specs.Build.{push, build}
 use Rattle.sorting.specs.Members.{In, Once}
-use Rattle.index.specs.Linked.{endOf, Owner, free, of, same, give, withChain, Slot, Woven, Good, Room, ownerOf, chainsOf, placeOf, Full}
+use Rattle.index.specs.Linked.{endOf, Owner, free, of, same, give, withChain, Slot, Woven, Good, Room, ownerOf, chainsOf, Full}
 use Rattle.index.proofs.Runs.{end-in}
 use Rattle.index.proofs.Owners.{Told, is, isnt, told, Which, that, other, which, free-of, reuse-apart, give-same, give-other, with-same, with-other}
 use Rattle.index.proofs.Links.{set-here, set-else, set-heads, set-last, set-size, link-last, slot-size, room-size}
@@ -147,21 +147,3 @@ good-build place i (s ∷ l) g a h m =
 -- every slot stands in a chain, where the list has them all
 pub full-build : (place : ℕ → Chain) (i : Index) (l : List ℕ) → ((x : ℕ) → Slot i x → In x l) → Full (build place i l) (ownerOf place l)
 full-build place i l h x t = (place x, owner-in place l x (h x (slot-size (build place i l) i x (sym (build-next place i l)) t)))
-
--- with the live slots in their heads' chains and the others in reuse, the chains are filters of the list
-pub build-reuse : (live : ℕ → Bool) (hd : ℕ → ℕ) (l : List ℕ) → chainsOf (placeOf live hd) l reuse ≡ keep (λ s. not (live s)) l
-unfolding chainsOf placeOf
-build-reuse live hd l = ap (λ (p : ℕ → Bool). keep p l) (fun-ext (λ s. go (hd s) (live s)))
-  where
-    go : (h : ℕ) (b : Bool) → same reuse (cond b (head h) reuse) ≡ not b
-    go h true = refl
-    go h false = refl
-
-pub build-head : (live : ℕ → Bool) (hd : ℕ → ℕ) (l : List ℕ) (h : ℕ)
-    → chainsOf (placeOf live hd) l (head h) ≡ keep (λ s. cond (live s) (eqb h (hd s)) false) l
-unfolding chainsOf placeOf
-build-head live hd l h = ap (λ (p : ℕ → Bool). keep p l) (fun-ext (λ s. go (hd s) (live s)))
-  where
-    go : (k : ℕ) (b : Bool) → same (head h) (cond b (head k) reuse) ≡ cond b (eqb h k) false
-    go k true = refl
-    go k false = refl

@@ -20,11 +20,11 @@ run-once f a [] p r = tt
 run-once f a (x ∷ xs) p r = (self f x xs (λ y m. p y (inr m)) (r .1), run-once f (f x) xs (λ y m. p y (inr m)) (r .1))
 
 -- l without its first s
-abbrev pub without : ℕ → List ℕ → List ℕ
+abbrev without : ℕ → List ℕ → List ℕ
 without s [] = []
 without s (x ∷ l) = cond (eqb x s) l (x ∷ without s l)
 
-pub without-length : (s : ℕ) (l : List ℕ) → length l ≤ length (without s l) + 1
+without-length : (s : ℕ) (l : List ℕ) → length l ≤ length (without s l) + 1
 without-length s [] = omega arith
 without-length s (x ∷ l) = go (told x s) (without-length s l)
   where
@@ -32,7 +32,7 @@ without-length s (x ∷ l) = go (told x s) (without-length s l)
     go (is t e) h = rw t (omega arith)
     go (isnt t n) h = rw t (omega arith)
 
-pub without-in : (s x : ℕ) (l : List ℕ) → In x (without s l) → In x l
+without-in : (s x : ℕ) (l : List ℕ) → In x (without s l) → In x l
 without-in s x (y ∷ l) m = go (told y s) m (without-in s x l)
   where
     there : (In x (without s l) → In x l) → In x (y ∷ without s l) → In x (y ∷ l)
@@ -43,7 +43,7 @@ without-in s x (y ∷ l) m = go (told y s) m (without-in s x l)
     go (is t e) k h = inr (rw t at k)
     go (isnt t n) k h = there h (rw t at k)
 
-pub without-once : (s : ℕ) (l : List ℕ) → Once l → Once (without s l)
+without-once : (s : ℕ) (l : List ℕ) → Once l → Once (without s l)
 without-once s [] a = tt
 without-once s (x ∷ l) a = go (told x s) (without-once s l (a .1))
   where
@@ -51,7 +51,7 @@ without-once s (x ∷ l) a = go (told x s) (without-once s l (a .1))
     go (is t e) h = rw t (a .1)
     go (isnt t n) h = rw t ((λ m. a .0 (without-in s x l m)), h)
 
-pub without-not : (s x : ℕ) (l : List ℕ) → Once l → In x (without s l) → x ≡ s → ⊥
+without-not : (s x : ℕ) (l : List ℕ) → Once l → In x (without s l) → x ≡ s → ⊥
 without-not s x (y ∷ l) a m = go (told y s) m (without-not s x l (a .1))
   where
     there : (y ≡ s → ⊥) → (In x (without s l) → x ≡ s → ⊥) → In x (y ∷ without s l) → x ≡ s → ⊥
@@ -63,7 +63,7 @@ without-not s x (y ∷ l) a m = go (told y s) m (without-not s x l (a .1))
     go (isnt t n) k h d = there n h (rw t at k) d
 
 -- a list of different numbers from 1 to n has at most n elements
-pub at-most : (n : ℕ) (l : List ℕ) → Once l → ((x : ℕ) → In x l → (0 < x) × (x ≤ n)) → length l ≤ n
+at-most : (n : ℕ) (l : List ℕ) → Once l → ((x : ℕ) → In x l → (0 < x) × (x ≤ n)) → length l ≤ n
 at-most zero [] a h = omega arith
 at-most zero (x ∷ l) a h = absurd (omega (arith, h x (inl refl)))
 at-most (suc n) l a h =

@@ -1,5 +1,5 @@
 -- What is lent and not refused: its sizes. Assumes nothing.
-use mathlib.Core.Path.{_≡_, sym}
+use mathlib.Core.Path.{_≡_, sym, _∙_}
 use mathlib.Core.List.{List}
 use Prim.Native.Nat.{ℕ, _+_, _≤_}
 use native.Mathlib.Omega.{arith}
@@ -23,25 +23,30 @@ index-sized n heads next e =
     let c = say-zero _ _ _ (b .1) (omega arith) in
     (ltb-false heads 1 (a .0), ltb-false 65536 heads (b .0), eqb-true next (n + 1) (not-false _ (c .0)))
 
-pub lent-sized : (l : ℕ) (image heads next : List ℕ) (n : ℕ) → n ≡ slotsOf (length image)
-    → lentFault l image (length heads) (length next) ≡ 0 → Sized image heads next n
-unfolding lentFault
-lent-sized l image heads next n e z =
-    let a = orElse-zero _ _ z in
-    let i = image-long l image (a .0) in
-    let x = index-sized (slotsOf (length image)) (length heads) (length next) (a .1) in
-    record {
-      slots = sym e;
-      image-size = omega (arith, e, i .size);
-      next-size = omega (arith, e, x .2);
-      some-head = x .0;
-      few = omega (arith, e, i .high);
-    }
+-- f is what lent_fault says, and it refuses nothing
+module _ (l f : ℕ) (image heads next : List ℕ) (ef : f ≡ lentFault l image (length heads) (length next)) (zf : f ≡ 0) where
+  parts : (imageFault l image ≡ 0) × (indexFault (slotsOf (length image)) (length heads) (length next) ≡ 0)
+  unfolding lentFault
+  parts = orElse-zero _ _ (sym ef ∙ zf)
 
-pub lent-heads : (l : ℕ) (image heads next : List ℕ) → lentFault l image (length heads) (length next) ≡ 0 → length heads ≤ 65536
-unfolding lentFault
-lent-heads l image heads next z = index-sized (slotsOf (length image)) (length heads) (length next) (orElse-zero _ _ z .1) .1
+  pub lent-heads : length heads ≤ 65536
+  lent-heads = index-sized (slotsOf (length image)) (length heads) (length next) (parts .1) .1
 
-pub lent-slots : (l : ℕ) (image : List ℕ) (heads next n : ℕ) → n ≡ slotsOf (length image) → lentFault l image heads next ≡ 0 → 2 ≤ n
-unfolding lentFault
-lent-slots l image heads next n e z = omega (arith, e, image-long l image (orElse-zero _ _ z .0) .low)
+  module _ (n : ℕ) (e : n ≡ slotsOf (length image)) where
+    pub lent-sized : Sized image heads next n
+    lent-sized =
+        let i = image-long l image (parts .0) in
+        let x = index-sized (slotsOf (length image)) (length heads) (length next) (parts .1) in
+        record {
+          slots = sym e;
+          image-size = omega (arith, e, i .size);
+          next-size = omega (arith, e, x .2);
+          some-head = x .0;
+          few = omega (arith, e, i .high);
+        }
+
+    pub lent-next : length next ≡ n + 1
+    lent-next = lent-sized .next-size
+
+    pub lent-slots : 2 ≤ n
+    lent-slots = omega (arith, e, image-long l image (parts .0) .low)

@@ -10,7 +10,6 @@ pub mod Count
 pub mod Searches
 pub mod Builds
 pub mod Sits
-pub mod Tally
 pub mod Linked
 pub mod Pushes
 pub mod Chained

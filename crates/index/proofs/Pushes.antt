@@ -1,11 +1,10 @@
--- The ways out of push_front, chain_up's loop, and the clearing of a list. Assumes nothing.
+-- The ways out of push_front and chain_up's loop. Assumes nothing.
 use mathlib.Core.Path.{_≡_, refl, sym, ap, _∙_}
-use mathlib.Core.List.{List, _∷_, _++_, append-nil}
-use Prim.Native.Nat.{ℕ, suc, _+_, _-_, _≤_, _<_}
+use mathlib.Core.List.{List, _∷_}
+use Prim.Native.Nat.{ℕ, suc, _-_, _≤_, _<_}
 use native.Mathlib.Omega.{arith}
-use lib.ListN.{length, getD, set, drop, replicate, drop-of-length-le}
+use lib.ListN.{length, getD, set, drop}
 use lib.Seq.{drop-length, drop-cons}
-use borrow.Author.Fill.{fill-more}
 use borrow.Author.Tests.{eq-eqb, ne-eqb}
 use Rattle.index.specs.Index.{Index, indexOf, setNext, setStart, setLast, link}
 use Rattle.index.specs.Change.{linkNew}
@@ -101,18 +100,3 @@ module _
         live-count = g .done .live-count;
         next-version = g .done .next-version;
       }
-
--- ---- clear
-
-pub cleared-more : (k : ℕ) (old list : List ℕ) → k < length old → list ≡ replicate k 0 ++ drop k old
-    → set list k 0 ≡ replicate (k + 1) 0 ++ drop (k + 1) old
-cleared-more k old list h e = ap (λ (t : List ℕ). set t k 0) e ∙ fill-more k 0 old h
-
-pub cleared-all : (k : ℕ) (old list : List ℕ) → length old ≤ k → k ≤ length old → list ≡ replicate k 0 ++ drop k old
-    → list ≡ replicate (length old) 0
-cleared-all k old list h g e =
-    e ∙ ap (λ (t : List ℕ). replicate k 0 ++ t) (drop-of-length-le old h) ∙ append-nil (replicate k 0)
-    ∙ ap (λ (x : ℕ). replicate x 0) same
-  where
-    same : k ≡ length old
-    same = omega arith

@@ -6,4 +6,3 @@ pub mod Parts
 pub mod Linked
 pub mod Build
 pub mod Sought
-pub mod Tally

@@ -83,10 +83,6 @@ ownerOf place (s ∷ xs) x = give (ownerOf place xs) s (of (place s)) x
 unfoldable pub chainsOf : (place : ℕ → Chain) → List ℕ → Chain → List ℕ
 chainsOf place xs c = keep (λ s. same c (place s)) xs
 
--- a live slot's place is its head's chain, any other slot's is reuse
-unfoldable pub placeOf : (live : ℕ → Bool) → (hd : ℕ → ℕ) → ℕ → Chain
-placeOf live hd s = cond (live s) (head (hd s)) reuse
-
 -- the slots 1 to n, each in the chain that `place` names
 unfoldable pub placed : (n : ℕ) → (place : ℕ → Chain) → ℕ → Owner
 placed n place x = cond (eqb x 0) free (cond (ltb n x) free (of (place x)))

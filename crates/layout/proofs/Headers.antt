@@ -3,8 +3,8 @@ use mathlib.Core.Path.{_≡_, sym, ap, _∙_}
 use mathlib.Core.Bool.{Bool, true, false, not}
 use mathlib.Core.List.{List}
 use mathlib.Core.Logic.{_≢_, by-cases}
-use Prim.Native.Nat.{ℕ, _+_, _-_, _≤_, _<_}
-use native.Mathlib.Decide.{decLt, ℕ-discrete}
+use Prim.Native.Nat.{ℕ, _-_, _≤_}
+use native.Mathlib.Decide.{ℕ-discrete}
 use native.Mathlib.Omega.{arith}
 use lib.Dec.{eqb}
 use lib.ListN.{length}
@@ -14,50 +14,12 @@ use Rattle.layout.specs.Range.{anyOf}
 use Rattle.layout.specs.Size.{slotsOf}
 use Rattle.layout.specs.Header.{headerWord, headerFault, imageFault, indexFault, lentFault}
 use Rattle.words.proofs.Choice.{pick-false, true-not-false}
-use Rattle.layout.proofs.Any.{any-some, any-none, any-clear}
+use Rattle.layout.proofs.Any.{any-some, any-none}
 use Rattle.layout.proofs.Refusals.{say-true, say-false, orElse-first, orElse-later}
 
--- rest_differs: the words from 2 on are compared with word 7, and word 7 with zero
+-- a word that is not zero
 abbrev nonzero : (ℕ → ℕ) → ℕ → Bool
 nonzero m i = not (eqb (m i) 0)
-
-nonzero-at : (m : ℕ → ℕ) (i : ℕ) → 2 ≤ i → i < 8 → (m i ≡ 0 → ⊥) → anyOf (nonzero m) 2 6 ≡ true
-nonzero-at m i low high ne =
-    let e : 2 + (i - 2) ≡ i = omega arith in
-    any-some (nonzero m) 2 6 (i - 2) (omega arith) (ap (nonzero m) e ∙ ap not (ne-eqb (m i) 0 ne))
-
--- the words from 2 up to i are the same as the last
-pub record Alike (m : ℕ → ℕ) (last i : ℕ) : Type 0 where
-  pub low : 2 ≤ i
-  pub high : i ≤ 7
-  pub same : (j : ℕ) → 2 ≤ j → j < i → m j ≡ last
-
-pub alike-start : (m : ℕ → ℕ) (last : ℕ) → Alike m last 2
-alike-start m last = record { low = omega arith; high = omega arith; same = λ j p q. absurd (omega (arith, p, q)) }
-
-pub alike-next : (m : ℕ → ℕ) (last i : ℕ) → Alike m last i → i < 7 → (v : ℕ) → v ≡ m i → v ≡ last → Alike m last (i + 1)
-alike-next m last i a h v e f =
-    record {
-      low = omega (arith, a .low);
-      high = omega arith;
-      same = λ j p q. by-cases (decLt j i) (λ (l : j < i). a .same j p l) (λ (l : j < i → ⊥). (let k : j ≡ i = omega (arith, q, l) in ap m k) ∙ sym e ∙ f);
-    }
-
-pub rest-other : (m : ℕ → ℕ) (i v last : ℕ) → v ≡ m i → last ≡ m 7 → 2 ≤ i → i < 7 → (v ≡ last → ⊥) → true ≡ anyOf (nonzero m) 2 6
-rest-other m i v last e f low high ne =
-    by-cases (decLt 0 (m i)) (λ (h : 0 < m i). sym (nonzero-at m i low (omega arith) (λ z. omega (arith, z, h))))
-    (λ (h : 0 < m i → ⊥). sym (nonzero-at m 7 (omega arith) (omega arith) (λ z. ne (e ∙ (let q : m i ≡ 0 = omega (arith, h) in q ∙ sym z) ∙ sym f))))
-
-pub rest-end : (m : ℕ → ℕ) (last : ℕ) → last ≡ m 7 → ((i : ℕ) → 2 ≤ i → i < 7 → m i ≡ last) → not (eqb last 0) ≡ anyOf (nonzero m) 2 6
-rest-end m last f same =
-    by-cases (decLt 0 last)
-    (λ (h : 0 < last). ap not (ne-eqb last 0 (λ z. omega (arith, z, h))) ∙ sym (nonzero-at m 7 (omega arith) (omega arith) (λ z. omega (arith, z, f, h))))
-    (λ (h : 0 < last → ⊥).
-    let z : last ≡ 0 = omega (arith, h) in
-    ap not (eq-eqb last 0 z) ∙ sym (any-clear (nonzero m) 2 6 (λ i l. ap not (eq-eqb (m (2 + i)) 0 (zero-at i l z)))))
-  where
-    zero-at : (i : ℕ) → i < 6 → last ≡ 0 → m (2 + i) ≡ 0
-    zero-at i l z = by-cases (decLt i 5) (λ (h : i < 5). same (2 + i) (omega arith) (omega arith) ∙ z) (λ (h : i < 5 → ⊥). (let e : 2 + i ≡ 7 = omega (arith, l, h) in ap m e) ∙ sym f ∙ z)
 
 -- header_differs, by the words 0 and 1 and the rest
 module _ (l n : ℕ) (m : ℕ → ℕ) where

@@ -26,20 +26,19 @@ pub fn slots(len: usize) -> usize
     len / 128 - 1
 }
 
-// Is one of the words 2 to 7 of the header other than zero? Each is compared with the last: a comparison of two words is one instruction, one with zero is not.
+// Is one of the words 2 to 7 of the header other than zero?
 fn rest_differs(image: &[u8]) -> bool
     requires { ⌜ 64 ≤ length (now image) ⌝ }
     ensures { λ r. ⌜ r ≡ anyOf (λ i. not (eqb (word (now (image .entry)) i) 0)) 2 6 ⌝ }
 {
-    let last = read_word(image, 7);
     let mut i = 2;
-    while i < 7 {
-        if read_word(image, i) != last {
+    while i < 8 {
+        if read_word(image, i) != 0 {
             return true;
         }
         i += 1;
     }
-    last != 0
+    false
 }
 
 // Is a word of the header other than laid down?

@@ -5,12 +5,15 @@ use Prim.Native.Nat.{ℕ, zero, suc, _%_, _^_, _≤_}
 use native.Mathlib.Nat.{mod-lt}
 use native.Mathlib.Omega.{arith}
 use lib.ListN.{length}
+use mir.Syntax.{w32}
+use mir.Val.{Fits}
 use borrow.Author.Tests.{le-ltb, eqb-false}
 use Rattle.layout.specs.Refusal.{orElse, unlessRefused}
 use Rattle.layout.specs.Answer.{refused}
 use Rattle.layout.specs.Size.{slotsOf}
 use Rattle.layout.specs.Record.{limit}
 use Rattle.layout.specs.Header.{lentFault}
+use Rattle.layout.proofs.Size.{slots-high}
 use Rattle.layout.proofs.Refusals.{say-false, say-zero, orElse-first, orElse-later, orElse-zero}
 use Rattle.index.specs.Walk.{search}
 use Rattle.index.specs.Change.{versionFault, reuseFault}
@@ -34,6 +37,10 @@ said later e ne = e ∙ sym (orElse-first _ later (λ z. ne (e ∙ z)))
 pub passed : {a f later g : ℕ} → f ≡ a → f ≡ 0 → g ≡ later → g ≡ orElse a later
 passed e z q = q ∙ sym (orElse-later _ _ (sym e ∙ z))
 
+-- the slots of an image, which a u32 holds
+pub slots-fit : (len n : ℕ) → n ≡ slotsOf len → Fits w32 n
+slots-fit len n e = record { fits = omega (arith, slots-high len) }
+
 -- a held key is refused for what its slot is
 pub held : (found : Found) (slot prev compared : ℕ) (next : List ℕ) (n : ℕ) (s : State) (r : ℕ) → found ≡ At slot prev compared
     → r ≡ heldChecks next n s → r ≡ removeChecks found next n s
@@ -50,12 +57,12 @@ refuses {f = f} found e ne = go f ne ∙ ap (λ (k : ℕ). planOf k found) e
     go zero ne = absurd (ne refl)
     go (suc k) ne = refl
 
+pub plans : {found known : Found} {r : Plan} → found ≡ known → r ≡ planOf 0 known → r ≡ planOf 0 found
+plans e q = q ∙ sym (ap (planOf 0) e)
+
 -- f is the refusal, found what the key's chain has, r the plan of them
-goes-on : {f fault : ℕ} {found sought : Found} {r : Plan} (ready : Plan → Type 0) → f ≡ fault → f ≡ 0 → found ≡ sought → r ≡ planOf 0 found
-    → ready (planOf 0 sought) → (r ≡ planOf fault sought) × ready r
-goes-on {sought = sought} ready e z s q h =
-    let p = q ∙ ap (planOf 0) s in
-    (p ∙ ap (λ (k : ℕ). planOf k sought) (sym z ∙ e), subst ready (sym p) h)
+goes-on : {f fault : ℕ} {found sought : Found} {r : Plan} → f ≡ fault → f ≡ 0 → found ≡ sought → r ≡ planOf 0 found → r ≡ planOf fault sought
+goes-on {sought = sought} e z s q = q ∙ ap (planOf 0) s ∙ ap (λ (k : ℕ). planOf k sought) (sym z ∙ e)
 
 -- ---- the numbers of a plan
 
@@ -129,21 +136,28 @@ module _
 
   module _ (zk : k ≡ 0) (r : Plan) (er : r ≡ planOf 0 found) where
     sized : Sized image heads next n
-    sized = lent-sized l image heads next n en (sym ef ∙ zf)
+    sized = lent-sized l f image heads next ef zf n en
 
-    pub put-goes-on : (size : ℕ) → 1 ≤ l → size ≤ limit l → k ≡ putChecks found next n s
-        → (r ≡ planOf (putFault l image heads next s key size) (search l image heads next key))
-        × PutReady image heads next s key size r
-    put-goes-on size low h e =
-        goes-on (PutReady image heads next s key size) (put-fault size h e) zk ed er
+    readied : (ready : Plan → Type 0) → ready (planOf 0 (search l image heads next key)) → ready r
+    readied ready h = subst ready (sym (er ∙ ap (planOf 0) ed)) h
+
+    pub put-goes-on : (size : ℕ) → size ≤ limit l → k ≡ putChecks found next n s
+        → r ≡ planOf (putFault l image heads next s key size) (search l image heads next key)
+    put-goes-on size h e = goes-on (put-fault size h e) zk ed er
+
+    pub put-readied : (size : ℕ) → 1 ≤ l → size ≤ limit l → k ≡ putChecks found next n s → PutReady image heads next s key size r
+    put-readied size low h e =
+        readied (PutReady image heads next s key size)
         (put-ready l image heads next s key n sized size (omega arith)
         (ap (λ (d : Found). putChecks d next n s) (sym ed) ∙ sym e ∙ zk))
 
     pub remove-goes-on : k ≡ removeChecks found next n s
-        → (r ≡ planOf (removeFault l image heads next s key) (search l image heads next key))
-        × RemoveReady image heads next s key r
-    remove-goes-on e =
-        goes-on (RemoveReady image heads next s key) (remove-fault e) zk ed er
+        → r ≡ planOf (removeFault l image heads next s key) (search l image heads next key)
+    remove-goes-on e = goes-on (remove-fault e) zk ed er
+
+    pub remove-readied : k ≡ removeChecks found next n s → RemoveReady image heads next s key r
+    remove-readied e =
+        readied (RemoveReady image heads next s key)
         (remove-ready l image heads next s key n sized (ap (λ (d : Found). removeChecks d next n s) (sym ed) ∙ sym e ∙ zk))
 
 -- ---- the result goes by the plan: done is what a call of put or remove that is not refused leaves
@@ -167,17 +181,18 @@ module _
   planned-result zero (Absent prev k) = absent prev k
   planned-result zero Broken = broken
 
-module _ (l : ℕ) (image heads next : List ℕ) (s : State) (key : ℕ) (plan known : Plan) (q : plan ≡ known) where
+-- left is what stands after a call whose plan is known
+module _ (l : ℕ) (image heads next : List ℕ) (s : State) (key : ℕ) (plan known : Plan) (q : plan ≡ known) (left : ChangeResult) where
   pub put-answer : (value : List ℕ) → plan ≡ planOf (putFault l image heads next s key (length value)) (search l image heads next key)
-      → planned (putDone l image heads next s key value) (keeps s heads next) known ≡ putResult l image heads next s key value
+      → left ≡ planned (putDone l image heads next s key value) (keeps s heads next) known → left ≡ putResult l image heads next s key value
   unfolding putResult putDone
-  put-answer value e =
-      ap (planned _ (keeps s heads next)) (sym q ∙ e)
+  put-answer value e h =
+      h ∙ ap (planned _ (keeps s heads next)) (sym q ∙ e)
       ∙ planned-result (putDone l image heads next s key value) _ (λ old prev k. refl) (λ prev k. refl) refl _ _
 
   pub remove-answer : plan ≡ planOf (removeFault l image heads next s key) (search l image heads next key)
-      → planned (removeDone l image heads next s key) (keeps s heads next) known ≡ removeResult l image heads next s key
+      → left ≡ planned (removeDone l image heads next s key) (keeps s heads next) known → left ≡ removeResult l image heads next s key
   unfolding removeResult removeDone
-  remove-answer e =
-      ap (planned _ (keeps s heads next)) (sym q ∙ e)
+  remove-answer e h =
+      h ∙ ap (planned _ (keeps s heads next)) (sym q ∙ e)
       ∙ planned-result (removeDone l image heads next s key) _ (λ old prev k. refl) (λ prev k. refl) refl _ _

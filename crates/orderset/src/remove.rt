@@ -22,7 +22,7 @@ use index::fault::version_fault;
 use index::search::find;
 use layout::header::lent_fault;
 use layout::header::slots;
-use stores::record::record_stores;
+use stores::record::remove_stores;
 
 // 9 or 11 (reuse, or a live count of zero) for a held key, else 0.
 fn held_checks(next: &[u32], n: u32, state: State) -> u32
@@ -93,8 +93,7 @@ fn remove_at(
     ensures { λ r. ⌜ changeEnd r (now (heads .exit)) (now (next .exit)) ≡ changed 1 (now (image .entry)) state key 2 [] (removeHeld (indexOf (now (heads .entry)) (now (next .entry)) state) (headOf key (length (now (heads .entry)))) prev old) (state .live - 1) ⌝ }
 {
     let h = (key % heads.len() as u64) as usize;
-    let nothing = [0u8; 0];
-    let stores = record_stores(image, 1, state.first, key, 0, 2, &nothing, state.version);
+    let stores = remove_stores(image, state.first, key, state.version);
     let after = remove_held(heads, next, state, h, prev, old);
     Change {
         outcome: Outcome::Stored {

@@ -192,7 +192,7 @@ pub lent-ready : (image heads next : List ℕ) (fault n : ℕ) → fault ≡ len
 lent-ready image heads next fault n e z size =
     record {
       lent = sym e ∙ z;
-      sized = lent-sized 1 image heads next n size (sym e ∙ z);
-      heads-high = lent-heads 1 image heads next (sym e ∙ z);
-      some-slots = omega (arith, lent-slots 1 image (length heads) (length next) n size (sym e ∙ z));
+      sized = lent-sized 1 fault image heads next e z n size;
+      heads-high = lent-heads 1 fault image heads next e z;
+      some-slots = omega (arith, lent-slots 1 fault image heads next e z n size);
     }

@@ -3,7 +3,7 @@ use mathlib.Core.Path.{_≡_, refl, ap, _∙_}
 use mathlib.Core.Bool.{Bool, true, false, not, _&&_}
 use mathlib.Core.Logic.{inl, inr}
 use mathlib.Core.List.{List, [], _∷_}
-use Prim.Native.Nat.{ℕ, zero, suc, _+_, _-_, _≤_}
+use Prim.Native.Nat.{ℕ, _+_, _-_, _≤_}
 use native.Mathlib.Omega.{arith}
 use lib.Dec.{eqb}
 use Rattle.words.proofs.Choice.{pick-true, pick-false}
@@ -13,23 +13,19 @@ use Rattle.layout.specs.Content.{empty, topOf}
 use Rattle.layout.proofs.Refusals.{say-false}
 use Rattle.layout.proofs.Any.{any-clear}
 use Rattle.sorting.specs.Sorted.{keep, sorted}
-use Rattle.sorting.specs.Members.{In, Rising}
+use Rattle.sorting.specs.Members.{In}
 use Rattle.sorting.proofs.Order.{sorted-rising}
-use Rattle.table.specs.Table.{Table, counts, keyIn, count, nextVersion, decidingPut, live, spare, liveCount, sharedVersion, allLive}
+use Rattle.sorting.proofs.Counts.{flat}
+use Rattle.table.specs.Table.{Table, counts, keyIn, nextVersion, decidingPut, live, spare, liveCount, sharedVersion, allLive}
 use Rattle.table.specs.Order.{rankOf, slots, ordered, chainOf, reuseOf}
 use Rattle.table.specs.Write.{Slot}
 use Rattle.table.proofs.Lists.{slots-in}
+use Rattle.table.proofs.Count.{count-none}
 use Rattle.table.proofs.LiveCount.{room-all}
 use Rattle.table.proofs.Most.{greatest-least}
 use Rattle.recovery.specs.Represents.{Fresh}
 
--- ---- tests that hold everywhere or nowhere
-
-count-none : (p : ℕ → Bool) (n : ℕ) → ((t : ℕ) → Slot n t → p t ≡ false) → count p n ≡ 0
-unfolding count
-count-none p zero h = refl
-count-none p (suc n) h =
-    pick-false (p (suc n)) _ _ (h (suc n) (omega arith)) ∙ count-none p n (λ t i. h t (omega arith))
+-- ---- filters by a test that holds everywhere or nowhere
 
 keep-all : (p : ℕ → Bool) (l : List ℕ) → ((x : ℕ) → In x l → p x ≡ true) → keep p l ≡ l
 unfolding keep
@@ -41,11 +37,6 @@ keep-none : (p : ℕ → Bool) (l : List ℕ) → ((x : ℕ) → In x l → p x 
 unfolding keep
 keep-none p [] h = refl
 keep-none p (x ∷ l) h = pick-false (p x) _ _ (h x (inl refl)) ∙ keep-none p l (λ y i. h y (inr i))
-
--- one rank throughout
-rising-flat : (g : ℕ → ℕ) (c : ℕ) (l : List ℕ) → ((x : ℕ) → In x l → g x ≡ c) → Rising g l
-rising-flat g c [] h = tt
-rising-flat g c (x ∷ l) h = ((λ y i. omega (arith, h x (inl refl), h y (inr i))), rising-flat g c l (λ y i. h y (inr i)))
 
 -- ---- a table of empty slots
 
@@ -78,7 +69,7 @@ module _ (f : Table) (n : ℕ) (blank : (s : ℕ) → Slot n s → f s ≡ empty
   unfolding reuseOf ordered
   unwritten-reuse =
       ap (sorted (λ s. rankOf (f s))) (keep-all (spare f n) (slots n) (λ x i. spare-all x (slots-in n x i)))
-      ∙ sorted-rising (λ s. rankOf (f s)) (slots n) (rising-flat (λ s. rankOf (f s)) 1 (slots n) (λ x i. rank-one x (slots-in n x i)))
+      ∙ sorted-rising (λ s. rankOf (f s)) (slots n) (flat (λ s. rankOf (f s)) 1 (slots n) (λ x i. rank-one x (slots-in n x i)))
 
   pub unwritten-chain : (head : ℕ → ℕ) (h : ℕ) → chainOf f n head h ≡ []
   unfolding chainOf ordered sorted

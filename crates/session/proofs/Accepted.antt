@@ -40,16 +40,16 @@ module _ (n : ℕ) (low : 2 ≤ n) (high : n ≤ 511) where
     slots-here : slotsOf (length image) ≡ n
     slots-here = ap slotsOf i ∙ sized n low (omega arith)
 
-    some-slots : slotsOf (length image) ≡ 0 → ⊥
+    pub some-slots : slotsOf (length image) ≡ 0 → ⊥
     some-slots e = omega (arith, slots-here)
 
-    formats : formatResult 1 image ≡ record { answer = gives (n ∷ []); bytes = formatted 1 (length image) }
+    pub formats : formatResult 1 image ≡ record { answer = gives (n ∷ []); bytes = formatted 1 (length image) }
     unfolding formatResult formatFault
     formats =
         taken-leaves _ _ _ (say-false _ _ _ (ne-eqb (slotsOf (length image)) 0 some-slots))
         ∙ ap (λ (k : ℕ). left k (formatted 1 (length image))) slots-here
 
-    index-fits : indexFault (slotsOf (length image)) (length heads) (length next) ≡ 0
+    pub index-fits : indexFault (slotsOf (length image)) (length heads) (length next) ≡ 0
     unfolding indexFault
     index-fits =
         say-false _ _ _ (le-ltb (length heads) 1 (omega arith)) ∙ say-false _ _ _ (le-ltb 65536 (length heads) (omega arith))

@@ -5,7 +5,7 @@ use mathlib.Core.List.{List, [], _∷_}
 use Prim.Native.Nat.{ℕ, _+_, _-_, _*_, _^_, _≤_, _<_}
 use native.Mathlib.Omega.{arith}
 use lib.Dec.{eqb, ltb}
-use borrow.Author.Tests.{lt-ltb, le-ltb, eq-eqb, ne-eqb, ltb-true, ltb-false}
+use borrow.Author.Tests.{lt-ltb, le-ltb, ltb-true, ltb-false}
 use Rattle.words.proofs.Choice.{pick-true, pick-false, true-not-false}
 use Rattle.session.specs.Forms.{isDigit, areDigits, valueFrom, valueOf, isNumber, firstField, laterFields, withOne, withTwo, withNumbers, withFields, lineOf}
 use Rattle.session.specs.Parsing.{appended, addDigit, addByte, nextNumber, fed, fedAll, endOne, endTwo, finished}
@@ -16,48 +16,11 @@ use Rattle.session.specs.declared.Digits.the-variants.{Empty, Value, Not
 use Rattle.session.specs.declared.Parse.{Parse}
 use Rattle.session.specs.declared.Parse.the-variants.{Start, Letter, First, Second, Broken}
 
--- ---- the functions' returns
-
--- what is fed in a known state
-pub fed-by : (p : Parse) (byte : ℕ) (q r : Parse) → p ≡ q → r ≡ fed q byte → r ≡ fed p byte
-fed-by p byte q r g e = e ∙ sym (ap (λ (x : Parse). fed x byte) g)
-
-pub at-space : (byte : ℕ) (p q : Parse) → byte ≡ 32 → p ≡ cond (eqb byte 32) p q
-at-space byte p q e = sym (pick-true _ _ _ (eq-eqb byte 32 e))
-
-pub at-other : (byte : ℕ) (p q : Parse) → (byte ≡ 32 → ⊥) → q ≡ cond (eqb byte 32) p q
-at-other byte p q e = sym (pick-false _ _ _ (ne-eqb byte 32 e))
-
-pub fed-first : (p : Parse) (letter : ℕ) (digits d : Digits) (byte : ℕ) → p ≡ First letter digits → (byte ≡ 32 → ⊥)
-    → d ≡ addByte digits byte → First letter d ≡ fed p byte
-unfolding fed
-fed-first p letter digits d byte g ne e =
-    ap (First letter) e ∙ fed-by p byte (First letter digits) _ g (at-other byte _ _ ne)
-
-pub fed-second : (p : Parse) (letter first : ℕ) (digits d : Digits) (byte : ℕ) → p ≡ Second letter first digits → (byte ≡ 32 → ⊥)
-    → d ≡ addByte digits byte → Second letter first d ≡ fed p byte
-unfolding fed
-fed-second p letter first digits d byte g ne e =
-    ap (Second letter first) e ∙ fed-by p byte (Second letter first digits) _ g (at-other byte _ _ ne)
-
--- ---- a byte that is a digit, and one that is not
+-- ---- a byte that is a digit
 
 pub is-digit : (byte : ℕ) → 48 ≤ byte → byte ≤ 57 → isDigit byte ≡ true
 unfolding isDigit
 is-digit byte low high = pick-false _ _ _ (le-ltb byte 48 low) ∙ pick-false _ _ _ (le-ltb 57 byte high)
-
-pub low-byte : (digits : Digits) (byte : ℕ) → byte < 48 → NotNumber ≡ addByte digits byte
-unfolding addByte isDigit
-low-byte digits byte h = sym (pick-false _ _ _ (pick-true _ _ _ (lt-ltb byte 48 h)))
-
-pub high-byte : (digits : Digits) (byte : ℕ) → 48 ≤ byte → 57 < byte → NotNumber ≡ addByte digits byte
-unfolding addByte isDigit
-high-byte digits byte low h =
-    sym (pick-false _ _ _ (pick-false _ _ _ (le-ltb byte 48 low) ∙ pick-true _ _ _ (lt-ltb 57 byte h)))
-
-pub digit-byte : (digits : Digits) (byte : ℕ) → 48 ≤ byte → byte ≤ 57 → addDigit digits (byte - 48) ≡ addByte digits byte
-unfolding addByte
-digit-byte digits byte low high = sym (pick-true _ _ _ (is-digit byte low high))
 
 -- ---- a number
 

@@ -2,23 +2,18 @@
 use mathlib.Core.Path.{_≡_, refl, sym, ap, ap₂, _∙_, subst}
 use mathlib.Core.Bool.{Bool, true, false, cond}
 use mathlib.Core.List.{List, [], _∷_, _++_}
-use Prim.Native.Nat.{ℕ, zero, suc, _+_, _-_, _/_, _%_, _^_, _≤_, _<_}
+use Prim.Native.Nat.{ℕ, zero, suc, _+_, _-_, _*_, _/_, _%_, _^_, _≤_, _<_}
 use native.Mathlib.Nat.{pow-suc, add-suc, suc-add, add-zero}
+use native.Mathlib.Numerals.{add-one}
 use native.Mathlib.Omega.{arith}
 use lib.Dec.{ltb}
 use lib.ListN.{length, getD, set, take, drop, length-set, length-drop, length-append, drop-of-length-le}
 use lib.Seq.{take-all, drop-cons, drop-set-lt, getD-set-same}
 use borrow.Author.Tests.{lt-ltb, le-ltb}
 use Rattle.words.proofs.Choice.{pick-true, pick-false}
-use Rattle.session.specs.Output.{digitsOnto, decimal, written, Wrote, renderEnd, renderResult, Printed, text, replySays}
-use Rattle.session.specs.declared.Reply.{Reply}
+use Rattle.session.specs.Output.{digitsOnto, decimal, numbersText, written, Wrote, renderEnd, renderResult, Printed, text}
 
-pub written-length : (out : List ℕ) (at : ℕ) (bytes : List ℕ) → length (written out at bytes) ≡ length out
-unfolding written
-written-length out at [] = refl
-written-length out at (byte ∷ bytes) = written-length (set out at byte) (suc at) bytes ∙ length-set out at byte
-
-pub written-append : (out : List ℕ) (at : ℕ) (xs ys : List ℕ)
+written-append : (out : List ℕ) (at : ℕ) (xs ys : List ℕ)
     → written (written out at xs) (at + length xs) ys ≡ written out at (xs ++ ys)
 unfolding written
 written-append out at [] ys = ap (λ (k : ℕ). written out k ys) (add-zero at)
@@ -27,7 +22,7 @@ written-append out at (x ∷ xs) ys =
     ∙ written-append (set out at x) (suc at) xs ys
 
 -- one text after another
-pub wrote-then : (a b d : List ℕ) (at p r : ℕ) (xs ys : List ℕ) → Wrote a b at p xs → Wrote b d p r ys → Wrote a d at r (xs ++ ys)
+wrote-then : (a b d : List ℕ) (at p r : ℕ) (xs ys : List ℕ) → Wrote a b at p xs → Wrote b d p r ys → Wrote a d at r (xs ++ ys)
 wrote-then a b d at p r xs ys v w =
     record {
       output =
@@ -122,17 +117,16 @@ module _ (n rest : ℕ) (space : List ℕ) where
 -- ---- the parts of a line
 
 -- a text that was stored, and one after it
-pub text-then : (a b d : List ℕ) (at k r : ℕ) (xs ys : List ℕ) → b ≡ written a at xs → k ≡ length xs → Wrote b d (at + k) r ys
+text-then : (a b d : List ℕ) (at r : ℕ) (xs ys : List ℕ) → b ≡ written a at xs → Wrote b d (at + length xs) r ys
     → Wrote a d at r (xs ++ ys)
-text-then a b d at k r xs ys e h w =
-    wrote-then a b d at (at + k) r xs ys (record { output = e; end = ap (λ (j : ℕ). at + j) h }) w
+text-then a b d at r xs ys e w = wrote-then a b d at (at + length xs) r xs ys (record { output = e; end = refl }) w
 
 -- a space and the digits that store_digits left
 pub number-wrote : (a b d space part : List ℕ) (at from n : ℕ) → b ≡ written a at (32 ∷ []) → d ≡ written b (at + 1) part
     → part ≡ take (20 - from) (drop from space) → length space ≡ 20 → from < 20 → drop from space ≡ decimal n
     → Wrote a d at (at + 1 + (20 - from)) (32 ∷ decimal n)
 number-wrote a b d space part at from n e f p s h g =
-    text-then a b d at 1 _ (32 ∷ []) (decimal n) e refl
+    text-then a b d at _ (32 ∷ []) (decimal n) e
     (record { output = f ∙ ap (λ (t : List ℕ). written b (at + 1) t) (p ∙ cut ∙ g); end = ap (λ (j : ℕ). at + 1 + j) (sym size ∙ ap length g) })
   where
     size : length (drop from space) ≡ 20 - from
@@ -141,7 +135,7 @@ number-wrote a b d space part at from n e f p s h g =
     cut : take (20 - from) (drop from space) ≡ drop from space
     cut = take-all (20 - from) (drop from space) (omega (arith, size))
 
--- a number takes at most 21 places
+-- a number has at most 20 digits
 digits-length : (places n : ℕ) (rest : List ℕ) → length (digitsOnto places n rest) ≤ places + length rest
 unfolding digitsOnto
 digits-length zero n rest = omega arith
@@ -156,16 +150,43 @@ decimal-length : (n : ℕ) → length (decimal n) ≤ 20
 unfolding decimal
 decimal-length n = digits-length 20 n []
 
--- the room that is left after a number
-pub room-after : (a b : List ℕ) (at r k n : ℕ) → Wrote a b at r (32 ∷ decimal n) → length b ≡ length a
-    → at + (21 + k) ≤ length a → r + k ≤ length b
-room-after a b at r k n w e h = omega (arith, w .end, decimal-length n)
+-- ---- the loop of store_line: what is stored from this place on ends the line
+
+pub record Numbers (numbers old : List ℕ) (from i : ℕ) (out : List ℕ) (at : ℕ) : Type 0 where
+  pub inside : i ≤ length numbers
+  pub size : length out ≡ length old
+  pub room : at + 21 * (length numbers - i) + 1 ≤ length out
+  pub rest : (new : List ℕ) (r : ℕ) → Wrote out new at r (numbersText (drop i numbers)) → Wrote old new from r (numbersText numbers)
+
+one-more : (numbers : List ℕ) (i : ℕ) → i < length numbers
+    → (32 ∷ decimal (getD numbers i 0)) ++ numbersText (drop (i + 1) numbers) ≡ numbersText (drop i numbers)
+unfolding numbersText
+one-more numbers i h = rw (add-one, drop-cons numbers i 0)
+
+pub numbers-more : (numbers old : List ℕ) (from i : ℕ) (out : List ℕ) (at : ℕ) (next : List ℕ) (after : ℕ)
+    → Numbers numbers old from i out at → i < length numbers → Wrote out next at after (32 ∷ decimal (getD numbers i 0))
+    → length next ≡ length out → Numbers numbers old from (i + 1) next after
+numbers-more numbers old from i out at next after n h w e =
+    record {
+      inside = omega arith;
+      size = e ∙ n .size;
+      room = omega (arith, w .end, decimal-length (getD numbers i 0));
+      rest = λ new r v. n .rest new r (subst (Wrote out new at r) (one-more numbers i h) (wrote-then _ _ _ _ _ _ _ _ w v));
+    }
+
+line-end : (out new numbers : List ℕ) (at i : ℕ) → length numbers ≤ i → new ≡ written out at (10 ∷ [])
+    → Wrote out new at (at + 1) (numbersText (drop i numbers))
+unfolding numbersText
+line-end out new numbers at i h e = rw (drop-of-length-le numbers h) (record { output = e; end = refl })
+
+pub line-wrote : (a b word numbers out new : List ℕ) (at i after : ℕ) → b ≡ written a at word
+    → Numbers numbers b (at + length word) i out after → length numbers ≤ i → new ≡ written out after (10 ∷ [])
+    → Wrote a new at (after + 1) (word ++ numbersText numbers)
+line-wrote a b word numbers out new at i after e n h f =
+    text-then a b new at _ word (numbersText numbers) e
+    (n .rest new (after + 1) (line-end out new numbers after i h f))
 
 -- ---- render
-
-pub reply-wrote : (reply other : Reply) (a b : List ℕ) (at r : ℕ) → reply ≡ other → Wrote a b at r (text (replySays other))
-    → Wrote a b at r (text (replySays reply))
-reply-wrote reply other a b at r e w = subst (λ (x : Reply). Wrote a b at r (text (replySays x))) (sym e) w
 
 pub no-room : (p : Printed) (out : List ℕ) (at : ℕ) → length out < at + 64 → renderEnd at out ≡ renderResult p out at
 unfolding renderResult

@@ -4,63 +4,14 @@ use mathlib.Core.Bool.{Bool, true, false, cond}
 use mathlib.Core.List.{List, [], _∷_, _++_, append-nil}
 use Prim.Native.Nat.{ℕ}
 use lib.Dec.{eqb}
-use borrow.Author.Tests.{eq-eqb, ne-eqb}
-use Rattle.words.proofs.Choice.{pick-true, pick-false}
 use Rattle.session.specs.Forms.{lineOf}
 use Rattle.session.specs.Parsing.{fed, fedAll, finished}
-use Rattle.session.specs.Output.{text, renderEnd, renderResult, replySays}
-use Rattle.session.specs.Step.{StepResult, noSet, stepEnd, stepResult}
-use Rattle.session.specs.Stream.{inFront, linesOf, stepAfter, outputOf, byteOutput, streamEnd, atStart, printedBy, answeredBy, answerResult, byteResult, endResult}
-use Rattle.session.specs.declared.Line.{Line}
+use Rattle.session.specs.Output.{text}
+use Rattle.session.specs.Step.{StepResult}
+use Rattle.session.specs.Stream.{inFront, linesOf, stepAfter, outputOf, byteOutput}
 use Rattle.session.specs.declared.Parse.{Parse}
 use Rattle.session.specs.declared.Parse.the-variants.{Start}
-use Rattle.session.specs.declared.Stepped.{Stepped}
-use Rattle.session.specs.declared.Session.{Session}
-use Rattle.session.specs.declared.Progress.{Progress}
 use Rattle.session.proofs.Parsed.{parsed}
-
--- ---- the functions' returns
-
-abbrev before : Session → Progress
-before s = record { parse = Start; begun = false; session = s; at = 0 }
-
-pub fresh : (s : Session) → s ≡ noSet → before s ≡ atStart
-unfolding atStart
-fresh s e = ap before e
-
-module _ (s : Progress) (image heads next out i h x o : List ℕ) where
-  pub answered : (stepped : Stepped) (line : Line) (end : ℕ) → line ≡ finished (s .parse)
-      → stepEnd stepped i h x ≡ stepResult line (s .session) image heads next
-      → renderEnd end o ≡ renderResult (replySays (stepped .reply)) out (s .at)
-      → streamEnd (record { parse = Start; begun = false; session = stepped .session; at = end }) i h x o ≡
-      answerResult s image heads next out
-  unfolding answerResult answeredBy printedBy
-  answered stepped line end e f g =
-      ap (printedBy (stepEnd stepped i h x)) g
-      ∙ ap (answeredBy (s .at) out) (f ∙ ap (λ (l : Line). stepResult l (s .session) image heads next) e)
-
-  pub at-line-end : (byte : ℕ) (r : Progress) → byte ≡ 10 → streamEnd r i h x o ≡ answerResult s image heads next out
-      → streamEnd r i h x o ≡ byteResult s byte image heads next out
-  unfolding byteResult
-  at-line-end byte r e f = f ∙ sym (pick-true _ _ _ (eq-eqb byte 10 e))
-
-  pub at-input-end : (r : Progress) → s .begun ≡ true → streamEnd r i h x o ≡ answerResult s image heads next out
-      → streamEnd r i h x o ≡ endResult s image heads next out
-  unfolding endResult
-  at-input-end r e f = f ∙ sym (pick-true _ _ _ e)
-
-pub in-line : (s : Progress) (image heads next out : List ℕ) (byte : ℕ) (p : Parse) → (byte ≡ 10 → ⊥) → p ≡ fed (s .parse) byte
-    → streamEnd (record { parse = p; begun = true; session = s .session; at = s .at }) image heads next out ≡
-    byteResult s byte image heads next out
-unfolding byteResult
-in-line s image heads next out byte p ne e =
-    ap (λ (q : Parse). streamEnd (record { parse = q; begun = true; session = s .session; at = s .at }) image heads next out) e
-    ∙ sym (pick-false _ _ _ (ne-eqb byte 10 ne))
-
-pub no-line : (s : Progress) (image heads next out : List ℕ) → s .begun ≡ false
-    → streamEnd s image heads next out ≡ endResult s image heads next out
-unfolding endResult
-no-line s image heads next out e = sym (pick-false _ _ _ e)
 
 -- ---- the whole input
 

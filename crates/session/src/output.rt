@@ -1,7 +1,7 @@
 // An answer as a line of output.
 ghost use mathlib.Core.Path.{_≡_};
-ghost use mathlib.Core.List.{[], _∷_};
-ghost use Prim.Native.Nat.{_+_, _≤_, _<_};
+ghost use mathlib.Core.List.{_∷_, _++_};
+ghost use Prim.Native.Nat.{_+_, _*_, _≤_, _<_};
 ghost use lib.ListN.{length, drop};
 ghost use Rattle.session.specs.Output.{text, replySays, decimal, numbersText, written, Wrote, renderEnd, renderResult};
 use crate::Reply;
@@ -47,31 +47,20 @@ fn store_number(out: &mut [u8], at: usize, n: u64) -> usize
     at + 1 + (20 - from)
 }
 
-// The end of the line.
-fn store_end(out: &mut [u8], at: usize) -> usize
-    requires { ⌜ at + 1 ≤ length (now out) ⌝ }
-    ensures { λ r. ⌜ Wrote (now (out .entry)) (now (out .exit)) at r (numbersText []) ⌝ }
+// The word, each number after a space, and the end of the line: the place after them.
+fn store_line(out: &mut [u8], at: usize, word: &[u8], numbers: &[u64]) -> usize
+    requires { ⌜ at + length (now word) + 21 * length (now numbers) + 1 ≤ length (now out) ⌝ }
+    ensures { λ r. ⌜ Wrote (now (out .entry)) (now (out .exit)) at r (now (word .entry) ++ numbersText (now (numbers .entry))) ⌝ }
 {
-    store_bytes(out, at, b"\n");
-    at + 1
-}
-
-// The last number, and the end of the line.
-fn store_one(out: &mut [u8], at: usize, n: u64) -> usize
-    requires { ⌜ at + 22 ≤ length (now out) ⌝ }
-    ensures { λ r. ⌜ Wrote (now (out .entry)) (now (out .exit)) at r (numbersText (n ∷ [])) ⌝ }
-{
-    let after = store_number(out, at, n);
-    store_end(out, after)
-}
-
-// The last two numbers, and the end of the line.
-fn store_two(out: &mut [u8], at: usize, m: u64, n: u64) -> usize
-    requires { ⌜ at + 43 ≤ length (now out) ⌝ }
-    ensures { λ r. ⌜ Wrote (now (out .entry)) (now (out .exit)) at r (numbersText (m ∷ n ∷ [])) ⌝ }
-{
-    let after = store_number(out, at, m);
-    store_one(out, after, n)
+    store_bytes(out, at, word);
+    let mut after = at + word.len();
+    let mut i = 0;
+    while i < numbers.len() {
+        after = store_number(out, after, numbers[i]);
+        i += 1;
+    }
+    store_bytes(out, after, b"\n");
+    after + 1
 }
 
 // The answer's line, where 64 bytes are left.
@@ -80,30 +69,12 @@ fn store_reply(reply: Reply, out: &mut [u8], at: usize) -> usize
     ensures { λ r. ⌜ Wrote (now (out .entry)) (now (out .exit)) at r (text (replySays reply)) ⌝ }
 {
     match reply {
-        Reply::Made(n) => {
-            store_bytes(out, at, b"ok");
-            store_one(out, at + 2, n)
-        }
-        Reply::Stored { slot, version } => {
-            store_bytes(out, at, b"ok");
-            store_two(out, at + 2, slot as u64, version)
-        }
-        Reply::Found(word) => {
-            store_bytes(out, at, b"found");
-            store_one(out, at + 5, word)
-        }
-        Reply::Absent => {
-            store_bytes(out, at, b"absent");
-            store_end(out, at + 6)
-        }
-        Reply::Cut { a, b } => {
-            store_bytes(out, at, b"cut");
-            store_two(out, at + 3, a, b)
-        }
-        Reply::Refused(number) => {
-            store_bytes(out, at, b"no");
-            store_one(out, at + 2, number as u64)
-        }
+        Reply::Made(n) => store_line(out, at, b"ok", &[n]),
+        Reply::Stored { slot, version } => store_line(out, at, b"ok", &[slot as u64, version]),
+        Reply::Found(word) => store_line(out, at, b"found", &[word]),
+        Reply::Absent => store_line(out, at, b"absent", &[]),
+        Reply::Cut { a, b } => store_line(out, at, b"cut", &[a, b]),
+        Reply::Refused(number) => store_line(out, at, b"no", &[number as u64]),
     }
 }
 

@@ -31,6 +31,10 @@ key-high low high i h k b ne =
     one : i ≡ 1
     one = omega arith
 
+-- the word of a key of layout 1
+pub key-alone : (key : ℕ) → key < 2 ^ 64 → keyWord key 0 ≡ key
+key-alone key h = ap (λ (x : ℕ). x % 2 ^ 64) (div-one key) ∙ mod-eq-of-lt h
+
 -- the three parts of line A
 module _ (l key kind : ℕ) (value : List ℕ) (i : ℕ) where
   pub in-key : (r : ℕ) → i < l + 1 → r ≡ keyWord key (i - 1) → r ≡ bodyA l key kind value i

@@ -1,5 +1,6 @@
 // The 16 stores of a record. `l` is the layout; a key is two words, the high one 0 in layout 1.
 ghost use mathlib.Core.Path.{_≡_};
+ghost use mathlib.Core.List.{[]};
 ghost use Prim.Native.Nat.{ℕ, _+_, _*_, _^_, _≤_, _<_};
 ghost use lib.ListN.{length};
 ghost use Rattle.words.specs.Word.{word};
@@ -135,4 +136,47 @@ pub fn record_stores(
     let at = record_places(s);
     let words = record_words(l, a, b, low, high, kind, value, version);
     Stores { at, value: words }
+}
+
+// The values of a remove's stores, over lines with stamps a and b. Layout 1.
+fn remove_words(a: u64, b: u64, key: u64, version: u64) -> [u64; 16]
+    requires { ⌜ version < 2 ^ 63 ⌝ }
+    ensures { λ r. ⌜ r ≡ recordWords 1 a b key 2 [] version ⌝ }
+{
+    [
+        first_word(a),
+        key,
+        2,
+        0,
+        0,
+        0,
+        0,
+        last_word(a, version),
+        first_word(b),
+        0,
+        0,
+        0,
+        0,
+        0,
+        0,
+        last_word(b, version),
+    ]
+}
+
+// The stores of a remove for slot s of the image, in layout 1: those of a record without a value, of which most are known beforehand.
+pub fn remove_stores(image: &[u8], s: u32, key: u64, version: u64) -> Stores
+    requires { ⌜ (version < 2 ^ 63) × (s < 65536) × (128 * (s + 1) ≤ length (now image)) ⌝ }
+    ensures { λ r. ⌜ zipped (r .at) (r .value) ≡ recordStores 1 (word (now (image .entry))) s key 2 [] version ⌝ }
+{
+    let slot = s as usize;
+    let value = remove_words(
+        read_word(image, 16 * slot + 7),
+        read_word(image, 16 * slot + 15),
+        key,
+        version,
+    );
+    Stores {
+        at: record_places(s),
+        value,
+    }
 }

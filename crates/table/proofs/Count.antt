@@ -16,6 +16,11 @@ unfolding count
 count-same p q zero h = refl
 count-same p q (suc n) h = ap₂ step (h (suc n) (omega arith)) (count-same p q n (λ t i. h t (omega arith)))
 
+pub count-none : (p : ℕ → Bool) (n : ℕ) → ((t : ℕ) → Slot n t → p t ≡ false) → count p n ≡ 0
+unfolding count
+count-none p zero h = refl
+count-none p (suc n) h = ap₂ step (h (suc n) (omega arith)) (count-none p n (λ t i. h t (omega arith)))
+
 pub count-most : (p : ℕ → Bool) (n : ℕ) → count p n ≤ n
 unfolding count
 count-most p zero = omega arith

@@ -12,12 +12,37 @@ use borrow.Author.Tests.{eqb-true, eqb-false}
 use Rattle.sorting.specs.Members.{In, Once}
 use Rattle.table.specs.Table.{Table, keyIn, weight, count, decider, mapOf, live, liveCount}
 use Rattle.table.specs.Write.{Slot}
-use Rattle.table.specs.Chains.{unlinked}
 use Rattle.table.specs.Keys.{Holds, holds, Keys, keysTo}
 use Rattle.table.proofs.Content.{one-key, weight-put, true-false}
 use Rattle.table.proofs.Map.{decider-weight, lives, live-is, Live, live-key}
 use Rattle.table.proofs.Held.{Held, held-or, some-none, unheld, held}
-use Rattle.table.proofs.Relinked.{unlinked-length, in-unlinked}
+
+-- a list without the first x in it
+unfoldable without : (x : ℕ) → List ℕ → List ℕ
+without x [] = []
+without x (y ∷ l) = cond (eqb x y) l (y ∷ without x l)
+
+in-without : (x t : ℕ) (l : List ℕ) → In t l → (t ≡ x → ⊥) → In t (without x l)
+unfolding without
+in-without x t [] i ne = absurd i
+in-without x t (y ∷ l) i ne = go (eqb x y) refl i (in-without x t l)
+  where
+    go : (b : Bool) → eqb x y ≡ b → In t (y ∷ l) → (In t l → (t ≡ x → ⊥) → In t (without x l)) → In t (cond b l (y ∷ without x l))
+    go true e (inl q) ih = absurd (ne (q ∙ sym (eqb-true x y e)))
+    go true e (inr j) ih = j
+    go false e (inl q) ih = inl q
+    go false e (inr j) ih = inr (ih j ne)
+
+without-length : (x : ℕ) (l : List ℕ) → In x l → length l ≡ suc (length (without x l))
+unfolding without
+without-length x [] i = absurd i
+without-length x (y ∷ l) i = go (eqb x y) refl i (without-length x l)
+  where
+    go : (b : Bool) → eqb x y ≡ b → In x (y ∷ l) → (In x l → length l ≡ suc (length (without x l)))
+        → suc (length l) ≡ suc (length (cond b l (y ∷ without x l)))
+    go true e i ih = refl
+    go false e (inl q) ih = absurd (eqb-false x y e q)
+    go false e (inr i) ih = ap suc (ih i)
 
 -- a list without doubles is no longer than one that holds its elements
 pub no-longer : (l m : List ℕ) → Once l → ((t : ℕ) → In t l → In t m) → length l ≤ length m
@@ -25,8 +50,8 @@ no-longer [] m o h = omega arith
 no-longer (x ∷ l) m o h =
     omega (
       arith,
-      unlinked-length x m (h x (inl refl)),
-      no-longer l (unlinked x m) (o .1) (λ t i. in-unlinked x t m (h t (inr i)) (λ e. o .0 (rw e at i))),
+      without-length x m (h x (inl refl)),
+      no-longer l (without x m) (o .1) (λ t i. in-without x t m (h t (inr i)) (λ e. o .0 (rw e at i))),
     )
 
 -- two lists of a map's keys are equally long

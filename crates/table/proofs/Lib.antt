@@ -11,8 +11,6 @@ pub mod Hidden
 pub mod Prefix
 pub mod Appended
 pub mod Reuse
-pub mod Relinked
 pub mod Keys
 pub mod Search
-pub mod Chains
 pub mod Recovery

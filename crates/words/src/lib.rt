@@ -9,17 +9,13 @@ pub fn join(b0: u8, b1: u8, b2: u8, b3: u8, b4: u8, b5: u8, b6: u8, b7: u8) -> u
     ensures { λ r. ⌜ r ≡ joined b0 b1 b2 b3 b4 b5 b6 b7 ⌝ }
 {
     b0 as u64
-        + 256
-            * (b1 as u64
-                + 256
-                    * (b2 as u64
-                        + 256
-                            * (b3 as u64
-                                + 256
-                                    * (b4 as u64
-                                        + 256
-                                            * (b5 as u64
-                                                + 256 * (b6 as u64 + 256 * (b7 as u64)))))))
+        | (b1 as u64) << 8
+        | (b2 as u64) << 16
+        | (b3 as u64) << 24
+        | (b4 as u64) << 32
+        | (b5 as u64) << 40
+        | (b6 as u64) << 48
+        | (b7 as u64) << 56
 }
 
 // Word i of the image.

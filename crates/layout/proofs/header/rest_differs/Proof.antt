@@ -1,27 +1,30 @@
 -- `layout::header::rest_differs` meets its contract. Assumes nothing.
+use mathlib.Core.Path.{refl}
+use mathlib.Core.Bool.{not}
 use Prim.Native.Nat.{_-_}
 use native.Mathlib.Omega.{arith}
+use lib.Dec.{eqb}
 use borrow.Author.Needs.{needs}
 use Rattle.words.specs.Word.{word}
-use Rattle.layout.proofs.Headers.{Alike, alike-start, alike-next, rest-other, rest-end}
+use Rattle.layout.proofs.Any.{Going, any-start, any-hit, any-next, any-end}
+use Rattle.layout.proofs.Refusals.{apart, alike}
 use Rattle.layout.proofs.header.rest_differs.Statement.{statement}
 use Rattle.layout.proofs.header.rest_differs.Tie as tie
 
 abbrev Inv-loop : tie.InvT-loop
-Inv-loop image last i₀ i = Alike (word image) last i
+Inv-loop image i₀ i = Going (λ j. not (eqb (word image j) 0)) 8 2 i
 
 abbrev μ-loop : tie.MeasureT-loop
-μ-loop image last i₀ i = 7 - i
+μ-loop image i₀ i = 8 - i
 
 returns : tie.Need-returns Inv-loop μ-loop
-returns c =
-    rest-other (word (c .before .before .before .before .before .before .args .image .now)) _ _ _ (c .before .read-word2 .ensures) (c .before .before .before .before .read-word .ensures) (c .before .before .before .loop .inv .low) (c .before .before .loop-test .taken) (c .if1 .taken)
+returns c = any-hit _ _ _ _ (c .before .before .before .loop .inv) (c .before .before .loop-test .taken) (apart _ _ _ _ (c .before .read-word .ensures) refl (c .if1 .taken))
 
 loop-again : tie.Need-loop-again Inv-loop μ-loop
-loop-again c = alike-next _ _ _ (c .before .before .before .loop .inv) (c .before .before .loop-test .taken) _ (c .before .read-word2 .ensures) (c .if1 .left)
+loop-again c = any-next _ _ _ _ (c .before .before .before .loop .inv) (c .before .before .loop-test .taken) (alike _ _ _ _ (c .before .read-word .ensures) refl (c .if1 .left))
 
 returns-2 : tie.Need-returns-2 Inv-loop μ-loop
-returns-2 c = rest-end _ _ (c .before .before .read-word .ensures) (λ i low high. c .before .loop .inv .same i low (omega (arith, high, c .loop-test .left)))
+returns-2 c = any-end _ _ _ _ (c .before .loop .inv) (c .loop-test .left)
 
 pub rest-differs-spec : {M : Type 1} → statement M
 rest-differs-spec =
@@ -29,8 +32,7 @@ rest-differs-spec =
     (tie.spec
     Inv-loop
     μ-loop
-    (λ c κs. search needs)
-    (λ c. alike-start _ _)
+    (λ c. any-start _ _ _ (omega arith))
     (λ c κs. search needs)
     returns
     (λ c. search needs)

@@ -1,29 +1,17 @@
 -- `orderset::format::clear` meets its contract. Assumes nothing.
-use mathlib.Core.Path.{_≡_, refl}
-use mathlib.Core.List.{_++_}
-use Prim.Native.Nat.{_-_, _≤_}
+use Prim.Native.Nat.{_-_}
 use native.Mathlib.Omega.{arith}
-use lib.ListN.{length, drop, replicate, length-set}
+use lib.ListN.{length}
 use borrow.Author.Needs.{needs}
-use Rattle.index.proofs.Pushes.{cleared-more, cleared-all}
+use Rattle.sorting.proofs.Fills.{Clearing, clear-start, clear-turn, clear-end}
 use Rattle.orderset.proofs.format.clear.Statement.{statement}
 use Rattle.orderset.proofs.format.clear.Tie as tie
 
 abbrev Inv-loop : tie.InvT-loop
-Inv-loop image₀ i₀ image i = (image ≡ replicate i 0 ++ drop i image₀) × (length image ≡ length image₀) × (i ≤ length image₀)
+Inv-loop image₀ i₀ image i = Clearing image (length image₀) i
 
 abbrev μ-loop : tie.MeasureT-loop
 μ-loop image₀ i₀ image i = length image₀ - i
-
-loop-holds : tie.Need-loop-holds Inv-loop μ-loop
-loop-holds c = (refl, refl, search needs)
-
-loop-again : tie.Need-loop-again Inv-loop μ-loop
-loop-again c =
-    (cleared-more _ _ _ (omega arith) (c .before .loop .inv .0), simp length-set (c .before .loop .inv .1), search needs)
-
-returns : tie.Need-returns Inv-loop μ-loop
-returns c = cleared-all _ _ _ (omega arith) (c .before .loop .inv .2) (c .before .loop .inv .0)
 
 pub clear-spec : {M : Type 1} → statement M
 clear-spec =
@@ -31,10 +19,10 @@ clear-spec =
     (tie.spec
     Inv-loop
     μ-loop
-    loop-holds
+    (λ c. clear-start _)
     (λ c. search needs)
     (λ c. search needs)
     (λ c. search needs)
-    loop-again
-    (λ c. c .before .loop .inv .1)
-    returns)
+    (λ c. clear-turn _ _ _ (omega arith) (c .before .loop .inv))
+    (λ c. c .before .loop .inv .size)
+    (λ c. clear-end _ _ _ (omega arith) (c .before .loop .inv)))

@@ -11,22 +11,8 @@ copy-value-requires c κs =
     let r = ready-value _ _ _ _ _ (c .before .before .plan2 .given .1) (c .before .before .before .before .get-plan .ensures .1) in
     (record { low = omega arith; high = omega arith; room = r .0 }, omega (arith, r .1), r .2)
 
-returns : tie.Need-returns
-unfolding getSays
-returns c = get-refused _ _ _ _ _ _ (c .before .before .before .get-plan .ensures .0) _ (c .before .plan .given .1)
-
-returns-2 : tie.Need-returns-2
-unfolding getSays
-returns-2 c = get-absent _ _ _ _ _ _ (c .before .before .get-plan .ensures .0) (c .enum-told .given .1)
-
-returns-3 : tie.Need-returns-3
-unfolding getSays
-returns-3 c =
-    let planned = c .before .before .before .before .before in
-    get-value _ _ _ _ _ _ (planned .before .before .get-plan .ensures .0) _ _ (planned .plan2 .given .1) _
-    (c .before .before .copy-value .ensures)
-
 pub get-spec : {M : Type 1} → statement M
+unfolding getSays
 get-spec =
     tie.close
     (tie.spec
@@ -36,7 +22,7 @@ get-spec =
     (λ c. search needs)
     (λ c. search needs)
     copy-value-requires
-    returns
-    returns-2
+    (λ c. search (get-refused))
+    (λ c. search (get-absent))
     (λ c. search needs)
-    returns-3)
+    (λ c. search (get-value)))

@@ -1,13 +1,9 @@
 -- `orderset::remove::remove_checks` meets its contract. Assumes nothing.
 use borrow.Author.Needs.{needs}
-use Rattle.words.proofs.Tests.{tests}
 use Rattle.orderset.specs.Change.{removeChecks}
 use Rattle.orderset.proofs.Plans.{held}
 use Rattle.orderset.proofs.remove.remove_checks.Statement.{statement}
 use Rattle.orderset.proofs.remove.remove_checks.Tie as tie
-
-returns : tie.Need-returns
-returns c = held _ _ _ _ _ _ _ _ (c .before .enum-told .given .1) (c .held-checks .ensures)
 
 pub remove-checks-spec : {M : Type 1} → statement M
 unfolding removeChecks
@@ -18,6 +14,6 @@ remove-checks-spec =
     (λ c κs. search needs)
     (λ c. search needs)
     (λ c. search needs)
-    returns
-    (λ c. search tests)
-    (λ c. search tests))
+    (λ c. search (held, needs))
+    (λ c. search needs)
+    (λ c. search needs))

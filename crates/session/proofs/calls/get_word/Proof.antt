@@ -4,14 +4,11 @@ use borrow.Author.Needs.{needs}
 use Rattle.session.proofs.calls.get_word.Statement.{statement}
 use Rattle.session.proofs.calls.get_word.Tie as tie
 
-returns : tie.Need-returns
-unfolding wordFound
-returns c = c .before .get-by .ensures
-
 pub get-word-spec : {M : Type 1} → statement M
+unfolding wordFound
 get-word-spec =
     tie.close
     (tie.spec
     (λ c. search needs)
     (λ c κs. search needs)
-    returns)
+    (λ c. search needs))

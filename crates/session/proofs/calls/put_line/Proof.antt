@@ -1,12 +1,7 @@
 -- `session::calls::put_line` meets its contract. Assumes nothing.
-use mathlib.Core.Path.{ap, _∙_}
-use Rattle.session.specs.Step.{changeStep}
 use borrow.Author.Needs.{needs}
 use Rattle.session.proofs.calls.put_line.Statement.{statement}
 use Rattle.session.proofs.calls.put_line.Tie as tie
-
-returns : tie.Need-returns
-returns c = c .before .before .before .before .before .before .carry-change .ensures ∙ ap (changeStep (c .before .before .before .before .before .before .before .before .before .before .before .before .before .before .before .before .before .before .before .before .before .before .args .session) (c .before .before .before .before .before .before .before .before .before .before .before .before .before .before .before .before .before .before .before .before .before .before .args .image .now)) (c .before .before .before .before .before .before .before .before .before .before .before .before .before .before .put-word .ensures)
 
 pub put-line-spec : {M : Type 1} → statement M
 put-line-spec =
@@ -17,4 +12,4 @@ put-line-spec =
     (λ c. search needs)
     (λ c. search needs)
     (λ c. search needs)
-    returns)
+    (λ c. search (needs, ← (c .before .before .before .before .before .before .before .before .before .before .before .before .before .before .put-word .ensures))))

@@ -14,16 +14,16 @@ abbrev μ-loop : tie.MeasureT-loop
 μ-loop n space₀ i₀ rest₀ space i rest = rest
 
 loop-holds : tie.Need-loop-holds Inv-loop μ-loop
-loop-holds c = filling-begins _ _ (omega arith) (search needs)
+loop-holds c = search (needs, filling-begins)
 
 loop-again : tie.Need-loop-again Inv-loop μ-loop
-loop-again c = filling-more _ _ _ _ (c .before .loop .inv) (search needs)
+loop-again c = search filling-more
 
 same-length : tie.Need-same-length Inv-loop μ-loop
 same-length c = simp length-set (c .before .loop .inv .size ∙ sym (c .before .before .pre))
 
 returns : tie.Need-returns Inv-loop μ-loop
-returns c = (omega (arith, c .before .loop .inv .high, c .before .loop .inv .low), filling-last _ _ _ _ (c .before .loop .inv) (omega arith))
+returns c = (omega (arith, c .before .loop .inv .high, c .before .loop .inv .low), search filling-last)
 
 pub store-digits-spec : {M : Type 1} → statement M
 store-digits-spec =

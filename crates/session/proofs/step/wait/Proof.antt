@@ -1,15 +1,12 @@
 -- `session::step::wait` meets its contract. Assumes nothing.
-use mathlib.Core.Path.{refl}
 use Rattle.session.specs.Step.{waitingFor}
+use borrow.Author.Needs.{needs}
 use Rattle.session.proofs.step.wait.Statement.{statement}
 use Rattle.session.proofs.step.wait.Tie as tie
 
-returns : tie.Need-returns
-unfolding waitingFor
-returns c = refl
-
 pub wait-spec : {M : Type 1} → statement M
+unfolding waitingFor
 wait-spec =
     tie.close
     (tie.spec
-    returns)
+    (λ c. search needs))

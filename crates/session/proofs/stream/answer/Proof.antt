@@ -1,13 +1,11 @@
 -- `session::stream::answer` meets its contract. Assumes nothing.
-use Rattle.session.proofs.Streams.{answered}
+use Rattle.session.specs.Stream.{answerResult, answeredBy, printedBy}
 use borrow.Author.Needs.{needs}
 use Rattle.session.proofs.stream.answer.Statement.{statement}
 use Rattle.session.proofs.stream.answer.Tie as tie
 
-returns : tie.Need-returns
-returns c = answered _ _ _ _ _ _ _ _ _ _ _ _ (c .before .before .before .before .before .before .before .before .before .before .before .before .before .before .before .finish .ensures) (c .before .before .before .before .before .before .before .before .before .before .before .step .ensures) (c .before .before .before .render .ensures)
-
 pub answer-spec : {M : Type 1} → statement M
+unfolding answerResult answeredBy printedBy
 answer-spec =
     tie.close
     (tie.spec
@@ -18,4 +16,4 @@ answer-spec =
     (λ c. search needs)
     (λ c. search needs)
     (λ c. search needs)
-    returns)
+    (λ c. rw (← (c .before .before .before .before .before .before .before .before .before .before .before .before .before .before .before .finish .ensures), ← (c .before .before .before .before .before .before .before .before .before .before .before .step .ensures), ← (c .before .before .before .render .ensures))))

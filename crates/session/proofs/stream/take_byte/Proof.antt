@@ -1,16 +1,12 @@
 -- `session::stream::take_byte` meets its contract. Assumes nothing.
-use Rattle.session.proofs.Streams.{at-line-end, in-line}
+use Rattle.session.specs.Stream.{byteResult}
+use Rattle.words.proofs.Tests.{tests}
 use borrow.Author.Needs.{needs}
 use Rattle.session.proofs.stream.take_byte.Statement.{statement}
 use Rattle.session.proofs.stream.take_byte.Tie as tie
 
-returns : tie.Need-returns
-returns c = at-line-end _ _ _ _ _ _ _ _ _ _ _ (c .before .before .before .before .before .before .before .before .before .before .before .before .before .if1 .taken) (c .before .before .before .before .before .before .before .before .answer .ensures)
-
-returns-2 : tie.Need-returns-2
-returns-2 c = in-line _ _ _ _ _ _ _ (c .before .before .if1 .left) (c .feed .ensures)
-
 pub take-byte-spec : {M : Type 1} → statement M
+unfolding byteResult
 take-byte-spec =
     tie.close
     (tie.spec
@@ -19,6 +15,6 @@ take-byte-spec =
     (λ c. search needs)
     (λ c. search needs)
     (λ c. search needs)
-    returns
+    (λ c. search tests)
     (λ c κs. search needs)
-    returns-2)
+    (λ c. search (tests, c .feed .ensures)))

@@ -1,0 +1,14 @@
+pub mod Sizes
+pub mod Events
+pub mod Recovered
+pub mod Prints
+pub mod Fronts
+pub mod Calls
+pub mod NewLine
+pub mod CutLine
+pub mod CallLine
+pub mod OneLine
+pub mod SessionRule
+pub mod Accepts
+pub mod Numbers
+pub mod Outputs
