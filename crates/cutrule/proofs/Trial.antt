@@ -22,8 +22,9 @@ use Rattle.stores.specs.Store.{zipped, played}
 use Rattle.stores.specs.Written.{marked, bodyA, bodyB, run, lineStores, recordStores}
 use Rattle.stores.specs.Play.{halfFault, halvesFault, playFault, counted, playResult, places, values}
 use Rattle.sorting.specs.Sorted.{keep, insert, sorted}
+use Rattle.sorting.specs.Members.{slots}
 use Rattle.table.specs.Table.{counts, keyIn, weight, greatest, topmost, count, nextVersion, decider, valueIn, valueAt, mapOf, decidingPut, live, spare, liveCount, sharedVersion, allLive}
-use Rattle.table.specs.Order.{rankOf, slots, ordered, chainOf, reuseOf}
+use Rattle.table.specs.Order.{rankOf, ordered, chainOf, reuseOf}
 use Rattle.index.specs.Index.{start, ahead, setNext, setStart, setLast, link}
 use Rattle.index.specs.Chained.{firstOf, lastOf, after, nextIn, chained}
 use Rattle.index.specs.Change.{take, linkNew, append, putNew, putHeld, removeHeld, roomFault, versionFault, reuseFault}

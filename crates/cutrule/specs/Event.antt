@@ -1,12 +1,12 @@
 -- Calls that a power cut may strike. Document 01, "The plain map and the cut rule": "A cut may strike any call: play makes the counted stores, if there are any, and
 -- recovery comes next, whatever its index held."
 use mathlib.Core.Path.{_≡_}
-use mathlib.Core.Bool.{Bool, true, cond, _&&_}
+use mathlib.Core.Bool.{Bool, true, cond}
 use mathlib.Core.List.{List, [], _∷_}
 use Prim.Native.Nat.{ℕ, _≤_}
-use lib.Dec.{eqb}
 use lib.ListN.{length}
 use Rattle.layout.specs.Header.{indexFault}
+use Rattle.stores.specs.Cut.{bothStand}
 use Rattle.plainmap.specs.World.{World, Call, called, playing, finished, recoveredWorld}
 use Rattle.plainmap.specs.Plain.{PlainMap, Operation, operation, plainStep, isRefusal}
 use Rattle.plainmap.specs.Claims.{Sized}
@@ -42,7 +42,7 @@ step l w (struck call cut) = recoveredWorld l (cutImage l w call cut) (cut .head
 -- do all stores stand?
 unfoldable pub allStand : Event → Bool
 allStand (done call) = true
-allStand (struck call cut) = eqb (cut .a) 8 && eqb (cut .b) 8
+allStand (struck call cut) = bothStand (cut .a) (cut .b)
 
 -- "A struck put or remove that was not refused takes its step, wholly done, if all its stores stand; else it is wholly absent and changes nothing"
 unfoldable pub plainEvent : (stand : Bool) → Operation → (isRefused : Bool) → PlainMap → PlainMap

@@ -13,7 +13,7 @@ use Rattle.index.specs.Index.{Chain, reuse, head, Index, start, ahead, s
 use Rattle.index.specs.Change.{linkNew}
 use Rattle.index.specs.Build.{push, build}
 use Rattle.sorting.specs.Members.{In, Once}
-use Rattle.index.specs.Linked.{endOf, Owner, free, of, same, give, withChain, Slot, Woven, Good, Room, ownerOf, chainsOf, Full}
+use Rattle.index.specs.Linked.{endOf, Owner, free, of, same, give, withChain, Slot, Woven, Good, Room, ownerOf, chainsOf}
 use Rattle.index.proofs.Runs.{end-in}
 use Rattle.index.proofs.Owners.{Told, is, isnt, told, Which, that, other, which, free-of, reuse-apart, give-same, give-other, with-same, with-other}
 use Rattle.index.proofs.Links.{set-here, set-else, set-heads, set-last, set-size, link-last, slot-size, room-size}
@@ -143,7 +143,3 @@ good-build place i (s ∷ l) g a h m =
     (good-push _ _ _ (place s) s (good-build place i l g (a .1) (λ x k. h x (inr k)) (λ x k. m x (inr k)))
     (room-size i j (place s) (build-heads place i l) (m s (inl refl))) (slot-size i j s (build-next place i l) (h s (inl refl)))
     (owner-out place l s (a .0)))
-
--- every slot stands in a chain, where the list has them all
-pub full-build : (place : ℕ → Chain) (i : Index) (l : List ℕ) → ((x : ℕ) → Slot i x → In x l) → Full (build place i l) (ownerOf place l)
-full-build place i l h x t = (place x, owner-in place l x (h x (slot-size (build place i l) i x (sym (build-next place i l)) t)))

@@ -10,12 +10,11 @@ use borrow.Author.Tests.{eq-eqb}
 use Rattle.words.proofs.Choice.{pick-true, pick-false}
 use Rattle.layout.specs.Range.{tabulate}
 use Rattle.layout.proofs.Tabulate.{tabulate-length, tabulate-get}
-use Rattle.sorting.specs.Sorted.{keep}
 use Rattle.index.specs.Index.{Index, Chain, reuse, head, start, ahead, setNext, setStart, setLast, link}
 use Rattle.index.specs.Change.{linkNew}
 use Rattle.index.specs.Chained.{firstOf, lastOf, after, nextIn, chained}
 use Rattle.sorting.specs.Members.{In, Once}
-use Rattle.index.specs.Linked.{Run, endOf, Room, same, chainsOf, Sits}
+use Rattle.index.specs.Linked.{Run, endOf, Room, chainsOf, Sits}
 use Rattle.index.specs.Build.{push, build, unbuilt}
 use Rattle.index.proofs.Owners.{Told, is, isnt, told}
 use Rattle.index.proofs.Links.{ahead-next}
@@ -74,7 +73,7 @@ module _ (n b : ℕ) (place : ℕ → Chain) (i : Index) (chains : Chain → Lis
       sym (ahead-next i c (suc s) low)
       ∙ run-next (ahead i c) (suc s) (ahead i c 0) (chains c) (g .good .woven .runs c) (sits-has _ _ _ _ _ g (suc s) low h)
 
-  pub sits-chained : getD (i .next) 0 0 ≡ 0 → i ≡ chained n b chains place
+  sits-chained : getD (i .next) 0 0 ≡ 0 → i ≡ chained n b chains place
   unfolding chained
   sits-chained z =
       same-parts (i .heads) _ (i .next) _ (i .first) _ (i .last) _
@@ -108,15 +107,17 @@ room : (i : Index) (c : Chain) → ((h : ℕ) → c ≡ head h → h < length (i
 room i reuse h = tt
 room i (head k) h = h k refl
 
-pub built-chained : (n b : ℕ) (place : ℕ → Chain) (order heads next : List ℕ) → Once order
+pub built-sits : (n b : ℕ) (place : ℕ → Chain) (order heads next : List ℕ) → Once order
     → ((x : ℕ) → In x order → (0 < x) × (x ≤ n)) → ((x : ℕ) → 0 < x → x ≤ n → In x order)
     → ((s h : ℕ) → In s order → place s ≡ head h → h < b) → length heads ≡ b → length next ≡ n + 1
-    → ((h : ℕ) → getD heads h 0 ≡ 0) → getD next 0 0 ≡ 0
-    → build place (unbuilt heads next) order ≡ chained n b (λ c. keep (λ s. same c (place s)) order) place
-unfolding chainsOf
-built-chained n b place order heads next once inside all heads-in eb en zeros zero-next =
+    → ((h : ℕ) → getD heads h 0 ≡ 0) → Sits n b place (build place (unbuilt heads next) order) (chainsOf place order)
+built-sits n b place order heads next once inside all heads-in eb en zeros =
     let i = unbuilt heads next in
-    sits-chained _ _ _ _ (chainsOf place order)
-    (sits-build n b place i order (good-empty i zeros refl refl) en eb once inside all
-    (λ x m. room i (place x) (λ h e. omega (arith, heads-in x h m e))))
-    (build-zero place i order (λ x m. inside x m .0) ∙ zero-next)
+    sits-build n b place i order (good-empty i zeros refl refl) en eb once inside all
+    (λ x m. room i (place x) (λ h e. omega (arith, heads-in x h m e)))
+
+pub built-chained : (n b : ℕ) (place : ℕ → Chain) (order heads next : List ℕ) (chains : Chain → List ℕ)
+    → ((x : ℕ) → In x order → (0 < x) × (x ≤ n)) → getD next 0 0 ≡ 0
+    → Sits n b place (build place (unbuilt heads next) order) chains → build place (unbuilt heads next) order ≡ chained n b chains place
+built-chained n b place order heads next chains inside z g =
+    sits-chained n b place _ chains g (build-zero place (unbuilt heads next) order (λ x m. inside x m .0) ∙ z)

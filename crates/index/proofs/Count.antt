@@ -9,10 +9,10 @@ use lib.Dec.{eqb}
 use lib.ListN.{length, getD}
 use Rattle.index.specs.Index.{Chain, reuse, head, Index, ahead}
 use Rattle.sorting.specs.Members.{In, Once}
-use Rattle.index.specs.Linked.{Run, Owner, of, give, Slot, Woven, Full, Linked}
+use Rattle.index.specs.Linked.{Run, Owner, Slot, Woven, Linked}
 use Rattle.index.proofs.Runs.{Pos, self}
-use Rattle.index.proofs.Owners.{Told, is, isnt, told, of-of, reuse-apart, give-same, give-other}
-use Rattle.index.proofs.Links.{ahead-next, slot-size}
+use Rattle.index.proofs.Owners.{Told, is, isnt, told, of-of, reuse-apart}
+use Rattle.index.proofs.Links.{ahead-next}
 
 -- a run that ends has no slot twice
 pub run-once : (f : ℕ → ℕ) (a : ℕ) (xs : List ℕ) → Pos xs → Run f a xs 0 → Once xs
@@ -92,15 +92,6 @@ chain-short i owner chains n h f w e m =
     inside : (x : ℕ) → In x (f ∷ chains (head h)) → (0 < x) × (x ≤ n)
     inside x (inl d) = rw d (bounds reuse f m)
     inside x (inr k) = bounds (head h) x k
-
--- every slot stays in some chain
-pub full-give : (i j : Index) (owner : ℕ → Owner) (s : ℕ) (c : Chain) → length (j .next) ≡ length (i .next) → Full i owner
-    → Full j (give owner s (of c))
-full-give i j owner s c e h x t = go (told x s) (h x (slot-size j i x (sym e) t))
-  where
-    go : Told x s → (k : Chain) × (owner x ≡ of k) → (k : Chain) × (give owner s (of c) x ≡ of k)
-    go (is _ d) q = (c, give-same owner s (of c) x d)
-    go (isnt _ n) q = (q .0, give-other owner s (of c) x n ∙ q .1)
 
 -- a good index's chains, as a reader has them
 pub run-linked : (i : Index) (c : Chain) (a : ℕ) (xs : List ℕ) → ((x : ℕ) → In x xs → Slot i x) → Run (ahead i c) a xs 0

@@ -6,10 +6,9 @@ use native.Mathlib.Omega.{arith}
 use lib.ListN.{getD}
 use borrow.Author.Tests.{le-leb, lt-leb, ltb-false, leb-false, eqb-false}
 use Rattle.layout.proofs.Refusals.{say-true, say-false, say-zero}
-use Rattle.index.specs.Walk.{chainFault}
 use Rattle.index.specs.Change.{roomFault, versionFault, reuseFault}
 use Rattle.index.specs.declared.Found.{Found}
-use Rattle.index.specs.declared.Found.the-variants.{Absent, Broken}
+use Rattle.index.specs.declared.Found.the-variants.{Absent}
 
 -- room_fault at a key that is not held
 pub full : (found : Found) (prev compared n live : ℕ) → found ≡ Absent prev compared → n ≤ live + 1 → 12 ≡ roomFault found n live
@@ -23,10 +22,6 @@ room found prev compared n live e h =
     sym (ap (λ (f : Found). roomFault f n live) e ∙ say-false _ 12 0 (lt-leb n (live + 1) h))
 
 -- ---- what 0 says
-
-pub chain-fine : (f : Found) → chainFault f ≡ 0 → (f ≡ Broken → ⊥)
-unfolding chainFault
-chain-fine f e b = let z : _≡_ {A = ℕ} 11 0 = sym (ap chainFault b) ∙ e in omega arith
 
 pub room-fine : (n live prev compared : ℕ) → roomFault (Absent prev compared) n live ≡ 0 → live + 1 < n
 unfolding roomFault

@@ -14,15 +14,11 @@ use Rattle.index.specs.Change.{putNew, putHeld, removeHeld}
 use Rattle.index.specs.Build.{build}
 use Rattle.sorting.specs.Members.{In, Once}
 use Rattle.index.specs.Linked.{Run, endOf, Owner, free, of, give, withChain, Good, Room, ownerOf, chainsOf, placed, Sits}
-use Rattle.index.specs.Walk.{walk}
-use Rattle.index.specs.Sought.{sought}
-use Rattle.index.specs.declared.Found.the-variants.{At, Absent, Broken}
 use Rattle.index.proofs.Runs.{end-in}
 use Rattle.index.proofs.Links.{ahead-next}
 use Rattle.index.proofs.Owners.{Told, is, isnt, told, free-of, of-of, give-same, give-other}
 use Rattle.index.proofs.Calls.{first-is, owner-of, good-alike, good-new, good-held, good-remove, new-next, new-heads, held-next, held-heads, remove-next, remove-heads}
 use Rattle.index.proofs.Count.{run-once}
-use Rattle.index.proofs.Searches.{good-walk, Hit, Missed, sought-hit, sought-missed, never-broken}
 use Rattle.index.proofs.Builds.{good-build, build-next, build-heads, owner-in, owner-out}
 
 pub placed-in : (n : ℕ) (place : ℕ → Chain) (x : ℕ) → 0 < x → x ≤ n → placed n place x ≡ of (place x)
@@ -112,10 +108,6 @@ module _ (n b : ℕ) (place : ℕ → Chain) (i : Index) (chains : Chain → Lis
   pub sits-once : (c : Chain) → Once (chains c)
   sits-once c = run-once (ahead i c) (ahead i c 0) (chains c) (λ y m. sits-in c y m .0) (g .good .woven .runs c)
 
-  pub sits-walk : (key : ℕ → ℕ) (k h f : ℕ) → In f (chains reuse)
-      → walk key (i .next) n k n 0 0 (getD (i .heads) h 0) ≡ sought key k 0 0 (chains (head h))
-  sits-walk key k h f m = good-walk _ _ _ _ _ _ _ f (g .good .woven) (g .slots) m
-
   second : (f : ℕ) (rest : List ℕ) → chains reuse ≡ f ∷ rest → Run (ahead i reuse) (getD (i .next) (i .first) 0) rest 0
   second f rest e =
       let r : Run (ahead i reuse) (ahead i reuse 0) (f ∷ rest) 0 = rw e at (g .good .woven .runs reuse) in
@@ -124,20 +116,6 @@ module _ (n b : ℕ) (place : ℕ → Chain) (i : Index) (chains : Chain → Lis
       ahead-next i reuse f (q .0) ∙ ap (λ (x : ℕ). getD (i .next) x 0)
       (sym (first-is _ _ _ f rest (g .good .woven) e)) in
       rw d at (r .1)
-
-  -- what the walk answers in a good index: the key's first slot with the slot before it, or the chain's last slot; never broken
-  pub sits-found : (key : ℕ → ℕ) (k h f s prev count : ℕ) → In f (chains reuse)
-      → walk key (i .next) n k n 0 0 (getD (i .heads) h 0) ≡ At s prev count
-      → Hit key k (chains (head h)) s prev count
-  sits-found key k h f s prev count m e = sought-hit _ _ _ _ _ _ (sym (sits-walk key k h f m) ∙ e)
-
-  pub sits-absent : (key : ℕ → ℕ) (k h f prev count : ℕ) → In f (chains reuse)
-      → walk key (i .next) n k n 0 0 (getD (i .heads) h 0) ≡ Absent prev count
-      → Missed key k (chains (head h)) prev count
-  sits-absent key k h f prev count m e = sought-missed _ _ _ _ _ (sym (sits-walk key k h f m) ∙ e)
-
-  pub sits-whole : (key : ℕ → ℕ) (k h f : ℕ) → In f (chains reuse) → walk key (i .next) n k n 0 0 (getD (i .heads) h 0) ≡ Broken → ⊥
-  sits-whole key k h f m e = never-broken _ _ _ (sym (sits-walk key k h f m) ∙ e)
 
   -- the tests of the reuse chain pass
   pub sits-first : (f : ℕ) (rest : List ℕ) → chains reuse ≡ f ∷ rest → (i .first ≡ f) × (0 < i .first) × (i .first ≤ n)

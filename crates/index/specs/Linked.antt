@@ -70,10 +70,6 @@ pub record Good (i : Index) (owner : ℕ → Owner) (chains : Chain → List ℕ
   pub woven : Woven i owner chains
   pub ends : i .last ≡ endOf 0 (chains reuse)
 
--- every slot stands in a chain
-abbrev pub Full : Index → (ℕ → Owner) → Type 0
-Full i owner = (x : ℕ) → Slot i x → (c : Chain) × (owner x ≡ of c)
-
 -- ---- the slots of a list, each in its place
 
 unfoldable pub ownerOf : (place : ℕ → Chain) → List ℕ → ℕ → Owner

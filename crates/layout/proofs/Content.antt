@@ -1,25 +1,23 @@
--- What a verdict and a content say of the two lines of a slot, and the bounds of the fields. Assumes nothing.
+-- What a verdict and a content say of the two lines of a slot, and the length of its value. Assumes nothing.
 use mathlib.Core.Path.{_≡_, refl, sym, ap, ap₂, _∙_}
 use mathlib.Core.Bool.{true, false, cond}
 use mathlib.Core.Logic.{_⊎_, inl, inr}
 use mathlib.Core.List.{List}
-use Prim.Native.Nat.{ℕ, _+_, _/_, _%_, _^_, _≤_, _<_}
-use native.Mathlib.Nat.{mod-lt, zero-lt-suc}
+use Prim.Native.Nat.{ℕ, _+_, _/_, _%_, _≤_, _<_}
 use native.Mathlib.Omega.{arith}
 use lib.ListN.{length}
-use lib.Dec.{eqb, ltb, leb}
-use borrow.Author.Tests.{eq-eqb, ne-eqb, eqb-true, eqb-false, ltb-false}
-use Rattle.words.specs.Word.{AreBytes}
+use lib.Dec.{eqb}
+use borrow.Author.Tests.{eq-eqb, ne-eqb, eqb-true, eqb-false}
 use Rattle.words.proofs.Choice.{pick-true, pick-false, split, true-not-false}
 use Rattle.layout.specs.Line.{lineA, lineB, whole, versionOf, lineTop}
 use Rattle.layout.specs.Slot.{paired, slotTop, verdictOf, lineVerdict}
 use Rattle.layout.specs.Record.{kindOf, lengthOf, keyOf, limit, valueByte, valueFront, valueOf}
 use Rattle.layout.specs.Content.{broken, empty, put, remove, made, contentBy, contentOf, content, top, topOf}
-use Rattle.layout.specs.Fault.{kindFault, wordFault, tailFault, faultOf}
+use Rattle.layout.specs.Fault.{wordFault, tailFault, faultOf}
 use Rattle.layout.specs.declared.Verdict.the-variants.{Valid, Empty, Broken}
 use Rattle.layout.proofs.Any.{or-none}
 use Rattle.layout.proofs.Records.{within}
-use Rattle.layout.proofs.Tabulate.{tabulate-length, tabulate-below}
+use Rattle.layout.proofs.Tabulate.{tabulate-length}
 
 -- ---- the top of a line
 
@@ -179,17 +177,8 @@ put-not-empty v k x e = let z : _≡_ {A = ℕ} 0 1 = cc in omega arith
 put-not-remove : (w j v k : ℕ) (x : List ℕ) → remove w j ≡ put v k x → ⊥
 put-not-remove w j v k x e = let z : _≡_ {A = ℕ} 0 1 = cc in omega arith
 
-remove-not-broken : (t v k : ℕ) → broken t ≡ remove v k → ⊥
-remove-not-broken t v k e = let z : _≡_ {A = ℕ} 0 1 = cc in omega arith
-
-remove-not-empty : (v k : ℕ) → empty ≡ remove v k → ⊥
-remove-not-empty v k e = let z : _≡_ {A = ℕ} 0 1 = cc in omega arith
-
 put-fields : (w j v k : ℕ) (y x : List ℕ) → put w j y ≡ put v k x → (w ≡ v) × (j ≡ k) × (y ≡ x)
 put-fields w j v k y x e = (cc, cc, cc)
-
-remove-fields : (w j v k : ℕ) → remove w j ≡ remove v k → (w ≡ v) × (j ≡ k)
-remove-fields w j v k e = (cc, cc)
 
 of-version : (A B : ℕ → ℕ) (w v : ℕ) → ValidAt A B w → w ≡ v → ValidAt A B v
 of-version A B w v h e = record { pair = h .pair; version = h .version ∙ e; positive = omega (arith, h .positive, e) }
@@ -205,29 +194,7 @@ put-at l A B v k x e = go (reading l A B)
         let same = put-fields _ _ _ _ _ _ (sym c ∙ e) in
         record { valid = of-version A B (versionOf (A 7)) v (at .valid) (same .0); kind = at .kind; key = same .1; value = same .2 }
 
-pub remove-at : (l : ℕ) (A B : ℕ → ℕ) (v k : ℕ) → contentOf l A B ≡ remove v k → RemoveAt l A B v k
-remove-at l A B v k e = go (reading l A B)
-  where
-    go : Reading l A B → RemoveAt l A B v k
-    go (reads-broken p c) = absurd (remove-not-broken _ _ _ (sym c ∙ e))
-    go (reads-empty p z c) = absurd (remove-not-empty _ _ (sym c ∙ e))
-    go (reads-put at c) = absurd (put-not-remove _ _ _ _ _ (sym e ∙ c))
-    go (reads-remove at c) =
-        let same = remove-fields _ _ _ _ (sym c ∙ e) in
-        record { valid = of-version A B (versionOf (A 7)) v (at .valid) (same .0); kind = at .kind; key = same .1 }
-
--- ---- bounds of the fields
-
-pub version-bound : (A : ℕ → ℕ) → ((i : ℕ) → A i < 2 ^ 64) → versionOf (A 7) < 2 ^ 63
-version-bound A h = omega (arith, h 7)
-
-byte-small : (l : ℕ) (A B : ℕ → ℕ) (k : ℕ) → valueByte l A B k < 256
-unfolding valueByte
-byte-small l A B k = mod-lt _ (zero-lt-suc 255)
-
-pub value-bytes : (l : ℕ) (A B : ℕ → ℕ) → AreBytes (valueOf l A B)
-unfolding valueOf valueFront
-value-bytes l A B = tabulate-below (valueByte l A B) 256 0 (lengthOf (A (l + 1))) (omega arith) (byte-small l A B)
+-- ---- the length of the value
 
 pub value-length : (l : ℕ) (A B : ℕ → ℕ) → length (valueOf l A B) ≡ lengthOf (A (l + 1))
 unfolding valueOf valueFront

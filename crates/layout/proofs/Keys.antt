@@ -1,4 +1,4 @@
--- A key is what its words make, and a key of words is below (2 ^ 64) ^ l. Assumes nothing.
+-- A key is what its words make. Assumes nothing.
 use mathlib.Core.Path.{_≡_, sym, ap, ap₂, _∙_}
 use Prim.Native.Nat.{ℕ, zero, suc, _+_, _*_, _/_, _%_, _^_, _<_}
 use native.Mathlib.Nat.{pow-succ', div-one, div-lt-iff-lt-mul, div-div-eq-div-mul, mul-comm}
@@ -31,15 +31,3 @@ from-words (suc n) A i x h b =
 pub key-again : (l : ℕ) (A : ℕ → ℕ) (key : ℕ) → ((j : ℕ) → j < l → A (1 + j) ≡ keyWord key j) → key < (2 ^ 64) ^ l → keyOf l A ≡ key
 unfolding keyOf
 key-again l A key h b = from-words l A 1 key h b
-
-from-below : (A : ℕ → ℕ) → ((i : ℕ) → A i < 2 ^ 64) → (i n : ℕ) → keyFrom A i n < (2 ^ 64) ^ n
-unfolding keyFrom
-from-below A h i zero = omega arith
-from-below A h i (suc n) =
-    let p : keyFrom A (suc i) n < (2 ^ 64) ^ n = from-below A h (suc i) n in
-    let e : (2 ^ 64) ^ suc n ≡ 2 ^ 64 * (2 ^ 64) ^ n = pow-succ' (2 ^ 64) n in
-    omega (arith, h i)
-
-pub key-bound : (l : ℕ) (A : ℕ → ℕ) → ((i : ℕ) → A i < 2 ^ 64) → keyOf l A < (2 ^ 64) ^ l
-unfolding keyOf
-key-bound l A h = from-below A h 1 l

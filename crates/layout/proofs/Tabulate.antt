@@ -51,10 +51,3 @@ tabulate-list f [] k h = refl
 tabulate-list f (x ∷ xs) k h =
     ap₂ (λ (y : ℕ) (ys : List ℕ). y ∷ ys) (ap f (omega arith) ∙ h 0 (omega arith))
     (tabulate-list f xs (suc k) (λ i l. ap f (omega arith) ∙ h (suc i) (omega arith)))
-
--- bounded elements
-pub tabulate-below : (f : ℕ → ℕ) (c k n : ℕ) → 0 < c → ((i : ℕ) → f i < c) → (i : ℕ) → getD (tabulate f k n) i 0 < c
-unfolding tabulate
-tabulate-below f c k zero p h i = p
-tabulate-below f c k (suc n) p h zero = h k
-tabulate-below f c k (suc n) p h (suc i) = tabulate-below f c (suc k) n p h i

@@ -16,7 +16,9 @@ use Rattle.index.specs.Change.{putNew, putHeld, removeHeld}
 use Rattle.index.specs.Parts.{Inside, Holds}
 use Rattle.index.specs.declared.State.{State}
 use Rattle.orderset.specs.Change.{ChangeResult, changeSays, changeEnd, changed}
-use Rattle.orderset.specs.Plan.{Writable}
+use Rattle.orderset.specs.Plan.{putLinks, putLive, Writable, Linkable, PutReady}
+use Rattle.orderset.specs.declared.Plan.{Plan}
+use Rattle.orderset.specs.declared.Plan.the-variants.{New, Held}
 use Rattle.orderset.specs.declared.Outcome.the-variants.{Stored}
 
 module _ (image heads next : List ℕ) (s : State) (key prev old : ℕ) (w : Writable image heads next s key prev old) where
@@ -24,9 +26,13 @@ module _ (image heads next : List ℕ) (s : State) (key prev old : ℕ) (w : Wri
   pub inside : key < 2 ^ 64 → Inside heads next s (key % length heads) prev old
   inside k = subst (λ (x : ℕ). Inside heads next s (x % length heads) prev old) (mod-eq-of-lt k) (w .index)
 
-  pub recordable : (kind : ℕ) (value : List ℕ) → kind < 256 → length value ≤ 80 → Recordable 1 kind value (s .version)
-  recordable kind value k v =
-      record { low = omega arith; high = omega arith; kind-fits = k; size = v; version-fits = w .index .version-fits }
+module _ (image heads next : List ℕ) (s : State) (key : ℕ) (value : List ℕ) (plan : Plan) (r : PutReady image heads next s key (length value) plan) where
+  pub recordable : Recordable 1 1 value (s .version)
+  recordable =
+      record { low = omega arith; high = omega arith; kind-fits = omega arith; size = r .size-fits; version-fits = r .version-fits }
+
+  pub linkable : key < 2 ^ 64 → Linkable heads next s (key % length heads) plan
+  linkable k = subst (λ (x : ℕ). Linkable heads next s (x % length heads) plan) (mod-eq-of-lt k) (r .links)
 
 -- what is left of a call that answers a slot and a version
 abbrev left : State → Index → (live version : ℕ) → List Store → ChangeResult
@@ -62,11 +68,20 @@ module _ (i : Index) (key b : ℕ) (k : key < 2 ^ 64) where
   by-head : (write : ℕ → Index) → write (key % b) ≡ write (headOf key b)
   by-head write = ap (λ (x : ℕ). write (x % b)) (sym (mod-eq-of-lt k))
 
-  pub new-by-head : (prev : ℕ) → putNew i (key % b) prev ≡ putNew i (headOf key b) prev
-  new-by-head prev = by-head (λ h. putNew i h prev)
-
-  pub held-by-head : (prev old : ℕ) → putHeld i (key % b) prev old ≡ putHeld i (headOf key b) prev old
-  held-by-head prev old = by-head (λ h. putHeld i h prev old)
+  pub put-by-head : (plan : Plan) → putLinks i (key % b) plan ≡ putLinks i (headOf key b) plan
+  put-by-head plan = by-head (λ h. putLinks i h plan)
 
   pub removed-by-head : (prev old : ℕ) → removeHeld i (key % b) prev old ≡ removeHeld i (headOf key b) prev old
   removed-by-head prev old = by-head (λ h. removeHeld i h prev old)
+
+-- the links of a plan that is known
+module _ (heads next : List ℕ) (after : State) (i : Index) (h live version : ℕ) (plan : Plan) where
+  pub new-links : (prev : ℕ) → plan ≡ New prev → Holds heads next after (putNew i h prev) (live + 1) version
+      → Holds heads next after (putLinks i h plan) (putLive live plan) version
+  unfolding putLinks putLive
+  new-links prev e g = subst (λ (p : Plan). Holds heads next after (putLinks i h p) (putLive live p) version) (sym e) g
+
+  pub held-links : (prev old : ℕ) → plan ≡ Held prev old → Holds heads next after (putHeld i h prev old) live version
+      → Holds heads next after (putLinks i h plan) (putLive live plan) version
+  unfolding putLinks putLive
+  held-links prev old e g = subst (λ (p : Plan). Holds heads next after (putLinks i h p) (putLive live p) version) (sym e) g

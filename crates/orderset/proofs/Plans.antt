@@ -15,6 +15,7 @@ use Rattle.layout.specs.Record.{limit}
 use Rattle.layout.specs.Header.{lentFault}
 use Rattle.layout.proofs.Size.{slots-high}
 use Rattle.layout.proofs.Refusals.{say-false, say-zero, orElse-first, orElse-later, orElse-zero}
+use Rattle.index.specs.Index.{indexOf, headOf}
 use Rattle.index.specs.Walk.{search}
 use Rattle.index.specs.Change.{versionFault, reuseFault}
 use Rattle.index.specs.Parts.{Sized}
@@ -23,8 +24,8 @@ use Rattle.index.specs.declared.Found.{Found}
 use Rattle.index.specs.declared.Found.the-variants.{At, Absent, Broken}
 use Rattle.index.proofs.Walks.{at-inside, absent-inside}
 use Rattle.index.proofs.Faults.{room-fine, version-fine, reusable}
-use Rattle.orderset.specs.Change.{ChangeResult, unchanged, putChecks, putFault, putDone, putResult, heldChecks, removeChecks, removeFault, removeDone, removeResult}
-use Rattle.orderset.specs.Plan.{planOf, Writable, PutReady, RemoveReady}
+use Rattle.orderset.specs.Change.{ChangeResult, unchanged, changed, putChecks, putFault, putDone, putResult, heldChecks, removeChecks, removeFault, removeDone, removeResult}
+use Rattle.orderset.specs.Plan.{planOf, refusalOf, putLinks, putLive, Writable, Linkable, PutReady, RemoveReady}
 use Rattle.orderset.specs.declared.Plan.{Plan}
 use Rattle.orderset.specs.declared.Plan.the-variants.{Refuse, New, Held}
 use Rattle.index.proofs.Lents.{lent-sized}
@@ -87,22 +88,28 @@ module _ (l : ℕ) (image heads next : List ℕ) (s : State) (key n : ℕ) (size
       }
 
   put-ready : (size : ℕ) → size ≤ 80 → putChecks (search l image heads next key) next n s ≡ 0
-      → PutReady image heads next s key size (planOf 0 (search l image heads next key))
-  unfolding planOf putChecks
+      → refusalOf (planOf 0 (search l image heads next key)) ≡ 0 → PutReady image heads next s key size (planOf 0 (search l image heads next key))
+  unfolding planOf putChecks refusalOf
   put-ready size h = go (search l image heads next key) refl
     where
-      go : (found : Found) → search l image heads next key ≡ found → putChecks found next n s ≡ 0
+      ready : (plan : Plan) (prev old : ℕ) → Writable image heads next s key prev old → Linkable heads next s (headOf key (length heads)) plan
+          → PutReady image heads next s key size plan
+      ready plan prev old w links =
+          record { some-head = sized .some-head; links = links; version-fits = w .index .version-fits; size-fits = h; slot-fits = w .slot-fits; slot-in = w .slot-in }
+
+      go : (found : Found) → search l image heads next key ≡ found → putChecks found next n s ≡ 0 → refusalOf (planOf 0 found) ≡ 0
           → PutReady image heads next s key size (planOf 0 found)
-      go (At slot prev compared) e z =
+      go (At slot prev compared) e z f =
           let a = orElse-zero _ _ (orElse-zero _ _ (orElse-zero _ _ z .1) .1) in
           let i = at-inside l image heads next n key (sized .slots) slot prev compared e in
-          (writable prev slot (a .0) (a .1) (i .2) (i .1), h)
-      go (Absent prev compared) e z =
+          let w = writable prev slot (a .0) (a .1) (i .2) (i .1) in ready (Held prev slot) prev slot w (w .index)
+      go (Absent prev compared) e z f =
           let b = orElse-zero _ _ (orElse-zero _ _ z .1) in
           let a = orElse-zero _ _ (b .1) in
           let i = absent-inside l image heads next n key (sized .slots) prev compared e in
-          (writable prev prev (a .0) (a .1) i i, h, omega (arith, room-fine n (s .live) prev compared (b .0), sized .few))
-      go Broken e z = tt
+          let w = writable prev prev (a .0) (a .1) i i in
+          ready (New prev) prev prev w (w .index, omega (arith, room-fine n (s .live) prev compared (b .0), sized .few))
+      go Broken e z f = absurd (omega (arith, f))
 
   remove-ready : removeChecks (search l image heads next key) next n s ≡ 0
       → RemoveReady image heads next s key (planOf 0 (search l image heads next key))
@@ -145,9 +152,9 @@ module _
         → r ≡ planOf (putFault l image heads next s key size) (search l image heads next key)
     put-goes-on size h e = goes-on (put-fault size h e) zk ed er
 
-    pub put-readied : (size : ℕ) → 1 ≤ l → size ≤ limit l → k ≡ putChecks found next n s → PutReady image heads next s key size r
+    pub put-readied : (size : ℕ) → 1 ≤ l → size ≤ limit l → k ≡ putChecks found next n s → refusalOf r ≡ 0 → PutReady image heads next s key size r
     put-readied size low h e =
-        readied (PutReady image heads next s key size)
+        readied (λ p. refusalOf p ≡ 0 → PutReady image heads next s key size p)
         (put-ready l image heads next s key n sized size (omega arith)
         (ap (λ (d : Found). putChecks d next n s) (sym ed) ∙ sym e ∙ zk))
 
@@ -181,6 +188,23 @@ module _
   planned-result zero (Absent prev k) = absent prev k
   planned-result zero Broken = broken
 
+-- a plan that refuses
+pub refuses-with : (plan : Plan) (number : ℕ) → number ≡ refusalOf plan → (number ≡ 0 → ⊥) → plan ≡ Refuse number
+unfolding refusalOf
+refuses-with (Refuse k) number e ne = ap Refuse (sym e)
+refuses-with (New prev) number e ne = absurd (ne e)
+refuses-with (Held prev old) number e ne = absurd (ne e)
+
+-- and one that does not
+put-done : (l : ℕ) (image heads next : List ℕ) (s : State) (key : ℕ) (value : List ℕ) (keep : ℕ → ChangeResult) (plan : Plan)
+    → Linkable heads next s (headOf key (length heads)) plan
+    → changed l image s key 1 value (putLinks (indexOf heads next s) (headOf key (length heads)) plan) (putLive (s .live) plan) ≡
+    planned (putDone l image heads next s key value) keep plan
+unfolding putLinks putLive putDone
+put-done l image heads next s key value keep (Refuse k) links = absurd links
+put-done l image heads next s key value keep (New prev) links = refl
+put-done l image heads next s key value keep (Held prev old) links = refl
+
 -- left is what stands after a call whose plan is known
 module _ (l : ℕ) (image heads next : List ℕ) (s : State) (key : ℕ) (plan known : Plan) (q : plan ≡ known) (left : ChangeResult) where
   pub put-answer : (value : List ℕ) → plan ≡ planOf (putFault l image heads next s key (length value)) (search l image heads next key)
@@ -196,3 +220,13 @@ module _ (l : ℕ) (image heads next : List ℕ) (s : State) (key : ℕ) (plan k
   remove-answer e h =
       h ∙ ap (planned _ (keeps s heads next)) (sym q ∙ e)
       ∙ planned-result (removeDone l image heads next s key) _ (λ old prev k. refl) (λ prev k. refl) refl _ _
+
+-- a put whose plan does not refuse
+pub put-planned-answer : (l : ℕ) (image heads next : List ℕ) (s : State) (key : ℕ) (value : List ℕ) (plan : Plan) (left : ChangeResult)
+    → plan ≡ planOf (putFault l image heads next s key (length value)) (search l image heads next key)
+    → Linkable heads next s (headOf key (length heads)) plan
+    → left ≡ changed l image s key 1 value (putLinks (indexOf heads next s) (headOf key (length heads)) plan) (putLive (s .live) plan)
+    → left ≡ putResult l image heads next s key value
+put-planned-answer l image heads next s key value plan left e links h =
+    put-answer l image heads next s key plan plan refl left value e
+    (h ∙ put-done l image heads next s key value (keeps s heads next) plan links)

@@ -1,9 +1,10 @@
 -- The plan of a call: what it is to do, found by reading alone, and what its writes lean on.
 use mathlib.Core.List.{List}
-use Prim.Native.Nat.{ℕ, zero, suc, _+_, _*_, _≤_, _<_}
+use Prim.Native.Nat.{ℕ, zero, suc, _+_, _*_, _^_, _≤_, _<_}
 use lib.ListN.{length}
 use Rattle.layout.specs.Record.{limit}
-use Rattle.index.specs.Index.{headOf}
+use Rattle.index.specs.Index.{Index, headOf}
+use Rattle.index.specs.Change.{putNew, putHeld}
 use Rattle.index.specs.Parts.{Inside}
 use Rattle.index.specs.declared.State.{State}
 use Rattle.index.specs.declared.Found.{Found}
@@ -21,6 +22,23 @@ planOf zero (At slot prev compared) = Held prev slot
 planOf zero (Absent prev compared) = New prev
 planOf zero Broken = Refuse 11
 
+-- the number of a plan that refuses, 0 for one that does not
+unfoldable pub refusalOf : Plan → ℕ
+refusalOf (Refuse number) = number
+refusalOf (New prev) = 0
+refusalOf (Held prev old) = 0
+
+-- what a put with this plan makes of the index, by the key's head h, and of the live count
+unfoldable pub putLinks : Index → (h : ℕ) → Plan → Index
+putLinks i h (Refuse number) = i
+putLinks i h (New prev) = putNew i h prev
+putLinks i h (Held prev old) = putHeld i h prev old
+
+unfoldable pub putLive : (live : ℕ) → Plan → ℕ
+putLive live (Refuse number) = live
+putLive live (New prev) = live + 1
+putLive live (Held prev old) = live
+
 -- get
 unfoldable pub readingOf : (l : ℕ) → (image : List ℕ) → (fault : ℕ) → Found → Reading
 readingOf l image (suc k) found = Decline (suc k)
@@ -34,11 +52,20 @@ pub record Writable (image heads next : List ℕ) (s : State) (key prev old : �
   pub slot-fits : s .first < 65536
   pub slot-in : 128 * (s .first + 1) ≤ length image
 
--- what a plan of put says of them; size is the value's length
-abbrev pub PutReady : (image heads next : List ℕ) → State → (key size : ℕ) → Plan → Type 0
-PutReady image heads next s key size (Refuse k) = Unit
-PutReady image heads next s key size (New prev) = Writable image heads next s key prev prev × (size ≤ 80) × (s .live < 65535)
-PutReady image heads next s key size (Held prev old) = Writable image heads next s key prev old × (size ≤ 80)
+-- the links that a put with this plan makes of an index lie inside it; h is the key's head
+abbrev pub Linkable : (heads next : List ℕ) → State → (h : ℕ) → Plan → Type 0
+Linkable heads next s h (Refuse number) = ⊥
+Linkable heads next s h (New prev) = Inside heads next s h prev prev × (s .live < 65535)
+Linkable heads next s h (Held prev old) = Inside heads next s h prev old
+
+-- a put with this plan can be carried out; size is the value's length
+pub record PutReady (image heads next : List ℕ) (s : State) (key size : ℕ) (plan : Plan) : Type 0 where
+  pub some-head : 0 < length heads
+  pub links : Linkable heads next s (headOf key (length heads)) plan
+  pub version-fits : s .version < 2 ^ 63
+  pub size-fits : size ≤ 80
+  pub slot-fits : s .first < 65536
+  pub slot-in : 128 * (s .first + 1) ≤ length image
 
 -- and a plan of remove
 abbrev pub RemoveReady : (image heads next : List ℕ) → State → (key : ℕ) → Plan → Type 0

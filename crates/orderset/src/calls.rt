@@ -4,7 +4,7 @@ ghost use mathlib.Core.List.{List};
 ghost use Prim.Native.Nat.{ℕ};
 ghost use Rattle.layout.specs.Answer.{gives, absent, refused};
 ghost use Rattle.orderset.specs.Change.{changeEnd, unchanged};
-ghost use Rattle.orderset.specs.Plan.{planOf};
+ghost use Rattle.orderset.specs.Plan.{planOf, refusalOf};
 use crate::Change;
 use crate::Outcome;
 use crate::Plan;
@@ -24,6 +24,17 @@ pub fn plan_of(found: Found) -> Plan
         } => Plan::Held { prev, old: slot },
         Found::Absent { prev, compared: _ } => Plan::New { prev },
         Found::Broken => Plan::Refuse(11),
+    }
+}
+
+// The number of a plan that refuses, 0 for one that does not.
+pub fn refused_with(plan: Plan) -> u32
+    ensures { λ r. ⌜ r ≡ refusalOf plan ⌝ }
+{
+    match plan {
+        Plan::Refuse(number) => number,
+        Plan::New { prev: _ } => 0,
+        Plan::Held { prev: _, old: _ } => 0,
     }
 }
 

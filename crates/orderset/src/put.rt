@@ -1,18 +1,19 @@
 // Put: a key gets a value.
 ghost use mathlib.Core.Path.{_≡_};
 ghost use mathlib.Core.List.{List};
-ghost use Prim.Native.Nat.{ℕ, _+_, _≤_, _<_};
+ghost use Prim.Native.Nat.{ℕ, _+_};
 ghost use lib.ListN.{length};
 ghost use Rattle.index.specs.Index.{indexOf, headOf};
 ghost use Rattle.index.specs.Walk.{search};
-ghost use Rattle.index.specs.Change.{putNew, putHeld};
+ghost use Rattle.index.specs.Parts.{Holds};
 ghost use Rattle.orderset.specs.Change.{changeEnd, changed, putChecks, putFault, putResult};
-ghost use Rattle.orderset.specs.Plan.{planOf, Writable, PutReady};
+ghost use Rattle.orderset.specs.Plan.{planOf, refusalOf, putLinks, putLive, Linkable, PutReady};
 use crate::Change;
 use crate::Outcome;
 use crate::Plan;
 use crate::calls::plan_of;
 use crate::calls::refusal;
+use crate::calls::refused_with;
 use index::Found;
 use index::State;
 use index::change::put_held;
@@ -48,7 +49,7 @@ fn put_checks(found: Found, next: &[u32], n: u32, state: State) -> u32
 
 // What a put is to do. Nothing is written.
 fn put_plan(image: &[u8], heads: &[u32], next: &[u32], state: State, key: u64, size: usize) -> Plan
-    ensures { λ r. ⌜ (r ≡ planOf (putFault 1 (now (image .entry)) (now (heads .entry)) (now (next .entry)) state key size) (search 1 (now (image .entry)) (now (heads .entry)) (now (next .entry)) key)) × PutReady (now (image .entry)) (now (heads .entry)) (now (next .entry)) state key size r ⌝ }
+    ensures { λ r. ⌜ (r ≡ planOf (putFault 1 (now (image .entry)) (now (heads .entry)) (now (next .entry)) state key size) (search 1 (now (image .entry)) (now (heads .entry)) (now (next .entry)) key)) × (refusalOf r ≡ 0 → PutReady (now (image .entry)) (now (heads .entry)) (now (next .entry)) state key size r) ⌝ }
 {
     let fault = lent_fault(image, 1, heads.len(), next.len());
     if fault != 0 {
@@ -66,49 +67,34 @@ fn put_plan(image: &[u8], heads: &[u32], next: &[u32], state: State, key: u64, s
     plan_of(found)
 }
 
-// A key that is not held is written into the first reuse slot and linked after prev.
-fn insert_at(
-    image: &[u8],
-    heads: &mut [u32],
-    next: &mut [u32],
-    state: State,
-    key: u64,
-    value: &[u8],
-    prev: u32,
-) -> Change
-    requires { ⌜ Writable (now image) (now heads) (now next) state key prev prev × (length (now value) ≤ 80) × (state .live < 65535) ⌝ }
-    ensures { λ r. ⌜ changeEnd r (now (heads .exit)) (now (next .exit)) ≡ changed 1 (now (image .entry)) state key 1 (now (value .entry)) (putNew (indexOf (now (heads .entry)) (now (next .entry)) state) (headOf key (length (now (heads .entry)))) prev) (state .live + 1) ⌝ }
+// The index after a put with this plan, which does not refuse; h is the key's head.
+fn put_links(heads: &mut [u32], next: &mut [u32], state: State, h: usize, plan: Plan) -> State
+    requires { ⌜ Linkable (now heads) (now next) state h plan ⌝ }
+    ensures { λ r. ⌜ Holds (now (heads .exit)) (now (next .exit)) r (putLinks (indexOf (now (heads .entry)) (now (next .entry)) state) h plan) (putLive (state .live) plan) (state .version + 1) ⌝ }
 {
-    let h = (key % heads.len() as u64) as usize;
-    let stores = record_stores(image, 1, state.first, key, 0, 1, value, state.version);
-    let after = put_new(heads, next, state, h, prev);
-    Change {
-        outcome: Outcome::Stored {
-            slot: state.first,
-            version: state.version,
-        },
-        state: after,
-        stores,
+    match plan {
+        Plan::Refuse(_) => state,
+        Plan::New { prev } => put_new(heads, next, state, h, prev),
+        Plan::Held { prev, old } => put_held(heads, next, state, h, prev, old),
     }
 }
 
-// A held key is written into the first reuse slot, which replaces old.
-fn replace_at(
+// The record is written into the first reuse slot, and the index goes by the plan.
+fn put_planned(
     image: &[u8],
     heads: &mut [u32],
     next: &mut [u32],
     state: State,
     key: u64,
     value: &[u8],
-    prev: u32,
-    old: u32,
+    plan: Plan,
 ) -> Change
-    requires { ⌜ Writable (now image) (now heads) (now next) state key prev old × (length (now value) ≤ 80) ⌝ }
-    ensures { λ r. ⌜ changeEnd r (now (heads .exit)) (now (next .exit)) ≡ changed 1 (now (image .entry)) state key 1 (now (value .entry)) (putHeld (indexOf (now (heads .entry)) (now (next .entry)) state) (headOf key (length (now (heads .entry)))) prev old) (state .live) ⌝ }
+    requires { ⌜ PutReady (now image) (now heads) (now next) state key (length (now value)) plan ⌝ }
+    ensures { λ r. ⌜ changeEnd r (now (heads .exit)) (now (next .exit)) ≡ changed 1 (now (image .entry)) state key 1 (now (value .entry)) (putLinks (indexOf (now (heads .entry)) (now (next .entry)) state) (headOf key (length (now (heads .entry)))) plan) (putLive (state .live) plan) ⌝ }
 {
     let h = (key % heads.len() as u64) as usize;
     let stores = record_stores(image, 1, state.first, key, 0, 1, value, state.version);
-    let after = put_held(heads, next, state, h, prev, old);
+    let after = put_links(heads, next, state, h, plan);
     Change {
         outcome: Outcome::Stored {
             slot: state.first,
@@ -131,9 +117,9 @@ pub fn put(
     ensures { λ r. ⌜ changeEnd r (now (heads .exit)) (now (next .exit)) ≡ putResult 1 (now (image .entry)) (now (heads .entry)) (now (next .entry)) state key (now (value .entry)) ⌝ }
 {
     let plan = put_plan(image, heads, next, state, key, value.len());
-    match plan {
-        Plan::Refuse(number) => refusal(number, state),
-        Plan::New { prev } => insert_at(image, heads, next, state, key, value, prev),
-        Plan::Held { prev, old } => { replace_at(image, heads, next, state, key, value, prev, old) }
+    let number = refused_with(plan);
+    if number != 0 {
+        return refusal(number, state);
     }
+    put_planned(image, heads, next, state, key, value, plan)
 }

@@ -1,6 +1,6 @@
 -- The image after a call with its stores played, all of them or what a cut left. Assumes nothing.
 use mathlib.Core.Path.{_≡_, refl, sym, ap, _∙_, subst}
-use mathlib.Core.Bool.{Bool, true, false, cond, _&&_}
+use mathlib.Core.Bool.{Bool, true, false, cond}
 use mathlib.Core.Logic.{by-cases}
 use mathlib.Core.List.{List}
 use Prim.Native.Nat.{ℕ, _≤_}
@@ -13,6 +13,7 @@ use Rattle.layout.specs.Size.{slotsOf}
 use Rattle.layout.specs.Content.{Content}
 use Rattle.stores.specs.Store.{Store}
 use Rattle.stores.specs.Written.{recordStores}
+use Rattle.stores.specs.Cut.{bothStand}
 use Rattle.table.specs.Table.{Table, mapOf, nextVersion, valueIn}
 use Rattle.table.specs.Write.{Slot, Free, only, upd, Record}
 use Rattle.table.proofs.Write.{above-next, lose-map, write-map}
@@ -28,20 +29,16 @@ use Rattle.plainmap.proofs.Steps.{Stepped, stored-none, stored-record}
 
 -- ---- tables
 
--- are all stores of both lines there?
-abbrev pub bothFull : (a b : ℕ) → Bool
-bothFull a b = eqb a 8 && eqb b 8
-
-not-full : (a b : ℕ) → (a ≡ 8 → b ≡ 8 → ⊥) → bothFull a b ≡ false
+not-full : (a b : ℕ) → (a ≡ 8 → b ≡ 8 → ⊥) → bothStand a b ≡ false
 not-full a b h = by-cases (ℕ-discrete a 8) (λ e. rw (eq-eqb a 8 e) (ne-eqb b 8 (h e))) (λ ne. rw (ne-eqb a 8 ne) refl)
 
-full : (a b : ℕ) → a ≡ 8 → b ≡ 8 → bothFull a b ≡ true
+full : (a b : ℕ) → a ≡ 8 → b ≡ 8 → bothStand a b ≡ true
 full a b p q = rw (eq-eqb a 8 p, eq-eqb b 8 q) refl
 
 module _ (f f′ : Table) (n s key : ℕ) (c : Content) (a b : ℕ) (slot : Slot n s) (free : Free f n (only s)) (r : Record c (nextVersion f n) key) where
   -- the map has the record where all stores stand, and is as it was where not
   pub cut-map : TableCut f f′ s c a b → (k : ℕ)
-      → mapOf f′ n k ≡ (cond (bothFull a b) (λ j. cond (eqb j key) (valueIn c) (mapOf f n j)) (mapOf f n)) k
+      → mapOf f′ n k ≡ (cond (bothStand a b) (λ j. cond (eqb j key) (valueIn c) (mapOf f n j)) (mapOf f n)) k
   cut-map (kept x y e) k =
       ap (λ (g : Table). mapOf g n k) e
       ∙ sym (ap (λ (t : Bool). (cond t (λ j. cond (eqb j key) (valueIn c) (mapOf f n j)) (mapOf f n)) k) (not-full a b (λ p q. omega arith)))
@@ -70,7 +67,7 @@ pub record After (l : ℕ) (w : World) (call : Call) (a b : ℕ) : Type 0 where
   pub map :
       (k : ℕ)
       → slotsMap l (playedImage l w call a b) k ≡
-      (cond (bothFull a b) (plainStep (operation call) (isRefusal (called l w call .answer)) (slotsMap l (w .image))) (slotsMap l (w .image))) k
+      (cond (bothStand a b) (plainStep (operation call) (isRefusal (called l w call .answer)) (slotsMap l (w .image))) (slotsMap l (w .image))) k
 
 either : (t : Bool) (m m′ : PlainMap) (k : ℕ) → m k ≡ m′ k → m k ≡ (cond t m′ m) k
 either true m m′ k e = e
@@ -115,7 +112,7 @@ module _ (l : ℕ) (w : World) (call : Call) (accepted : Accepted l (w .image)) 
 
     record-map : (k : ℕ)
         → slotsMap l struck k ≡
-        (cond (bothFull a b) (λ j. cond (eqb j key) (valueIn (nextRecord l (w .image) key kind value)) (slotsMap l (w .image) j)) (slotsMap l (w .image))) k
+        (cond (bothStand a b) (λ j. cond (eqb j key) (valueIn (nextRecord l (w .image) key kind value)) (slotsMap l (w .image) j)) (slotsMap l (w .image))) k
     record-map k =
         ap (λ (x : ℕ). mapOf (tableOf l struck) x k) same-slots
         ∙ cut-map (tableOf l (w .image)) _ (slotsIn (w .image)) (w .state .first) key _ a b (wr .slot) (wr .free) (made-record kind _ key value)
@@ -129,7 +126,7 @@ module _ (l : ℕ) (w : World) (call : Call) (accepted : Accepted l (w .image)) 
       record {
         accepted = subst (Accepted l) (sym e) accepted;
         slots = ap (λ (t : List ℕ). slotsIn t) e;
-        map = λ k. ap (λ (t : List ℕ). slotsMap l t k) e ∙ either (bothFull a b) (slotsMap l (w .image)) _ k (same k);
+        map = λ k. ap (λ (t : List ℕ). slotsMap l t k) e ∙ either (bothStand a b) (slotsMap l (w .image)) _ k (same k);
       }
   after-call a b p q (stored-record key kind value i alive d wr step) =
       let e = as-struck a b key kind value i alive p q d wr in
@@ -138,7 +135,7 @@ module _ (l : ℕ) (w : World) (call : Call) (accepted : Accepted l (w .image)) 
         slots = ap (λ (t : List ℕ). slotsIn t) e ∙ same-slots a b key kind value i alive p q d wr;
         map = λ k.
             ap (λ (t : List ℕ). slotsMap l t k) e ∙ record-map a b key kind value i alive p q d wr k
-            ∙ branch (bothFull a b) (slotsMap l (w .image)) _ _ k (step k);
+            ∙ branch (bothStand a b) (slotsMap l (w .image)) _ _ k (step k);
       }
 
   -- THE INDEX AFTER A CALL with all its stores played

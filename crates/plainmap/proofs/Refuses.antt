@@ -159,15 +159,12 @@ module _ (l : ℕ) (w : World) (chains : Chain → List ℕ) (a : Accepted l (w 
   unfolding lentFault
   sound-lent = orElse-later _ _ (a .header) ∙ s .size
 
-  -- nor is 11: by the key's chain, by reuse, and by the live count where a key is held
+  -- nor is 11: by the key's chain and by reuse
   pub sound-chain : (key : ℕ) → chainFault (search l (w .image) (w .heads) (w .next) key) ≡ 0
   sound-chain key = sees-whole (tableOf l (w .image)) (slotsIn (w .image)) key _ _ (sound-sees l w chains s key)
 
   pub sound-reuse : reuseFault (w .next) (slotsIn (w .image)) (w .state .first) (w .state .last) ≡ 0
   sound-reuse = reuse-fine _ _ _ _ chains (s .index) (s .some-spare)
-
-  pub sound-live : (key : ℕ) (v : List ℕ) → slotsMap l (w .image) key ≡ some v → 0 < w .state .live
-  sound-live key v e = omega (arith, held-counted (tableOf l (w .image)) (slotsIn (w .image)) key v e, s .live-count)
 
   -- PUT is refused where the rules refuse it
   pub put-fault : (key : ℕ) (value : List ℕ)

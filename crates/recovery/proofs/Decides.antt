@@ -11,21 +11,20 @@ use lib.Seq.{getD-set-same, getD-set-other}
 use Rattle.words.proofs.Choice.{true-not-false}
 use Rattle.layout.specs.Content.{Content, broken, empty, put, remove}
 use Rattle.sorting.specs.Sorted.{sorted}
-use Rattle.sorting.specs.Members.{In, Rising, Once}
-use Rattle.sorting.proofs.Order.{Compared, low, high, compared, at-in}
-use Rattle.sorting.proofs.Order.{sorted-in, in-sorted, length-sorted, rising-sorted, once-sorted}
+use Rattle.sorting.specs.Members.{Rising, Once, slots}
+use Rattle.sorting.proofs.Order.{Compared, low, high, compared, at-in, rising-sorted}
 use Rattle.table.specs.Table.{Table, keyIn, weight, decider, decidingPut, live, liveCount}
-use Rattle.table.specs.Order.{rankOf, slots, ordered}
+use Rattle.table.specs.Order.{rankOf, ordered}
 use Rattle.table.specs.Write.{Slot, Distinct, ApartByKey}
 use Rattle.table.proofs.Content.{weight-put, weight-key}
 use Rattle.table.proofs.Count.{count-same}
 use Rattle.table.proofs.Distinct.{distinct-apart}
-use Rattle.table.proofs.Lists.{in-slots, slots-in, once-slots}
+use Rattle.table.proofs.Lists.{Whole, whole-slots, whole-sorted}
 use Rattle.table.proofs.Map.{decider-newest, decider-unique}
 use Rattle.index.specs.Index.{headOf}
 use Rattle.recovery.specs.Scan.{putPlace, Listed}
 use Rattle.recovery.specs.Decide.{followed, decided, placedCount, livePlace}
-use Rattle.recovery.proofs.Standing.{Stands, stands, once-at, rising-at, RisingByKey, by-key-at, sorted-by-key, length-slots}
+use Rattle.recovery.proofs.Standing.{Stands, stands, once-at, rising-at, RisingByKey, by-key-at, sorted-by-key}
 
 -- a place that is followed, and one that is not
 
@@ -130,10 +129,7 @@ weight-rank k (remove w j) h e = ap (λ (b : Bool). suc (cond b (suc w) 0)) (eq-
 
 -- l has each slot 1 to n once, by key, and those of one key by rank
 pub record ByKey (f : Table) (n : ℕ) (keys l : List ℕ) : Type 0 where
-  pub size : length l ≡ n
-  pub once : Once l
-  pub within : (t : ℕ) → In t l → Slot n t
-  pub all : (t : ℕ) → Slot n t → In t l
+  pub whole : Whole n l
   pub key-is : (t : ℕ) → Slot n t → getD keys t 0 ≡ keyIn (f t)
   pub rising : Rising (λ x. getD keys x 0) l
   pub by-rank : RisingByKey (λ x. getD keys x 0) (λ x. rankOf (f x)) l
@@ -141,7 +137,7 @@ pub record ByKey (f : Table) (n : ℕ) (keys l : List ℕ) : Type 0 where
 pub by-key-is : (f : Table) (n b : ℕ) (ranks keys places order by-key : List ℕ) → Listed f n b ranks keys places
     → order ≡ ordered f (slots n) → by-key ≡ sorted (λ x. getD keys x 0) order → ByKey f n keys by-key
 unfolding ordered
-by-key-is f n b ranks keys places order by-key h e d = rw (d, e) whole
+by-key-is f n b ranks keys places order by-key h e d = rw (d, e) both
   where
     rank : ℕ → ℕ
     rank x = rankOf (f x)
@@ -149,13 +145,10 @@ by-key-is f n b ranks keys places order by-key h e d = rw (d, e) whole
     key : ℕ → ℕ
     key x = getD keys x 0
 
-    whole : ByKey f n keys (sorted (λ x. getD keys x 0) (sorted (λ x. rankOf (f x)) (slots n)))
-    whole =
+    both : ByKey f n keys (sorted (λ x. getD keys x 0) (sorted (λ x. rankOf (f x)) (slots n)))
+    both =
         record {
-          size = length-sorted key (sorted rank (slots n)) ∙ length-sorted rank (slots n) ∙ length-slots n;
-          once = once-sorted key (sorted rank (slots n)) (once-sorted rank (slots n) (once-slots n));
-          within = λ t m. slots-in n t (sorted-in rank t (slots n) (sorted-in key t (sorted rank (slots n)) m));
-          all = λ t i. in-sorted key t (sorted rank (slots n)) (in-sorted rank t (slots n) (in-slots n t i));
+          whole = whole-sorted key n (sorted rank (slots n)) (whole-sorted rank n (slots n) (whole-slots n));
           key-is = λ t i. h .key-at t (i .0) (i .1);
           rising = rising-sorted key (sorted rank (slots n));
           by-rank = sorted-by-key key rank (sorted rank (slots n)) (rising-sorted rank (slots n));
@@ -178,13 +171,13 @@ followed-idle f n keys l j w k v h a u e q d =
     next = followed-inside keys l j q
 
     slot-s : Slot n s
-    slot-s = h .within s (at-in l j u)
+    slot-s = h .whole .within s (at-in l j u)
 
     slot-t : Slot n t
-    slot-t = h .within t (at-in l (j + 1) next)
+    slot-t = h .whole .within t (at-in l (j + 1) next)
 
     other : t ≡ s → ⊥
-    other z = omega (arith, once-at l (j + 1) j (h .once) next u z)
+    other z = omega (arith, once-at l (j + 1) j (h .whole .once) next u z)
 
     same : keyIn (f t) ≡ k
     same = sym (h .key-is t slot-t) ∙ sym (followed-key keys l j q) ∙ h .key-is s slot-s ∙ ap keyIn e
@@ -203,13 +196,13 @@ last-decides : (f : Table) (n : ℕ) (keys l : List ℕ) (j w k : ℕ) (v : List
     → f (getD l j 0) ≡ put w k v → followed keys l j ≡ false → decider f n k ≡ getD l j 0
 unfolding keyIn
 last-decides f n keys l j w k v h a u e q =
-    decider-unique f n k s a slot-s (omega (arith, heavy)) (λ t i. most t i (stands l t (h .all t i)) (weight k (f t)) refl)
+    decider-unique f n k s a slot-s (omega (arith, heavy)) (λ t i. most t i (stands l t (h .whole .all t i)) (weight k (f t)) refl)
   where
     s : ℕ
     s = getD l j 0
 
     slot-s : Slot n s
-    slot-s = h .within s (at-in l j u)
+    slot-s = h .whole .within s (at-in l j u)
 
     heavy : weight k (f s) ≡ suc w
     heavy = ap (weight k) e ∙ weight-put w k v
@@ -289,13 +282,13 @@ decided-live f n b ranks keys places order by-key h size d e c s low-s high-s =
     go (by-key-is f n b ranks keys places order by-key h e c)
   where
     go : ByKey f n keys by-key → getD (decided keys by-key n places) s 0 ≡ livePlace f n b s
-    go w = at (stands by-key s (w .all s (low-s, high-s)))
+    go w = at (stands by-key s (w .whole .all s (low-s, high-s)))
       where
         at : Stands by-key s → getD (decided keys by-key n places) s 0 ≡ livePlace f n b s
         at p =
             let z : getD by-key (p .spot) 0 ≡ s = p .here in
             ap (λ (x : ℕ). getD (decided keys by-key n places) x 0) (sym z)
-            ∙ decided-at keys by-key n places (p .spot) (w .once) (omega (arith, w .size)) (omega (arith, w .size, p .inside))
+            ∙ decided-at keys by-key n places (p .spot) (w .whole .once) (omega (arith, w .whole .size)) (omega (arith, w .whole .size, p .inside))
             (omega (arith, z))
             ∙ ap (λ (x : ℕ). cond (followed keys by-key (p .spot)) 0 x)
             (ap (λ (x : ℕ). getD places x 0) z ∙ h .place-at s low-s high-s ∙ sym (ap (λ (x : ℕ). putPlace b (f x)) z))

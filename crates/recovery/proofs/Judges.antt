@@ -1,4 +1,4 @@
--- What judging leans on: the refusals 5 to 8 from what was found, and the arranged slots of an accepted image. Assumes nothing.
+-- What judging leans on: the refusals 5 to 8, and the arranged slots of an accepted image. Assumes nothing.
 use mathlib.Core.Path.{_≡_, sym, ap, ap₂, _∙_}
 use mathlib.Core.Bool.{Bool, true, false, cond}
 use mathlib.Core.Logic.{_⊎_, inl, inr}
@@ -7,7 +7,6 @@ use Prim.Native.Nat.{ℕ, suc, _+_, _-_, _*_, _^_, _≤_, _<_}
 use native.Mathlib.Omega.{arith}
 use lib.Dec.{eqb}
 use lib.ListN.{length, getD}
-use borrow.Author.Tests.{eq-eqb, ne-eqb}
 use Rattle.words.specs.Word.{AreBytes, word}
 use Rattle.words.proofs.Laws.{word-range}
 use Rattle.words.proofs.Choice.{pick-true, pick-false, split}
@@ -17,14 +16,15 @@ use Rattle.layout.specs.Line.{lineA, lineB, whole, versionOf, lineTop}
 use Rattle.layout.specs.Slot.{slotTop}
 use Rattle.layout.specs.Content.{content, top, topOf}
 use Rattle.layout.specs.Fault.{markFault, recordFault}
-use Rattle.layout.proofs.Refusals.{say-true, say-false}
+use Rattle.layout.proofs.Refusals.{say-true}
 use Rattle.layout.proofs.Content.{top-is}
 use Rattle.sorting.specs.Sorted.{sorted}
-use Rattle.sorting.specs.Members.{slotsUpTo}
+use Rattle.sorting.specs.Members.{slots}
 use Rattle.sorting.proofs.Order.{sorted-alike}
 use Rattle.table.specs.Table.{Table, liveCount, nextVersion, sharedVersion, allLive}
-use Rattle.table.specs.Order.{rankOf, slots, ordered}
+use Rattle.table.specs.Order.{rankOf, ordered}
 use Rattle.table.specs.Write.{Distinct}
+use Rattle.table.proofs.Lists.{slots-in, Whole, whole-sorted}
 use Rattle.table.proofs.Most.{greatest-least}
 use Rattle.table.proofs.Distinct.{shared-distinct}
 use Rattle.recovery.specs.Recover.{slotsFault}
@@ -33,37 +33,9 @@ use Rattle.recovery.specs.Decide.{twins, decided, placedCount, livePlace
 use Rattle.recovery.specs.Judge.{foundFault, Judgement}
 use Rattle.recovery.specs.declared.Scan.{Scan}
 use Rattle.recovery.proofs.Clear.{slots-clear}
-use Rattle.recovery.proofs.Orders.{up-in, up-slots, length-order, length-order-twice, within-sorted, within-sorted-twice}
+use Rattle.recovery.proofs.Orders.{whole-order, whole-within}
 use Rattle.recovery.proofs.Twins.{twins-shared}
 use Rattle.recovery.proofs.Decides.{decided-live, counted-live}
-
--- ---- the refusals
-
-module _ (mark fault shared : Bool) (live n : ℕ) where
-  pub found-mark : mark ≡ true → 5 ≡ foundFault mark fault shared live n
-  unfolding foundFault
-  found-mark e = sym (say-true mark 5 _ e)
-
-  module _ (a : mark ≡ false) where
-    pub found-record : fault ≡ true → 6 ≡ foundFault mark fault shared live n
-    unfolding foundFault
-    found-record e = sym (say-false mark 5 _ a ∙ say-true fault 6 _ e)
-
-    module _ (b : fault ≡ false) where
-      pub found-shared : shared ≡ true → 7 ≡ foundFault mark fault shared live n
-      unfolding foundFault
-      found-shared e = sym (say-false mark 5 _ a ∙ say-false fault 6 _ b ∙ say-true shared 7 _ e)
-
-      module _ (c : shared ≡ false) where
-        rest : foundFault mark fault shared live n ≡ say (eqb live n) 8 0
-        unfolding foundFault
-        rest = say-false mark 5 _ a ∙ say-false fault 6 _ b ∙ say-false shared 7 _ c
-
-        pub found-all : live ≡ n → 8 ≡ foundFault mark fault shared live n
-        found-all e = sym (rest ∙ say-true (eqb live n) 8 0 (eq-eqb live n e))
-
-        pub found-none : (live ≡ n → ⊥) → 0 ≡ foundFault mark fault shared live n
-        found-none e = sym (rest ∙ say-false (eqb live n) 8 0 (ne-eqb live n e))
 
 -- ---- versions fit
 
@@ -89,7 +61,7 @@ top-small image s b =
 
 module _ (image : List ℕ) (n b : ℕ) (ranks keys places₁ order by-key places : List ℕ) (all : Scan) (shared : Bool) (live-count : ℕ)
     (bytes : AreBytes image) (size : length places₁ ≡ n + 1) (s : Scanned (word image) n b ranks keys places₁ all)
-    (in-order : order ≡ sorted (λ x. getD ranks x 0) (slotsUpTo n)) (twin : shared ≡ anyOf (twins ranks order) 0 (n - 1))
+    (in-order : order ≡ sorted (λ x. getD ranks x 0) (slots n)) (twin : shared ≡ anyOf (twins ranks order) 0 (n - 1))
     (keyed : by-key ≡ sorted (λ x. getD keys x 0) order) (done : places ≡ decided keys by-key n places₁)
     (counted : live-count ≡ placedCount places n) where
   f : Table
@@ -103,9 +75,8 @@ module _ (image : List ℕ) (n b : ℕ) (ranks keys places₁ order by-key place
   unfolding f ordered
   order-is =
       in-order
-      ∙ sorted-alike (λ x. getD ranks x 0) (λ x. rankOf (f x)) (slotsUpTo n)
-      (λ x i. let t = up-in n x i in s .listed .rank-at x (omega (arith, t .0)) (t .1))
-      ∙ ap (sorted (λ x. rankOf (f x))) (up-slots n)
+      ∙ sorted-alike (λ x. getD ranks x 0) (λ x. rankOf (f x)) (slots n)
+      (λ x i. let t = slots-in n x i in s .listed .rank-at x (t .0) (t .1))
 
   module _ (fine : sharedVersion f n ≡ false) where
     apart-versions : Distinct f n
@@ -171,30 +142,21 @@ module _ (image : List ℕ) (n b : ℕ) (ranks keys places₁ order by-key place
 
 -- ---- what the functions that judge calls ask for
 
-by-rank : (order₀ order ranks : List ℕ) (n : ℕ) → order ≡ sorted (λ x. getD ranks x 0) (slotsUpTo (length order₀)) → length order₀ ≡ n
-    → order ≡ sorted (λ x. getD ranks x 0) (slotsUpTo n)
-by-rank order₀ order ranks n e h = e ∙ ap (λ (k : ℕ). sorted (λ x. getD ranks x 0) (slotsUpTo k)) h
-
-module _ (order₀ order ranks₀ ranks : List ℕ) (n : ℕ) (e : order ≡ sorted (λ x. getD ranks x 0) (slotsUpTo (length order₀)))
+module _ (order₀ order ranks₀ ranks : List ℕ) (n : ℕ) (e : order ≡ sorted (λ x. getD ranks x 0) (slots (length order₀)))
     (size : length order₀ ≡ n) where
-  pub in-rank : order ≡ sorted (λ x. getD ranks x 0) (slotsUpTo n)
-  in-rank = by-rank order₀ order ranks n e size
+  pub in-rank : order ≡ sorted (λ x. getD ranks x 0) (slots n)
+  in-rank = rw size at e
+
+  all-slots : Whole n order
+  all-slots = whole-order (λ x. getD ranks x 0) n order in-rank
 
   pub twins-ready : 1 ≤ n → length ranks ≡ length ranks₀ → length ranks₀ ≡ n + 1
       → (length order ≡ n) × (1 ≤ n) × (length ranks ≡ n + 1) × Within order n
-  twins-ready some p q =
-      (length-order (λ x. getD ranks x 0) n order in-rank, some, p ∙ q, within-sorted (λ x. getD ranks x 0) n order in-rank)
+  twins-ready some p q = (all-slots .size, some, p ∙ q, whole-within order n all-slots)
 
   pub decide-ready : (keys₀ keys places₀ places by-key : List ℕ) → by-key ≡ sorted (λ x. getD keys x 0) order → n ≤ 65535
       → length keys ≡ length keys₀ → length keys₀ ≡ n + 1 → length places ≡ length places₀ → length places₀ ≡ n + 1
       → (length by-key ≡ n) × (n ≤ 65535) × (length keys ≡ n + 1) × (length places ≡ n + 1) × Within by-key n
-  decide-ready keys₀ keys places₀ places by-key k few p q r t = (
-    length-order-twice (λ x. getD ranks x 0) (λ x. getD keys x 0) n by-key twice,
-    few,
-    p ∙ q,
-    r ∙ t,
-    within-sorted-twice (λ x. getD ranks x 0) (λ x. getD keys x 0) n by-key twice,
-  )
-    where
-      twice : by-key ≡ sorted (λ x. getD keys x 0) (sorted (λ x. getD ranks x 0) (slotsUpTo n))
-      twice = k ∙ ap (sorted (λ x. getD keys x 0)) in-rank
+  decide-ready keys₀ keys places₀ places by-key k few p q r t =
+      let w : Whole n by-key = rw k (whole-sorted (λ x. getD keys x 0) n order all-slots) in
+      (w .size, few, p ∙ q, r ∙ t, whole-within by-key n w)

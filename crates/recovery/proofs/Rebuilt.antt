@@ -12,27 +12,29 @@ use lib.ListN.{length, getD, replicate, length-replicate}
 use borrow.Author.Tests.{eq-eqb, ne-eqb}
 use Rattle.words.proofs.Choice.{pick-true, pick-false, split}
 use Rattle.layout.specs.Range.{tabulate}
-use Rattle.sorting.specs.Sorted.{keep, sorted}
-use Rattle.sorting.specs.Members.{In, Once}
-use Rattle.sorting.proofs.Order.{sorted-in, in-sorted, once-sorted, keep-sorted}
+use Rattle.sorting.specs.Sorted.{keep}
+use Rattle.sorting.specs.Members.{In, slots}
+use Rattle.sorting.proofs.Order.{keep-sorted}
 use Rattle.table.specs.Table.{Table, keyIn, live, spare}
-use Rattle.table.specs.Order.{rankOf, slots, ordered, chainOf, reuseOf}
-use Rattle.table.proofs.Lists.{slots-in, in-slots, once-slots}
+use Rattle.table.specs.Order.{rankOf, ordered, chainOf, reuseOf}
+use Rattle.table.proofs.Lists.{slots-in, Whole}
 use Rattle.index.specs.Index.{Chain, reuse, head, headOf}
 use Rattle.index.specs.Chained.{firstOf, lastOf, after, nextIn, chained}
 use Rattle.index.specs.Parts.{Holds}
 use Rattle.index.specs.declared.State.{State}
 use Rattle.index.specs.Build.{build, placeIn, unbuilt, Ordered}
 use Rattle.index.specs.Build as building
-use Rattle.index.specs.Linked.{same}
-use Rattle.index.proofs.Chained.{built-chained}
+use Rattle.index.specs.Linked.{same, Sits}
+use Rattle.index.specs.Linked as linked
+use Rattle.index.proofs.Chained.{built-sits, built-chained}
 use Rattle.recovery.specs.Recover.{chainsOf, placeOf, recoveredIndex}
 use Rattle.recovery.specs.Decide.{livePlace}
 use Rattle.recovery.specs.Judge.{Arranged}
+use Rattle.recovery.proofs.Orders.{whole-order}
 
 -- ---- lists and tables that agree where it counts
 
-pub keep-alike : (p q : ℕ → Bool) (l : List ℕ) → ((x : ℕ) → In x l → p x ≡ q x) → keep p l ≡ keep q l
+keep-alike : (p q : ℕ → Bool) (l : List ℕ) → ((x : ℕ) → In x l → p x ≡ q x) → keep p l ≡ keep q l
 unfolding keep
 keep-alike p q [] h = refl
 keep-alike p q (x ∷ l) h =
@@ -65,7 +67,7 @@ chained-alike n b chains p q h =
     })
     (tabulate-alike (nextIn chains p) (nextIn chains q) 0 (n + 1) (λ i low high. next-alike n chains p q h i (omega arith)))
 
-pub zeros : (n i : ℕ) → _≡_ {A = ℕ} (getD (replicate n 0) i 0) 0
+zeros : (n i : ℕ) → _≡_ {A = ℕ} (getD (replicate n 0) i 0) 0
 zeros zero i = refl
 zeros (suc n) zero = refl
 zeros (suc n) (suc i) = zeros n i
@@ -91,7 +93,7 @@ place-of f n b s = go (split (live f n s))
     go (inr e) = ap building.chainOf (pick-false (live f n s) _ _ e) ∙ sym (pick-false (live f n s) (head (headOf (keyIn (f s)) b)) reuse e)
 
 -- the test for a chain by place is the test of document 01's chain
-pub in-reuse : (f : Table) (n b s : ℕ) → same reuse (placeOf f n b s) ≡ spare f n s
+in-reuse : (f : Table) (n b s : ℕ) → same reuse (placeOf f n b s) ≡ spare f n s
 unfolding placeOf spare
 in-reuse f n b s = go (split (live f n s))
   where
@@ -99,7 +101,7 @@ in-reuse f n b s = go (split (live f n s))
     go (inl e) = rw e
     go (inr e) = rw e
 
-pub in-head : (f : Table) (n b h s : ℕ) → same (head h) (placeOf f n b s) ≡ (live f n s && eqb (headOf (keyIn (f s)) b) h)
+in-head : (f : Table) (n b h s : ℕ) → same (head h) (placeOf f n b s) ≡ (live f n s && eqb (headOf (keyIn (f s)) b) h)
 unfolding placeOf
 in-head f n b h s = go (split (live f n s))
   where
@@ -107,7 +109,7 @@ in-head f n b h s = go (split (live f n s))
     go (inl e) = rw e (eqb-swap h (headOf (keyIn (f s)) b))
     go (inr e) = rw e
 
-pub head-in : (f : Table) (n b s h : ℕ) → 1 ≤ b → placeOf f n b s ≡ head h → h < b
+head-in : (f : Table) (n b s h : ℕ) → 1 ≤ b → placeOf f n b s ≡ head h → h < b
 unfolding placeOf
 head-in f n b s h few e = go (split (live f n s))
   where
@@ -129,63 +131,50 @@ head-in f n b s h few e = go (split (live f n s))
         )
     go (inr t) = absurd (other (sym (pick-false (live f n s) (head (headOf (keyIn (f s)) b)) reuse t) ∙ e))
 
-in-same : {l m : List ℕ} → l ≡ m → (x : ℕ) → In x l → In x m
-in-same e x i = subst (λ (t : List ℕ). In x t) e i
+pub ordered-whole : (f : Table) (n : ℕ) (order : List ℕ) → order ≡ ordered f (slots n) → Whole n order
+unfolding ordered
+ordered-whole f n order e = whole-order (λ s. rankOf (f s)) n order e
 
-once-same : {l m : List ℕ} → l ≡ m → Once l → Once m
-once-same e o = subst (λ (t : List ℕ). Once t) e o
+pub arranged-place : (f : Table) (n b : ℕ) (order places : List ℕ) (live-count top : ℕ) → Arranged f n b order places live-count top
+    → (s : ℕ) → 0 < s → s ≤ n → placeIn places s ≡ placeOf f n b s
+unfolding placeIn
+arranged-place f n b order places live-count top a s low high = ap building.chainOf (a .place-is s low high) ∙ place-of f n b s
 
-module _ (f : Table) (n b : ℕ) (order places : List ℕ) (live-count top : ℕ) (few : 1 ≤ b) (a : Arranged f n b order places live-count top) where
-  at-place : (s : ℕ) → 0 < s → s ≤ n → placeIn places s ≡ placeOf f n b s
-  unfolding placeIn
-  at-place s low high = ap building.chainOf (a .place-is s low high) ∙ place-of f n b s
+-- all slots by rising rank, pushed into an index of zeros
+module _ (f : Table) (n b : ℕ) (order : List ℕ) (place : ℕ → Chain) (few : 1 ≤ b) (order-is : order ≡ ordered f (slots n))
+    (at-place : (s : ℕ) → 0 < s → s ≤ n → place s ≡ placeOf f n b s) where
+  whole : Whole n order
+  whole = ordered-whole f n order order-is
 
-  ranked : List ℕ → List ℕ
-  ranked = sorted (λ s. rankOf (f s))
-
-  order-is : order ≡ ranked (slots n)
-  unfolding ordered ranked
-  order-is = a .order-is
-
-  pub arranged-in : (x : ℕ) → In x order → (0 < x) × (x ≤ n)
-  unfolding ranked
-  arranged-in x i =
-      let t = slots-in n x (sorted-in (λ s. rankOf (f s)) x (slots n) (in-same order-is x i)) in
-      (omega (arith, t .0), t .1)
-
-  in-order : (x : ℕ) → 0 < x → x ≤ n → In x order
-  unfolding ranked
-  in-order x low high = in-same (sym order-is) x (in-sorted (λ s. rankOf (f s)) x (slots n) (in-slots n x (omega arith, high)))
-
-  order-once : Once order
-  unfolding ranked
-  order-once = once-same (sym order-is) (once-sorted (λ s. rankOf (f s)) (slots n) (once-slots n))
-
-  kept : (p q : ℕ → Bool) → ((s : ℕ) → 0 < s → s ≤ n → p s ≡ q s) → keep p order ≡ ranked (keep q (slots n))
-  unfolding ranked
+  kept : (p q : ℕ → Bool) → ((s : ℕ) → 0 < s → s ≤ n → p s ≡ q s) → keep p order ≡ ordered f (keep q (slots n))
+  unfolding ordered
   kept p q h =
       ap (keep p) order-is ∙ keep-sorted (λ s. rankOf (f s)) p (slots n)
-      ∙ ap ranked (keep-alike p q (slots n) (λ x i. let t = slots-in n x i in h x (omega (arith, t .0)) (t .1)))
+      ∙ ap (ordered f) (keep-alike p q (slots n) (λ x i. let t = slots-in n x i in h x (t .0) (t .1)))
 
-  chains-are : (c : Chain) → keep (λ s. same c (placeIn places s)) order ≡ chainsOf f n b c
-  unfolding chainsOf reuseOf chainOf ordered ranked
-  chains-are reuse =
-      kept (λ s. same reuse (placeIn places s)) (spare f n) (λ s low high. ap (same reuse) (at-place s low high) ∙ in-reuse f n b s)
+  chains-are : (c : Chain) → linked.chainsOf place order c ≡ chainsOf f n b c
+  unfolding linked.chainsOf chainsOf reuseOf chainOf
+  chains-are reuse = kept (λ s. same reuse (place s)) (spare f n) (λ s low high. ap (same reuse) (at-place s low high) ∙ in-reuse f n b s)
   chains-are (head h) =
-      kept (λ s. same (head h) (placeIn places s)) (λ s. live f n s && eqb (headOf (keyIn (f s)) b) h)
+      kept (λ s. same (head h) (place s)) (λ s. live f n s && eqb (headOf (keyIn (f s)) b) h)
       (λ s low high. ap (same (head h)) (at-place s low high) ∙ in-head f n b h s)
 
-  heads-in : (s h : ℕ) → In s order → placeIn places s ≡ head h → h < b
-  heads-in s h i e = let t = arranged-in s i in head-in f n b s h few (sym (at-place s (t .0) (t .1)) ∙ e)
+  heads-in : (s h : ℕ) → In s order → place s ≡ head h → h < b
+  heads-in s h i e = let t = whole .within s i in head-in f n b s h few (sym (at-place s (t .0) (t .1)) ∙ e)
+
+  pub arranged-sits : Sits n b place (build place (unbuilt (replicate b 0) (replicate (n + 1) 0)) order) (chainsOf f n b)
+  arranged-sits =
+      subst (λ (chains : Chain → List ℕ). Sits n b place (build place (unbuilt (replicate b 0) (replicate (n + 1) 0)) order) chains)
+      (fun-ext chains-are)
+      (built-sits n b place order (replicate b 0) (replicate (n + 1) 0) (whole .once) (whole .within) (λ x low high. whole .all x (low, high))
+      heads-in (length-replicate b 0) (length-replicate (n + 1) 0) (zeros b))
 
   -- THE INDEX: what is built is what document 01 lays down
-  pub arranged-index : build (placeIn places) (unbuilt (replicate b 0) (replicate (n + 1) 0)) order ≡ recoveredIndex f n b
+  pub arranged-index : build place (unbuilt (replicate b 0) (replicate (n + 1) 0)) order ≡ recoveredIndex f n b
   unfolding recoveredIndex
   arranged-index =
-      built-chained n b (placeIn places) order (replicate b 0) (replicate (n + 1) 0) order-once arranged-in in-order heads-in
-      (length-replicate b 0) (length-replicate (n + 1) 0) (zeros b) (zeros (n + 1) 0)
-      ∙ ap (λ (chains : Chain → List ℕ). chained n b chains (placeIn places)) (fun-ext chains-are)
-      ∙ chained-alike n b (chainsOf f n b) (placeIn places) (placeOf f n b) at-place
+      built-chained n b place order _ _ (chainsOf f n b) (whole .within) (zeros (n + 1) 0) arranged-sits
+      ∙ chained-alike n b (chainsOf f n b) place (placeOf f n b) at-place
 
 -- ---- rebuild
 

@@ -23,13 +23,14 @@ use Rattle.index.specs.Parts.{Holds}
 use Rattle.index.specs.Build.{build, placeIn, unbuilt, Ordered}
 use Rattle.index.specs.declared.State.{State}
 use Rattle.index.proofs.Lents.{lent-sized, lent-heads, lent-slots}
-use Rattle.sorting.proofs.Order.{at-in}
 use Rattle.recovery.specs.Recover.{Result, stateValues, recoverSays, slotsFault, recoverFault, recoveredIndex, recoveredState, recovered, recoverResult}
-use Rattle.recovery.specs.Decide.{livePlace}
-use Rattle.recovery.specs.Judge.{Ready, Roomy, Judgeable, Arranged, Left, answered, recoverEnd}
+use Rattle.recovery.specs.Decide.{livePlace, Within}
+use Rattle.recovery.specs.Judge.{Ready, Roomy, Judgeable, Arranged, Judgement, Left, answered, recoverEnd}
+use Rattle.recovery.specs.declared.Judged.{Judged}
 use Rattle.recovery.specs.declared.Recovered.{Recovered}
 use Rattle.recovery.specs.declared.Recovered.the-variants.{Index as Rebuilt, Refused}
-use Rattle.recovery.proofs.Rebuilt.{arranged-index, arranged-in}
+use Rattle.recovery.proofs.Rebuilt.{arranged-index, arranged-place, ordered-whole}
+use Rattle.recovery.proofs.Orders.{whole-within}
 
 -- the result by the refusal's number
 module _ (image heads next : List ℕ) (fault : ℕ) (e : recoverFault 1 image (length heads) (length next) ≡ fault) where
@@ -94,31 +95,34 @@ module _ (image heads next : List ℕ) (n : ℕ) (ready : Ready image heads next
       built =
           ap (λ (k : ℕ). build (placeIn places) (unbuilt (replicate (length heads) 0) (replicate k 0)) order)
           (ready .sized .next-size)
-          ∙ arranged-index f n (length heads) order places live-count top (ready .sized .some-head) a
+          ∙ arranged-index f n (length heads) order (placeIn places) (ready .sized .some-head) (a .order-is)
+          (arranged-place f n (length heads) order places live-count top a)
 
       next-is : top + 1 ≡ nextVersion f n
       next-is = omega (arith, a .top-is)
 
 -- both ways of a call, by the refusal's number
-pub slots-answered : (image heads next order places : List ℕ) (n fault live-count top : ℕ) (heads′ next′ : List ℕ) (state : State) (r : Recovered)
-    → Ready image heads next n → fault ≡ slotsFault 1 (word image) n
-    → (fault ≡ 0 → Arranged (content 1 (word image)) n (length heads) order places live-count top)
-    → Left fault heads next order places live-count top heads′ next′ state → r ≡ answered fault state
+pub slots-answered : (image heads next order places : List ℕ) (n : ℕ) (found : Judged) (heads′ next′ : List ℕ) (state : State) (r : Recovered)
+    → Ready image heads next n → Judgement (word image) n (length heads) order places found
+    → Left (found .fault) heads next order places (found .live) (found .top) heads′ next′ state → r ≡ answered (found .fault) state
     → recoverEnd r heads′ next′ ≡ recoverResult 1 image heads next
 unfolding recoverSays answered
-slots-answered image heads next order places n fault live-count top heads′ next′ state r ready e a v q = go (zero-or-not fault)
+slots-answered image heads next order places n found heads′ next′ state r ready j v q = go (zero-or-not fault)
   where
+    fault : ℕ
+    fault = found .fault
+
     says : (w : Recovered) → answered fault state ≡ w → recoverEnd r heads′ next′ ≡ recoverEnd w heads′ next′
     says w u = ap (λ (x : Recovered). recoverEnd x heads′ next′) (q ∙ u)
 
     go : (fault ≡ 0) ⊎ (fault ≡ 0 → ⊥) → recoverEnd r heads′ next′ ≡ recoverResult 1 image heads next
     go (inl z) =
         says (Rebuilt state) (pick-true (eqb fault 0) (Rebuilt state) (Refused fault) (eq-eqb fault 0 z))
-        ∙ slots-taken image heads next n ready fault e z order places heads′ next′ live-count top state (a z) (v .rebuilt z)
+        ∙ slots-taken image heads next n ready fault (j .fault-is) z order places heads′ next′ (found .live) (found .top) state (j .arranged z) (v .rebuilt z)
     go (inr ne) =
         says (Refused fault) (pick-false (eqb fault 0) (Rebuilt state) (Refused fault) (ne-eqb fault 0 ne))
         ∙ ap₂ (λ (h x : List ℕ). recoverEnd (Refused fault) h x) (v .kept ne .0) (v .kept ne .1)
-        ∙ slots-refused image heads next n ready fault e ne
+        ∙ slots-refused image heads next n ready fault (j .fault-is) ne
 
 -- ---- rebuild can write
 
@@ -133,10 +137,18 @@ place-small f n b s few = go (split (live f n s))
     go (inl e) = omega (arith, pick-true (live f n s) (headOf (keyIn (f s)) b + 1) 0 e, below (keyIn (f s) % 2 ^ 64))
     go (inr e) = omega (arith, pick-false (live f n s) (headOf (keyIn (f s)) b + 1) 0 e)
 
-pub rebuild-ready : (image heads next order places : List ℕ) (n live-count top : ℕ) → Ready image heads next n → length places ≡ n + 1
-    → Arranged (content 1 (word image)) n (length heads) order places live-count top → Ordered heads next order places × (top < 2 ^ 63)
-rebuild-ready image heads next order places n live-count top ready size a = (ordered-by, a .top-fits)
+pub rebuild-ordered : (image heads next ranks keys places₀ order₀ by-key spare order places : List ℕ) (n : ℕ) (found : Judged)
+    → Ready image heads next n → Judgeable image ranks keys places₀ order₀ by-key spare n (length heads)
+    → Judgement (word image) n (length heads) order places found → length places ≡ length places₀ → found .fault ≡ 0
+    → Ordered heads next order places
+rebuild-ordered image heads next ranks keys places₀ order₀ by-key spare order places n found ready g j same z = ordered-by
   where
+    a : Arranged (content 1 (word image)) n (length heads) order places (found .live) (found .top)
+    a = j .arranged z
+
+    size : length places ≡ n + 1
+    size = same ∙ g .places-size
+
     f : Table
     f = content 1 (word image)
 
@@ -146,14 +158,14 @@ rebuild-ready image heads next order places n live-count top ready size a = (ord
     wide : length next ≡ n + 1
     wide = ready .sized .next-size
 
-    inside : (k : ℕ) → k < length order → (0 < getD order k 0) × (getD order k 0 ≤ n)
-    inside k h = arranged-in f n (length heads) order places live-count top few a (getD order k 0) (at-in order k h)
+    inside : Within order n
+    inside = whole-within order n (ordered-whole f n order (a .order-is))
 
     ordered-by : Ordered heads next order places
     ordered-by =
         record {
           slot-in = λ k h. omega (arith, wide, inside k h .1);
-          place-in = λ k h. omega (arith, inside k h .1);
+          place-in = λ k h. omega (arith, size, inside k h .1);
           head-in =
               λ k h.
               omega (
@@ -162,6 +174,10 @@ rebuild-ready image heads next order places n live-count top ready size a = (ord
                 place-small f n (length heads) (getD order k 0) few,
               );
         }
+
+pub rebuild-top : (m : ℕ → ℕ) (n b : ℕ) (order places : List ℕ) (found : Judged) → Judgement m n b order places found → found .fault ≡ 0
+    → found .top < 2 ^ 63
+rebuild-top m n b order places found j z = j .arranged z .top-fits
 
 -- ---- the fronts of the scratch lists
 
@@ -196,3 +212,7 @@ lent-ready image heads next fault n e z size =
       heads-high = lent-heads 1 fault image heads next e z;
       some-slots = omega (arith, lent-slots 1 fault image heads next e z n size);
     }
+
+pub lent-few : (image heads next : List ℕ) (fault n : ℕ) → fault ≡ lentFault 1 image (length heads) (length next) → fault ≡ 0
+    → n ≡ slotsOf (length image) → n < 65536
+lent-few image heads next fault n e z size = omega (arith, lent-sized 1 fault image heads next e z n size .few)

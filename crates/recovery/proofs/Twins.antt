@@ -3,7 +3,7 @@ use mathlib.Core.Path.{_≡_, refl, sym, ap, _∙_}
 use mathlib.Core.Bool.{Bool, true, false, cond}
 use mathlib.Core.Logic.{inl, inr}
 use mathlib.Core.List.{List, [], _∷_}
-use Prim.Native.Nat.{ℕ, zero, suc, _+_, _-_, _≤_, _<_}
+use Prim.Native.Nat.{ℕ, suc, _+_, _-_, _≤_, _<_}
 use native.Mathlib.Omega.{arith}
 use lib.Dec.{eqb, ltb}
 use lib.ListN.{length, getD}
@@ -13,15 +13,16 @@ use Rattle.layout.specs.Range.{anyOf}
 use Rattle.layout.specs.Content.{Content, broken, empty, put, remove, topOf}
 use Rattle.layout.proofs.Any.{any-none, any-clear}
 use Rattle.sorting.specs.Sorted.{sorted}
-use Rattle.sorting.specs.Members.{In, Rising, Once, slotsUpTo}
-use Rattle.sorting.proofs.Order.{at-in}
+use Rattle.sorting.specs.Members.{In, Rising, slots}
+use Rattle.sorting.proofs.Order.{rising-sorted}
 use Rattle.table.specs.Table.{Table, counts, sharedVersion}
 use Rattle.table.specs.Order.{rankOf}
 use Rattle.table.specs.Write.{Distinct}
-use Rattle.table.proofs.Lists.{in-at}
+use Rattle.table.proofs.Lists.{Whole}
 use Rattle.table.proofs.Distinct.{shared-distinct, distinct-shared}
 use Rattle.recovery.specs.Decide.{twins}
-use Rattle.recovery.proofs.Orders.{within-sorted, length-order, once-order, rising-order, order-in, twins-test}
+use Rattle.recovery.proofs.Orders.{whole-order, whole-within, twins-test}
+use Rattle.recovery.proofs.Standing.{once-at}
 
 -- the rank of a slot that counts, and the slots of such ranks
 
@@ -64,13 +65,6 @@ parted-all g x y (z ∷ l) r p (inl a) (inr j) ne h e = parted-first g z y l r p
 parted-all g x y (z ∷ l) r p (inr i) (inl b) ne h e = parted-first g z x l r p i (omega (arith, ap g b)) (sym (ap g b) ∙ sym e)
 parted-all g x y (z ∷ l) r p (inr i) (inr j) ne h e = parted-all g x y l (r .1) (parted-rest g z l p) i j ne h e
 
--- two places of a list in which no element stands twice hold different elements
-once-at : (l : List ℕ) (i j : ℕ) → Once l → i < j → j < length l → getD l i 0 ≡ getD l j 0 → ⊥
-once-at [] i j o h k e = omega arith
-once-at (x ∷ l) i zero o h k e = omega arith
-once-at (x ∷ l) zero (suc j) o h k e = o .0 (in-at (getD l j 0) x l (sym e) (at-in l j (omega arith)))
-once-at (x ∷ l) (suc i) (suc j) o h k e = once-at l i j (o .1) (omega arith) (omega arith) e
-
 -- the test of two neighbours as facts
 
 twins-apart : (ranks order : List ℕ) (i a b : ℕ) → a ≡ getD ranks (getD order i 0) 0 → b ≡ getD ranks (getD order (i + 1) 0) 0
@@ -92,9 +86,12 @@ both-false true false f g = g refl
 both-false false b f g = sym (f refl)
 
 module _ (f : Table) (n : ℕ) (ranks order : List ℕ) (rank : (s : ℕ) → 0 < s → s ≤ n → getD ranks s 0 ≡ rankOf (f s))
-    (o : order ≡ sorted (λ x. getD ranks x 0) (slotsUpTo n)) where
+    (o : order ≡ sorted (λ x. getD ranks x 0) (slots n)) where
   abbrev g : ℕ → ℕ
   g x = getD ranks x 0
+
+  whole : Whole n order
+  whole = whole-order g n order o
 
   -- two neighbours that are twins share a version
   distinct-twins : Distinct f n → anyOf (twins ranks order) 0 (n - 1) ≡ false
@@ -102,21 +99,21 @@ module _ (f : Table) (n : ℕ) (ranks order : List ℕ) (rank : (s : ℕ) → 0 
     where
       tied : (i : ℕ) → i < n - 1 → 2 ≤ g (getD order i 0) → g (getD order i 0) ≡ g (getD order (i + 1) 0) → ⊥
       tied i h l e =
-          let size = length-order g n order o in
-          let at = within-sorted g n order o i (omega (arith, size)) in
-          let next = within-sorted g n order o (i + 1) (omega (arith, size)) in
+          let size = whole .size in
+          let at = whole-within order n whole i (omega (arith, size)) in
+          let next = whole-within order n whole (i + 1) (omega (arith, size)) in
           let ra = rank (getD order i 0) (at .0) (at .1) in
           let rb = rank (getD order (i + 1) 0) (next .0) (next .1) in
           let ca = counts-rank (f (getD order i 0)) (omega (arith, ra)) in
           let cb = counts-rank (f (getD order (i + 1) 0)) (omega (arith, rb, ra, e)) in
           d (getD order i 0) (getD order (i + 1) 0) at next
-          (once-at order i (i + 1) (once-order g n order o) (omega arith) (omega (arith, size))) ca cb
+          (λ q. omega (arith, once-at order i (i + 1) (whole .once) (omega (arith, size)) (omega (arith, size)) q)) ca cb
           (omega (arith, ra, rb, e, rank-counts (f (getD order i 0)) ca, rank-counts (f (getD order (i + 1) 0)) cb))
 
   -- where no neighbours are twins no version is shared
   twins-distinct : anyOf (twins ranks order) 0 (n - 1) ≡ false → Distinct f n
   twins-distinct none s t i j ne p q e =
-      parted-all g s t order (rising-order g n order o) parted (order-in g n order o s i) (order-in g n order o t j) ne
+      parted-all g s t order (rw o (rising-sorted g (slots n))) parted (whole .all s i) (whole .all t j) ne
       (omega (arith, rank s (i .0) (i .1), rank-counts (f s) p))
       (omega (arith, rank s (i .0) (i .1), rank t (j .0) (j .1), rank-counts (f s) p, rank-counts (f t) q, e))
     where
@@ -124,7 +121,7 @@ module _ (f : Table) (n : ℕ) (ranks order : List ℕ) (rank : (s : ℕ) → 0 
       parted k h =
           let z : 0 + k ≡ k = omega arith in
           apart-twins ranks order k _ _ refl refl
-          (sym (ap (twins ranks order) z) ∙ any-none (twins ranks order) 0 (n - 1) none k (omega (arith, length-order g n order o)))
+          (sym (ap (twins ranks order) z) ∙ any-none (twins ranks order) 0 (n - 1) none k (omega (arith, whole .size)))
 
   pub twins-shared : anyOf (twins ranks order) 0 (n - 1) ≡ sharedVersion f n
   twins-shared =

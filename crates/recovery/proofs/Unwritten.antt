@@ -13,11 +13,11 @@ use Rattle.layout.specs.Content.{empty, topOf}
 use Rattle.layout.proofs.Refusals.{say-false}
 use Rattle.layout.proofs.Any.{any-clear}
 use Rattle.sorting.specs.Sorted.{keep, sorted}
-use Rattle.sorting.specs.Members.{In}
+use Rattle.sorting.specs.Members.{In, slots}
 use Rattle.sorting.proofs.Order.{sorted-rising}
 use Rattle.sorting.proofs.Counts.{flat}
 use Rattle.table.specs.Table.{Table, counts, keyIn, nextVersion, decidingPut, live, spare, liveCount, sharedVersion, allLive}
-use Rattle.table.specs.Order.{rankOf, slots, ordered, chainOf, reuseOf}
+use Rattle.table.specs.Order.{rankOf, ordered, chainOf, reuseOf}
 use Rattle.table.specs.Write.{Slot}
 use Rattle.table.proofs.Lists.{slots-in}
 use Rattle.table.proofs.Count.{count-none}

@@ -11,8 +11,9 @@ use Rattle.layout.specs.Header.{lentFault}
 use Rattle.index.specs.Parts.{Sized, Holds}
 use Rattle.index.specs.Build.{build, placeIn, unbuilt}
 use Rattle.index.specs.declared.State.{State}
+use Rattle.sorting.specs.Members.{slots}
 use Rattle.table.specs.Table.{Table, liveCount, nextVersion}
-use Rattle.table.specs.Order.{slots, ordered}
+use Rattle.table.specs.Order.{ordered}
 use Rattle.recovery.specs.Recover.{Result, recoverSays, slotsFault}
 use Rattle.recovery.specs.Decide.{livePlace}
 use Rattle.recovery.specs.declared.Judged.{Judged}

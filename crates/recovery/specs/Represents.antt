@@ -5,9 +5,9 @@ use mathlib.Core.Option.{none}
 use mathlib.Core.List.{[]}
 use Prim.Native.Nat.{ℕ, _+_, _<_}
 use lib.ListN.{length, getD}
-use Rattle.sorting.specs.Members.{In, Once}
+use Rattle.sorting.specs.Members.{In, Once, slots}
 use Rattle.table.specs.Table.{Table, valueIn, mapOf, live, liveCount, nextVersion, sharedVersion, allLive}
-use Rattle.table.specs.Order.{slots, chainOf, reuseOf}
+use Rattle.table.specs.Order.{chainOf, reuseOf}
 use Rattle.table.specs.Write.{Slot}
 use Rattle.index.specs.Index.{Index, Chain, headOf}
 use Rattle.index.specs.Chained.{lastOf}

@@ -10,14 +10,14 @@ use native.Mathlib.Omega.{arith}
 use lib.ListN.{length}
 use lib.Dec.{eqb, ltb}
 use borrow.Author.Tests.{eq-eqb, ne-eqb}
-use Rattle.words.specs.Word.{AreBytes, word, setWord}
+use Rattle.words.specs.Word.{word, setWord}
 use Rattle.words.proofs.Choice.{pick-true, pick-false}
-use Rattle.words.proofs.Laws.{setWord-length, setWord-bytes, word-same, word-other, word-range}
+use Rattle.words.proofs.Laws.{setWord-length, word-same, word-other, word-range}
 use Rattle.layout.specs.Content.{top}
 use Rattle.stores.specs.Store.{Store, played, stored, playedWords, less, standing}
 use Rattle.stores.specs.Written.{marked, bodyA, bodyB, run, lineStores, recordStores}
 use Rattle.stores.specs.Cut.{struck, Fields, Lawful, Written, Inside, nil-in, cons-in}
-use Rattle.stores.proofs.Table.{table-law, done-law}
+use Rattle.stores.proofs.Table.{table-law}
 
 -- ---- play
 
@@ -34,12 +34,6 @@ pub played-length : (ss : List Store) (img : List ℕ) → length (played ss img
 unfolding played
 played-length [] img = refl
 played-length (s ∷ ss) img = played-length ss (setWord img (s .word) (s .value)) ∙ setWord-length img (s .word) (s .value)
-
--- bytes stay bytes
-pub played-bytes : (ss : List Store) (img : List ℕ) → AreBytes img → AreBytes (played ss img)
-unfolding played
-played-bytes [] img h = h
-played-bytes (s ∷ ss) img h = played-bytes ss (setWord img (s .word) (s .value)) (setWord-bytes img (s .word) (s .value) h)
 
 -- THE BRIDGE
 bridge : {ss : List Store} (img : List ℕ) {n : ℕ} → Inside n ss → length img ≡ n → word (played ss img) ≡ playedWords ss (word img)
@@ -107,7 +101,7 @@ record-inside n l m s key kind value version fine small h =
     (run-inside n (8 * (2 * s)) _ 0 8 (omega arith) (marked-below _ version (bodyA l key kind value) small (bodyA-below l key kind value fine)))
     (run-inside n (8 * (2 * s + 1)) _ 0 8 (omega arith) (marked-below _ version (bodyB l value) small (bodyB-below l key kind value fine)))
 
--- ---- THE TABLE LAW on bytes, with a cut and without
+-- ---- THE TABLE LAW on bytes
 
 pub image-law : (l : ℕ) (counts : ℕ → ℕ) (img : List ℕ) (s key kind : ℕ) (value : List ℕ) (version : ℕ)
     → Fields l key kind value → Lawful kind value → top (word img) s < version → version < 2 ^ 63 → 128 * (s + 1) ≤ length img
@@ -116,10 +110,3 @@ pub image-law : (l : ℕ) (counts : ℕ → ℕ) (img : List ℕ) (s key kind : 
 image-law l counts img s key kind value version fine good above small h =
     rw (struck-words counts img (record-inside (length img) l (word img) s key kind value version fine small h))
     (table-law l counts (word img) s key kind value version fine good above)
-
-pub done-image : (l : ℕ) (img : List ℕ) (s key kind : ℕ) (value : List ℕ) (version : ℕ)
-    → Fields l key kind value → Lawful kind value → top (word img) s < version → version < 2 ^ 63 → 128 * (s + 1) ≤ length img
-    → Written l (word img) (word (played (recordStores l (word img) s key kind value version) img)) s key kind value version 8 8
-done-image l img s key kind value version fine good above small h =
-    rw (played-words img (record-inside (length img) l (word img) s key kind value version fine small h))
-    (done-law l (word img) s key kind value version fine good above)

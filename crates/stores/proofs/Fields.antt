@@ -13,14 +13,14 @@ use Rattle.words.specs.Word.{word}
 use Rattle.words.proofs.Choice.{pick-true, pick-false}
 use Rattle.words.proofs.Laws.{word-byte}
 use Rattle.layout.specs.Line.{whole, versionOf}
-use Rattle.layout.specs.Slot.{paired, lineVerdict, isValid}
+use Rattle.layout.specs.Slot.{paired}
 use Rattle.layout.specs.Record.{keyOf, keyWord, kindWord, kindOf, lengthOf, limit, valueWord, valueByte, valueFront, valueOf}
 use Rattle.layout.specs.Content.{made, contentOf}
 use Rattle.layout.specs.Fault.{kindFault, wordFault, tailFault, faultOf}
 use Rattle.layout.proofs.Any.{any-clear}
 use Rattle.layout.proofs.Tabulate.{tabulate-list}
 use Rattle.layout.proofs.Keys.{key-again}
-use Rattle.layout.proofs.Content.{paired-by, verdict-valid, valid-content}
+use Rattle.layout.proofs.Content.{paired-by, valid-content}
 use Rattle.stores.specs.Written.{bodyA, bodyB, newA, newB}
 use Rattle.stores.specs.Cut.{Fields, Lawful, a-put, a-remove}
 use Rattle.stores.proofs.Line.{marked-body, marked-whole, marked-version}
@@ -111,10 +111,6 @@ module _ (l stampA stampB key kind : ℕ) (value : List ℕ) (version : ℕ) (fi
   -- the content is the record
   pub the-content : 0 < version → contentOf l A B ≡ made kind version key value
   the-content h = valid-content l A B the-pair (some-version h) ∙ rw (the-kind, the-version, the-key, the-value)
-
-  pub the-valid : 0 < version → isValid (lineVerdict A B) ≡ true
-  unfolding isValid
-  the-valid h = ap isValid (verdict-valid A B the-pair (some-version h))
 
   -- ---- without a fault
 

@@ -10,13 +10,12 @@ use lib.Seq.{take-all, take-nil, take-take}
 use lib.Dec.{eqb, ltb}
 use borrow.Author.Tests.{eqb-true, eqb-false, ltb-false, not-false}
 use Rattle.words.proofs.Choice.{split}
-use Rattle.layout.specs.Line.{line}
 use Rattle.layout.specs.Size.{slotsOf}
 use Rattle.layout.specs.Range.{anyOf}
 use Rattle.layout.proofs.Any.{or-none, any-none}
 use Rattle.layout.proofs.Refusals.{say-zero}
 use Rattle.stores.specs.Store.{Store, zipped, less, standing}
-use Rattle.stores.specs.Written.{newA, newB, run, lineStores, recordStores}
+use Rattle.stores.specs.Written.{run, lineStores}
 use Rattle.stores.specs.Play.{halfFault, halvesFault, playFault, counted, listFault}
 use Rattle.stores.specs.Needs.{Makeable}
 use Rattle.stores.proofs.Standing.{none-stands, one-stands, less-own, less-other, take-next}
@@ -57,7 +56,7 @@ pub two-halves : {x y : List Store} (n o : ℕ) (counts : ℕ → ℕ) → (o �
 two-halves {x} {y} n o counts ne p q =
     first-half n y (λ k. take (k o) y) (λ k. only-half o k q) (λ k. ap (λ (j : ℕ). take j y) (less-other n k o ne)) counts p
 
--- ---- a record
+-- ---- the stores of a line
 
 run-on : (n : ℕ) (words : ℕ → ℕ) (k j : ℕ) → k + j ≤ 8 → AllOn n (run (8 * n) words k j)
 unfolding run
@@ -67,15 +66,6 @@ run-on n words k (suc j) h = one-on {s = record { word = 8 * n + k; value = word
 pub line-on : (n : ℕ) (words : ℕ → ℕ) → AllOn n (lineStores n words)
 unfolding lineStores
 line-on n words = run-on n words 0 8 (omega arith)
-
--- its standing stores are the first ones of its two halves
-pub record-halves : (l : ℕ) (m : ℕ → ℕ) (s key kind : ℕ) (value : List ℕ) (version : ℕ) (counts : ℕ → ℕ)
-    → standing counts (recordStores l m s key kind value version) ≡
-    take (counts (2 * s)) (lineStores (2 * s) (newA l (line m (2 * s) 7) key kind value version)) ++
-    take (counts (2 * s + 1)) (lineStores (2 * s + 1) (newB l (line m (2 * s + 1) 7) value version))
-unfolding recordStores
-record-halves l m s key kind value version counts =
-    two-halves (2 * s) (2 * s + 1) counts (λ e. omega arith) (line-on (2 * s) _) (line-on (2 * s + 1) _)
 
 -- ---- what play asks
 

@@ -133,10 +133,6 @@ module _ (stamp version : ℕ) (body : ℕ → ℕ) where
   unfolding marked
   marked-first = refl
 
-  pub marked-last : marked stamp version body 7 ≡ lastWord stamp version
-  unfolding marked
-  marked-last = refl
-
   pub marked-body : (i : ℕ) → 0 < i → i < 7 → marked stamp version body i ≡ body i
   unfolding marked
   marked-body i h l =

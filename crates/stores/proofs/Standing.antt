@@ -3,12 +3,12 @@ use mathlib.Core.Path.{_≡_, refl, sym, ap, _∙_, fun-ext}
 use mathlib.Core.Bool.{true, false, cond}
 use mathlib.Core.Logic.{_⊎_, inl, inr}
 use mathlib.Core.List.{List, [], _∷_}
-use Prim.Native.Nat.{ℕ, zero, suc, _+_, _-_, _*_, _/_, _%_, _≤_, _<_}
+use Prim.Native.Nat.{ℕ, zero, suc, _+_, _-_, _*_, _/_, _%_, _<_}
 use native.Mathlib.Nat.{mod-lt, zero-lt-suc}
 use native.Mathlib.Omega.{arith}
 use native.Mathlib.Numerals.{unary-clauses}
-use lib.ListN.{length, take}
-use lib.Seq.{take-all, take-nil}
+use lib.ListN.{take}
+use lib.Seq.{take-nil}
 use lib.Dec.{eqb}
 use borrow.Author.Tests.{eqb-true, eqb-false, eq-eqb, ne-eqb}
 use Rattle.words.proofs.Choice.{pick-true, pick-false, split}
@@ -139,12 +139,3 @@ line-out counts m ss n none = fun-ext (λ i. at (i % 8) (mod-lt i (zero-lt-suc 7
     at i h =
         cut-at ss counts m n i h
         ∙ ap (λ (t : List Store). playedWords t m (8 * n + i)) (ap (take (counts n)) none ∙ take-nil (counts n))
-
--- where the counts reach, all stores stand
-pub all-stand : (ss : List Store) (counts m : ℕ → ℕ) → ((n : ℕ) → length (onLine n ss) ≤ counts n) → struck counts ss m ≡ playedWords ss m
-all-stand ss counts m h =
-    fun-ext
-    (λ i.
-    cut-word ss counts m i
-    ∙ ap (λ (t : List Store). playedWords t m i) (take-all (counts (i / 8)) (onLine (i / 8) ss) (h (i / 8)))
-    ∙ sym (own-line ss m i))

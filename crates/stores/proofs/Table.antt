@@ -7,19 +7,18 @@ use Prim.Native.Nat.{ℕ, _+_, _*_, _/_, _≤_, _<_}
 use native.Mathlib.Nat.{div-add-mod}
 use native.Mathlib.Decide.{decLt, ℕ-discrete}
 use native.Mathlib.Omega.{arith}
-use lib.ListN.{length}
 use lib.Dec.{ltb}
 use borrow.Author.Tests.{lt-ltb, le-ltb}
 use Rattle.words.proofs.Choice.{pick-true, pick-false}
 use Rattle.layout.specs.Line.{line}
 use Rattle.layout.specs.Slot.{slotTop, lineVerdict, isValid}
-use Rattle.layout.specs.Content.{Content, made, contentOf, content, top}
+use Rattle.layout.specs.Content.{made, contentOf, content, top}
 use Rattle.layout.specs.Fault.{faultOf, recordFault}
-use Rattle.stores.specs.Store.{Store, onLine, playedWords}
+use Rattle.stores.specs.Store.{Store, onLine}
 use Rattle.stores.specs.Written.{marked, bodyA, bodyB, newA, newB, lineStores, recordStores}
-use Rattle.stores.specs.Cut.{struck, LineCut, SlotCut, kept, done, lost, Fields, Lawful, Carries, Spares, Written}
-use Rattle.stores.proofs.Standing.{line-out, all-stand}
-use Rattle.stores.proofs.Line.{on-append, own-stores, other-stores, stores-length, line-cut, marked-first, line-law}
+use Rattle.stores.specs.Cut.{struck, LineCut, SlotCut, Fields, Lawful, Carries, Spares, Written}
+use Rattle.stores.proofs.Standing.{line-out}
+use Rattle.stores.proofs.Line.{on-append, own-stores, other-stores, line-cut, marked-first, line-law}
 use Rattle.stores.proofs.Slot.{slot-top, slot-top-full, slot-cut, slot-fault}
 
 -- ---- any stores that write nothing into slot t
@@ -38,10 +37,6 @@ module _ (l : ℕ) (counts m : ℕ → ℕ) (ss : List Store) (t : ℕ) (none : 
   pub spare-fault : recordFault l (struck counts ss m) t ≡ recordFault l m t
   unfolding recordFault
   spare-fault = ap₂ (λ (A B : ℕ → ℕ). cond (isValid (lineVerdict A B)) (faultOf l A B) false) spare-A spare-B
-
-  pub spare-top : top (struck counts ss m) t ≡ top m t
-  unfolding top
-  spare-top = ap₂ slotTop spare-A spare-B
 
 -- ---- any stores that write a record into slot s
 
@@ -102,16 +97,6 @@ module _ (l : ℕ) (m : ℕ → ℕ) (s key kind : ℕ) (value : List ℕ) (vers
         line-B = record-off (2 * t + 1) (λ (e : (2 * t + 1) / 2 ≡ s). h (omega arith));
       }
 
-  -- no line has more than eight of them
-  pub record-eight : (n : ℕ) → length (onLine n (recordStores l m s key kind value version)) ≤ 8
-  record-eight n =
-      by-cases (ℕ-discrete n (2 * s))
-      (λ e. rw (e, record-carries .line-A) (omega (arith, stores-length (2 * s) (newA l (line m (2 * s) 7) key kind value version))))
-      (λ ne.
-      by-cases (ℕ-discrete n (2 * s + 1))
-      (λ e. rw (e, record-carries .line-B) (omega (arith, stores-length (2 * s + 1) (newB l (line m (2 * s + 1) 7) value version))))
-      (λ ne2. rw (record-off n (λ (e : n / 2 ≡ s). omega arith)) (omega arith)))
-
 -- ---- marks and words
 
 mark-own : (counts m : ℕ → ℕ) (ss : List Store) (n version : ℕ) (body : ℕ → ℕ) → onLine n ss ≡ lineStores n (marked (line m n 7) version body)
@@ -168,22 +153,3 @@ table-law l counts m s key kind value version fine good above =
         by-cases (ℕ-discrete t s)
         (λ e. rw e (carried-fault l counts m ss s key kind value version has fine above good (rw e at h)))
         (λ ne. spare-fault l counts m ss t (record-spares l m s key kind value version t ne) ∙ h)
-
--- ---- without a cut
-
-eight : ℕ → ℕ
-eight n = 8
-
-pub done-law : (l : ℕ) (m : ℕ → ℕ) (s key kind : ℕ) (value : List ℕ) (version : ℕ)
-    → Fields l key kind value → Lawful kind value → top m s < version
-    → Written l m (playedWords (recordStores l m s key kind value version) m) s key kind value version 8 8
-unfolding eight
-done-law l m s key kind value version fine good above =
-    rw (← all-stand (recordStores l m s key kind value version) eight m (record-eight l m s key kind value version))
-    (table-law l eight m s key kind value version fine good above)
-
--- then the content is the record
-pub is-new : (old new now : Content) (version : ℕ) → SlotCut old new now version 8 8 → now ≡ new
-is-new old new now version (kept a b e) = absurd (omega arith)
-is-new old new now version (done a b e) = e
-is-new old new now version (lost x y t h e) = absurd (y (omega arith) (omega arith))

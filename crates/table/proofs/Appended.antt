@@ -1,13 +1,12 @@
 -- What a write appends to reuse. Assumes nothing.
 use mathlib.Core.Path.{_≡_, refl}
 use mathlib.Core.Bool.{Bool, true, false}
-use mathlib.Core.Logic.{inl, inr, ⊎-elim}
+use mathlib.Core.Logic.{inl, inr}
 use Prim.Native.Nat.{ℕ, zero, suc, _<_}
 use native.Mathlib.Omega.{arith}
-use Rattle.sorting.specs.Members.{In, Once}
+use Rattle.sorting.specs.Members.{In}
 use Rattle.table.specs.Table.{Table}
 use Rattle.table.specs.Reuse.{Hides, HiddenFirst, appended}
-use Rattle.table.proofs.Content.{true-false}
 
 -- what is appended: the old slot, where there is one, or the slot taken, where a remove went there
 pub data Joined (o : ℕ) (p : Bool) (s t : ℕ) : Type 0 where
@@ -24,26 +23,6 @@ joined (suc o) true s t (inr i) = absurd i
 joined (suc o) false s t (inl e) = from-old (omega arith) e
 joined (suc o) false s t (inr (inl e)) = from-own refl e
 joined (suc o) false s t (inr (inr i)) = absurd i
-
-pub join-old : (o : ℕ) (p : Bool) (s : ℕ) → 0 < o → In o (appended o p s)
-unfolding appended
-join-old zero p s h = absurd (omega arith)
-join-old (suc o) true s h = inl refl
-join-old (suc o) false s h = inl refl
-
-pub join-own : (o : ℕ) (p : Bool) (s : ℕ) → p ≡ false → In s (appended o p s)
-unfolding appended
-join-own zero true s e = absurd (true-false refl e)
-join-own zero false s e = inl refl
-join-own (suc o) true s e = absurd (true-false refl e)
-join-own (suc o) false s e = inr (inl refl)
-
-pub join-once : (o : ℕ) (p : Bool) (s : ℕ) → (0 < o → o ≡ s → ⊥) → Once (appended o p s)
-unfolding appended
-join-once zero true s h = tt
-join-once zero false s h = ((λ i. i), tt)
-join-once (suc o) true s h = ((λ i. i), tt)
-join-once (suc o) false s h = ((λ i. ⊎-elim (λ e. h (omega arith) e) (λ x. x) i), ((λ i. i), tt))
 
 pub join-hidden : (f : Table) (n o : ℕ) (p : Bool) (s : ℕ) → ((t : ℕ) → 0 < o → Hides f n o t → ⊥) → HiddenFirst f n (appended o p s)
 unfolding appended

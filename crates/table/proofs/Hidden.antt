@@ -3,7 +3,6 @@ use mathlib.Core.Path.{_≡_, refl}
 use mathlib.Core.Logic.{_⊎_, inl, inr, ⊎-elim}
 use mathlib.Core.List.{List, [], _∷_, _++_}
 use Prim.Native.Nat.{ℕ, _<_}
-use Rattle.layout.specs.Content.{remove}
 use Rattle.sorting.specs.Members.{In}
 use Rattle.table.specs.Table.{Table, weight, decider}
 use Rattle.table.specs.Write.{Slot, only, Free}
@@ -41,17 +40,3 @@ hidden-append f n (x ∷ l) m a b h = (
 pub hidden-carry : (f f′ : Table) (n : ℕ) (l : List ℕ) → ((x t : ℕ) → In x l → In t l → Hides f′ n x t → Hides f n x t) → HiddenFirst f n l → HiddenFirst f′ n l
 hidden-carry f f′ n [] h a = tt
 hidden-carry f f′ n (x ∷ l) h a = ((λ t i d. a .0 t i (h x t (inl refl) (inr i) d)), hidden-carry f f′ n l (λ y t i j d. h y t (inr i) (inr j) d) (a .1))
-
--- where a remove decides its key and stands in reuse, every other record of that key stands before it
-pub hidden-before : (f : Table) (n x t w k : ℕ) (l m : List ℕ) → Spares f n (l ++ (x ∷ m)) → HiddenFirst f n (l ++ (x ∷ m))
-    → f x ≡ remove w k → decider f n k ≡ x → Slot n t → (t ≡ x → ⊥) → 0 < weight k (f t) → In t l
-hidden-before f n x t w k l m sp hf e b i ne p = go (in-append t l (x ∷ m) (sp .all t i (other-idle f n k x t b ne p)))
-  where
-    tail : (a c : List ℕ) → HiddenFirst f n (a ++ c) → HiddenFirst f n c
-    tail [] c h = h
-    tail (y ∷ a) c h = tail a c (h .1)
-
-    go : In t l ⊎ In t (x ∷ m) → In t l
-    go (inl j) = j
-    go (inr (inl q)) = absurd (ne q)
-    go (inr (inr j)) = absurd (tail l (x ∷ m) hf .0 t j (hides w k e b p))

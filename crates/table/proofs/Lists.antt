@@ -1,5 +1,5 @@
 -- Membership in lists put together, and the list of all slots. Assumes nothing.
-use mathlib.Core.Path.{_≡_, refl}
+use mathlib.Core.Path.{_≡_, refl, _∙_}
 use mathlib.Core.Bool.{Bool, true, false}
 use mathlib.Core.Logic.{_⊎_, inl, inr, ⊎-elim}
 use mathlib.Core.List.{List, [], _∷_, _++_}
@@ -7,8 +7,11 @@ use Prim.Native.Nat.{ℕ, zero, suc}
 use native.Mathlib.Omega.{arith}
 use lib.Dec.{eqb}
 use borrow.Author.Tests.{eqb-true, eqb-false}
-use Rattle.sorting.specs.Members.{In, Once}
-use Rattle.table.specs.Order.{slots}
+use lib.ListN.{length}
+use Rattle.sorting.specs.Sorted.{sorted}
+use Rattle.sorting.specs.Members.{In, Once, slots}
+use Rattle.sorting.proofs.Fills.{length-slots}
+use Rattle.sorting.proofs.Order.{sorted-in, in-sorted, length-sorted, once-sorted}
 use Rattle.table.specs.Write.{Slot}
 
 pub in-append : (t : ℕ) (l m : List ℕ) → In t (l ++ m) → In t l ⊎ In t m
@@ -62,3 +65,22 @@ once-slots (suc n) = once-append (slots n) (suc n ∷ []) (once-slots n) ((λ b.
     apart : (t : ℕ) → In t (slots n) → In t (suc n ∷ []) → ⊥
     apart t i (inl e) = omega (arith, slots-in n t i)
     apart t i (inr b) = b
+
+-- l has each slot 1 to n once
+pub record Whole (n : ℕ) (l : List ℕ) : Type 0 where
+  pub size : length l ≡ n
+  pub once : Once l
+  pub within : (t : ℕ) → In t l → Slot n t
+  pub all : (t : ℕ) → Slot n t → In t l
+
+pub whole-slots : (n : ℕ) → Whole n (slots n)
+whole-slots n = record { size = length-slots n; once = once-slots n; within = slots-in n; all = in-slots n }
+
+pub whole-sorted : (g : ℕ → ℕ) (n : ℕ) (l : List ℕ) → Whole n l → Whole n (sorted g l)
+whole-sorted g n l w =
+    record {
+      size = length-sorted g l ∙ w .size;
+      once = once-sorted g l (w .once);
+      within = λ t i. w .within t (sorted-in g t l i);
+      all = λ t i. in-sorted g t l (w .all t i);
+    }

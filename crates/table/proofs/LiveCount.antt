@@ -1,15 +1,15 @@
 -- The number of live slots, and what a write makes of it. Assumes nothing.
 use mathlib.Core.Path.{_≡_, refl, sym, ap, _∙_}
 use mathlib.Core.Bool.{Bool, true, false, cond}
-use mathlib.Core.Option.{Option, some, none}
+use mathlib.Core.Option.{some, none}
 use mathlib.Core.List.{List}
-use Prim.Native.Nat.{ℕ, suc, _+_, _≤_, _<_}
+use Prim.Native.Nat.{ℕ, suc, _≤_, _<_}
 use native.Mathlib.Omega.{arith}
 use lib.Dec.{eqb}
 use borrow.Author.Tests.{eqb-true, eqb-false, eq-eqb, ne-eqb}
 use Rattle.layout.specs.Content.{Content}
 use Rattle.table.specs.Table.{Table, count, decider, mapOf, live, liveCount, allLive}
-use Rattle.table.specs.Write.{Slot, Above, isPut, isHeld, upd, only, Record, Free}
+use Rattle.table.specs.Write.{Slot, Above, isPut, upd, only, Record, Free}
 use Rattle.table.proofs.Count.{count-more, count-gap, count-room, count-same, Gap, count-most}
 use Rattle.table.proofs.Held.{Held, held-or, some-none, unheld, held}
 use Rattle.table.proofs.Write.{write-live, write-live-own}
@@ -113,24 +113,3 @@ module _ (f : Table) (n s w k : ℕ) (c : Content) (i : Slot n s) (free : Free f
       go : Held f n k → suc (count (live (upd f s c) n) n) ≡ count (live f n) n
       go (held u j l q) = ap suc (count-same (live (upd f s c) n) rest n (λ t d. each t d (eqb t s) refl)) ∙ sym (fewer j l)
       go (unheld h q) = absurd (some-none m q)
-
-  -- a remove of a key that is not held: as many
-  pub count-idle : mapOf f n k ≡ none → isPut c ≡ false → liveCount (upd f s c) n ≡ liveCount f n
-  unfolding liveCount
-  count-idle m p = count-same (live (upd f s c) n) (live f n) n (λ t d. each t d (eqb t s) refl)
-    where
-      each : (t : ℕ) → Slot n t → (x : Bool) → eqb t s ≡ x → live (upd f s c) n t ≡ live f n t
-      each t d true e =
-          ap (live (upd f s c) n) (eqb-true t s e) ∙ write-live-own f n s w k c i free r above ∙ p ∙ sym (ap (live f n) (eqb-true t s e) ∙ own-spare)
-      each t d false e = fresh-live m t d (eqb-false t s e)
-
-  -- the four in one: a put adds one, a key that was held takes one off
-  pub write-count : liveCount (upd f s c) n + bit (isHeld (mapOf f n k)) ≡ liveCount f n + bit (isPut c)
-  unfolding isHeld
-  write-count = go (held-or f n k) (isPut c) refl
-    where
-      go : Held f n k → (p : Bool) → isPut c ≡ p → liveCount (upd f s c) n + bit (isHeld (mapOf f n k)) ≡ liveCount f n + bit p
-      go (held v j l m) true e = omega (arith, ap (λ (o : Option (List ℕ)). bit (isHeld o)) m, count-over v m e)
-      go (held v j l m) false e = omega (arith, ap (λ (o : Option (List ℕ)). bit (isHeld o)) m, count-removed v m e)
-      go (unheld h m) true e = omega (arith, ap (λ (o : Option (List ℕ)). bit (isHeld o)) m, count-new m e)
-      go (unheld h m) false e = omega (arith, ap (λ (o : Option (List ℕ)). bit (isHeld o)) m, count-idle m e)

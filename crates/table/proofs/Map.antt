@@ -1,7 +1,7 @@
 -- Who decides a key, what it takes to lose a set of slots, and what the newest record of a key does. Assumes nothing.
 use mathlib.Core.Path.{_≡_, refl, sym, ap, _∙_}
 use mathlib.Core.Bool.{Bool, true, false}
-use mathlib.Core.Option.{some, none}
+use mathlib.Core.Option.{none}
 use mathlib.Core.List.{List}
 use Prim.Native.Nat.{ℕ, zero, suc, _≤_, _<_}
 use native.Mathlib.Omega.{arith}
@@ -49,14 +49,6 @@ decider-weight f n k s i e = go (decider-is f n k)
     go : Decided f n k (decider f n k) → 0 < weight k (f s)
     go (nowhere z h) = absurd (omega arith)
     go (there j p h b) = rw e at p
-
--- 0 decides a key only where no slot says anything of it
-pub decider-zero : (f : Table) (n k : ℕ) → decider f n k ≡ 0 → (t : ℕ) → Slot n t → weight k (f t) ≡ 0
-decider-zero f n k e = go (decider-is f n k)
-  where
-    go : Decided f n k (decider f n k) → (t : ℕ) → Slot n t → weight k (f t) ≡ 0
-    go (nowhere z h) = h
-    go (there i p h b) = λ t j. absurd (omega arith)
 
 -- where versions are apart every other record of the key is older than the deciding one
 pub decider-newest : (f : Table) (n k s t : ℕ) → ApartByKey f n → Slot n s → Slot n t → decider f n k ≡ s → (t ≡ s → ⊥) → weight k (f t) < weight k (f s)
@@ -112,11 +104,6 @@ other-idle f n k s t b ne p = go (live f n t) refl
     go : (x : Bool) → live f n t ≡ x → live f n t ≡ false
     go false e = e
     go true e = other (live-is f n t e)
-
--- the map's value comes from a live slot, and a live slot gives its value
-pub live-value : (f : Table) (n s w k : ℕ) (v : List ℕ) → Slot n s → f s ≡ put w k v → decider f n k ≡ s → mapOf f n k ≡ some v
-unfolding mapOf valueIn
-live-value f n s w k v i e b = ap (valueAt f) b ∙ value-at f n s i ∙ ap valueIn e
 
 -- losing slots
 

@@ -9,10 +9,10 @@ use lib.Dec.{eqb}
 use borrow.Author.Tests.{eqb-true, eq-eqb, not-true}
 use Rattle.layout.specs.Content.{Content, broken, empty, put, remove}
 use Rattle.sorting.specs.Sorted.{keep}
-use Rattle.sorting.specs.Members.{In, Once, Rising}
+use Rattle.sorting.specs.Members.{In, Once, Rising, slots}
 use Rattle.sorting.proofs.Order.{sorted-in, in-sorted, rising-sorted, keep-in, in-keep, keep-holds, once-sorted, once-keep}
 use Rattle.table.specs.Table.{Table, counts, keyIn, weight, live, spare}
-use Rattle.table.specs.Order.{rankOf, slots, ordered, chainOf, reuseOf}
+use Rattle.table.specs.Order.{rankOf, ordered, chainOf, reuseOf}
 use Rattle.table.specs.Write.{Slot, ApartByKey}
 use Rattle.table.specs.Reuse.{Spares, Hides, hides, HiddenFirst}
 use Rattle.table.specs.Chains.{Chains}

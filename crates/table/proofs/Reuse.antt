@@ -1,24 +1,24 @@
 -- The reuse list keeps its spare slots and its order at each write. Assumes nothing.
 use mathlib.Core.Path.{_≡_, refl, sym, ap, _∙_}
-use mathlib.Core.Bool.{Bool, true, false, cond}
-use mathlib.Core.Logic.{_⊎_, inl, inr, ⊎-elim}
+use mathlib.Core.Bool.{Bool, true, false}
+use mathlib.Core.Logic.{inl, inr}
 use mathlib.Core.List.{List, _∷_, _++_}
 use Prim.Native.Nat.{ℕ, _<_}
 use native.Mathlib.Omega.{arith}
 use lib.Dec.{eqb}
-use borrow.Author.Tests.{eqb-true, eqb-false, eq-eqb}
+use borrow.Author.Tests.{eqb-true, eqb-false}
 use Rattle.layout.specs.Content.{Content, put, remove}
 use Rattle.sorting.specs.Members.{In}
 use Rattle.table.specs.Table.{Table, weight, decider, live}
 use Rattle.table.specs.Write.{Slot, Above, isPut, holder, upd, only, Record, Free}
 use Rattle.table.specs.Reuse.{Spares, Hides, hides, HiddenFirst, joins}
 use Rattle.table.proofs.Content.{one-key, weight-put, upd-other, upd-same, true-false}
-use Rattle.table.proofs.Lists.{once-append, in-append, in-at, in-right, in-left}
+use Rattle.table.proofs.Lists.{in-at}
 use Rattle.table.proofs.Map.{Turn, decider-weight, nobody, lives, same, lost, live-is, turn, Live}
 use Rattle.table.proofs.Held.{Held, held-or, holder-held, unheld, held, holder-none}
-use Rattle.table.proofs.Write.{write-decider, write-live, write-live-own, outside, quiet}
+use Rattle.table.proofs.Write.{write-decider, outside, quiet}
 use Rattle.table.proofs.Hidden.{head-free, hidden-carry, hidden-append}
-use Rattle.table.proofs.Appended.{join-old, join-own, join-once, from-own, Joined, from-old, join-hidden, joined}
+use Rattle.table.proofs.Appended.{from-own, Joined, from-old, join-hidden, joined}
 
 -- the first slot of reuse gets the newest record of key k, the old slot and the slot are appended as they must be
 module _ (f : Table) (n s w k : ℕ) (c : Content) (l : List ℕ) (r : Record c w k) (above : Above f n w)
@@ -103,76 +103,3 @@ module _ (f : Table) (n s w k : ℕ) (c : Content) (l : List ℕ) (r : Record c 
   write-hidden =
       hidden-append (upd f s c) n l (joins f n s k c) (hidden-carry f (upd f s c) n l carried (hf .1))
       (join-hidden (upd f s c) n (holder f n k) (isPut c) s never-hides) cross
-
-  gone : (x : Bool) → cond x false false ≡ false
-  gone true = refl
-  gone false = refl
-
-  sound-left : (t : ℕ) → In t l → Slot n t × (live (upd f s c) n t ≡ false)
-  sound-left t i = (
-    sp .slot t (inr i),
-    write-live f n s w k c at free r above t (sp .slot t (inr i)) (off t i)
-        ∙ ap (cond (eqb (decider f n k) t) false) (sp .idle t (inr i)) ∙ gone (eqb (decider f n k) t),
-  )
-
-  sound-right : (t : ℕ) → Joined (holder f n k) (isPut c) s t → Slot n t × (live (upd f s c) n t ≡ false)
-  sound-right t (from-old m e) = go (old-slot m)
-    where
-      go : Old → Slot n t × (live (upd f s c) n t ≡ false)
-      go (oldput u y d i a ne b) = (
-        omega arith,
-        write-live f n s w k c at free r above t (omega arith) (λ z. ne (sym e ∙ z))
-            ∙ ap (λ (x : Bool). cond x false (live f n t)) (eq-eqb (decider f n k) t (b ∙ sym e)),
-      )
-  sound-right t (from-own p e) = (omega (arith, at), ap (live (upd f s c) n) e ∙ write-live-own f n s w k c at free r above ∙ p)
-
-  not-left : (t : ℕ) → Joined (holder f n k) (isPut c) s t → In t l → ⊥
-  not-left t (from-old m e) i = go (old-slot m)
-    where
-      go : Old → ⊥
-      go (oldput u y d j a ne b) = true-false a (ap (live f n) (sym e) ∙ sp .idle t (inr i))
-  not-left t (from-own p e) i = off t i e
-
-  -- a spare slot of the new table stands in the new list
-  found : (t : ℕ) → Slot n t → live (upd f s c) n t ≡ false → In t l ⊎ In t (joins f n s k c)
-  found t j z = go (eqb t s) refl
-    where
-      left : In t (s ∷ l) → (t ≡ s → ⊥) → In t l
-      left (inl e) ne = absurd (ne e)
-      left (inr i) ne = i
-
-      on : (t ≡ s → ⊥) → (x : Bool) → eqb (decider f n k) t ≡ x → Held f n k → In t l ⊎ In t (joins f n s k c)
-      on ne true e (held v i a m) =
-          inr (in-at (holder f n k) t (joins f n s k c) (holder-held f n k a ∙ eqb-true (decider f n k) t e)
-          (join-old (holder f n k) (isPut c) s (omega (arith, holder-held f n k a))))
-      on ne true e (unheld h m) = inl (left (sp .all t j (h t j (eqb-true (decider f n k) t e))) ne)
-      on ne false e h =
-          inl (left (sp .all t j (sym (ap (λ (x : Bool). cond x false (live f n t)) e) ∙ sym (write-live f n s w k c at free r above t j ne) ∙ z)) ne)
-
-      go : (x : Bool) → eqb t s ≡ x → In t l ⊎ In t (joins f n s k c)
-      go true e =
-          inr (in-at s t (joins f n s k c) (sym (eqb-true t s e))
-          (join-own (holder f n k) (isPut c) s
-          (sym (write-live-own f n s w k c at free r above) ∙ ap (live (upd f s c) n) (sym (eqb-true t s e)) ∙ z)))
-      go false e = on (eqb-false t s e) (eqb (decider f n k) t) refl (held-or f n k)
-
-  pub write-spares : Spares (upd f s c) n (l ++ joins f n s k c)
-  write-spares = record {
-    slot = λ t i. sound t i .0;
-    idle = λ t i. sound t i .1;
-    all = λ t j z. ⊎-elim (λ a. in-left t l (joins f n s k c) a)
-        (λ b. in-right t l (joins f n s k c) b) (found t j z);
-    once = once-append l (joins f n s k c) (sp .once .1)
-        (join-once (holder f n k) (isPut c) s apart)
-        (λ t i j. not-left t (joined (holder f n k) (isPut c) s t j) i);
-  }
-    where
-      sound : (t : ℕ) → In t (l ++ joins f n s k c) → Slot n t × (live (upd f s c) n t ≡ false)
-      sound t i =
-          ⊎-elim (λ a. sound-left t a) (λ b. sound-right t (joined (holder f n k) (isPut c) s t b)) (in-append t l (joins f n s k c) i)
-
-      apart : 0 < holder f n k → holder f n k ≡ s → ⊥
-      apart m e = go (old-slot m)
-        where
-          go : Old → ⊥
-          go (oldput u y d j a ne b) = ne e

@@ -1,10 +1,11 @@
 -- The orders in which recovery chains the slots. Document 01, "The index".
 use mathlib.Core.Bool.{_&&_}
-use mathlib.Core.List.{List, [], _∷_, _++_}
-use Prim.Native.Nat.{ℕ, zero, suc, _+_}
+use mathlib.Core.List.{List}
+use Prim.Native.Nat.{ℕ, _+_}
 use lib.Dec.{eqb}
 use Rattle.layout.specs.Content.{Content, broken, empty, put, remove}
 use Rattle.sorting.specs.Sorted.{keep, sorted}
+use Rattle.sorting.specs.Members.{slots}
 use Rattle.table.specs.Table.{Table, keyIn, live, spare}
 
 -- "broken slots, then empty slots, .. then the rest by rising version"
@@ -13,11 +14,6 @@ rankOf (broken top) = 0
 rankOf empty = 1
 rankOf (put version key value) = 2 + version
 rankOf (remove version key) = 2 + version
-
--- 1 to n
-unfoldable pub slots : (n : ℕ) → List ℕ
-slots zero = []
-slots (suc n) = slots n ++ (suc n ∷ [])
 
 -- "should versions tie, by slot number": the sort keeps the order of the slots of one rank
 unfoldable pub ordered : Table → List ℕ → List ℕ

@@ -14,12 +14,6 @@ Inv-loop image before n₀ i₀ n i = (n ≤ i) × (i ≤ length image)
 abbrev μ-loop : tie.MeasureT-loop
 μ-loop image before n₀ i₀ n i = length image - i
 
-shared-slice-read-if2-2 : tie.Need-shared-slice-read-if2-2 Inv-loop μ-loop
-shared-slice-read-if2-2 c = omega (arith, ltb-true)
-
-loop-again : tie.Need-loop-again Inv-loop μ-loop
-loop-again c = ⊎-elim (λ w. omega arith) (λ w. omega arith) (c .if2 .came)
-
 pub differing-spec : {M : Type 1} → statement M
 differing-spec =
     tie.close
@@ -28,10 +22,10 @@ differing-spec =
     μ-loop
     (λ c. search needs)
     (λ c. search needs)
-    shared-slice-read-if2-2
+    (λ c. omega (arith, ltb-true))
     (λ c. search needs)
     (λ c. search needs)
     (λ c. search needs)
-    loop-again
+    (λ c. ⊎-elim (λ w. omega arith) (λ w. omega arith) (c .if2 .came))
     (λ c. search needs)
     (λ c. search needs))

@@ -1,11 +1,7 @@
 -- `two_slots::any_index` meets its contract. Assumes nothing.
-use mathlib.Core.Path.{_∙_}
 use borrow.Author.Needs.{needs}
 use Rattle.two_slots.proofs.any_index.Statement.{statement}
 use Rattle.two_slots.proofs.any_index.Tie as tie
-
-same-length-3 : tie.Need-same-length-3
-same-length-3 c = c .before .before .before .before .before .before .before .before .before .before .before .before .before .before .before .before .before .before .before .show-get .kept .1 .1 .1 .1 .0
 
 pub any-index-spec : {M : Type 1} → statement M
 any-index-spec =
@@ -19,5 +15,5 @@ any-index-spec =
     (λ c κs. search needs)
     (λ c. search needs)
     (λ c. search needs)
-    same-length-3
+    (λ c. c .before .before .before .before .before .before .before .before .before .before .before .before .before .before .before .before .before .before .before .show-get .kept .1 .1 .1 .1 .0)
     (λ c. search needs))

@@ -4,11 +4,8 @@ use Rattle.words.specs.Word.{word}
 use Rattle.words.proofs.read_word.Statement.{statement}
 use Rattle.words.proofs.read_word.Tie as tie
 
-returns : tie.Need-returns
-unfolding word
-returns c = c .join .ensures
-
 pub read-word-spec : {M : Type 1} → statement M
+unfolding word
 read-word-spec =
     tie.close
     (tie.spec
@@ -29,4 +26,4 @@ read-word-spec =
     (λ c. search needs)
     (λ c. search needs)
     (λ c κs. search needs)
-    returns)
+    (λ c. c .join .ensures))

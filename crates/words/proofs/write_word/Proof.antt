@@ -7,11 +7,8 @@ use Rattle.words.specs.Word.{setWord}
 use Rattle.words.proofs.write_word.Statement.{statement}
 use Rattle.words.proofs.write_word.Tie as tie
 
-returns : tie.Need-returns
-unfolding setWord
-returns c = refl
-
 pub write-word-spec : {M : Type 1} → statement M
+unfolding setWord
 write-word-spec =
     tie.close
     (tie.spec
@@ -40,4 +37,4 @@ write-word-spec =
     (λ c. search needs)
     (λ c. simp length-set (omega arith))
     (λ c. simp length-set)
-    returns)
+    (λ c. refl))

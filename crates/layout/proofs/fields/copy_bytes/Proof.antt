@@ -1,12 +1,11 @@
 -- `layout::fields::copy_bytes` meets its contract. Assumes nothing.
-use mathlib.Core.Path.{_≡_, refl, sym, _∙_}
+use mathlib.Core.Path.{_≡_, refl}
 use mathlib.Core.List.{List}
 use Prim.Native.Nat.{ℕ, _-_, _≤_}
 use native.Mathlib.Omega.{arith}
 use lib.ListN.{length, length-set}
 use borrow.Author.Needs.{needs}
 use Rattle.words.specs.Word.{word}
-use Rattle.layout.specs.Range.{tabulate}
 use Rattle.layout.specs.Line.{lineA, lineB}
 use Rattle.layout.specs.Record.{valueByte, valueFront}
 use Rattle.layout.proofs.Copies.{Filled}
@@ -24,32 +23,18 @@ Inv-loop image l s out₀ start n k₀ out k =
 abbrev μ-loop : tie.MeasureT-loop
 μ-loop image l s out₀ start n k₀ out k = n - k
 
-loop-holds : tie.Need-loop-holds Inv-loop μ-loop
-loop-holds c = (c .before .before .pre .1, refl, λ old sized filled. filled)
-
-loop-again : tie.Need-loop-again Inv-loop μ-loop
-loop-again c = (
-  search needs,
-  simp length-set (c .before .before .loop .inv .1),
-  λ old sized filled. tabulate-set _ _ _ _ _ (omega (arith, sized, c .before .loop-test .taken, c .before .before .before .before .before .pre .3)) (c .before .before .loop .inv .2 old sized filled) (c .value-byte .ensures),
-)
-
-returns : tie.Need-returns Inv-loop μ-loop
-unfolding valueFront
-returns c old sized filled =
-    let e : c .before .before .before .before .args .n ≡ c .before .loop .k = omega arith in rw e (c .before .loop .inv .2 old sized filled)
-
 pub copy-bytes-spec : {M : Type 1} → statement M
+unfolding valueFront
 copy-bytes-spec =
     tie.close
     (tie.spec
     Inv-loop
     μ-loop
-    loop-holds
+    (λ c. (c .before .before .pre .1, refl, λ old sized filled. filled))
     (λ c κs. search needs)
     (λ c. search needs)
     (λ c. search needs)
     (λ c. search needs)
-    loop-again
+    (λ c. (search needs, simp length-set (c .before .before .loop .inv .1), λ old sized filled. tabulate-set _ _ _ _ _ (omega (arith, sized, c .before .loop-test .taken, c .before .before .before .before .before .pre .3)) (c .before .before .loop .inv .2 old sized filled) (c .value-byte .ensures)))
     (λ c. c .before .loop .inv .1)
-    returns)
+    (λ c old sized filled. let e : c .before .before .before .before .args .n ≡ c .before .loop .k = omega arith in rw e (c .before .loop .inv .2 old sized filled)))

@@ -1,11 +1,10 @@
 -- `layout::fields::copy_words` meets its contract. Assumes nothing.
-use mathlib.Core.Path.{_≡_, refl, sym, _∙_}
+use mathlib.Core.Path.{_≡_, refl, _∙_}
 use Prim.Native.Nat.{_-_, _*_, _≤_}
 use native.Mathlib.Omega.{arith}
 use lib.ListN.{length}
 use borrow.Author.Needs.{needs}
 use Rattle.words.specs.Word.{word}
-use Rattle.words.proofs.Laws.{setWord-length}
 use Rattle.layout.specs.Range.{tabulate}
 use Rattle.layout.specs.Line.{lineA, lineB}
 use Rattle.layout.specs.Record.{valueByte, valueFront}
@@ -20,36 +19,18 @@ Inv-loop image l s out₀ words i₀ out i =
 abbrev μ-loop : tie.MeasureT-loop
 μ-loop image l s out₀ words i₀ out i = words - i
 
-loop-holds : tie.Need-loop-holds Inv-loop μ-loop
-unfolding tabulate
-loop-holds c = (search needs, refl, refl)
-
-value-word-requires : tie.Need-value-word-requires Inv-loop μ-loop
-value-word-requires c κs = (c .before .before .before .before .pre .0, omega (arith, c .before .before .before .before .pre .0 .low, c .before .before .before .before .pre .0 .high))
-
-loop-again : tie.Need-loop-again Inv-loop μ-loop
-loop-again c = (
-  search needs,
-  c .before .before .write-word .kept .0 ∙ c .before .before .before .before .before .before .loop .inv .1,
-  c .before .before .write-word .ensures ∙ fill-word _ _ _ _ _ (omega arith) (word-digits _ _ _ _ _ (c .before .before .before .before .value-word .ensures)) (c .before .before .before .before .before .before .loop .inv .2),
-)
-
-returns : tie.Need-returns Inv-loop μ-loop
-unfolding valueFront
-returns c =
-    let e : c .before .before .before .before .args .words ≡ c .before .loop .i = omega arith in rw e (c .before .loop .inv .2)
-
 pub copy-words-spec : {M : Type 1} → statement M
+unfolding tabulate valueFront
 copy-words-spec =
     tie.close
     (tie.spec
     Inv-loop
     μ-loop
-    loop-holds
-    value-word-requires
+    (λ c. (search needs, refl, refl))
+    (λ c κs. (c .before .before .before .before .pre .0, omega (arith, c .before .before .before .before .pre .0 .low, c .before .before .before .before .pre .0 .high)))
     (λ c κs. search needs)
     (λ c. search needs)
     (λ c. search needs)
-    loop-again
+    (λ c. (search needs, c .before .before .write-word .kept .0 ∙ c .before .before .before .before .before .before .loop .inv .1, c .before .before .write-word .ensures ∙ fill-word _ _ _ _ _ (omega arith) (word-digits _ _ _ _ _ (c .before .before .before .before .value-word .ensures)) (c .before .before .before .before .before .before .loop .inv .2)))
     (λ c. c .before .loop .inv .1)
-    returns)
+    (λ c. let e : c .before .before .before .before .args .words ≡ c .before .loop .i = omega arith in rw e (c .before .loop .inv .2)))

@@ -6,11 +6,6 @@ use Rattle.layout.proofs.Records.{kind-at}
 use Rattle.layout.proofs.fields.kind_word.Statement.{statement}
 use Rattle.layout.proofs.fields.kind_word.Tie as tie
 
-returns : tie.Need-returns
-returns c =
-    c .read-word .ensures ∙ kind-at (word (c .before .before .args .image .now)) _ (c .before .before .args .s)
-    (c .before .before .pre .high)
-
 pub kind-word-spec : {M : Type 1} → statement M
 kind-word-spec =
     tie.close
@@ -19,4 +14,4 @@ kind-word-spec =
     (λ c. search needs)
     (λ c. search needs)
     (λ c κs. search needs)
-    returns)
+    (λ c. c .read-word .ensures ∙ kind-at (word (c .before .before .args .image .now)) _ (c .before .before .args .s) (c .before .before .pre .high)))

@@ -6,9 +6,6 @@ use Rattle.layout.proofs.Records.{key-at}
 use Rattle.layout.proofs.fields.slot_key.Statement.{statement}
 use Rattle.layout.proofs.fields.slot_key.Tie as tie
 
-returns : tie.Need-returns
-returns c = c .read-word .ensures ∙ key-at (word (c .before .before .args .image .now)) _
-
 pub slot-key-spec : {M : Type 1} → statement M
 slot-key-spec =
     tie.close
@@ -16,4 +13,4 @@ slot-key-spec =
     (λ c. search needs)
     (λ c. search needs)
     (λ c κs. search needs)
-    returns)
+    (λ c. c .read-word .ensures ∙ key-at (word (c .before .before .args .image .now)) _))

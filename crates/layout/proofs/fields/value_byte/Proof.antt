@@ -4,16 +4,6 @@ use Rattle.layout.proofs.Records.{byte-in-a, byte-in-b}
 use Rattle.layout.proofs.fields.value_byte.Statement.{statement}
 use Rattle.layout.proofs.fields.value_byte.Tie as tie
 
-returns : tie.Need-returns
-returns c =
-    byte-in-a _ _ _ _ (λ i. c .shared-slice-known .given i .fits) (c .before .before .pre .0) (c .before .before .pre .1)
-    (c .before .if1 .taken)
-
-returns-2 : tie.Need-returns-2
-returns-2 c =
-    byte-in-b _ _ _ _ (λ i. c .shared-slice-known2 .given i .fits) (c .before .before .pre .0) (c .before .before .pre .1)
-    (c .before .if1 .left)
-
 pub value-byte-spec : {M : Type 1} → statement M
 value-byte-spec =
     tie.close
@@ -26,11 +16,11 @@ value-byte-spec =
     (λ c. search needs)
     (λ c. search needs)
     (λ c. search needs)
-    returns
+    (λ c. byte-in-a _ _ _ _ (λ i. c .shared-slice-known .given i .fits) (c .before .before .pre .0) (c .before .before .pre .1) (c .before .if1 .taken))
     (λ c. search needs)
     (λ c. search needs)
     (λ c. search needs)
     (λ c. search needs)
     (λ c. search needs)
     (λ c. search needs)
-    returns-2)
+    (λ c. byte-in-b _ _ _ _ (λ i. c .shared-slice-known2 .given i .fits) (c .before .before .pre .0) (c .before .before .pre .1) (c .before .if1 .left)))

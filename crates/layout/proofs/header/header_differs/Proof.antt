@@ -4,22 +4,13 @@ use Rattle.layout.proofs.Headers.{first-other, second-other, rest-decid
 use Rattle.layout.proofs.header.header_differs.Statement.{statement}
 use Rattle.layout.proofs.header.header_differs.Tie as tie
 
-returns : tie.Need-returns
-returns c = first-other _ _ _ _ (c .before .read-word .ensures) (c .if1 .taken)
-
-returns-2 : tie.Need-returns-2
-returns-2 c = second-other _ _ _ _ (c .before .read-word2 .ensures) (c .if2 .taken)
-
-returns-3 : tie.Need-returns-3
-returns-3 c = rest-decides _ _ _ _ _ (c .before .before .before .before .read-word .ensures) (c .before .before .read-word2 .ensures) (c .before .before .before .if1 .left) (c .before .if2 .left) _ (c .rest-differs .ensures)
-
 pub header-differs-spec : {M : Type 1} → statement M
 header-differs-spec =
     tie.close
     (tie.spec
     (λ c κs. search needs)
-    returns
+    (λ c. first-other _ _ _ _ (c .before .read-word .ensures) (c .if1 .taken))
     (λ c κs. search needs)
-    returns-2
+    (λ c. second-other _ _ _ _ (c .before .read-word2 .ensures) (c .if2 .taken))
     (λ c κs. search needs)
-    returns-3)
+    (λ c. rest-decides _ _ _ _ _ (c .before .before .before .before .read-word .ensures) (c .before .before .read-word2 .ensures) (c .before .before .before .if1 .left) (c .before .if2 .left) _ (c .rest-differs .ensures)))

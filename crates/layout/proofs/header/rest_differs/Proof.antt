@@ -17,15 +17,6 @@ Inv-loop image i₀ i = Going (λ j. not (eqb (word image j) 0)) 8 2 i
 abbrev μ-loop : tie.MeasureT-loop
 μ-loop image i₀ i = 8 - i
 
-returns : tie.Need-returns Inv-loop μ-loop
-returns c = any-hit _ _ _ _ (c .before .before .before .loop .inv) (c .before .before .loop-test .taken) (apart _ _ _ _ (c .before .read-word .ensures) refl (c .if1 .taken))
-
-loop-again : tie.Need-loop-again Inv-loop μ-loop
-loop-again c = any-next _ _ _ _ (c .before .before .before .loop .inv) (c .before .before .loop-test .taken) (alike _ _ _ _ (c .before .read-word .ensures) refl (c .if1 .left))
-
-returns-2 : tie.Need-returns-2 Inv-loop μ-loop
-returns-2 c = any-end _ _ _ _ (c .before .loop .inv) (c .loop-test .left)
-
 pub rest-differs-spec : {M : Type 1} → statement M
 rest-differs-spec =
     tie.close
@@ -34,8 +25,8 @@ rest-differs-spec =
     μ-loop
     (λ c. any-start _ _ _ (omega arith))
     (λ c κs. search needs)
-    returns
+    (λ c. any-hit _ _ _ _ (c .before .before .before .loop .inv) (search needs) (apart _ _ _ _ (c .before .read-word .ensures) refl (c .if1 .taken)))
     (λ c. search needs)
     (λ c. search needs)
-    loop-again
-    returns-2)
+    (λ c. search (any-next, alike))
+    (λ c. any-end _ _ _ _ (c .before .loop .inv) (c .loop-test .left)))

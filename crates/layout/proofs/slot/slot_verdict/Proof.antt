@@ -4,11 +4,6 @@ use Rattle.layout.proofs.Verdicts.{judged-slot}
 use Rattle.layout.proofs.slot.slot_verdict.Statement.{statement}
 use Rattle.layout.proofs.slot.slot_verdict.Tie as tie
 
-returns : tie.Need-returns
-returns c =
-    judged-slot _ _ _ _ _ _ _ (c .judge .ensures) (c .before .before .before .before .read-word .ensures)
-    (c .before .before .before .read-word2 .ensures) (c .before .before .read-word3 .ensures) (c .before .read-word4 .ensures)
-
 pub slot-verdict-spec : {M : Type 1} → statement M
 slot-verdict-spec =
     tie.close
@@ -25,4 +20,4 @@ slot-verdict-spec =
     (λ c. search needs)
     (λ c κs. search needs)
     (λ c κs. search needs)
-    returns)
+    (λ c. search judged-slot))

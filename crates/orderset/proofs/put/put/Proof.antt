@@ -1,36 +1,32 @@
 -- `orderset::put::put` meets its contract. Assumes nothing.
 use borrow.Author.Needs.{needs}
-use Rattle.orderset.specs.Change.{putDone}
-use Rattle.orderset.proofs.Plans.{put-answer}
+use Rattle.orderset.proofs.Plans.{refuses-with, put-answer, put-planned-answer}
 use Rattle.orderset.proofs.put.put.Statement.{statement}
 use Rattle.orderset.proofs.put.put.Tie as tie
 
-insert-at-requires : tie.Need-insert-at-requires
-insert-at-requires c κs =
-    let planned = c .before .before .before in rw (planned .plan2 .given .1) at (planned .before .before .put-plan .ensures .1)
+put-planned-requires : tie.Need-put-planned-requires
+put-planned-requires c κs = c .before .before .before .before .put-plan .ensures .1 (rw (c .before .before .before .refused-with .ensures) at (c .before .before .if1 .left))
 
-replace-at-requires : tie.Need-replace-at-requires
-replace-at-requires c κs =
-    let planned = c .before .before .before in rw (planned .plan3 .given .1) at (planned .before .before .put-plan .ensures .1)
+returns : tie.Need-returns
+returns c =
+    put-answer _ _ _ _ _ _ _ _ (refuses-with _ _ (c .before .before .refused-with .ensures) (c .before .if1 .taken)) _ _ (c .before .before .before .put-plan .ensures .0) (c .refusal .ensures _ _)
+
+returns-2 : tie.Need-returns-2
+returns-2 c =
+    put-planned-answer _ _ _ _ _ _ _ _ _ (c .before .before .before .before .before .before .before .before .before .put-plan .ensures .0)
+    (c .before .before .before .before .before .before .before .before .before .put-plan .ensures .1 (rw (c .before .before .before .before .before .before .before .before .refused-with .ensures) at (c .before .before .before .before .before .before .before .if1 .left)) .links) (c .before .before .before .before .put-planned .ensures)
 
 pub put-spec : {M : Type 1} → statement M
-unfolding putDone
 put-spec =
     tie.close
     (tie.spec
     (λ c κs. search needs)
-    (λ c. search needs)
+    (λ c κs. search needs)
     (λ c κs. search needs)
     (λ c. search needs)
-    insert-at-requires
     (λ c. search needs)
-    replace-at-requires
-    (λ c. search needs)
-    (λ c. search needs)
-    (λ c. search (put-answer, c .refusal .ensures))
+    returns
+    put-planned-requires
     (λ c. search needs)
     (λ c. search needs)
-    (λ c. search (put-answer))
-    (λ c. search needs)
-    (λ c. search needs)
-    (λ c. search (put-answer)))
+    returns-2)

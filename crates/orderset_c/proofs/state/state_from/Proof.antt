@@ -1,14 +1,9 @@
 -- `orderset_c::state::state_from` meets its contract. Assumes nothing.
 use borrow.Author.Needs.{needs}
-use mathlib.Core.Path.{refl}
 use Rattle.orderset_c.specs.State.{stateFrom}
 use Rattle.orderset_c.proofs.state.state_from.Statement.{statement}
 use Rattle.orderset_c.proofs.state.state_from.Tie as tie
 
-returns : tie.Need-returns
-unfolding stateFrom
-returns c = refl
-
 pub state-from-spec : {M : Type 1} → statement M
-state-from-spec =
-    tie.close (tie.spec (λ c. search needs) (λ c. search needs) (λ c. search needs) (λ c. search needs) returns)
+unfolding stateFrom
+state-from-spec = tie.close (tie.spec (λ c. search needs) (λ c. search needs) (λ c. search needs) (λ c. search needs) (λ c. search needs))

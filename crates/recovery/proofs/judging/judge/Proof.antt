@@ -8,26 +8,40 @@ use Rattle.recovery.proofs.judging.judge.Tie as tie
 
 any-twins-requires : tie.Need-any-twins-requires
 any-twins-requires c κs =
-    twins-ready (c .before .before .before .before .before .before .before .before .before .before .before .before .before .before .before .before .before .before .before .before .before .before .before .before .before .before .before .args .order .now) _ (c .before .before .before .before .before .before .before .before .before .before .before .before .before .before .before .before .before .before .before .before .before .before .before .before .before .before .before .args .ranks .now) (c .before .before .before .before .before .before .before .before .before .before .before .before .before .before .before .before .scan .last .1 .1 .1 .0) _ (c .before .before .before .before .before .before .order-by-rank .ensures) (c .before .before .before .before .before .before .before .before .before .before .before .before .before .before .before .before .before .before .before .before .before .before .before .before .before .before .before .pre .order-size) (c .before .before .before .before .before .before .before .before .before .before .before .before .before .before .before .before .before .before .before .before .before .before .before .before .before .before .before .pre .some-slots)
-    (c .before .before .before .before .before .before .before .before .before .before .before .before .before .before .before .before .scan .kept .1 .1 .1 .0) (c .before .before .before .before .before .before .before .before .before .before .before .before .before .before .before .before .before .before .before .before .before .before .before .before .before .before .before .pre .ranks-size)
+    let ranked = c .before .before .before .before .before .before in
+    let scanned = ranked .before .before .before .before .before .before .before .before .before .before in
+    let given = scanned .before .before .before .before .before .before .before .before .before .before .before in
+    twins-ready (given .args .order .now) _ (given .args .ranks .now) (scanned .scan .last .1 .1 .1 .0) _ (ranked .order-by-rank .ensures) (given .pre .order-size) (given .pre .some-slots)
+    (scanned .scan .kept .1 .1 .1 .0) (given .pre .ranks-size)
 
 decide-requires : tie.Need-decide-requires
 decide-requires c κs =
-    decide-ready (c .before .before .before .before .before .before .before .before .before .before .before .before .before .before .before .before .before .before .before .before .before .before .before .before .before .before .before .before .before .before .before .before .before .before .before .before .before .before .before .before .args .order .now) _ (c .before .before .before .before .before .before .before .before .before .before .before .before .before .before .before .before .before .before .before .before .before .before .before .before .before .before .before .before .before .before .before .before .before .before .before .before .before .before .before .before .args .ranks .now) (c .before .before .before .before .before .before .before .before .before .before .before .before .before .before .before .before .before .before .before .before .before .before .before .before .before .before .before .before .before .scan .last .1 .1 .1 .0) _ (c .before .before .before .before .before .before .before .before .before .before .before .before .before .before .before .before .before .before .before .order-by-rank .ensures) (c .before .before .before .before .before .before .before .before .before .before .before .before .before .before .before .before .before .before .before .before .before .before .before .before .before .before .before .before .before .before .before .before .before .before .before .before .before .before .before .before .pre .order-size) (c .before .before .before .before .before .before .before .before .before .before .before .before .before .before .before .before .before .before .before .before .before .before .before .before .before .before .before .before .before .before .before .before .before .before .before .before .before .before .before .before .args .keys .now) (c .before .before .before .before .before .before .before .before .before .before .before .before .before .before .before .before .before .before .before .before .before .before .before .before .before .before .before .before .before .scan .last .1 .1 .1 .1 .0)
-    (c .before .before .before .before .before .before .before .before .before .before .before .before .before .before .before .before .before .before .before .before .before .before .before .before .before .before .before .before .before .before .before .before .before .before .before .before .before .before .before .before .args .places .now) (c .before .before .before .before .before .before .before .before .before .before .before .before .before .before .before .before .before .before .before .before .before .before .before .before .before .before .before .before .before .scan .last .1 .1 .1 .1 .1 .0) _ (c .before .before .before .before .before .before .before .order-by-key .ensures) (c .before .before .before .before .before .before .before .before .before .before .before .before .before .before .before .before .before .before .before .before .before .before .before .before .before .before .before .before .before .before .before .before .before .before .before .before .before .before .before .before .pre .few) (c .before .before .before .before .before .before .before .before .before .before .before .before .before .before .before .before .before .before .before .before .before .before .before .before .before .before .before .before .before .scan .kept .1 .1 .1 .1 .0) (c .before .before .before .before .before .before .before .before .before .before .before .before .before .before .before .before .before .before .before .before .before .before .before .before .before .before .before .before .before .before .before .before .before .before .before .before .before .before .before .before .pre .keys-size)
-    (c .before .before .before .before .before .before .before .before .before .before .before .before .before .before .before .before .before .before .before .before .before .before .before .before .before .before .before .before .before .scan .kept .1 .1 .1 .1 .1 .0) (c .before .before .before .before .before .before .before .before .before .before .before .before .before .before .before .before .before .before .before .before .before .before .before .before .before .before .before .before .before .before .before .before .before .before .before .before .before .before .before .before .pre .places-size)
+    let ranked = c .before .before .before .before .before .before .before .before .before .before .before .before .before .before .before .before .before .before .before in
+    let scanned = ranked .before .before .before .before .before .before .before .before .before .before in
+    let given = scanned .before .before .before .before .before .before .before .before .before .before .before in
+    decide-ready (given .args .order .now) _ (given .args .ranks .now) (scanned .scan .last .1 .1 .1 .0) _ (ranked .order-by-rank .ensures) (given .pre .order-size) (given .args .keys .now) (scanned .scan .last .1 .1 .1 .1 .0)
+    (given .args .places .now) (scanned .scan .last .1 .1 .1 .1 .1 .0) _ (c .before .before .before .before .before .before .before .order-by-key .ensures) (given .pre .few) (scanned .scan .kept .1 .1 .1 .1 .0) (given .pre .keys-size)
+    (scanned .scan .kept .1 .1 .1 .1 .1 .0) (given .pre .places-size)
 
 count-placed-requires : tie.Need-count-placed-requires
-count-placed-requires c κs = (c .before .before .before .decide .kept .1 .1 .0 ∙ c .before .before .before .before .before .before .before .before .before .before .before .before .before .before .before .before .before .before .before .before .before .before .before .before .before .before .before .before .before .before .before .before .before .scan .kept .1 .1 .1 .1 .1 .0 ∙ c .before .before .before .before .before .before .before .before .before .before .before .before .before .before .before .before .before .before .before .before .before .before .before .before .before .before .before .before .before .before .before .before .before .before .before .before .before .before .before .before .before .before .before .before .pre .places-size, c .before .before .before .before .before .before .before .before .before .before .before .before .before .before .before .before .before .before .before .before .before .before .before .before .before .before .before .before .before .before .before .before .before .before .before .before .before .before .before .before .before .before .before .before .pre .few)
+count-placed-requires c κs =
+    let scanned = c .before .before .before .before .before .before .before .before .before .before .before .before .before .before .before .before .before .before .before .before .before .before .before .before .before .before .before .before .before .before .before .before .before in
+    let given = scanned .before .before .before .before .before .before .before .before .before .before .before in
+    (c .before .before .before .decide .kept .1 .1 .0 ∙ scanned .scan .kept .1 .1 .1 .1 .1 .0 ∙ given .pre .places-size, given .pre .few)
 
 cast-found-fault : tie.Need-cast-found-fault
-cast-found-fault c = omega (arith, c .before .before .before .before .before .before .before .before .before .before .before .before .before .before .before .before .before .before .before .before .before .before .before .before .before .before .before .before .before .before .before .before .before .before .before .before .before .before .before .before .before .before .before .before .before .pre .few)
+cast-found-fault c =
+    let given = c .before .before .before .before .before .before .before .before .before .before .before .before .before .before .before .before .before .before .before .before .before .before .before .before .before .before .before .before .before .before .before .before .before .before .before .before .before .before .before .before .before .before .before .before .before in
+    omega (arith, given .pre .few)
 
 returns : tie.Need-returns
 returns c =
-    judged _ _ _ (c .before .before .before .before .before .before .before .before .before .before .before .before .before .before .before .before .before .before .before .before .before .before .before .before .before .before .before .before .before .before .before .before .before .before .before .scan .last .1 .1 .1 .0) (c .before .before .before .before .before .before .before .before .before .before .before .before .before .before .before .before .before .before .before .before .before .before .before .before .before .before .before .before .before .before .before .before .before .before .before .scan .last .1 .1 .1 .1 .0) (c .before .before .before .before .before .before .before .before .before .before .before .before .before .before .before .before .before .before .before .before .before .before .before .before .before .before .before .before .before .before .before .before .before .before .before .scan .last .1 .1 .1 .1 .1 .0) _ _ _ _ _ _ (λ k. c .before .before .before .before .before .before .before .before .before .before .before .before .before .before .before .before .before .before .before .before .before .before .before .before .before .before .before .before .before .before .before .before .before .before .before .before .before .before .before .before .before .before .before .before .before .shared-slice-known .given k .fits)
-    (c .before .before .before .before .before .before .before .before .before .before .before .before .before .before .before .before .before .before .before .before .before .before .before .before .before .before .before .before .before .before .before .before .before .before .before .scan .kept .1 .1 .1 .1 .1 .0 ∙ c .before .before .before .before .before .before .before .before .before .before .before .before .before .before .before .before .before .before .before .before .before .before .before .before .before .before .before .before .before .before .before .before .before .before .before .before .before .before .before .before .before .before .before .before .before .before .pre .places-size)
-    (c .before .before .before .before .before .before .before .before .before .before .before .before .before .before .before .before .before .before .before .before .before .before .before .before .before .before .before .before .before .before .before .before .before .before .before .scan .ensures) (in-rank (c .before .before .before .before .before .before .before .before .before .before .before .before .before .before .before .before .before .before .before .before .before .before .before .before .before .before .before .before .before .before .before .before .before .before .before .before .before .before .before .before .before .before .before .before .before .before .args .order .now) _ (c .before .before .before .before .before .before .before .before .before .before .before .before .before .before .before .before .before .before .before .before .before .before .before .before .before .before .before .before .before .before .before .before .before .before .before .before .before .before .before .before .before .before .before .before .before .before .args .ranks .now) (c .before .before .before .before .before .before .before .before .before .before .before .before .before .before .before .before .before .before .before .before .before .before .before .before .before .before .before .before .before .before .before .before .before .before .before .scan .last .1 .1 .1 .0) _ (c .before .before .before .before .before .before .before .before .before .before .before .before .before .before .before .before .before .before .before .before .before .before .before .before .before .order-by-rank .ensures) (c .before .before .before .before .before .before .before .before .before .before .before .before .before .before .before .before .before .before .before .before .before .before .before .before .before .before .before .before .before .before .before .before .before .before .before .before .before .before .before .before .before .before .before .before .before .before .pre .order-size))
+    let ranked = c .before .before .before .before .before .before .before .before .before .before .before .before .before .before .before .before .before .before .before .before .before .before .before .before .before in
+    let scanned = ranked .before .before .before .before .before .before .before .before .before .before in
+    let given = scanned .before .before .before .before .before .before .before .before .before .before .before in
+    judged _ _ _ (scanned .scan .last .1 .1 .1 .0) (scanned .scan .last .1 .1 .1 .1 .0) (scanned .scan .last .1 .1 .1 .1 .1 .0) _ _ _ _ _ _ (λ k. c .before .before .before .before .before .before .before .before .before .before .before .before .before .before .before .before .before .before .before .before .before .before .before .before .before .before .before .before .before .before .before .before .before .before .before .before .before .before .before .before .before .before .before .before .before .shared-slice-known .given k .fits)
+    (scanned .scan .kept .1 .1 .1 .1 .1 .0 ∙ given .pre .places-size)
+    (scanned .scan .ensures) (in-rank (given .args .order .now) _ (given .args .ranks .now) (scanned .scan .last .1 .1 .1 .0) _ (ranked .order-by-rank .ensures) (given .pre .order-size))
     (c .before .before .before .before .before .before .before .before .before .before .before .before .before .before .before .before .before .before .any-twins .ensures) (c .before .before .before .before .before .before .before .before .before .before .before .before .before .order-by-key .ensures) (c .before .before .before .before .before .decide .ensures) (c .before .count-placed .ensures .0) _ (c .found-fault .ensures)
 
 pub judge-spec : {M : Type 1} → statement M

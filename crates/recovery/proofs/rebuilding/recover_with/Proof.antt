@@ -1,19 +1,21 @@
 -- `recovery::rebuilding::recover_with` meets its contract. Assumes nothing.
-use mathlib.Core.Path.{_∙_}
 use borrow.Author.Needs.{needs}
-use Rattle.recovery.proofs.Recovers.{slots-answered, rebuild-ready}
+use Rattle.recovery.proofs.Recovers.{slots-answered, rebuild-ordered, rebuild-top}
 use Rattle.recovery.proofs.rebuilding.recover_with.Statement.{statement}
 use Rattle.recovery.proofs.rebuilding.recover_with.Tie as tie
 
 rebuild-accepted-requires : tie.Need-rebuild-accepted-requires
-rebuild-accepted-requires c κs =
-    λ z. rebuild-ready _ _ _ _ (c .before .before .before .before .before .before .before .before .before .before .before .before .before .before .before .before .judge .last .1 .1 .1 .1 .1 .0) _ _ _ (c .before .before .before .before .before .before .before .before .before .before .before .before .before .before .before .before .before .before .before .before .before .before .before .before .before .before .before .before .before .before .before .before .pre .0)
-    (c .before .before .before .before .before .before .before .before .before .before .before .before .before .before .before .before .judge .kept .1 .1 .1 .1 .1 .0 ∙ c .before .before .before .before .before .before .before .before .before .before .before .before .before .before .before .before .before .before .before .before .before .before .before .before .before .before .before .before .before .before .before .before .pre .1 .places-size) (c .before .before .before .before .before .before .before .before .before .before .before .before .before .before .before .before .judge .ensures .arranged z)
+rebuild-accepted-requires c κs z =
+    let judged = c .before .before .before .before .before .before .before .before .before .before .before .before .before .before .before .before in
+    let given = judged .before .before .before .before .before .before .before .before .before .before .before .before .before .before .before .before .pre in (
+      rebuild-ordered _ _ _ _ _ _ _ _ _ _ _ _ _ (given .0) (given .1) (judged .judge .ensures) (judged .judge .kept .1 .1 .1 .1 .1 .0) z,
+      rebuild-top _ _ _ _ _ _ (judged .judge .ensures) z,
+    )
 
 returns : tie.Need-returns
 returns c =
-    slots-answered _ _ _ _ (c .before .before .before .before .before .before .before .before .before .before .before .before .before .before .before .before .before .before .before .before .before .before .judge .last .1 .1 .1 .1 .1 .0) _ _ _ _ _ _ _ _ (c .before .before .before .before .before .before .before .before .before .before .before .before .before .before .before .before .before .before .before .before .before .before .before .before .before .before .before .before .before .before .before .before .before .before .before .before .before .before .pre .0) (c .before .before .before .before .before .before .before .before .before .before .before .before .before .before .before .before .before .before .before .before .before .before .judge .ensures .fault-is)
-    (c .before .before .before .before .before .before .before .before .before .before .before .before .before .before .before .before .before .before .before .before .before .before .judge .ensures .arranged) (c .before .before .before .before .before .rebuild-accepted .ensures) (c .answer .ensures)
+    let judged = c .before .before .before .before .before .before .before .before .before .before .before .before .before .before .before .before .before .before .before .before .before .before in
+    slots-answered _ _ _ _ _ _ _ _ _ _ _ (judged .before .before .before .before .before .before .before .before .before .before .before .before .before .before .before .before .pre .0) (judged .judge .ensures) (c .before .before .before .before .before .rebuild-accepted .ensures) (c .answer .ensures)
 
 pub recover-with-spec : {M : Type 1} → statement M
 recover-with-spec =

@@ -13,15 +13,12 @@ add-result : tie.Need-add-result
 add-result c =
     let given = c .before in omega (arith, place-small (given .args .key) (given .args .b) (given .pre .0) (given .pre .1))
 
-returns-2 : tie.Need-returns-2
-returns-2 c = put-place _ _ _ (c .if1 .left) (c .before .fits .key .fits)
-
 pub record-place-spec : {M : Type 1} → statement M
 record-place-spec =
     tie.close
     (tie.spec
-    (λ c. remove-place _ _ _ (c .if1 .taken))
+    (λ c. search remove-place)
     (λ c. search needs)
     cast-result
     add-result
-    returns-2)
+    (λ c. search (put-place, needs)))

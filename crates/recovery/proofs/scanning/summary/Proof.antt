@@ -15,20 +15,6 @@ valid-summary-requires c κs =
           (c .before .verdict .given .1),
     )
 
-returns : tie.Need-returns
-returns c =
-    summed-valid _ _ _ _ (c .before .before .before .before .slot-verdict .ensures) _
-    (c .before .before .before .before .before .mark-fault .ensures) _ (c .before .before .verdict .given .1) _ (c .valid-summary .ensures)
-
-returns-2 : tie.Need-returns-2
-returns-2 c =
-    summed-empty _ _ _ _ (c .before .before .slot-verdict .ensures) _ (c .before .before .before .mark-fault .ensures) (c .enum-told .given .1)
-
-returns-3 : tie.Need-returns-3
-returns-3 c =
-    summed-broken _ _ _ _ (c .before .before .before .slot-verdict .ensures) _
-    (c .before .before .before .before .mark-fault .ensures) _ (c .before .verdict2 .given .1)
-
 pub summary-spec : {M : Type 1} → statement M
 summary-spec =
     tie.close
@@ -39,6 +25,6 @@ summary-spec =
     valid-summary-requires
     (λ c. search needs)
     (λ c. search needs)
-    returns
-    returns-2
-    returns-3)
+    (λ c. search summed-valid)
+    (λ c. search summed-empty)
+    (λ c. search summed-broken))

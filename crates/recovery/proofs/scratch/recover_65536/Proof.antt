@@ -5,17 +5,18 @@ use Rattle.recovery.proofs.scratch.recover_65536.Statement.{statement}
 use Rattle.recovery.proofs.scratch.recover_65536.Tie as tie
 
 recover-in-requires : tie.Need-recover-in-requires
-recover-in-requires c κs = (
-  c .before .before .before .before .before .before .before .before .before .before .before .pre .0,
-  record {
-    ranks-room = omega (arith, c .before .before .before .before .before .before .before .before .before .before .before .pre .1);
-    keys-room = omega (arith, c .before .before .before .before .before .before .before .before .before .before .before .pre .1);
-    places-room = omega (arith, c .before .before .before .before .before .before .before .before .before .before .before .pre .1);
-    order-room = omega (arith, c .before .before .before .before .before .before .before .before .before .before .before .pre .1);
-    by-key-room = omega (arith, c .before .before .before .before .before .before .before .before .before .before .before .pre .1);
-    spare-room = omega (arith, c .before .before .before .before .before .before .before .before .before .before .before .pre .1);
-  },
-)
+recover-in-requires c κs =
+    let given = c .before .before .before .before .before .before .before .before .before .before .before .pre in (
+      given .0,
+      record {
+        ranks-room = omega (arith, given .1);
+        keys-room = omega (arith, given .1);
+        places-room = omega (arith, given .1);
+        order-room = omega (arith, given .1);
+        by-key-room = omega (arith, given .1);
+        spare-room = omega (arith, given .1);
+      },
+    )
 
 pub recover-65536-spec : {M : Type 1} → statement M
 recover-65536-spec =

@@ -6,25 +6,31 @@ use Rattle.recovery.proofs.scratch.recover_in.Statement.{statement}
 use Rattle.recovery.proofs.scratch.recover_in.Tie as tie
 
 slice-aggregate-recover-with : tie.Need-slice-aggregate-recover-with
-slice-aggregate-recover-with c = front _ (c .before .before .before .before .before .before .before .before .before .before .before .before .args .ranks .now) (omega (arith, c .before .before .before .before .before .before .before .before .before .before .before .before .pre .1 .ranks-room))
+slice-aggregate-recover-with c =
+    let given = c .before .before .before .before .before .before .before .before .before .before .before .before in front _ (given .args .ranks .now) (omega (arith, given .pre .1 .ranks-room))
 
 slice-aggregate-recover-with-2 : tie.Need-slice-aggregate-recover-with-2
-slice-aggregate-recover-with-2 c = front _ (c .before .before .before .before .before .before .before .before .before .before .before .before .before .args .keys .now) (omega (arith, c .before .before .before .before .before .before .before .before .before .before .before .before .before .pre .1 .keys-room))
+slice-aggregate-recover-with-2 c =
+    let given = c .before .before .before .before .before .before .before .before .before .before .before .before .before in front _ (given .args .keys .now) (omega (arith, given .pre .1 .keys-room))
 
 slice-aggregate-recover-with-3 : tie.Need-slice-aggregate-recover-with-3
-slice-aggregate-recover-with-3 c = front _ (c .before .before .before .before .before .before .before .before .before .before .before .before .before .before .args .places .now) (omega (arith, c .before .before .before .before .before .before .before .before .before .before .before .before .before .before .pre .1 .places-room))
+slice-aggregate-recover-with-3 c =
+    let given = c .before .before .before .before .before .before .before .before .before .before .before .before .before .before in front _ (given .args .places .now) (omega (arith, given .pre .1 .places-room))
 
 slice-aggregate-recover-with-4 : tie.Need-slice-aggregate-recover-with-4
-slice-aggregate-recover-with-4 c = front _ (c .before .before .before .before .before .before .before .before .before .before .before .before .before .before .before .args .order .now) (omega (arith, c .before .before .before .before .before .before .before .before .before .before .before .before .before .before .before .pre .1 .order-room))
+slice-aggregate-recover-with-4 c =
+    let given = c .before .before .before .before .before .before .before .before .before .before .before .before .before .before .before in front _ (given .args .order .now) (omega (arith, given .pre .1 .order-room))
 
 slice-aggregate-recover-with-5 : tie.Need-slice-aggregate-recover-with-5
-slice-aggregate-recover-with-5 c = front _ (c .before .before .before .before .before .before .before .before .before .before .before .before .before .before .before .before .args .by-key .now) (omega (arith, c .before .before .before .before .before .before .before .before .before .before .before .before .before .before .before .before .pre .1 .by-key-room))
+slice-aggregate-recover-with-5 c =
+    let given = c .before .before .before .before .before .before .before .before .before .before .before .before .before .before .before .before in front _ (given .args .by-key .now) (omega (arith, given .pre .1 .by-key-room))
 
 slice-aggregate-recover-with-6 : tie.Need-slice-aggregate-recover-with-6
-slice-aggregate-recover-with-6 c = front _ (c .before .before .before .before .before .before .before .before .before .before .before .before .before .before .before .before .before .args .spare .now) (omega (arith, c .before .before .before .before .before .before .before .before .before .before .before .before .before .before .before .before .before .pre .1 .spare-room))
+slice-aggregate-recover-with-6 c =
+    let given = c .before .before .before .before .before .before .before .before .before .before .before .before .before .before .before .before .before in front _ (given .args .spare .now) (omega (arith, given .pre .1 .spare-room))
 
 recover-with-requires : tie.Need-recover-with-requires
-recover-with-requires c κs = (c .before .before .before .before .before .before .before .before .before .before .before .before .before .before .before .before .before .pre .0, judgeable _ _ _ _ _ _ _ _ _ _ (c .before .before .before .before .before .before .before .before .before .before .before .before .before .before .before .before .before .pre .0) (c .before .before .before .before .before .before .before .before .before .before .before .before .before .before .before .before .before .pre .1))
+recover-with-requires c κs = let given = c .before .before .before .before .before .before .before .before .before .before .before .before .before .before .before .before .before .pre in (given .0, judgeable _ _ _ _ _ _ _ _ _ _ (given .0) (given .1))
 
 pub recover-in-spec : {M : Type 1} → statement M
 recover-in-spec =

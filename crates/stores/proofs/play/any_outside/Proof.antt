@@ -16,24 +16,6 @@ Inv-loop len at i₀ i = Going (λ j. ltb len (8 * getD at j 0 + 8)) (length at)
 abbrev μ-loop : tie.MeasureT-loop
 μ-loop len at i₀ i = length at - i
 
-cast-w : tie.Need-cast-w Inv-loop μ-loop
-cast-w c = omega (arith, c .shared-slice-known .given (c .before .before .loop .i))
-
-mul-if1 : tie.Need-mul-if1 Inv-loop μ-loop
-mul-if1 c = omega (arith, c .shared-slice-known .given (c .before .before .loop .i))
-
-add-if1 : tie.Need-add-if1 Inv-loop μ-loop
-add-if1 c = omega (arith, c .shared-slice-known .given (c .before .before .loop .i))
-
-returns : tie.Need-returns Inv-loop μ-loop
-returns c = any-hit _ _ _ _ (c .before .before .before .loop .inv) (c .before .before .loop-test .taken) (lt-ltb _ _ (c .if1 .taken)) ∙ any-whole _ _
-
-loop-again : tie.Need-loop-again Inv-loop μ-loop
-loop-again c = any-next _ _ _ _ (c .before .before .before .loop .inv) (c .before .before .loop-test .taken) (le-ltb _ _ (c .if1 .left))
-
-returns-2 : tie.Need-returns-2 Inv-loop μ-loop
-returns-2 c = any-end _ _ _ _ (c .before .loop .inv) (c .loop-test .left) ∙ any-whole _ _
-
 pub any-outside-spec : {M : Type 1} → statement M
 any-outside-spec =
     tie.close
@@ -43,11 +25,11 @@ any-outside-spec =
     (λ c. any-start _ _ _ (omega arith))
     (λ c. search needs)
     (λ c. search needs)
-    cast-w
-    mul-if1
-    add-if1
-    returns
+    (λ c. omega (arith, c .shared-slice-known .given (c .before .before .loop .i)))
+    (λ c. omega (arith, c .shared-slice-known .given (c .before .before .loop .i)))
+    (λ c. omega (arith, c .shared-slice-known .given (c .before .before .loop .i)))
+    (λ c. any-hit _ _ _ _ (c .before .before .before .loop .inv) (search needs) (search lt-ltb) ∙ any-whole _ _)
     (λ c. search needs)
     (λ c. search needs)
-    loop-again
-    returns-2)
+    (λ c. search (any-next, le-ltb))
+    (λ c. any-end _ _ _ _ (c .before .loop .inv) (c .loop-test .left) ∙ any-whole _ _))

@@ -17,15 +17,6 @@ Inv-loop at k first i₀ i = Going (λ j. not (eqb (getD at (k + j) 0) (first + 
 abbrev μ-loop : tie.MeasureT-loop
 μ-loop at k first i₀ i = 8 - i
 
-returns : tie.Need-returns Inv-loop μ-loop
-returns c = any-hit _ _ _ _ (c .before .before .before .before .loop .inv) (c .before .before .before .loop-test .taken) (apart _ _ _ _ (c .before .wide .ensures .0) refl (c .if1 .taken))
-
-loop-again : tie.Need-loop-again Inv-loop μ-loop
-loop-again c = any-next _ _ _ _ (c .before .before .before .before .loop .inv) (c .before .before .before .loop-test .taken) (alike _ _ _ _ (c .before .wide .ensures .0) refl (c .if1 .left))
-
-returns-2 : tie.Need-returns-2 Inv-loop μ-loop
-returns-2 c = any-end _ _ _ _ (c .before .loop .inv) (c .loop-test .left)
-
 pub out-of-order-spec : {M : Type 1} → statement M
 out-of-order-spec =
     tie.close
@@ -38,8 +29,8 @@ out-of-order-spec =
     (λ c. search needs)
     (λ c κs. search needs)
     (λ c. search needs)
-    returns
+    (λ c. any-hit _ _ _ _ (c .before .before .before .before .loop .inv) (search needs) (apart _ _ _ _ (c .before .wide .ensures .0) refl (c .if1 .taken)))
     (λ c. search needs)
     (λ c. search needs)
-    loop-again
-    returns-2)
+    (λ c. search (any-next, alike))
+    (λ c. any-end _ _ _ _ (c .before .loop .inv) (c .loop-test .left)))

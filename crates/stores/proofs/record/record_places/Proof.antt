@@ -6,11 +6,8 @@ use Rattle.stores.specs.Written.{recordPlaces}
 use Rattle.stores.proofs.record.record_places.Statement.{statement}
 use Rattle.stores.proofs.record.record_places.Tie as tie
 
-returns : tie.Need-returns
-unfolding recordPlaces tabulate
-returns c = simp add-zero
-
 pub record-places-spec : {M : Type 1} → statement M
+unfolding tabulate recordPlaces
 record-places-spec =
     tie.close
     (tie.spec
@@ -33,4 +30,4 @@ record-places-spec =
     (λ c. search needs)
     (λ c. search needs)
     (λ c. search needs)
-    returns)
+    (λ c. simp add-zero))

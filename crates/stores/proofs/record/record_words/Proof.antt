@@ -6,12 +6,6 @@ use Rattle.stores.specs.Written.{marked, recordWords}
 use Rattle.stores.proofs.record.record_words.Statement.{statement}
 use Rattle.stores.proofs.record.record_words.Tie as tie
 
-word-b-requires-5 : tie.Need-word-b-requires-5
-word-b-requires-5 c κs = omega (arith, c .before .before .before .before .before .before .before .before .before .before .before .before .before .before .pre .high)
-
-word-b-requires-6 : tie.Need-word-b-requires-6
-word-b-requires-6 c κs = omega (arith, c .before .before .before .before .before .before .before .before .before .before .before .before .before .before .before .pre .high)
-
 returns : tie.Need-returns
 unfolding recordWords tabulate marked
 returns c =
@@ -51,7 +45,7 @@ record-words-spec =
     (λ c κs. search needs)
     (λ c κs. search needs)
     (λ c κs. search needs)
-    word-b-requires-5
-    word-b-requires-6
+    (λ c κs. omega (arith, c .before .before .before .before .before .before .before .before .before .before .before .before .before .before .pre .high))
+    (λ c κs. omega (arith, c .before .before .before .before .before .before .before .before .before .before .before .before .before .before .before .pre .high))
     (λ c κs. search needs)
     returns)
