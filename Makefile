@@ -1,17 +1,29 @@
 # The C side: the archive's tests, the example and the measurements. The proofs are checked by .ci/run.
-#   make test      the archive against an independent model, the persist header, the headers in C++   (gcc g++)
-#   make gateway   the example: orders, a restart, and the orders again                               (gcc)
-#   make bench     the table and the chart of docs/PERFORMANCE.md      (gcc python3 valgrind libpmemobj-dev liblmdb-dev libsqlite3-dev)
+#   make archive   the library, proved and built: target/staticlib/liborderset_c.a                    (rt)
+#   make test      the tests of docs/TESTS.md: the archive, the headers and the gateway               (gcc g++)
+#   make planted   that each test fails where a fault is planted                                      (gcc g++)
+#   make gateway   the example: a new file, orders, a restart, and the orders again                   (gcc)
+#   make bench     the table and the chart of docs/PERFORMANCE.md
+#                  (gcc python3 valgrind libpmemobj-dev liblmdb-dev libsqlite3-dev)
 
 RT ?= rt
 OUT := target/c
 ARCHIVE := target/staticlib/liborderset_c.a
-C := gcc -std=c11 -Wall -Wextra -O2 -Iinclude
-CXX := g++ -std=c++11 -Wall -Wextra -O2 -Iinclude
+# CC, CXX, CFLAGS, CXXFLAGS and LDFLAGS are the caller's, from the environment or the command line
+ifeq ($(origin CC),default)
+CC := gcc
+endif
+ifeq ($(origin CXX),default)
+CXX := g++
+endif
+CFLAGS ?= -O2
+CXXFLAGS ?= -O2
+C := $(CC) -std=c11 -Wall -Wextra -Iinclude $(CFLAGS) $(LDFLAGS)
+CPLUS := $(CXX) -std=c++11 -Wall -Wextra -Iinclude $(CXXFLAGS) $(LDFLAGS)
 HEADERS := include/orderset.h include/orderset_persist.h
 CRATES := crates.txt $(shell find crates -name '*.rt' -o -name '*.antt')
 
-.PHONY: test gateway bench archive
+.PHONY: test planted gateway bench archive run-header run-persist run-guard run-storm run-lock run-kills run-differential
 archive: $(ARCHIVE)
 
 $(ARCHIVE): $(CRATES)
@@ -20,28 +32,47 @@ $(ARCHIVE): $(CRATES)
 $(OUT):
 	mkdir -p $(OUT)
 
-$(OUT)/differential: tests/differential.c tests/model.c tests/model.h include/orderset.h $(ARCHIVE) | $(OUT)
-	$(C) -Itests tests/differential.c tests/model.c $(ARCHIVE) -o $@
+# the tests: docs/TESTS.md; SEED=... repeats a run, and run-storm and the like run one of them
+TESTS := persist guard storm lock kills differential
+$(OUT)/persist: tests/persist.c tests/chance.c
+$(OUT)/guard $(OUT)/differential: $(OUT)/%: tests/%.c tests/images.c tests/model.c tests/chance.c
+$(OUT)/storm: tests/storm.c tests/chance.c
+$(OUT)/lock $(OUT)/kills: $(OUT)/%: tests/%.c tests/child.c tests/chance.c
 
-$(OUT)/persist: tests/persist.c $(HEADERS) $(ARCHIVE) | $(OUT)
-	$(C) tests/persist.c $(ARCHIVE) -o $@
+$(TESTS:%=$(OUT)/%): $(wildcard tests/*.h) $(HEADERS) $(ARCHIVE) | $(OUT)
+	$(C) -Itests $(filter %.c,$^) $(ARCHIVE) -o $@
 
 $(OUT)/header: tests/header.cc $(HEADERS) $(ARCHIVE) | $(OUT)
-	$(CXX) tests/header.cc $(ARCHIVE) -o $@
+	$(CPLUS) tests/header.cc $(ARCHIVE) -o $@
 
-# SEED=... repeats a run
-test: $(OUT)/differential $(OUT)/persist $(OUT)/header
-	$(OUT)/header
-	$(OUT)/persist
-	$(OUT)/differential $(SEED)
+# the gateway on a simulated disk
+$(OUT)/gateway_on_disk: examples/gateway.c tests/disk.c $(HEADERS) $(ARCHIVE) | $(OUT)
+	$(C) examples/gateway.c tests/disk.c $(ARCHIVE) -Wl,--wrap=mmap,--wrap=msync,--wrap=fsync,--wrap=renameat2 -o $@
+
+.NOTPARALLEL:
+test: run-header run-persist run-lock run-storm run-kills run-guard run-differential
+run-header: $(OUT)/header
+	@$(OUT)/header
+run-persist run-guard run-storm run-differential: run-%: $(OUT)/%
+	@$(OUT)/$* $(SEED)
+run-lock: $(OUT)/lock $(OUT)/gateway
+	@$(OUT)/lock $(OUT)/gateway $(OUT)/lock.img $(SEED)
+run-kills: $(OUT)/kills $(OUT)/gateway $(OUT)/gateway_on_disk
+	@$(OUT)/kills $(OUT)/gateway $(OUT)/gateway_on_disk $(OUT)/kills.img $(SEED)
+
+# every test fails where a fault is planted
+planted: $(ARCHIVE)
+	tests/planted.sh
 
 $(OUT)/gateway: examples/gateway.c $(HEADERS) $(ARCHIVE) | $(OUT)
 	$(C) examples/gateway.c $(ARCHIVE) -o $@
 
-# two starts on one file: what the first one put, the second one recovers
+# a new file and two starts on it: what the first one put, the second one recovers
 gateway: $(OUT)/gateway
-	rm -f $(OUT)/orders.img
-	$(OUT)/gateway $(OUT)/orders.img put 7 'buy 100 at 12.50' put 8 'sell 5 at 99.00' put 7 'buy 90 at 12.50' remove 8 put 9 'buy 3 at 7.25' show
+	rm -f $(OUT)/orders.img $(OUT)/orders.img.new
+	$(OUT)/gateway $(OUT)/orders.img make 1000
+	$(OUT)/gateway $(OUT)/orders.img put 7 'buy 100 at 12.50' put 8 'sell 5 at 99.00' put 7 'buy 90 at 12.50' remove 8 \
+		put 9 'buy 3 at 7.25' show
 	$(OUT)/gateway $(OUT)/orders.img show
 
 bench: $(ARCHIVE)

@@ -20,15 +20,13 @@ static enum orderset_flush flush;
 static inline int hand_puts(uint64_t key) {
     if (hand_put(&hand, key, bytes, size, &hand_out).code)
         return 1;
-    orderset_persist(hand.image, hand_out.at, hand_out.value, flush);
-    return 0;
+    return orderset_persist(hand.image, hand.length, hand_out.at, hand_out.value, flush);
 }
 
 static inline int set_puts(uint64_t key) {
     if (orderset_put(image, length, heads, heads_length, next, next_length, state, version, key, bytes, size, at, value, answer))
         return 1;
-    orderset_persist(image, at, value, flush);
-    return 0;
+    return orderset_persist(image, length, at, value, flush);
 }
 
 MEASURED int count_hand_prepare(uint64_t key) { return hand_puts(key); }
@@ -39,8 +37,7 @@ MEASURED int count_hand_recover(void) { return hand_recover(&hand) != 0; }
 MEASURED int count_hand_remove(uint64_t key) {
     if (hand_remove(&hand, key, &hand_out).code)
         return 1;
-    orderset_persist(hand.image, hand_out.at, hand_out.value, flush);
-    return 0;
+    return orderset_persist(hand.image, hand.length, hand_out.at, hand_out.value, flush);
 }
 
 MEASURED int count_set_prepare(uint64_t key) { return set_puts(key); }
@@ -55,10 +52,9 @@ MEASURED int count_set_recover(void) {
 MEASURED int count_set_remove(uint64_t key) {
     if (orderset_remove(image, length, heads, heads_length, next, next_length, state, version, key, at, value, answer) || answer[0] == ORDERSET_ABSENT)
         return 1;
-    orderset_persist(image, at, value, flush);
-    return 0;
+    return orderset_persist(image, length, at, value, flush);
 }
-MEASURED void count_persist(void) { orderset_persist(image, at, value, flush); }
+MEASURED int count_persist(void) { return orderset_persist(image, length, at, value, flush); }
 
 static uint64_t seed = 1;
 static uint64_t chance(void) {
@@ -100,7 +96,7 @@ int main(int count, char **word) {
         bad |= count_hand_remove(key[k]) | count_set_remove(key[k]);
         key[k] = chance();
         bad |= count_hand_insert(key[k]) | count_set_insert(key[k]);
-        count_persist();
+        bad |= count_persist();
     }
     bad |= count_hand_recover() | count_set_recover();
     printf("%d\n", bad);

@@ -4,8 +4,8 @@
 #define FILE_NAME "/dev/shm/orderset_bench_hand"
 #include "hand_engine.inc"
 
-static inline void durable(void) {
-    orderset_persist(set.image, stores.at, stores.value, flush);
+static inline int durable(void) {
+    return orderset_persist(set.image, set.length, stores.at, stores.value, flush);
 }
 
 #define ENGINE engine_hand

@@ -5,21 +5,18 @@
 #define FILE_NAME "/dev/shm/orderset_bench_journal"
 #include "hand_engine.inc"
 
-static inline void fence(void) {
-    __asm__ volatile("sfence" ::: "memory");
-    ORDERSET_FENCED();
-}
-
-static inline void durable(void) {
+static inline int durable(void) {
     uint64_t commit = stores.value[7];
     stores.value[7] = 0;
-    uint64_t *a = orderset_store_line(set.image, stores.at[0], stores.value), *b = orderset_store_line(set.image, stores.at[8], stores.value + 8);
+    orderset_word *a = orderset_store_line(set.image, stores.at[0], stores.value);
+    orderset_word *b = orderset_store_line(set.image, stores.at[8], stores.value + 8);
     orderset_flush_line(a, flush);
     orderset_flush_line(b, flush);
-    fence();
+    orderset_fence();
     orderset_store(a + 7, commit);
     orderset_flush_line(a, flush);
-    fence();
+    orderset_fence();
+    return 0;
 }
 
 #define ENGINE engine_journal

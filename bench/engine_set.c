@@ -37,15 +37,13 @@ static void e_close(void) {
 static inline int e_put(uint64_t key, const uint8_t *bytes, size_t size) {
     if (orderset_put(image, length, heads, heads_length, next, next_length, state, version, key, bytes, size, at, value, answer))
         return 1;
-    orderset_persist(image, at, value, flush);
-    return 0;
+    return orderset_persist(image, length, at, value, flush);
 }
 
 static inline int e_remove(uint64_t key) {
     if (orderset_remove(image, length, heads, heads_length, next, next_length, state, version, key, at, value, answer) || answer[0] == ORDERSET_ABSENT)
         return 1;
-    orderset_persist(image, at, value, flush);
-    return 0;
+    return orderset_persist(image, length, at, value, flush);
 }
 
 static inline int e_get(uint64_t key, uint8_t *out) {

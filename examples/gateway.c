@@ -1,21 +1,32 @@
 /* gateway: open orders in a file that is mapped into memory.
  *
- *     gateway FILE put KEY TEXT     an order: any 64-bit key, a text of up to 80 bytes
- *     gateway FILE get KEY
- *     gateway FILE remove KEY
- *     gateway FILE show             all open orders
+ *     gateway FILE make N        a new file of N slots, 2 to 65535: room for N - 1 open orders
+ *     gateway FILE COMMAND...    put KEY TEXT, get KEY, remove KEY, show; all are read before the first is carried out
+ *     gateway FILE               the same commands from standard input, one a line; a put's text is the line's rest
  *
- * Several commands may follow one another: gateway FILE put 7 "buy 100" show. FILE is made, with room for 1,000 slots, if it is not there.
- * Every start recovers the index from the file alone. On a file system on non-volatile memory (DAX) a write is two line flushes and one fence; on any
- * other it is msync, the fallback.
- */
+ * KEY is any 64-bit number in decimal digits, TEXT has up to 80 bytes. Each command is answered on standard output, and
+ * what it changed is durable before the answer is written. A refused line of standard input is answered by its number
+ * and its words, and the next one is read; of commands that are arguments, none is carried out after a refused one.
+ * Status 0: all done. 1: something was refused or failed. 2: the arguments are no commands, and nothing was done.
+ *
+ * On a file system on non-volatile memory (DAX) a write is two line flushes and one fence; on any other it is msync,
+ * the fallback. One gateway writes at a time, alone; those that only read (get and show as arguments) open the file
+ * read-only, and several of them may run. What they show was perhaps not durable yet if the last writer was killed.
+ *
+ * The calls of the archive are proved; this program, the headers and what lies below them are not. It is made so that a
+ * power cut, a kill, a full disk and a failed msync lose nothing that was acknowledged. Each start that writes makes
+ * the directory of FILE durable too, and not the directories above it. The lock is one that other programs can ignore.
+ * A mapped page that cannot be read ends the program as a kill does. */
 #define _GNU_SOURCE
 #include <errno.h>
 #include <fcntl.h>
 #include <inttypes.h>
+#include <signal.h>
+#include <stdarg.h>
 #include <stdio.h>
 #include <stdlib.h>
 #include <string.h>
+#include <sys/file.h>
 #include <sys/mman.h>
 #include <sys/stat.h>
 #include <unistd.h>
@@ -23,171 +34,512 @@
 #include "orderset.h"
 #include "orderset_persist.h"
 
-enum { SLOTS = 1000, HEADS = 1024 };
+enum { FAILED = 1, USAGE = 2, SHOWN = 80 };
 
 struct set {
     uint8_t *image;
     size_t length;
-    uint32_t *next;
-    size_t next_length;
-    uint32_t heads[HEADS];
+    uint32_t *heads, *next;
+    size_t heads_length, next_length;
     uint32_t state[ORDERSET_STATE];
     uint64_t version[1];
-    int durable; /* the mapping is non-volatile memory */
+    int flushes; /* the mapping is non-volatile memory */
     enum orderset_flush flush;
 };
 
-static void fail(const char *what) {
-    fprintf(stderr, "gateway: %s: %s\n", what, strerror(errno));
-    exit(1);
+enum kind { PUT, GET, REMOVE, SHOW, KINDS };
+
+static const struct {
+    const char *name;
+    int words; /* that follow the name */
+} forms[KINDS] = {{"put", 2}, {"get", 1}, {"remove", 1}, {"show", 0}};
+
+struct command {
+    enum kind kind;
+    uint64_t key;
+    const char *text;
+    size_t length;
+};
+
+/* ---- what is said */
+
+static const char *const refusals[] = {
+    "accepted",
+    "the length is not 128 * (N + 1) with N from 2 to 65,535",
+    "word 0 of the header is zero: not formatted",
+    "the header is not the one for this length",
+    "heads has 0 or more than 65,536 numbers, or next has not N + 1",
+    "a mark is neither 0 nor 1",
+    "a valid slot has another kind, a bad length or bytes past it; in get: a length over 80",
+    "two valid slots have one version",
+    "no slot is spare",
+    "the next version is 2^63 or more",
+    "the value exceeds 80 bytes",
+    "the key's chain or the reuse chain is not one of this image, or the live count is zero in a remove",
+    "the key is new and only one slot is spare",
+    "the output is shorter than the value",
+    "a count exceeds 8",
+    "the stores are not those of two lines of the image",
+};
+
+static const char *words_of(uint32_t number) {
+    return number < sizeof refusals / sizeof *refusals ? refusals[number] : "a number that is not defined";
 }
 
-static void refused(const char *call, uint32_t number) {
-    fprintf(stderr, "gateway: %s refused: %" PRIu32 "\n", call, number);
-    exit(1);
+/* Says why on standard error and ends. */
+__attribute__((format(printf, 2, 3))) static _Noreturn void stop(int status, const char *words, ...) {
+    va_list list;
+    va_start(list, words);
+    fputs("gateway: ", stderr);
+    vfprintf(stderr, words, list);
+    fputc('\n', stderr);
+    va_end(list);
+    exit(status);
 }
 
-/* A new file is formatted under another name first, so that a cut while it is made leaves no half of it. */
-static void make(const char *path) {
-    char fresh[4096];
-    uint64_t answer[ORDERSET_ANSWER];
-    if (snprintf(fresh, sizeof fresh, "%s.new", path) >= (int)sizeof fresh) {
-        errno = ENAMETOOLONG;
-        fail(path);
+static _Noreturn void fail(const char *what) {
+    stop(FAILED, "%s: %s", what, strerror(errno));
+}
+
+/* The answers so far are with the reader; without that the program ends. */
+static void answered(void) {
+    if (fflush(stdout) || ferror(stdout))
+        stop(FAILED, "standard output: %s; what was carried out is durable, and was perhaps not acknowledged",
+             strerror(errno));
+}
+
+/* An answer is one line, whatever a text holds. */
+static void print_text(const char *text, size_t length) {
+    for (size_t i = 0; i < length; i++) {
+        unsigned char byte = (unsigned char)text[i];
+        if (byte < ' ' || byte == 127 || byte == '\\')
+            printf("\\x%02x", (unsigned)byte);
+        else
+            putchar(byte);
     }
-    int file = open(fresh, O_RDWR | O_CREAT | O_TRUNC, 0600);
-    if (file < 0 || ftruncate(file, (off_t)ORDERSET_IMAGE_BYTES(SLOTS)))
-        fail(fresh);
-    uint8_t *image = mmap(NULL, ORDERSET_IMAGE_BYTES(SLOTS), PROT_READ | PROT_WRITE, MAP_SHARED, file, 0);
-    if (image == MAP_FAILED)
-        fail(fresh);
-    uint32_t number = orderset_format(image, ORDERSET_IMAGE_BYTES(SLOTS), answer);
-    if (number)
-        refused("format", number);
-    if (msync(image, ORDERSET_IMAGE_BYTES(SLOTS), MS_SYNC) || munmap(image, ORDERSET_IMAGE_BYTES(SLOTS)) || fsync(file) || close(file))
-        fail(fresh);
-    if (rename(fresh, path))
-        fail(path);
 }
 
-static void start(struct set *s, const char *path) {
-    int file = open(path, O_RDWR);
-    if (file < 0 && errno == ENOENT) {
-        make(path);
-        file = open(path, O_RDWR);
-    }
+/* ---- the file */
+
+/* The lock goes with the descriptor, which stays open to the end. */
+static void lock(int file, const char *path, int how) {
+    if (flock(file, how | LOCK_NB) == 0)
+        return;
+    if (errno == EWOULDBLOCK)
+        stop(FAILED, "%s: another gateway has it open", path);
+    fail(path);
+}
+
+static int open_image(const char *path, int writing, size_t *length) {
     struct stat found;
-    if (file < 0 || fstat(file, &found))
+    int file = open(path, (writing ? O_RDWR : O_RDONLY) | O_CLOEXEC | O_NONBLOCK);
+    if (file < 0)
         fail(path);
-    s->length = (size_t)found.st_size;
-    s->image = mmap(NULL, s->length, PROT_READ | PROT_WRITE, MAP_SHARED_VALIDATE | MAP_SYNC, file, 0);
-    s->durable = s->image != MAP_FAILED;
-    if (!s->durable)
-        s->image = mmap(NULL, s->length, PROT_READ | PROT_WRITE, MAP_SHARED, file, 0);
+    lock(file, path, writing ? LOCK_EX : LOCK_SH);
+    if (fstat(file, &found))
+        fail(path);
+    if (!S_ISREG(found.st_mode))
+        stop(FAILED, "%s: not a file", path);
+    *length = (size_t)found.st_size;
+    return file;
+}
+
+static void map_image(struct set *s, int file, const char *path) {
+    const int access = PROT_READ | PROT_WRITE;
+    s->image = mmap(NULL, s->length, access, MAP_SHARED_VALIDATE | MAP_SYNC, file, 0);
+    s->flushes = s->image != MAP_FAILED;
+    if (!s->flushes)
+        s->image = mmap(NULL, s->length, access, MAP_SHARED, file, 0);
     if (s->image == MAP_FAILED)
         fail(path);
-    close(file);
     s->flush = orderset_best_flush();
-    s->next_length = s->length / ORDERSET_SLOT_BYTES;
-    s->next = calloc(s->next_length + 1, sizeof *s->next);
-    if (!s->next)
+}
+
+/* A reader takes a copy: where a page cannot be read, that is an error and no signal. */
+static void copy_image(struct set *s, int file, const char *path) {
+    size_t done = 0;
+    s->image = malloc(s->length);
+    if (!s->image)
         fail("memory");
-    uint32_t number = orderset_recover(s->image, s->length, s->heads, HEADS, s->next, s->next_length, s->state, s->version);
-    if (number)
-        refused("recover", number);
-    printf("recovered %" PRIu32 " open orders; next version %" PRIu64 "; %s\n", s->state[ORDERSET_LIVE], s->version[0],
-           s->durable ? "flush and fence" : "msync (fallback)");
-}
-
-static void persist(struct set *s, const uint32_t at[ORDERSET_STORES], const uint64_t value[ORDERSET_STORES]) {
-    if (s->durable)
-        orderset_persist(s->image, at, value, s->flush);
-    else if (orderset_persist_file(s->image, at, value))
-        fail("msync");
-}
-
-static void put(struct set *s, uint64_t key, const char *text) {
-    uint32_t at[ORDERSET_STORES];
-    uint64_t value[ORDERSET_STORES], answer[ORDERSET_CHANGE_ANSWER];
-    uint32_t number = orderset_put(s->image, s->length, s->heads, HEADS, s->next, s->next_length, s->state, s->version, key, (const uint8_t *)text,
-                                   strlen(text), at, value, answer);
-    if (number)
-        refused("put", number);
-    persist(s, at, value);
-    printf("put %" PRIu64 ": slot %" PRIu64 " version %" PRIu64 "\n", key, answer[ORDERSET_SLOT], answer[ORDERSET_VERSION]);
-}
-
-static void drop(struct set *s, uint64_t key) {
-    uint32_t at[ORDERSET_STORES];
-    uint64_t value[ORDERSET_STORES], answer[ORDERSET_CHANGE_ANSWER];
-    uint32_t number =
-        orderset_remove(s->image, s->length, s->heads, HEADS, s->next, s->next_length, s->state, s->version, key, at, value, answer);
-    if (number)
-        refused("remove", number);
-    if (answer[0] == ORDERSET_ABSENT) {
-        printf("remove %" PRIu64 ": absent\n", key);
-        return;
+    while (done < s->length) {
+        ssize_t got = pread(file, s->image + done, s->length - done, (off_t)done);
+        if (got < 0)
+            fail(path);
+        if (got == 0)
+            stop(FAILED, "%s: it became shorter", path);
+        done += (size_t)got;
     }
-    persist(s, at, value);
-    printf("remove %" PRIu64 ": slot %" PRIu64 " version %" PRIu64 "\n", key, answer[ORDERSET_SLOT], answer[ORDERSET_VERSION]);
 }
 
-static void get(const struct set *s, uint64_t key) {
+/* The name of the file is durable: a rename by itself is not, and a program that was killed may have left it so. */
+static void sync_name(const char *path) {
+    char *real = realpath(path, NULL);
+    if (!real)
+        fail(path);
+    *strrchr(real, '/') = 0;
+    int directory = open(*real ? real : "/", O_RDONLY | O_DIRECTORY | O_CLOEXEC);
+    if (directory < 0 || fsync(directory))
+        stop(FAILED, "the directory of %s: %s; a power cut could take the file", path, strerror(errno));
+    close(directory);
+    free(real);
+}
+
+/* Before recovery: what is seen of the image is made to be what stands. The last writer may have been killed, or its
+ * msync may have failed; then stores are seen that are not durable. */
+static void make_durable(const struct set *s, int file, const char *path) {
+    if (fsync(file) || (s->flushes ? orderset_persist_image(s->image, s->length, s->flush)
+                                   : orderset_persist_image_file(s->image, s->length)))
+        stop(FAILED,
+             "%s: %s; the image could not be made durable, and nothing was recovered or changed. "
+             "The next start writes all of it again; if that fails too, give the file up",
+             path, strerror(errno));
+    sync_name(path);
+}
+
+/* ---- the set */
+
+/* The largest prime up to the number of slots: chains are short, also where keys step by a round number. */
+static size_t heads_for(size_t slots) {
+    for (size_t heads = slots;; heads--) {
+        size_t divisor = 2;
+        while (divisor * divisor <= heads && heads % divisor)
+            divisor++;
+        if (divisor * divisor > heads)
+            return heads;
+    }
+}
+
+/* Recovery needs up to 2.3 MB of stack; the main thread has 8 MiB, unless a limit is set (ulimit -s). */
+static uint32_t recover(struct set *s) {
+    s->next_length = s->length / ORDERSET_SLOT_BYTES;
+    s->heads_length = heads_for(s->next_length - 1);
+    s->heads = calloc(s->heads_length, sizeof *s->heads);
+    s->next = calloc(s->next_length, sizeof *s->next);
+    if (!s->heads || !s->next)
+        fail("memory");
+    return orderset_recover(s->image, s->length, s->heads, s->heads_length, s->next, s->next_length, s->state,
+                            s->version);
+}
+
+/* Answers recovery's refusal, or 0. */
+static uint32_t load(struct set *s, int file, const char *path, int writing) {
+    if (s->length < ORDERSET_IMAGE_BYTES(ORDERSET_SLOTS_MIN) || s->length > ORDERSET_IMAGE_BYTES(ORDERSET_SLOTS_MAX))
+        return ORDERSET_NO_IMAGE_LENGTH;
+    if (!writing) {
+        copy_image(s, file, path);
+        return recover(s);
+    }
+    /* a store to a hole of the file, on a full disk, would end the program */
+    if ((errno = posix_fallocate(file, 0, (off_t)s->length)))
+        fail(path);
+    map_image(s, file, path);
+    make_durable(s, file, path);
+    return recover(s);
+}
+
+static void start(struct set *s, const char *path, int writing) {
+    if (access(path, F_OK) && errno == ENOENT)
+        stop(FAILED, "%s: %s; 'gateway %s make N' makes one", path, strerror(errno), path);
+    int file = open_image(path, writing, &s->length);
+    uint32_t number = load(s, file, path, writing);
+    if (number)
+        stop(FAILED, "%s: recovery says no %" PRIu32 ": %s", path, number, words_of(number));
+    printf("recovered %" PRIu32 " open orders; next version %" PRIu64 "; %s\n", s->state[ORDERSET_LIVE], s->version[0],
+           !writing ? "reading only" : s->flushes ? "flush and fence" : "msync (fallback)");
+    answered();
+}
+
+/* ---- a new file */
+
+/* A new file is made durable under another name first, so that a cut while it is made leaves no half of it. */
+static int fill(int file, size_t length) {
+    uint64_t answer[ORDERSET_ANSWER];
+    if ((errno = posix_fallocate(file, 0, (off_t)length)))
+        return -1;
+    uint8_t *image = mmap(NULL, length, PROT_READ | PROT_WRITE, MAP_SHARED, file, 0);
+    if (image == MAP_FAILED)
+        return -1;
+    uint32_t number = orderset_format(image, length, answer);
+    if (number)
+        stop(FAILED, "format says no %" PRIu32 ": %s", number, words_of(number));
+    return msync(image, length, MS_SYNC) || munmap(image, length) || fsync(file) ? -1 : 0;
+}
+
+/* The other name is taken: an earlier make was killed, or that file holds orders. It is never written. */
+static _Noreturn void left_over(const char *fresh, const char *path) {
+    struct set s = {0};
+    struct stat found;
+    if (stat(fresh, &found) || !S_ISREG(found.st_mode))
+        stop(FAILED, "%s is there already and is not a file; if nobody needs it, remove it", fresh);
+    int file = open_image(fresh, 0, &s.length);
+    uint32_t number = load(&s, file, fresh, 0);
+    if (number)
+        stop(FAILED, "%s is there already and holds no set (no %" PRIu32 ": %s); if nobody needs it, remove it", fresh,
+             number, words_of(number));
+    stop(FAILED, "%s is there already and holds a set with %" PRIu32 " open orders; to use it, rename it to %s", fresh,
+         s.state[ORDERSET_LIVE], path);
+}
+
+/* The lock is kept until the name is durable, so that nobody writes orders to a file that a cut could still take. */
+static void make(const char *path, uint64_t slots) {
+    struct stat found;
+    char *fresh;
+    if (lstat(path, &found) == 0)
+        stop(FAILED, "%s is there already%s", path, S_ISLNK(found.st_mode) ? ", a symbolic link" : "");
+    if (errno != ENOENT || asprintf(&fresh, "%s.new", path) < 0)
+        fail(path);
+    int file = open(fresh, O_RDWR | O_CREAT | O_EXCL | O_CLOEXEC, 0600);
+    if (file < 0 && errno == EEXIST)
+        left_over(fresh, path);
+    if (file < 0)
+        fail(fresh);
+    lock(file, fresh, LOCK_EX);
+    if (fill(file, ORDERSET_IMAGE_BYTES(slots)) || renameat2(AT_FDCWD, fresh, AT_FDCWD, path, RENAME_NOREPLACE)) {
+        int error = errno;
+        unlink(fresh);
+        stop(FAILED, "%s: %s; nothing was made", path, strerror(error));
+    }
+    sync_name(path);
+    printf("made %s: %" PRIu64 " slots\n", path, slots);
+    answered();
+}
+
+/* ---- the commands; each answers 0, or the number of its refusal, and then nothing was changed */
+
+/* Without this a change is not acknowledged. */
+static void persist(const struct set *s, const struct command *c, const uint32_t at[ORDERSET_STORES],
+                    const uint64_t value[ORDERSET_STORES]) {
+    if (s->flushes ? orderset_persist(s->image, s->length, at, value, s->flush)
+                   : orderset_persist_file(s->image, s->length, at, value))
+        stop(FAILED,
+             "%s %" PRIu64 ": %s; this is not acknowledged. The next start writes the whole image again, and then it "
+             "is there or not",
+             forms[c->kind].name, c->key, strerror(errno));
+}
+
+static void print_change(const struct command *c, const uint64_t answer[ORDERSET_CHANGE_ANSWER]) {
+    printf("%s %" PRIu64 ": slot %" PRIu64 " version %" PRIu64 "\n", forms[c->kind].name, c->key, answer[ORDERSET_SLOT],
+           answer[ORDERSET_VERSION]);
+}
+
+static uint32_t put(struct set *s, const struct command *c) {
+    uint32_t at[ORDERSET_STORES];
+    uint64_t value[ORDERSET_STORES], answer[ORDERSET_CHANGE_ANSWER];
+    uint32_t number = orderset_put(s->image, s->length, s->heads, s->heads_length, s->next, s->next_length, s->state,
+                                   s->version, c->key, (const uint8_t *)c->text, c->length, at, value, answer);
+    if (number)
+        return number;
+    persist(s, c, at, value);
+    print_change(c, answer);
+    return 0;
+}
+
+static uint32_t drop(struct set *s, const struct command *c) {
+    uint32_t at[ORDERSET_STORES];
+    uint64_t value[ORDERSET_STORES], answer[ORDERSET_CHANGE_ANSWER];
+    uint32_t number = orderset_remove(s->image, s->length, s->heads, s->heads_length, s->next, s->next_length, s->state,
+                                      s->version, c->key, at, value, answer);
+    if (number)
+        return number;
+    if (answer[0] == ORDERSET_ABSENT) {
+        printf("remove %" PRIu64 ": absent\n", c->key);
+        return 0;
+    }
+    persist(s, c, at, value);
+    print_change(c, answer);
+    return 0;
+}
+
+static uint32_t get(const struct set *s, uint64_t key) {
     uint8_t text[ORDERSET_VALUE_MAX];
     uint64_t answer[ORDERSET_ANSWER];
-    uint32_t number = orderset_get(s->image, s->length, s->heads, HEADS, s->next, s->next_length, key, text, sizeof text, answer);
+    uint32_t number = orderset_get(s->image, s->length, s->heads, s->heads_length, s->next, s->next_length, key, text,
+                                   sizeof text, answer);
     if (number)
-        refused("get", number);
+        return number;
+    printf("%" PRIu64 ": ", key);
     if (answer[0] == ORDERSET_ABSENT)
-        printf("%" PRIu64 ": absent\n", key);
+        printf("absent");
     else
-        printf("%" PRIu64 ": %.*s\n", key, (int)answer[ORDERSET_LENGTH], (const char *)text);
+        print_text((const char *)text, answer[ORDERSET_LENGTH]);
+    putchar('\n');
+    return 0;
 }
 
 /* Every chain from its head: word 1 of a slot is its key. */
-static void show(const struct set *s) {
-    for (uint32_t head = 0; head < HEADS; head++)
+static uint32_t show(const struct set *s) {
+    for (size_t head = 0; head < s->heads_length; head++)
         for (uint32_t slot = s->heads[head]; slot; slot = s->next[slot]) {
             uint64_t key;
             memcpy(&key, s->image + (size_t)ORDERSET_SLOT_BYTES * slot + 8, sizeof key);
-            get(s, key);
+            uint32_t number = get(s, key);
+            if (number)
+                return number;
         }
     printf("%" PRIu32 " open\n", s->state[ORDERSET_LIVE]);
+    return 0;
 }
 
-static uint64_t key_of(const char *word) {
-    char *end;
-    errno = 0;
-    uint64_t key = strtoull(word, &end, 10);
-    if (errno || *word < '0' || *word > '9' || *end) {
-        fprintf(stderr, "gateway: not a key: %s\n", word);
-        exit(2);
+static uint32_t carry_out(struct set *s, const struct command *c) {
+    switch (c->kind) {
+    case PUT:
+        return put(s, c);
+    case REMOVE:
+        return drop(s, c);
+    case GET:
+        return get(s, c->key);
+    default:
+        return show(s);
     }
-    return key;
+}
+
+/* ---- commands from words and from lines */
+
+static int kind_of(const char *name, size_t length) {
+    int kind = 0;
+    while (kind < KINDS && (strlen(forms[kind].name) != length || memcmp(forms[kind].name, name, length)))
+        kind++;
+    return kind;
+}
+
+static int number_of(const char *word, size_t length, uint64_t *number) {
+    uint64_t n = 0;
+    for (size_t i = 0; i < length; i++) {
+        if (word[i] < '0' || word[i] > '9')
+            return -1;
+        uint64_t digit = (uint64_t)(word[i] - '0');
+        if (n > (UINT64_MAX - digit) / 10)
+            return -1;
+        n = n * 10 + digit;
+    }
+    *number = n;
+    return length ? 0 : -1;
+}
+
+/* The command at the front of the words; answers how many words it has. */
+static int command_of_words(char **word, int count, struct command *c) {
+    int kind = kind_of(word[0], strlen(word[0]));
+    if (kind == KINDS)
+        stop(USAGE, "not a command: %s", word[0]);
+    if (count <= forms[kind].words)
+        stop(USAGE, "not a command, words are missing: %s", word[0]);
+    *c = (struct command){.kind = (enum kind)kind};
+    if (kind != SHOW && number_of(word[1], strlen(word[1]), &c->key))
+        stop(USAGE, "not a key: %s", word[1]);
+    if (kind == PUT) {
+        c->text = word[2];
+        c->length = strlen(word[2]);
+    }
+    return 1 + forms[kind].words;
+}
+
+/* One space between the words of a line and none after them, except in a put's text. Answers 0, or -1. */
+static int command_of_line(const char *line, size_t length, struct command *c) {
+    const char *end = line + length, *space = memchr(line, ' ', length);
+    const char *name_end = space ? space : end, *rest = space ? space + 1 : end;
+    int kind = kind_of(line, (size_t)(name_end - line));
+    if (kind == KINDS)
+        return -1;
+    *c = (struct command){.kind = (enum kind)kind};
+    if (kind == SHOW)
+        return space ? -1 : 0;
+    const char *key_end = kind == PUT ? memchr(rest, ' ', (size_t)(end - rest)) : end;
+    if (!key_end || number_of(rest, (size_t)(key_end - rest), &c->key))
+        return -1;
+    if (kind == PUT) {
+        c->text = key_end + 1;
+        c->length = (size_t)(end - c->text);
+    }
+    return 0;
+}
+
+/* ---- the three ways to be called */
+
+static int run_words(const char *path, char **word, int count) {
+    static struct set set;
+    int commands = 0, writing = 0;
+    struct command *c = calloc((size_t)count, sizeof *c);
+    if (!c)
+        fail("memory");
+    for (int i = 0; i < count; commands++) {
+        i += command_of_words(word + i, count - i, c + commands);
+        writing |= c[commands].kind == PUT || c[commands].kind == REMOVE;
+    }
+    start(&set, path, writing);
+    for (int i = 0; i < commands; i++) {
+        uint32_t number = carry_out(&set, c + i);
+        answered();
+        if (number)
+            stop(FAILED, "%s %" PRIu64 ": no %" PRIu32 ": %s", forms[c[i].kind].name, c[i].key, number,
+                 words_of(number));
+    }
+    free(c);
+    return 0;
+}
+
+static void not_a_command(const char *line, size_t length, int ended) {
+    printf("not a command: ");
+    print_text(line, length < SHOWN ? length : SHOWN);
+    if (length > SHOWN)
+        printf("... (%zu bytes)", length);
+    puts(ended ? "" : " (the input ended inside this line)");
+}
+
+/* A last line without its end is perhaps not all that was sent, and is not carried out. */
+static int run_lines(const char *path) {
+    static struct set set;
+    char *line = NULL;
+    size_t room = 0;
+    int status = 0;
+    start(&set, path, 1);
+    for (ssize_t got; (got = getline(&line, &room, stdin)) > 0;) {
+        struct command c;
+        uint32_t number = 0;
+        const int ended = line[got - 1] == '\n';
+        const size_t length = (size_t)got - (ended ? 1 : 0);
+        if (!ended || command_of_line(line, length, &c)) {
+            not_a_command(line, length, ended);
+            status = FAILED;
+        } else if ((number = carry_out(&set, &c))) {
+            printf("no %" PRIu32 ": %s\n", number, words_of(number));
+            status = FAILED;
+        }
+        answered();
+    }
+    if (!feof(stdin))
+        fail("standard input");
+    free(line);
+    return status;
+}
+
+static int run_make(const char *path, char **word, int count) {
+    uint64_t slots;
+    if (count != 1 || number_of(word[0], strlen(word[0]), &slots) || slots < ORDERSET_SLOTS_MIN ||
+        slots > ORDERSET_SLOTS_MAX)
+        stop(USAGE, "make: a number of slots follows, from %u to %u", ORDERSET_SLOTS_MIN, ORDERSET_SLOTS_MAX);
+    make(path, slots);
+    return 0;
+}
+
+/* A standard stream that is closed must not become the image's descriptor: answers would be written to the image. */
+static void hold_streams(void) {
+    int file;
+    do
+        file = open("/dev/null", O_RDONLY | O_CLOEXEC);
+    while (file >= 0 && file <= STDERR_FILENO);
+    if (file < 0)
+        fail("/dev/null");
+    close(file);
 }
 
 int main(int count, char **word) {
-    static struct set set;
-    if (count < 3) {
-        fprintf(stderr, "usage: gateway FILE [put KEY TEXT | get KEY | remove KEY | show]...\n");
-        return 2;
-    }
-    start(&set, word[1]);
-    for (int i = 2; i < count; i++) {
-        const char *command = word[i];
-        if (!strcmp(command, "show")) {
-            show(&set);
-        } else if (!strcmp(command, "put") && i + 2 < count) {
-            put(&set, key_of(word[i + 1]), word[i + 2]);
-            i += 2;
-        } else if (!strcmp(command, "get") && i + 1 < count) {
-            get(&set, key_of(word[++i]));
-        } else if (!strcmp(command, "remove") && i + 1 < count) {
-            drop(&set, key_of(word[++i]));
-        } else {
-            fprintf(stderr, "gateway: not a command: %s\n", command);
-            return 2;
-        }
-    }
-    return 0;
+    signal(SIGPIPE, SIG_IGN); /* a reader that is gone is a failed write */
+    hold_streams();
+    if (count < 2)
+        stop(USAGE, "usage: gateway FILE [make N | put KEY TEXT | get KEY | remove KEY | show]...");
+    if (count == 2)
+        return run_lines(word[1]);
+    if (!strcmp(word[2], "make"))
+        return run_make(word[1], word + 3, count - 3);
+    return run_words(word[1], word + 2, count - 2);
 }

@@ -1,26 +1,46 @@
-/* orderset.h: the persistent order set for C and C++ (liborderset_c.a, x86-64).
+/* orderset.h: the persistent order set for C and C++ (liborderset_c.a, x86-64 Linux).
  *
- * A map from a 64-bit key to a value of 0 to 80 bytes, kept in an image of 128 * (N + 1) bytes, N from 2 to 65,535. The image is all that a restart
- * needs: orderset_recover rebuilds the index from it. Nothing here allocates, keeps a pointer, or uses a global variable.
+ * A map from a 64-bit key to a value of 0 to 80 bytes, kept in an image of 128 * (N + 1) bytes, N from 2 to 65,535. The
+ * image is all that a restart needs: orderset_recover rebuilds the index from it. Nothing here allocates, keeps a
+ * pointer, or uses a global variable.
  *
  * The caller owns everything:
  *   image    ORDERSET_IMAGE_BYTES(N) bytes; 64-byte aligned if its stores are to be persisted (orderset_persist.h)
  *   heads    B numbers, B from 1 to ORDERSET_HEADS_MAX; key k belongs to head k % B
  *   next     N + 1 numbers
- *   state    three numbers: the reuse chain's first and last slot and the live count (ORDERSET_FIRST, ORDERSET_LAST, ORDERSET_LIVE)
+ *   state    three numbers: the reuse chain's first and last slot and the live count (ORDERSET_FIRST, ORDERSET_LAST,
+ *            ORDERSET_LIVE)
  *   version  one number: the next version
- * heads, next, state and version are the index. orderset_recover fills them; put and remove keep them up to date. They are never persisted.
+ * heads, next, state and version are the index. orderset_recover fills them; put and remove keep them up to date. They
+ * are never persisted.
  *
- * How to write: orderset_put and orderset_remove change the index and hand out 16 stores, eight for each of two lines, and leave the image as it is.
- * The caller makes all 16, in order within each line, flushes both lines and fences once (orderset_persist), or makes them with orderset_play(..., 8, 8).
- * Only then may the next put, remove or get follow. If that was not finished, for a power cut or any other reason, orderset_recover comes next.
+ * How to write: orderset_put and orderset_remove change the index and hand out 16 stores, eight for each of two lines,
+ * and leave the image as it is. The caller makes all 16, in order within each line, flushes both lines and fences once
+ * (orderset_persist), or makes them with orderset_play(..., 8, 8). Only then may the next put, remove or get follow. If
+ * that was not finished, orderset_recover comes next.
  *
- * What a call returns: 0, or the number of its refusal (enum orderset_refusal). A refused call leaves everything that it was lent as it was.
- * A key that is not held is no refusal: the call returns 0 and answer[0] is ORDERSET_ABSENT.
+ * How to start: recovery takes what it reads as what stands in the memory. After a power cut that is so. After anything
+ * else (the process was killed, a call of orderset_persist.h failed, or nobody knows) stores may be seen that are not
+ * durable; then orderset_recover comes after the whole image was made durable (orderset_persist_image), or a later
+ * power cut can take an acknowledged order. Do so at every start that will write.
  *
- * Pointers: none may be null, also where a length is 0, and each is aligned for its type. What a function writes through one pointer must not overlap
- * what it is lent through any other; two regions that are only read may overlap. So in every call image, heads, next, state, version, the value or the
- * output, at, value and answer are separate pieces of memory. The set has no locks: one thread at a time.
+ * What a call returns: 0, or the number of its refusal (enum orderset_refusal). A refused call leaves everything that
+ * it was lent as it was. A key that is not held is no refusal: the call returns 0 and answer[0] is ORDERSET_ABSENT.
+ *
+ * Pointers: none may be null, also where a length is 0, and each is aligned for its type. What a function writes
+ * through one pointer must not overlap what it is lent through any other; two regions that are only read may overlap.
+ * So in every call image, heads, next, state, version, the value or the output, at, value and answer are separate
+ * pieces of memory.
+ *
+ * Threads: the set has no locks. Gets may run beside gets, each with an output and an answer of its own, and beside
+ * nothing else: from the start of a put, a remove, a recovery or a play until its stores are made, no other call runs.
+ *
+ * How many heads: a call walks along the chain of its key's head, so with B near N chains are short. Keys k * B all
+ * have one head, and are one chain: with N = 65,535, B = 65,536 and 60,000 keys k * 65,536 a get took 280 microseconds,
+ * and 0.2 with B = 65,521. Take a prime near N for B, unless the keys step by a multiple of it.
+ *
+ * Versions: the version of a put or remove is above those of all records that stand, and no more is said of it. It is
+ * no sequence number: after a cut the version of the struck call can come again, with another call, or be left out.
  */
 #ifndef ORDERSET_H
 #define ORDERSET_H
@@ -30,6 +50,13 @@
 
 #ifdef __cplusplus
 extern "C" {
+#endif
+
+/* Said of every call: no pointer may be null, and the result is to be looked at. */
+#if defined(__GNUC__)
+#define ORDERSET_CALL __attribute__((nonnull, warn_unused_result))
+#else
+#define ORDERSET_CALL
 #endif
 
 #define ORDERSET_SLOTS_MIN 2u
@@ -68,54 +95,71 @@ extern "C" {
 /* The refusals, in the numbers of the definition. They are tested in the order that each function names. */
 enum orderset_refusal {
     ORDERSET_OK = 0,
-    ORDERSET_NO_IMAGE_LENGTH = 1,  /* the length is not 128 * (N + 1) with N from 2 to 65,535 */
-    ORDERSET_NO_FORMAT = 2,        /* word 0 of the header is zero: not formatted */
-    ORDERSET_NO_HEADER = 3,        /* the header is not the one for this length */
-    ORDERSET_NO_INDEX_LENGTH = 4,  /* heads has 0 or more than 65,536 numbers, or next has not N + 1 */
-    ORDERSET_BAD_MARK = 5,         /* a mark is neither 0 nor 1 */
-    ORDERSET_BAD_RECORD = 6,       /* a valid slot has another kind, a bad length or bytes past it; in get: a length over 80 */
-    ORDERSET_SHARED_VERSION = 7,   /* two valid slots have one version */
-    ORDERSET_ALL_LIVE = 8,         /* no slot is spare */
-    ORDERSET_NO_VERSION = 9,       /* the next version is 2^63 or more */
-    ORDERSET_VALUE_TOO_LONG = 10,  /* the value exceeds 80 bytes */
-    ORDERSET_BAD_INDEX = 11,       /* the key's chain or the reuse chain is not one of this image, or the live count is zero in a remove */
-    ORDERSET_FULL = 12,            /* the key is new and only one slot is spare */
+    ORDERSET_NO_IMAGE_LENGTH = 1,   /* the length is not 128 * (N + 1) with N from 2 to 65,535 */
+    ORDERSET_NO_FORMAT = 2,         /* word 0 of the header is zero: not formatted */
+    ORDERSET_NO_HEADER = 3,         /* the header is not the one for this length */
+    ORDERSET_NO_INDEX_LENGTH = 4,   /* heads has 0 or more than 65,536 numbers, or next has not N + 1 */
+    ORDERSET_BAD_MARK = 5,          /* a mark is neither 0 nor 1 */
+    ORDERSET_BAD_RECORD = 6,        /* a valid slot has another kind, a bad length or bytes past it;
+                                       in get: a length over 80 */
+    ORDERSET_SHARED_VERSION = 7,    /* two valid slots have one version */
+    ORDERSET_ALL_LIVE = 8,          /* no slot is spare */
+    ORDERSET_NO_VERSION = 9,        /* the next version is 2^63 or more */
+    ORDERSET_VALUE_TOO_LONG = 10,   /* the value exceeds 80 bytes */
+    ORDERSET_BAD_INDEX = 11,        /* the key's chain or the reuse chain is not one of this image, or the live count is
+                                       zero in a remove */
+    ORDERSET_FULL = 12,             /* the key is new and only one slot is spare */
     ORDERSET_OUTPUT_TOO_SHORT = 13, /* the output is shorter than the value */
-    ORDERSET_BAD_COUNT = 14,       /* a count exceeds 8 */
-    ORDERSET_BAD_STORES = 15       /* the stores are not those of two lines of the image; in play_list: a word is outside, or the lengths differ */
+    ORDERSET_BAD_COUNT = 14,        /* a count exceeds 8 */
+    ORDERSET_BAD_STORES = 15        /* the stores are not those of two lines of the image; in play_list: a word is
+                                       outside, or the lengths differ */
 };
 
-/* Makes an empty image of the bytes. answer: {ORDERSET_GIVEN, N}. Refusals: 1. A cut during format is not covered: format before the first use. */
-uint32_t orderset_format(uint8_t *image, size_t image_length, uint64_t answer[ORDERSET_ANSWER]);
+/* Makes an empty image of the bytes. answer: {ORDERSET_GIVEN, N}. Refusals: 1. A cut during format is not covered:
+ * format before the first use, and make the image durable before it gets its name. */
+ORDERSET_CALL uint32_t orderset_format(uint8_t *image, size_t image_length, uint64_t answer[ORDERSET_ANSWER]);
 
-/* Rebuilds heads, next, state and version from the image, whatever they held. The image is only read. Refusals: 1, 2, 3, 4, 5, 6, 7, 8.
- * It keeps its scratch on the stack: allow 3 MiB. */
-uint32_t orderset_recover(const uint8_t *image, size_t image_length, uint32_t *heads, size_t heads_length, uint32_t *next, size_t next_length,
-                          uint32_t state[ORDERSET_STATE], uint64_t version[1]);
+/* Rebuilds heads, next, state and version from the image, whatever they held. The image is only read; if it may hold
+ * stores that are not durable, make it durable first (above). Refusals: 1, 2, 3, 4, 5, 6, 7, 8.
+ *
+ * Its scratch is on the stack. Measured: 140 KB for N below 4,096, 664 KB below 16,384, and 2.24 MB from there on. Give
+ * the thread 3 MiB, or 1 MiB where N is below 16,384. A Rust thread has 2 MiB unless it is told otherwise, and so has a
+ * thread of glibc where the stack is unlimited (ulimit -s): too little for N from 16,384 on. */
+ORDERSET_CALL uint32_t orderset_recover(const uint8_t *image, size_t image_length, uint32_t *heads, size_t heads_length,
+                                        uint32_t *next, size_t next_length, uint32_t state[ORDERSET_STATE],
+                                        uint64_t version[1]);
 
-/* Gives the key the value. answer: {ORDERSET_GIVEN, slot, version}; the stores are at[i], a word number counted from the start of the image, and value[i].
- * Refusals: 1, 2, 3, 4, 10, 11 (chain), 12, 9, 11 (reuse). */
-uint32_t orderset_put(const uint8_t *image, size_t image_length, uint32_t *heads, size_t heads_length, uint32_t *next, size_t next_length,
-                      uint32_t state[ORDERSET_STATE], uint64_t version[1], uint64_t key, const uint8_t *bytes, size_t bytes_length,
-                      uint32_t at[ORDERSET_STORES], uint64_t value[ORDERSET_STORES], uint64_t answer[ORDERSET_CHANGE_ANSWER]);
+/* Gives the key the value. answer: {ORDERSET_GIVEN, slot, version}; the stores are at[i], a word number counted from
+ * the start of the image, and value[i]. Refusals: 1, 2, 3, 4, 10, 11 (chain), 12, 9, 11 (reuse). */
+ORDERSET_CALL uint32_t orderset_put(const uint8_t *image, size_t image_length, uint32_t *heads, size_t heads_length,
+                                    uint32_t *next, size_t next_length, uint32_t state[ORDERSET_STATE],
+                                    uint64_t version[1], uint64_t key, const uint8_t *bytes, size_t bytes_length,
+                                    uint32_t at[ORDERSET_STORES], uint64_t value[ORDERSET_STORES],
+                                    uint64_t answer[ORDERSET_CHANGE_ANSWER]);
 
-/* Drops the key. answer and stores as in put; or {ORDERSET_ABSENT, 0, 0} where the key is not held, and then nothing is to be stored: at and value
- * stay as they were. Refusals: 1, 2, 3, 4, 11 (chain), and for a held key 9, 11 (reuse, or a live count of zero). */
-uint32_t orderset_remove(const uint8_t *image, size_t image_length, uint32_t *heads, size_t heads_length, uint32_t *next, size_t next_length,
-                         uint32_t state[ORDERSET_STATE], uint64_t version[1], uint64_t key,
-                         uint32_t at[ORDERSET_STORES], uint64_t value[ORDERSET_STORES], uint64_t answer[ORDERSET_CHANGE_ANSWER]);
+/* Drops the key. answer and stores as in put; or {ORDERSET_ABSENT, 0, 0} where the key is not held, and then nothing is
+ * to be stored: at and value stay as they were. Refusals: 1, 2, 3, 4, 11 (chain), and for a held key 9, 11 (reuse, or a
+ * live count of zero). */
+ORDERSET_CALL uint32_t orderset_remove(const uint8_t *image, size_t image_length, uint32_t *heads, size_t heads_length,
+                                       uint32_t *next, size_t next_length, uint32_t state[ORDERSET_STATE],
+                                       uint64_t version[1], uint64_t key, uint32_t at[ORDERSET_STORES],
+                                       uint64_t value[ORDERSET_STORES], uint64_t answer[ORDERSET_CHANGE_ANSWER]);
 
-/* Copies the key's value to the front of the output; the bytes after it stay as they were. answer: {ORDERSET_GIVEN, length} or {ORDERSET_ABSENT, 0}.
- * An output of ORDERSET_VALUE_MAX bytes is always long enough. Refusals: 1, 2, 3, 4, 11 (chain), and for a held key 6, 13. */
-uint32_t orderset_get(const uint8_t *image, size_t image_length, const uint32_t *heads, size_t heads_length, const uint32_t *next, size_t next_length,
-                      uint64_t key, uint8_t *output, size_t output_length, uint64_t answer[ORDERSET_ANSWER]);
+/* Copies the key's value to the front of the output; the bytes after it stay as they were. answer: {ORDERSET_GIVEN,
+ * length} or {ORDERSET_ABSENT, 0}. An output of ORDERSET_VALUE_MAX bytes is always long enough. Refusals: 1, 2, 3, 4,
+ * 11 (chain), and for a held key 6, 13. */
+ORDERSET_CALL uint32_t orderset_get(const uint8_t *image, size_t image_length, const uint32_t *heads,
+                                    size_t heads_length, const uint32_t *next, size_t next_length, uint64_t key,
+                                    uint8_t *output, size_t output_length, uint64_t answer[ORDERSET_ANSWER]);
 
-/* Makes the first a stores of the first half and the first b of the second: with 8 and 8 a whole call, with less what a cut leaves of it. Plain writes:
- * nothing is flushed. Refusals: 1, 14, 15. */
-uint32_t orderset_play(uint8_t *image, size_t image_length, const uint32_t at[ORDERSET_STORES], const uint64_t value[ORDERSET_STORES], size_t a, size_t b);
+/* Makes the first a stores of the first half and the first b of the second: with 8 and 8 a whole call, with less what a
+ * cut leaves of it. Plain writes: nothing is flushed. Refusals: 1, 14, 15. */
+ORDERSET_CALL uint32_t orderset_play(uint8_t *image, size_t image_length, const uint32_t at[ORDERSET_STORES],
+                                     const uint64_t value[ORDERSET_STORES], size_t a, size_t b);
 
 /* Makes all stores of a list, in order, on bytes of any length. Refusals: 15. */
-uint32_t orderset_play_list(uint8_t *bytes, size_t bytes_length, const uint32_t *at, size_t at_length, const uint64_t *value, size_t value_length);
+ORDERSET_CALL uint32_t orderset_play_list(uint8_t *bytes, size_t bytes_length, const uint32_t *at, size_t at_length,
+                                          const uint64_t *value, size_t value_length);
 
 #ifdef __cplusplus
 }

@@ -1,28 +1,50 @@
-/* orderset_persist.h: makes the 16 stores of an accepted put or remove on mapped memory, flushes both lines and fences once.
- * C11 and C++, GCC or Clang, x86-64. No part of the proved archive: what it relies on is said here.
+/* orderset_persist.h: makes an image durable. orderset_persist makes the 16 stores of an accepted put or remove on
+ * mapped memory, flushes both lines and fences once; orderset_persist_image makes a whole image durable at a start. C11
+ * and C++11, GCC or Clang, x86-64. No part of the proved archive: what it relies on is said here.
  *
- *     if (orderset_put(..., at, value, answer) == ORDERSET_OK)
- *         orderset_persist(image, at, value, flush);
+ *     flush = orderset_best_flush();                                                  once
+ *     if (orderset_persist_image(image, length, flush)) ...stop                       every start, before recovery
+ *     if (orderset_recover(image, length, ...)) ...stop
+ *     if (orderset_put(image, length, ..., at, value, answer) == ORDERSET_OK &&
+ *         orderset_persist(image, length, at, value, flush) == 0)
+ *         ...acknowledge the order
  *
- * The image is mapped from non-volatile memory and 64-byte aligned, so that the eight words of a line are one cache line. at and value are as put or
- * remove handed them out for this image: two lines inside it, words 0 to 7 of each in order. A remove that answers absent and a refused call hand out
+ * The image is mapped from non-volatile memory and 64-byte aligned, so that the eight words of a line are one cache
+ * line. What mmap gives is; of other memory orderset_aligned tells it, and orderset_persist_image tests it. at and
+ * value are as put or remove handed them out for this image. A refused call and a remove that answers absent hand out
  * nothing, and nothing is to be persisted.
  *
- * The order (the paper's section 2). Each store is one aligned word, atomic and with release order: no compiler and no processor lets it reach the cache
- * before the stores ahead of it. A cache line goes to memory whole. So whenever power fails, each line holds some number of its stores, counted from the
- * first. Between the two lines there is no order and none is needed. A flush begins to write its line back, and the fence is the one wait: every store
- * after it, so also the one that sends an acknowledgement, comes after the call is durable.
+ * The order (section 2 of Cohen, Friedman and Larus, Efficient Logging in Non-Volatile Memory by Exploiting Coherency
+ * Protocols, OOPSLA 2017). Each store is one aligned word, atomic and with release order: no compiler and no processor
+ * lets it reach the cache before the stores ahead of it. A cache line goes to memory whole. So whenever power fails,
+ * each line holds some number of its stores, counted from the first. Between the two lines there is no order and none
+ * is needed. A flush begins to write its line back, and the fence is the one wait: every store after it, so also the
+ * one that sends an acknowledgement, comes after the call is durable.
+ *
+ * Why a start makes the whole image durable. Recovery has to read what stands in the memory. After a power cut it does.
+ * After a kill, or a call that failed, the caches or the kernel may still hold stores that every process sees and that
+ * are not durable. Say that key 7 is in slot 1, acknowledged, and that the process is killed in a put of key 7 to slot
+ * 2. Recovery sees slot 2, takes that put as done and gives slot 1 to the next call. That call is made durable and
+ * acknowledged. Then power fails: slot 2 was never durable, slot 1 is overwritten, and the acknowledged order of key 7
+ * is lost. So every start that will write calls orderset_persist_image, or orderset_persist_image_file, before it
+ * recovers. A program that only reads may leave it out; what it shows is then perhaps not durable yet.
  */
 #ifndef ORDERSET_PERSIST_H
 #define ORDERSET_PERSIST_H
 
+#if !defined(__x86_64__) || defined(__ILP32__) || !defined(__GNUC__)
+#error "orderset_persist.h needs 64-bit x86-64 and GCC or Clang: its flushes, fence and order of stores are of x86-64"
+#endif
+
 #include <cpuid.h>
+#include <errno.h>
 #include <sys/mman.h>
 #include <unistd.h>
 
 #include "orderset.h"
 
-/* How a line is flushed. Define ORDERSET_FLUSH as one of these before the header to fix it; otherwise it is asked of the processor. */
+/* How a line is flushed. Define ORDERSET_FLUSH as one of these before the header to fix it; otherwise it is asked of
+ * the processor. */
 enum orderset_flush { ORDERSET_CLFLUSH, ORDERSET_CLFLUSHOPT, ORDERSET_CLWB };
 
 /* Hooks that count or delay: run after each line flush and after the fence. */
@@ -33,7 +55,11 @@ enum orderset_flush { ORDERSET_CLFLUSH, ORDERSET_CLFLUSHOPT, ORDERSET_CLWB };
 #define ORDERSET_FENCED() ((void)0)
 #endif
 
-/* The best flush that this processor has: clwb keeps the line in the cache, clflushopt is asynchronous, clflush is in every one. Ask once, at the start. */
+/* A word of the image, whatever type the caller gave its bytes. */
+typedef uint64_t __attribute__((may_alias)) orderset_word;
+
+/* The best flush that this processor has: clwb keeps the line in the cache, clflushopt is asynchronous, clflush is in
+ * every one. Ask once, at the start. */
 static inline enum orderset_flush orderset_best_flush(void) {
 #ifdef ORDERSET_FLUSH
     return ORDERSET_FLUSH;
@@ -45,14 +71,20 @@ static inline enum orderset_flush orderset_best_flush(void) {
 #endif
 }
 
+/* 1 if a line of the image is one cache line, else 0. Ask once, at the start: orderset_persist does not. */
+ORDERSET_CALL static inline int orderset_aligned(const void *image) {
+    return (uintptr_t)image % ORDERSET_LINE_BYTES == 0;
+}
+
 /* One store; C11's atomic_store_explicit, in a form that C++ takes too. */
-static inline void orderset_store(uint64_t *word, uint64_t value) {
+static inline void orderset_store(orderset_word *word, uint64_t value) {
     __atomic_store_n(word, value, __ATOMIC_RELEASE);
 }
 
 /* The eight stores of one line, in order. */
-static inline uint64_t *orderset_store_line(void *image, uint32_t first, const uint64_t value[ORDERSET_LINE_STORES]) {
-    uint64_t *line = (uint64_t *)image + first;
+static inline orderset_word *orderset_store_line(void *image, uint32_t first,
+                                                 const uint64_t value[ORDERSET_LINE_STORES]) {
+    orderset_word *line = (orderset_word *)image + first;
     orderset_store(line + 0, value[0]);
     orderset_store(line + 1, value[1]);
     orderset_store(line + 2, value[2]);
@@ -66,34 +98,101 @@ static inline uint64_t *orderset_store_line(void *image, uint32_t first, const u
 
 static inline void orderset_flush_line(void *line, enum orderset_flush flush) {
     if (flush == ORDERSET_CLWB)
-        __asm__ volatile("clwb %0" : "+m"(*(volatile char *)line));
+        __asm__ volatile("clwb %0" : "+m"(*(volatile char *)line) : : "memory");
     else if (flush == ORDERSET_CLFLUSHOPT)
-        __asm__ volatile("clflushopt %0" : "+m"(*(volatile char *)line));
+        __asm__ volatile("clflushopt %0" : "+m"(*(volatile char *)line) : : "memory");
     else
-        __asm__ volatile("clflush %0" : "+m"(*(volatile char *)line));
+        __asm__ volatile("clflush %0" : "+m"(*(volatile char *)line) : : "memory");
     ORDERSET_FLUSHED();
 }
 
-/* Makes the stores of an accepted put or remove durable: 16 stores, two line flushes, one fence. */
-static inline void orderset_persist(void *image, const uint32_t at[ORDERSET_STORES], const uint64_t value[ORDERSET_STORES], enum orderset_flush flush) {
-    uint64_t *a = orderset_store_line(image, at[0], value);
-    uint64_t *b = orderset_store_line(image, at[ORDERSET_LINE_STORES], value + ORDERSET_LINE_STORES);
-    orderset_flush_line(a, flush);
-    orderset_flush_line(b, flush);
-    __asm__ volatile("sfence" ::: "memory");
+static inline void orderset_fence(void) {
+    __asm__ volatile("sfence" : : : "memory");
     ORDERSET_FENCED();
 }
 
-/* FALLBACK for a file on a disk, mapped with MAP_SHARED at its start: the same stores, and msync in the place of flush and fence. Slow (a system call and
- * a device write), and as good as the device: it must not tear a 64-byte line. For machines without non-volatile memory, and for trying things out.
- * Returns 0, or -1 with errno. */
-static inline int orderset_persist_file(void *image, const uint32_t at[ORDERSET_STORES], const uint64_t value[ORDERSET_STORES]) {
+/* Whether the two halves begin two different whole lines of the image. Numbers that were never set seldom do, and
+ * numbers that were all set to zero do not; the stores of an earlier call do. */
+static inline int orderset_two_lines(size_t image_length, uint32_t a, uint32_t b) {
+    const size_t words = image_length / ORDERSET_LINE_BYTES * ORDERSET_LINE_STORES;
+    return (a | b) % ORDERSET_LINE_STORES == 0 && a < words && b < words && a != b;
+}
+
+/* Makes the stores of an accepted put or remove durable: 16 stores, two line flushes, one fence. Returns 0; or -1 with
+ * errno EINVAL where at does not begin two different whole lines of the image, and then nothing is stored. */
+ORDERSET_CALL static inline int orderset_persist(void *image, size_t image_length, const uint32_t at[ORDERSET_STORES],
+                                                 const uint64_t value[ORDERSET_STORES], enum orderset_flush flush) {
+    const uint32_t first = at[0], second = at[ORDERSET_LINE_STORES];
+    if (__builtin_expect(!orderset_two_lines(image_length, first, second), 0)) {
+        errno = EINVAL;
+        return -1;
+    }
+    orderset_word *a = orderset_store_line(image, first, value);
+    orderset_word *b = orderset_store_line(image, second, value + ORDERSET_LINE_STORES);
+    orderset_flush_line(a, flush);
+    orderset_flush_line(b, flush);
+    orderset_fence();
+    return 0;
+}
+
+/* Makes the whole image durable as it is: flushes every line and fences once. Every start that will write calls it
+ * before recovery. Returns 0; or -1 with errno EINVAL where the image is not 64-byte aligned, and then nothing is
+ * flushed. */
+ORDERSET_CALL static inline int orderset_persist_image(void *image, size_t image_length, enum orderset_flush flush) {
+    if (!orderset_aligned(image)) {
+        errno = EINVAL;
+        return -1;
+    }
+    for (size_t i = 0; i < image_length; i += ORDERSET_LINE_BYTES)
+        orderset_flush_line((char *)image + i, flush);
+    orderset_fence();
+    return 0;
+}
+
+/* THE FALLBACK, for a file on a disk that is mapped at its start with MAP_SHARED: msync takes the place of flush and
+ * fence. Slow (a system call and a device write), and as good as the device: it must not tear a 64-byte line. For
+ * machines without non-volatile memory, and for trying things out.
+ *
+ * When msync fails, the call is NOT to be acknowledged, and it is not known to be absent: other processes see it, and
+ * it may be there after a power cut or not. No put, remove or get may follow. A later msync that returns 0 proves
+ * nothing: after a failed write the kernel may take the page as clean and not write it again. So stop. The next start
+ * calls orderset_persist_image_file, which writes every page again, then recovers, and asks by a get whether the call
+ * was done. As long as that fails too, the image is not durable and nothing may be written to it; a file for which it
+ * goes on failing is given up. */
+
+/* Makes the stores of an accepted put or remove durable in the file. Returns 0, or -1 with errno: EINVAL as in
+ * orderset_persist, with nothing stored; any other is msync's. */
+ORDERSET_CALL static inline int orderset_persist_file(void *image, size_t image_length,
+                                                      const uint32_t at[ORDERSET_STORES],
+                                                      const uint64_t value[ORDERSET_STORES]) {
     const uintptr_t page = (uintptr_t)sysconf(_SC_PAGESIZE);
-    uintptr_t a = (uintptr_t)orderset_store_line(image, at[0], value) / page * page;
-    uintptr_t b = (uintptr_t)orderset_store_line(image, at[ORDERSET_LINE_STORES], value + ORDERSET_LINE_STORES) / page * page;
+    const uint32_t first = at[0], second = at[ORDERSET_LINE_STORES];
+    if (!orderset_two_lines(image_length, first, second)) {
+        errno = EINVAL;
+        return -1;
+    }
+    uintptr_t a = (uintptr_t)orderset_store_line(image, first, value) / page * page;
+    uintptr_t b = (uintptr_t)orderset_store_line(image, second, value + ORDERSET_LINE_STORES) / page * page;
     if (msync((void *)a, page, MS_SYNC))
         return -1;
     return a == b ? 0 : msync((void *)b, page, MS_SYNC);
+}
+
+/* Makes the whole image durable in the file as it is: stores the first word of every page again, unchanged, so that the
+ * kernel has to write the page, and syncs them all. Every start that will write calls it before recovery, while
+ * nobody else writes the image. Returns 0, or -1 with errno: EINVAL where the image does not begin a page, any other is
+ * msync's. */
+ORDERSET_CALL static inline int orderset_persist_image_file(void *image, size_t image_length) {
+    const uintptr_t page = (uintptr_t)sysconf(_SC_PAGESIZE);
+    if ((uintptr_t)image % page) {
+        errno = EINVAL;
+        return -1;
+    }
+    for (size_t i = 0; i < image_length; i += page) {
+        volatile orderset_word *word = (volatile orderset_word *)image + i / sizeof *word;
+        __atomic_store_n(word, __atomic_load_n(word, __ATOMIC_RELAXED), __ATOMIC_RELEASE);
+    }
+    return msync(image, image_length, MS_SYNC);
 }
 
 #endif

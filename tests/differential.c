@@ -1,5 +1,6 @@
-/* The archive against the model of document 01, call by call: every return code, answer, state, store, index number, output and image byte is compared, and
- * after a cut the recovered set is compared with a plain map. Ends with status 1 at the first difference and prints the case.
+/* The archive against the model of document 01, call by call: every return code, answer, state, store, index number,
+ * output and image byte is compared, and after a cut the recovered set is compared with a plain map. Ends with status 1
+ * at the first difference and prints the case.
  *
  *     differential [SEED [CALLS]]
  */
@@ -9,40 +10,13 @@
 #include <stdio.h>
 #include <stdlib.h>
 #include <string.h>
-#include <time.h>
 
+#include "chance.h"
+#include "images.h"
 #include "model.h"
 #include "orderset.h"
 
-enum { GUARD = 64, FILL = 0xa5, SMALL = 40, LARGE = 5 };
-enum { SECONDS = 80 }; /* no phase begins after this */
-
-/* ---- chance */
-
-static uint64_t seed, chance_state;
-
-static uint64_t chance(void) {
-    uint64_t z = chance_state += 0x9e3779b97f4a7c15u;
-    z = (z ^ z >> 30) * 0xbf58476d1ce4e5b9u;
-    z = (z ^ z >> 27) * 0x94d049bb133111ebu;
-    return z ^ z >> 31;
-}
-
-static uint64_t below(uint64_t n) {
-    return chance() % n;
-}
-
-/* a number from low to high, each size of number about as often as any other */
-static uint64_t spread(uint64_t low, uint64_t high) {
-    uint64_t x = low + (below(high - low + 1) >> below(17));
-    return x > high ? high : x;
-}
-
-static void fill(void *memory, size_t length) {
-    uint8_t *bytes = memory;
-    for (size_t i = 0; i < length; i++)
-        bytes[i] = (uint8_t)chance();
-}
+enum { GUARD = 64, FILL = 0xa5, SMALL = 40, LARGE = 5, CALLS = 3000000 };
 
 /* ---- lent memory with a guard on both sides */
 
@@ -93,10 +67,11 @@ static size_t call_size, call_a, call_b;
 
 static void show_case(void) {
     printf("seed %" PRIu64 ", call %" PRIu64 ", %s\n", seed, calls, phase);
-    printf("%s: N %u, length %zu, B %zu, next %zu, key %" PRIu64 ", size or room %zu, counts %zu %zu\n", name[call], now->n, now->length, now->model.heads_length,
-           now->model.next_length, call_key, call_size, call_a, call_b);
-    printf("state: archive %u %u %u %" PRIu64 ", model %u %u %u %" PRIu64 "\n", now->state[0], now->state[1], now->state[2], now->version[0],
-           now->model.state.first, now->model.state.last, now->model.state.live, now->model.state.version);
+    printf("%s: N %u, length %zu, B %zu, next %zu, key %" PRIu64 ", size or room %zu, counts %zu %zu\n", name[call],
+           now->n, now->length, now->model.heads_length, now->model.next_length, call_key, call_size, call_a, call_b);
+    printf("state: archive %u %u %u %" PRIu64 ", model %u %u %u %" PRIu64 "\n", now->state[0], now->state[1],
+           now->state[2], now->version[0], now->model.state.first, now->model.state.last, now->model.state.live,
+           now->model.state.version);
     if (now->length > 128 * 8)
         return;
     for (size_t i = 0; i < now->length / 8; i++)
@@ -109,7 +84,7 @@ static void show_case(void) {
 
 static void __attribute__((noreturn, format(printf, 1, 2))) differ(const char *what, ...) {
     va_list list;
-    printf("DIFFERENCE ");
+    printf("\nDIFFERENCE ");
     va_start(list, what);
     vprintf(what, list);
     va_end(list);
@@ -153,8 +128,9 @@ static void compare_all(struct set *s) {
     same_bytes("the image", s->image, s->model_image, s->length);
     same_bytes("heads", s->heads, s->model.heads, 4 * s->model.heads_length);
     same_bytes("next", s->next, s->model.next, 4 * s->model.next_length);
-    if (!guarded(s->image, s->length) || !guarded(s->heads, 4 * s->model.heads_length) || !guarded(s->next, 4 * s->model.next_length)
-        || !guarded(s->state, 12) || !guarded(s->version, 8) || !guarded(s->at, 64) || !guarded(s->value, 128))
+    if (!guarded(s->image, s->length) || !guarded(s->heads, 4 * s->model.heads_length)
+        || !guarded(s->next, 4 * s->model.next_length) || !guarded(s->state, 12) || !guarded(s->version, 8)
+        || !guarded(s->at, 64) || !guarded(s->value, 128))
         differ("outside the lent memory");
 }
 
@@ -185,7 +161,8 @@ static struct set *open_set(size_t length, size_t heads, size_t next) {
 }
 
 static void close_set(struct set *s) {
-    void *lent[] = {s->image, s->model_image, s->heads, s->next, s->state, s->version, s->at, s->value, s->model.heads, s->model.next};
+    void *lent[] = {s->image,   s->model_image, s->heads, s->next,        s->state,
+                    s->version, s->at,          s->value, s->model.heads, s->model.next};
     for (size_t i = 0; i < sizeof lent / sizeof *lent; i++)
         give_back(lent[i]);
     free(s);
@@ -221,8 +198,8 @@ static int try_format(struct set *s) {
 
 static int try_recover(struct set *s) {
     begin(s, RECOVER, 0, 0, 0, 0);
-    uint32_t code =
-        orderset_recover(s->image, s->length, s->heads, s->model.heads_length, s->next, s->model.next_length, s->state, s->version);
+    uint32_t code = orderset_recover(s->image, s->length, s->heads, s->model.heads_length, s->next,
+                                     s->model.next_length, s->state, s->version);
     int refusal = m_recover(s->model_image, s->length, &s->model);
     same_code(code, refusal, 0);
     compare(s);
@@ -232,8 +209,8 @@ static int try_recover(struct set *s) {
 }
 
 /* What a put or a remove left: 1 if it stored, 0 if not. */
-static int compare_change(struct set *s, uint32_t code, const uint64_t *answer, const uint64_t *answer_lent, const uint32_t *at_lent, const uint64_t *value_lent,
-                          struct m_change c) {
+static int compare_change(struct set *s, uint32_t code, const uint64_t *answer, const uint64_t *answer_lent,
+                          const uint32_t *at_lent, const uint64_t *value_lent, struct m_change c) {
     uint64_t expected[ORDERSET_CHANGE_ANSWER] = {ORDERSET_GIVEN, c.slot, c.version};
     uint32_t at[ORDERSET_STORES];
     uint64_t value[ORDERSET_STORES];
@@ -264,25 +241,26 @@ static int try_change(struct set *s, int put, uint64_t key, const uint8_t *bytes
     memcpy(s->value, value_lent, sizeof value_lent);
     begin(s, put ? PUT : REMOVE, key, size, 0, 0);
     if (put) {
-        code = orderset_put(s->image, s->length, s->heads, s->model.heads_length, s->next, s->model.next_length, s->state, s->version, key, bytes, size, s->at,
-                            s->value, answer);
+        code = orderset_put(s->image, s->length, s->heads, s->model.heads_length, s->next, s->model.next_length,
+                            s->state, s->version, key, bytes, size, s->at, s->value, answer);
         c = m_put(s->model_image, s->length, &s->model, key, bytes, size);
     } else {
-        code = orderset_remove(s->image, s->length, s->heads, s->model.heads_length, s->next, s->model.next_length, s->state, s->version, key, s->at, s->value,
-                               answer);
+        code = orderset_remove(s->image, s->length, s->heads, s->model.heads_length, s->next, s->model.next_length,
+                               s->state, s->version, key, s->at, s->value, answer);
         c = m_remove(s->model_image, s->length, &s->model, key);
     }
     return compare_change(s, code, answer, answer_lent, at_lent, value_lent, c);
 }
 
-/* The answer of the archive's get, after it was compared: the refusal's number, 100 for absent, or 200 and the length. */
+/* The answer of the archive's get, after it was compared: the refusal's number, 100 for absent, 200 and the length. */
 static unsigned try_get(struct set *s, uint64_t key, uint8_t *out, size_t room) {
     uint64_t answer[ORDERSET_ANSWER] = {chance(), chance()}, expected[ORDERSET_ANSWER] = {answer[0], answer[1]};
     uint8_t *lent = lend(room), *model_out = lend(room);
     memcpy(lent, out, room);
     memcpy(model_out, out, room);
     begin(s, GET, key, room, 0, 0);
-    uint32_t code = orderset_get(s->image, s->length, s->heads, s->model.heads_length, s->next, s->model.next_length, key, lent, room, answer);
+    uint32_t code = orderset_get(s->image, s->length, s->heads, s->model.heads_length, s->next, s->model.next_length,
+                                 key, lent, room, answer);
     struct m_got got = m_get(s->model_image, s->length, &s->model, key, model_out, room);
     if (!got.refusal) {
         expected[0] = !got.absent;
@@ -334,7 +312,8 @@ static struct plain *open_plain(uint32_t keys) {
     p->size = malloc(keys * sizeof *p->size);
     for (uint32_t i = 0; i < keys; i++) {
         p->size[i] = -1;
-        p->key[i] = keys < 100 && below(4) ? i : chance() % UINT64_MAX / keys * keys + i; /* distinct: key mod keys is i */
+        /* distinct: key mod keys is i */
+        p->key[i] = keys < 100 && below(4) ? i : chance() % UINT64_MAX / keys * keys + i;
     }
     return p;
 }
@@ -371,37 +350,25 @@ static int plain_refuses(const struct set *s, const struct plain *p, uint32_t i,
 
 /* ---- phases */
 
-static uint32_t any_heads(uint32_t n) {
-    return (uint32_t)(below(3) ? spread(1, n < SMALL ? 2 * n : 65536) : 1 + below(n));
+/* A large set has chains of about 16 slots at most: reading the whole map takes about the same time with every seed. */
+static uint32_t heads_after_cut(uint32_t n) {
+    return n <= 3000 ? any_heads(n) : (uint32_t)spread(n / 16, ORDERSET_HEADS_MAX);
 }
 
-static size_t any_size(void) {
-    return below(20) ? below(ORDERSET_VALUE_MAX + 1) : 80 + below(4);
-}
-
-static void garbage_index(struct set *s) {
-    static const uint64_t versions[] = {0, 1, 2, 1u << 20, (1ull << 63) - 2, (1ull << 63) - 1, 1ull << 63, UINT64_MAX};
-    uint32_t n = s->n ? s->n : 3, kind = (uint32_t)below(4);
-    for (size_t i = 0; i < s->model.heads_length + s->model.next_length; i++) {
-        uint32_t x = kind == 0 || below(6) ? (uint32_t)below(n + 1ull) : below(2) ? n + (uint32_t)below(3) : (uint32_t)chance();
-        *(i < s->model.heads_length ? &s->model.heads[i] : &s->model.next[i - s->model.heads_length]) = x;
-    }
-    uint32_t *state[] = {&s->model.state.first, &s->model.state.last, &s->model.state.live};
-    for (int i = 0; i < 3; i++)
-        *state[i] = below(8) ? (uint32_t)below(n + 1ull) : below(2) ? n + (uint32_t)below(3) : (uint32_t)chance();
-    s->model.state.version = below(2) ? 1 + below(1000) : versions[below(sizeof versions / sizeof *versions)];
+static void lend_garbage(struct set *s) {
+    garbage_index(&s->model, s->n);
     lend_same(s);
 }
 
-/* A copy of the set as it stands is struck with every pair of counts: recovered with another index and other heads, it must be the earlier map, or the
- * later one where all stores stand. */
+/* A copy of the set as it stands is struck with every pair of counts: recovered with another index and other heads, it
+ * must be the earlier map, or the later one where all stores stand. */
 static void strike_all(const struct set *s, struct plain *earlier, struct plain *later) {
     strikes++;
     for (size_t a = 0; a <= ORDERSET_LINE_STORES; a++)
         for (size_t b = 0; b <= ORDERSET_LINE_STORES; b++) {
             struct set *copy = open_set(s->length, any_heads(s->n), s->model.next_length);
             memcpy(copy->model_image, s->model_image, s->length);
-            garbage_index(copy);
+            lend_garbage(copy);
             memcpy(copy->at, s->at, 4 * ORDERSET_STORES);
             memcpy(copy->value, s->value, 8 * ORDERSET_STORES);
             now = copy;
@@ -423,8 +390,10 @@ static struct plain *copy_plain(const struct plain *p) {
     return q;
 }
 
-/* After an accepted put or remove: all stores are played, or a cut leaves some and recovery comes next with an index of another size. Returns the set. */
-static struct set *finish(struct set *s, struct plain *p, uint32_t i, int put, const uint8_t *bytes, size_t size, unsigned cuts) {
+/* After an accepted put or remove: all stores are played, or a cut leaves some and recovery comes next with an index of
+ * another size. Returns the set. */
+static struct set *finish(struct set *s, struct plain *p, uint32_t i, int put, const uint8_t *bytes, size_t size,
+                          unsigned cuts) {
     size_t a = 8, b = 8;
     int cut = cuts && below(cuts) == 0;
     if (cut) {
@@ -442,9 +411,9 @@ static struct set *finish(struct set *s, struct plain *p, uint32_t i, int put, c
         plain_set(p, i, put, bytes, size);
     if (!cut)
         return s;
-    struct set *t = open_set(s->length, any_heads(s->n), s->model.next_length);
+    struct set *t = open_set(s->length, heads_after_cut(s->n), s->model.next_length);
     memcpy(t->model_image, s->model_image, s->length);
-    garbage_index(t);
+    lend_garbage(t);
     close_set(s);
     same_number("recovery after a cut", (uint64_t)try_recover(t), 0);
     same_map(t, p);
@@ -478,7 +447,7 @@ static void history(uint32_t n, size_t heads, uint32_t keys, unsigned steps, uns
     struct set *s = open_set(ORDERSET_IMAGE_BYTES(n), heads, ORDERSET_NEXT_LENGTH(n));
     struct plain *p = open_plain(keys);
     fill(s->model_image, s->length < 4096 ? s->length : 4096);
-    garbage_index(s);
+    lend_garbage(s);
     now = s;
     same_number("format", (uint64_t)try_format(s), 0);
     same_number("recovery of a formatted image", (uint64_t)try_recover(s), 0);
@@ -492,71 +461,11 @@ static void history(uint32_t n, size_t heads, uint32_t keys, unsigned steps, uns
     close_set(s);
 }
 
-static void put_record(uint8_t *image, uint32_t s, unsigned kind, uint64_t key, uint64_t version, size_t size) {
-    uint64_t bit = below(2), bit2 = below(2);
-    uint8_t *slot = image + 128 * (size_t)s;
-    memset(slot, 0, 128);
-    for (size_t i = 0; i < size; i++)
-        slot[i < 32 ? 24 + i : 40 + i] = (uint8_t)chance();
-    m_set_word(slot, 0, bit);
-    m_set_word(slot, 1, key);
-    m_set_word(slot, 2, kind + 256 * (uint64_t)size);
-    m_set_word(slot, 7, version * 2 + bit);
-    m_set_word(slot, 8, bit2);
-    m_set_word(slot, 15, version * 2 + bit2);
-}
-
-/* An image slot by slot: put and remove records of a few keys with distinct versions, empty slots, slots that a cut broke. Usually accepted. */
-static void any_image(struct set *s, uint64_t keys) {
-    uint64_t gap = below(2) ? 1 : 1 + below((1ull << 62) / (s->n + 1)), spares = below(4);
-    uint64_t base = below(4) ? gap * below(3) : (1ull << 63) - 1 - gap * s->n - below(3);
-    uint32_t *rank = malloc(4 * (s->n + 1ul));
-    m_format(s->model_image, s->length);
-    for (uint32_t i = 1; i <= s->n; i++) {
-        uint32_t j = 1 + (uint32_t)below(i);
-        rank[i] = rank[j];
-        rank[j] = i;
-    }
-    for (uint32_t i = 1; i <= s->n; i++) {
-        uint8_t *slot = s->model_image + 128 * (size_t)i;
-        uint64_t key = below(keys) * (below(2) ? 1 : 65536), kind = below(8);
-        if (kind == 7 && spares == 1)
-            fill(slot, 128), m_set_word(slot, 0, below(2)), m_set_word(slot, 8, below(2)), m_set_word(slot, 7, 2 * chance() + !m_word(slot, 0));
-        else if (kind == 6 && spares >= 1)
-            memset(slot, 0, 128), m_set_word(slot, 1, chance());
-        else
-            put_record(s->model_image, i, kind < 4 || spares == 3 ? 1 : 2, key, base + gap * rank[i], 0);
-        if (kind < 4 || (kind < 6 && spares == 3))
-            put_record(s->model_image, i, 1, key, base + gap * rank[i], below(81));
-        if (kind == 5 && spares >= 2 && below(2))
-            m_set_word(slot, below(2) ? 7 : 15, 2 * below(gap * s->n) + below(2));
-    }
-    free(rank);
-}
-
-/* One fault, of any kind that the rules name, or a word of garbage. */
-static void damage(struct set *s) {
-    uint32_t i = 1 + (uint32_t)below(s->n), j = 1 + (uint32_t)below(s->n);
-    uint8_t *slot = s->model_image + 128 * (size_t)i, *other = s->model_image + 128 * (size_t)j;
-    switch (below(10)) {
-    case 0: m_set_word(s->model_image, below(8), below(3)); break;
-    case 1: m_set_word(slot, below(2) * 8, below(2) ? 2 : chance()); break;
-    case 2: m_set_word(slot, 2, below(4) + 256 * below(84) + (below(4) ? 0 : 1ull << (16 + below(48)))); break;
-    case 3: slot[17] = (uint8_t)below(256); break;
-    case 4: slot[below(2) ? 24 + below(32) : 72 + below(48)] ^= (uint8_t)(1u << below(8)); break;
-    case 5: memcpy(slot, other, 128); break;
-    case 6: m_set_word(slot, below(2) ? 7 : 15, m_word(other, 7)); break;
-    case 7: m_set_word(slot, below(2) * 8, !m_word(slot, 0)); break;
-    case 8: s->model_image[below(s->length)] ^= (uint8_t)(1u << below(8)); break;
-    case 9: memcpy(slot + 56, other + 56, 8), memcpy(slot + 120, other + 120, 8), memcpy(slot, other, 8), memcpy(slot + 64, other + 64, 8); break;
-    }
-}
-
 /* Calls on whatever stands there, with whatever index. */
 static void any_calls(struct set *s, uint64_t keys, unsigned count) {
     uint8_t bytes[128], out[96];
     for (unsigned k = 0; k < count; k++) {
-        uint64_t key = below(4) ? below(keys) * (below(2) ? 1 : 65536) : m_word(s->model_image, s->n ? 16 * (1 + below(s->n)) + 1 : 0);
+        uint64_t key = below(4) ? any_key(keys) : m_word(s->model_image, s->n ? 16 * (1 + below(s->n)) + 1 : 0);
         fill(bytes, sizeof bytes);
         fill(out, sizeof out);
         if (below(3) == 0)
@@ -568,13 +477,14 @@ static void any_calls(struct set *s, uint64_t keys, unsigned count) {
 
 static void images(void) {
     phase = "images, accepted and damaged";
-    uint32_t n = (uint32_t)(below(400) ? 2 + below(12) : spread(2, 65535)), faults = (uint32_t)(below(2) * (1 + below(3)));
+    uint32_t n = (uint32_t)(below(400) ? 2 + below(12) : spread(2, 65535)),
+             faults = (uint32_t)(below(2) * (1 + below(3)));
     uint64_t keys = 1 + below(2 * n);
     struct set *s = open_set(ORDERSET_IMAGE_BYTES(n), any_heads(n), ORDERSET_NEXT_LENGTH(n));
-    any_image(s, keys);
+    any_image(s->model_image, n, keys);
     while (faults--)
-        damage(s);
-    garbage_index(s);
+        damage(s->model_image, n);
+    lend_garbage(s);
     try_recover(s);
     any_calls(s, keys, 8);
     close_set(s);
@@ -585,10 +495,10 @@ static void garbage(void) {
     uint32_t n = (uint32_t)(below(400) ? 2 + below(12) : spread(2, 2000));
     uint64_t keys = 1 + below(2 * n);
     struct set *s = open_set(ORDERSET_IMAGE_BYTES(n), any_heads(n), ORDERSET_NEXT_LENGTH(n));
-    any_image(s, keys);
+    any_image(s->model_image, n, keys);
     if (below(4) == 0)
-        damage(s);
-    garbage_index(s);
+        damage(s->model_image, n);
+    lend_garbage(s);
     any_calls(s, keys, 10);
     close_set(s);
 }
@@ -596,11 +506,12 @@ static void garbage(void) {
 /* Lengths that no image or index has, and stores that are no call's. */
 static void lengths(void) {
     phase = "lengths and stores";
-    size_t length = below(3) ? 128 * below(8) : below(700), heads = below(8) ? below(5) : 65535 + below(3), next = length / 128 + (below(4) ? 0 : below(3));
+    size_t length = below(3) ? 128 * below(8) : below(700), heads = below(8) ? below(5) : 65535 + below(3),
+           next = length / 128 + (below(4) ? 0 : below(3));
     struct set *s = open_set(length, heads, next);
     uint32_t at[20];
     uint64_t value[20];
-    garbage_index(s);
+    lend_garbage(s);
     if (below(2) && s->n)
         m_format(s->model_image, length), lend_same(s);
     try_recover(s);
@@ -639,65 +550,188 @@ static void medium_history(void) {
 }
 
 static void large_history(unsigned k) {
-    static const uint32_t n[] = {65535, 65535, 65535, 65534, 32768}, heads[] = {65536, 16383, 1, 65535, 65536}, keys[] = {65535, 40000, 300, 70000, 32768},
-                          steps[] = {60000, 30000, 20000, 60000, 40000};
+    static const uint32_t n[] = {65535, 65535, 65535, 65534, 32768}, heads[] = {65536, 16383, 1, 65535, 65536},
+                          keys[] = {65535, 40000, 300, 70000, 32768}, steps[] = {60000, 30000, 20000, 60000, 40000};
     phase = "history of a large set";
     history(n[k], heads[k], keys[k], steps[k], steps[k] / 3);
 }
 
-/* Each answer of the rules must have been met, or the run says nothing of it. */
-static int all_met(void) {
-    static const char *const rules[WHICH] = {"0 1",        "0 1 2 3 4 5 6 7 8", "0 1 2 3 4 9 10 11 12", "0 16 1 2 3 4 9 11", "0 16 1 2 3 4 6 11 13",
-                                             "0 1 14 15", "0 15"};
-    int complete = 1;
-    for (int w = 0; w < WHICH; w++) {
-        printf("%-10s", name[w]);
-        for (const char *p = rules[w]; *p; p += strspn(p, " ")) {
-            char *end;
-            unsigned long number = strtoul(p, &end, 10);
-            p = end;
-            if (number == 16)
-                printf("  absent %" PRIu64, met[w][number]);
-            else
-                printf("  %lu: %" PRIu64, number, met[w][number]);
-            complete &= met[w][number] > 0;
-        }
-        printf("\n");
+/* ---- directed cases: each answer of the rules is met, whatever the seed */
+
+enum fault {
+    SOUND, BAD_LENGTH, UNFORMATTED, BAD_HEADER, NO_HEADS, MANY_HEADS, BAD_NEXT, BAD_MARK, BAD_KIND, SAME_VERSION,
+    ALL_LIVE, ABOVE_N, ROUND, FULL, LAST_VERSION, NO_FIRST, NO_LAST, FIRST_NEXT, NO_LIVE, LONG_RECORD, ORDER, OUTSIDE,
+    ONE_LINE, TWO_LENGTHS
+};
+
+/* the calls of a case */
+enum { IN_FORMAT = 1 << FORMAT, IN_RECOVER = 1 << RECOVER, IN_PUT = 1 << PUT, IN_REMOVE = 1 << REMOVE };
+enum { IN_GET = 1 << GET, IN_PLAY = 1 << PLAY, IN_PLAY_LIST = 1 << PLAY_LIST };
+enum { IN_CHANGE = IN_PUT | IN_REMOVE, IN_WALK = IN_CHANGE | IN_GET, IN_ALL = IN_WALK | IN_RECOVER };
+
+/* Four slots: key 7 in slot 1 with 20 bytes, key 8 in slot 2 with 80; key 10 has the head of key 7 and is not held.
+ * size: of a put, room of a get, both counts of a play. */
+static const struct directed {
+    unsigned calls, answer;
+    enum fault fault;
+    uint64_t key;
+    size_t size;
+} cases[] = {
+    {IN_FORMAT | IN_RECOVER, 0, SOUND, 0, 0},
+    {IN_FORMAT | IN_ALL | IN_PLAY, 1, BAD_LENGTH, 7, 5},
+    {IN_ALL, 2, UNFORMATTED, 7, 5},
+    {IN_ALL, 3, BAD_HEADER, 7, 5},
+    {IN_ALL, 4, NO_HEADS, 7, 5},
+    {IN_ALL, 4, MANY_HEADS, 7, 5},
+    {IN_ALL, 4, BAD_NEXT, 7, 5},
+    {IN_RECOVER, 5, BAD_MARK, 0, 0},
+    {IN_RECOVER, 6, BAD_KIND, 0, 0},
+    {IN_RECOVER, 6, LONG_RECORD, 0, 0},
+    {IN_RECOVER, 7, SAME_VERSION, 0, 0},
+    {IN_RECOVER, 8, ALL_LIVE, 0, 0},
+    {IN_CHANGE | IN_GET, 0, SOUND, 7, 33},
+    {IN_PUT | IN_GET, 0, SOUND, 8, 80},
+    {IN_PUT, 0, SOUND, 10, 0},
+    {IN_REMOVE | IN_GET, 16, SOUND, 10, 0},
+    {IN_PUT, 10, SOUND, 7, 81},
+    {IN_WALK, 11, ABOVE_N, 7, 80},
+    {IN_WALK, 11, ROUND, 10, 80},
+    {IN_PUT, 12, FULL, 9, 5},
+    {IN_PUT, 0, FULL, 7, 5},
+    {IN_CHANGE, 9, LAST_VERSION, 7, 5},
+    {IN_REMOVE, 16, LAST_VERSION, 10, 0},
+    {IN_CHANGE, 11, NO_FIRST, 7, 5},
+    {IN_CHANGE, 11, NO_LAST, 7, 5},
+    {IN_CHANGE, 11, FIRST_NEXT, 8, 5},
+    {IN_REMOVE, 11, NO_LIVE, 8, 0},
+    {IN_GET, 6, LONG_RECORD, 7, 90},
+    {IN_GET, 0, SOUND, 7, 20},
+    {IN_GET, 13, SOUND, 7, 19},
+    {IN_PLAY | IN_PLAY_LIST, 0, SOUND, 0, 8},
+    {IN_PLAY, 14, SOUND, 0, 9},
+    {IN_PLAY, 15, ORDER, 0, 0},
+    {IN_PLAY | IN_PLAY_LIST, 15, OUTSIDE, 0, 8},
+    {IN_PLAY, 15, ONE_LINE, 0, 8},
+    {IN_PLAY_LIST, 15, TWO_LENGTHS, 0, 0},
+};
+
+static void plant(struct set *s, enum fault fault) {
+    struct m_index *index = &s->model;
+    uint8_t *image = s->model_image;
+    switch (fault) {
+    case UNFORMATTED: m_set_word(image, 0, 0); break;
+    case BAD_HEADER: m_set_word(image, 1 + below(7), 2); break;
+    case BAD_MARK: m_set_word(image, 16 * (1 + below(4)) + 8 * below(2), 2 + below(1000)); break;
+    case BAD_KIND: put_record(image, 3, 3, 9, 3, 0); break;
+    case LONG_RECORD: image[128 + 17] = (uint8_t)(81 + below(175)); break;
+    case SAME_VERSION: put_record(image, 3, 1, 9, 2, 5); break;
+    case ALL_LIVE: put_record(image, 3, 1, 9, 3, 5), put_record(image, 4, 1, 10, 4, 5); break;
+    case ABOVE_N: index->heads[7 % 3] = 5 + (uint32_t)below(1000); break;
+    case ROUND: index->next[1] = 1; break;
+    case FULL: index->state.live = 3; break;
+    case LAST_VERSION: index->state.version = 1ull << 63; break;
+    case NO_FIRST: index->state.first = below(2) ? 0 : 5; break;
+    case NO_LAST: index->state.last = below(2) ? 0 : 5; break;
+    case FIRST_NEXT: index->next[index->state.first] = 5; break;
+    case NO_LIVE: index->state.live = 0; break;
+    case ORDER: s->at[1] = 16 + 2, s->at[2] = 16 + 1; break;
+    case OUTSIDE: s->at[7] = (uint32_t)(s->length / 8); break;
+    case ONE_LINE: memcpy(s->at + 8, s->at, 8 * sizeof *s->at); break;
+    default: break;
     }
-    return complete;
 }
 
-static double seconds_since(const struct timespec *start) {
-    struct timespec t;
-    clock_gettime(CLOCK_MONOTONIC, &t);
-    return (double)(t.tv_sec - start->tv_sec) + (double)(t.tv_nsec - start->tv_nsec) / 1e9;
+static struct set *directed_set(enum fault fault) {
+    size_t length = ORDERSET_IMAGE_BYTES(4), heads = fault == NO_HEADS ? 0 : fault == MANY_HEADS ? 65537 : 3;
+    struct set *s = open_set(length - (fault == BAD_LENGTH), heads, fault == BAD_NEXT ? 6 : 5);
+    lend_garbage(s);
+    if (fault != BAD_LENGTH) {
+        m_format(s->model_image, length);
+        put_record(s->model_image, 1, 1, 7, 1, 20);
+        put_record(s->model_image, 2, 1, 8, 2, 80);
+    }
+    m_recover(s->model_image, s->length, &s->model);
+    for (uint32_t i = 0; i < ORDERSET_STORES; i++) {
+        s->at[i] = 16 + i;
+        s->value[i] = chance();
+    }
+    plant(s, fault);
+    lend_same(s);
+    return s;
+}
+
+static void directed(const struct directed *c, enum which which) {
+    uint8_t bytes[128];
+    struct set *s = directed_set(c->fault);
+    uint64_t before = met[which][c->answer];
+    fill(bytes, sizeof bytes);
+    switch (which) {
+    case FORMAT: try_format(s); break;
+    case RECOVER: try_recover(s); break;
+    case GET: try_get(s, c->key, bytes, c->size); break;
+    case PLAY: try_play(s, below(2) ? c->size : c->size == 9, c->size); break;
+    case PLAY_LIST: try_play_list(s, s->at, c->fault == TWO_LENGTHS ? 15 : 16, s->value, 16); break;
+    default: try_change(s, which == PUT, c->key, bytes, c->size); break;
+    }
+    if (met[which][c->answer] != before + 1)
+        differ("in directed case %td: the answer is not %u", c - cases, c->answer);
+    close_set(s);
+}
+
+static void all_directed(void) {
+    phase = "directed cases";
+    for (size_t i = 0; i < sizeof cases / sizeof *cases; i++)
+        for (unsigned which = 0; which < WHICH; which++)
+            if (cases[i].calls >> which & 1)
+                directed(&cases[i], (enum which)which);
+}
+
+/* How often the answer of the rules was met that was met least. */
+static uint64_t least_met(void) {
+    static const char *const rules[WHICH] = {
+        [FORMAT] = "0 1",
+        [RECOVER] = "0 1 2 3 4 5 6 7 8",
+        [PUT] = "0 1 2 3 4 9 10 11 12",
+        [REMOVE] = "0 16 1 2 3 4 9 11",
+        [GET] = "0 16 1 2 3 4 6 11 13",
+        [PLAY] = "0 1 14 15",
+        [PLAY_LIST] = "0 15",
+    };
+    uint64_t least = UINT64_MAX;
+    for (int w = 0; w < WHICH; w++)
+        for (char *p = (char *)rules[w]; *p;) {
+            uint64_t times = met[w][strtoul(p, &p, 10)];
+            least = times < least ? times : least;
+        }
+    return least;
+}
+
+/* ---- the run */
+
+static void round_of_calls(void) {
+    for (int i = 0; i < 200; i++) {
+        images();
+        garbage();
+        lengths();
+    }
+    for (int i = 0; i < 20; i++)
+        small_history();
+    medium_history();
 }
 
 int main(int count, char **word) {
-    struct timespec start;
-    uint64_t wanted = count > 2 ? strtoull(word[2], NULL, 10) : 3000000;
-    unsigned large = 0;
-    clock_gettime(CLOCK_MONOTONIC, &start);
-    seed = chance_state = count > 1 ? strtoull(word[1], NULL, 10) : (uint64_t)time(NULL);
-    printf("seed %" PRIu64 "\n", seed);
-    fflush(stdout);
-    while ((calls < wanted || large < LARGE) && seconds_since(&start) < SECONDS) {
-        if (large < LARGE && calls >= wanted / LARGE * large)
-            large_history(large++);
-        for (int i = 0; i < 200; i++) {
-            images();
-            garbage();
-            lengths();
-        }
-        for (int i = 0; i < 20; i++)
-            small_history();
-        medium_history();
-    }
-    int complete = all_met();
-    printf("%" PRIu64 " calls, %" PRIu64 " of them struck with all 81 pairs of counts, in %.0f seconds: no difference\n", calls, strikes, seconds_since(&start));
-    if (!complete)
-        printf("an answer of the rules was not met\n");
-    if (calls < 1000000)
-        printf("fewer than a million calls\n");
-    return !complete || calls < 1000000;
+    uint64_t wanted = count > 2 ? strtoull(word[2], NULL, 10) : CALLS, least;
+    begin_chance("differential", count > 1 ? word[1] : NULL);
+    for (int i = 0; i < 20; i++)
+        all_directed();
+    while (calls < wanted)
+        round_of_calls();
+    for (unsigned k = 0; k < LARGE; k++)
+        large_history(k);
+    least = least_met();
+    printf("%" PRIu64 " calls, %" PRIu64
+           " of them struck with all 81 pairs of counts, each answer of the rules at least %" PRIu64
+           " times: no difference (%.0f s)\n",
+           calls, strikes, least, seconds());
+    return least == 0;
 }

@@ -1,29 +1,69 @@
-// The headers in C++, and a set through them: an order is put, made durable, found, removed and not found.
+// The headers in C++: an image is made durable, an order is put, made durable, found, removed and not found; a refused
+// call stores nothing.
 #include <cstdio>
+#include <cstring>
 #include <vector>
 
 #include "orderset.h"
 #include "orderset_persist.h"
 
+namespace {
+
+const uint32_t slots = 4;
+alignas(64) uint8_t image[ORDERSET_IMAGE_BYTES(slots)];
+std::vector<uint32_t> heads(3), next(ORDERSET_NEXT_LENGTH(slots));
+uint32_t state[ORDERSET_STATE], at[ORDERSET_STORES];
+uint64_t version[1], value[ORDERSET_STORES], answer[ORDERSET_CHANGE_ANSWER], found[ORDERSET_ANSWER];
+uint8_t out[ORDERSET_VALUE_MAX];
+const enum orderset_flush best = orderset_best_flush();
+
+bool start() {
+    return orderset_format(image, sizeof image, found) == ORDERSET_OK && found[ORDERSET_SLOTS] == slots
+           && orderset_aligned(image) && orderset_persist_image(image, sizeof image, best) == 0
+           && orderset_recover(image, sizeof image, heads.data(), heads.size(), next.data(), next.size(), state,
+                               version)
+                  == ORDERSET_OK;
+}
+
+// The stores are made only where the call was accepted and handed some out.
+bool made_durable(uint32_t code) {
+    return code == ORDERSET_OK && answer[0] == ORDERSET_GIVEN
+           && orderset_persist(image, sizeof image, at, value, best) == 0;
+}
+
+uint32_t put(uint64_t key, const char *text, size_t length) {
+    return orderset_put(image, sizeof image, heads.data(), heads.size(), next.data(), next.size(), state, version, key,
+                        reinterpret_cast<const uint8_t *>(text), length, at, value, answer);
+}
+
+uint32_t drop(uint64_t key) {
+    return orderset_remove(image, sizeof image, heads.data(), heads.size(), next.data(), next.size(), state, version,
+                           key, at, value, answer);
+}
+
+bool finds(uint64_t key, const char *text) {
+    if (orderset_get(image, sizeof image, heads.data(), heads.size(), next.data(), next.size(), key, out, sizeof out,
+                     found)
+        != ORDERSET_OK)
+        return false;
+    return found[0] == ORDERSET_GIVEN
+               ? text && found[ORDERSET_LENGTH] == std::strlen(text) && !std::memcmp(out, text, found[ORDERSET_LENGTH])
+               : !text;
+}
+
+bool refused_stores_nothing() {
+    std::vector<uint8_t> before(image, image + sizeof image);
+    const std::vector<char> text(81, 'x');
+    return put(8, text.data(), text.size()) == ORDERSET_VALUE_TOO_LONG && finds(8, nullptr)
+           && !std::memcmp(image, before.data(), sizeof image);
+}
+
+}
+
 int main() {
-    const uint32_t slots = 4;
-    alignas(64) static uint8_t image[ORDERSET_IMAGE_BYTES(4)];
-    std::vector<uint32_t> heads(3), next(ORDERSET_NEXT_LENGTH(slots));
-    uint32_t state[ORDERSET_STATE], at[ORDERSET_STORES];
-    uint64_t version[1], value[ORDERSET_STORES], answer[ORDERSET_CHANGE_ANSWER], found[ORDERSET_ANSWER];
-    uint8_t out[ORDERSET_VALUE_MAX] = {0};
-    const uint8_t order[] = {'b', 'u', 'y'};
-    const enum orderset_flush flush = orderset_best_flush();
-    bool good = orderset_format(image, sizeof image, found) == ORDERSET_OK && found[ORDERSET_SLOTS] == slots;
-    good = good && orderset_recover(image, sizeof image, heads.data(), heads.size(), next.data(), next.size(), state, version) == ORDERSET_OK;
-    good = good && orderset_put(image, sizeof image, heads.data(), heads.size(), next.data(), next.size(), state, version, 7, order, sizeof order, at, value, answer) == ORDERSET_OK;
-    orderset_persist(image, at, value, flush);
-    good = good && orderset_get(image, sizeof image, heads.data(), heads.size(), next.data(), next.size(), 7, out, sizeof out, found) == ORDERSET_OK;
-    good = good && found[0] == ORDERSET_GIVEN && found[ORDERSET_LENGTH] == 3 && out[0] == 'b' && out[2] == 'y' && out[3] == 0;
-    good = good && orderset_remove(image, sizeof image, heads.data(), heads.size(), next.data(), next.size(), state, version, 7, at, value, answer) == ORDERSET_OK;
-    orderset_persist(image, at, value, flush);
-    good = good && orderset_get(image, sizeof image, heads.data(), heads.size(), next.data(), next.size(), 7, out, sizeof out, found) == ORDERSET_OK;
-    good = good && found[0] == ORDERSET_ABSENT;
-    std::printf("C++ %s\n", good ? "good" : "NOT GOOD");
+    const bool good = start() && made_durable(put(7, "buy", 3)) && finds(7, "buy") && refused_stores_nothing()
+                      && made_durable(drop(7)) && finds(7, nullptr) && drop(7) == ORDERSET_OK
+                      && answer[0] == ORDERSET_ABSENT;
+    std::printf("header: a set through the headers in C++: %s\n", good ? "as it should be" : "NOT SO");
     return good ? 0 : 1;
 }

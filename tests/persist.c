@@ -1,162 +1,402 @@
-/* orderset_persist.h: what it stores is what play makes, the stores of each line reach the memory one word at a time and in order, and there are two line
- * flushes and one fence for each accepted put and remove, and none for get, absent and refusals. Ends with status 1 at the first thing that is otherwise. */
+/* orderset_persist.h: what it stores is what play makes; the stores reach the memory one word at a time and in order;
+ * then come the flushes of both lines and one fence, for each accepted put and remove, and none for get, absent and
+ * refusals. Some calls are watched instruction by instruction, so that the flushes and the fence are those that the
+ * processor executes, and not only the header's hooks. Stores that are no call's are refused. A start flushes every
+ * line and fences once. The fallback stores to every page again and syncs it, and the file is as the image. Ends with
+ * status 1 at the first thing that is otherwise.
+ *
+ *     persist [SEED]
+ */
 #define _GNU_SOURCE
+#include <errno.h>
 #include <inttypes.h>
 #include <signal.h>
 #include <stdio.h>
 #include <stdlib.h>
 #include <string.h>
+#include <sys/mman.h>
 #include <ucontext.h>
+#include <unistd.h>
 
-static unsigned flushes, fences;
-#define ORDERSET_FLUSHED() (flushes++)
-#define ORDERSET_FENCED() (fences++)
+#include "chance.h"
+
+/* What the header does, in order. A store, and a flush or a fence that is executed, only where it is watched; FLUSH and
+ * FENCE are the hooks, which follow. */
+enum what { STORE, FLUSH, FENCE, SYNC, EXECUTED_FENCE, EXECUTED_FLUSH }; /* EXECUTED_FLUSH and the kind of flush */
+static struct event {
+    unsigned what;
+    const void *where;
+    uint64_t value; /* of a store; the length of a sync */
+} event[512];
+static unsigned events;
+
+static void happened(unsigned what, const void *where, uint64_t value) {
+    if (events == sizeof event / sizeof *event)
+        _exit(1);
+    event[events++] = (struct event){what, where, value};
+}
+
+static int sync_fails;
+
+static int sync_pages(void *where, size_t length, int flags) {
+    happened(SYNC, where, length);
+    if (!sync_fails)
+        return msync(where, length, flags);
+    errno = EIO;
+    return -1;
+}
+
+/* line is orderset_flush_line's parameter */
+#define ORDERSET_FLUSHED() happened(FLUSH, line, 0)
+#define ORDERSET_FENCED() happened(FENCE, NULL, 0)
+#define msync(where, length, flags) sync_pages(where, length, flags)
 #include "orderset_persist.h"
 
-enum { N = 30, HEADS = 7, LENGTH = 128 * (N + 1), CALLS = 20000, TRAP_FLAG = 0x100 };
+enum {
+    N = 60,
+    HEADS = 7,
+    LENGTH = 128 * (N + 1),
+    LINES = LENGTH / 64,
+    CALLS = 20000,
+    WATCHED = 2000,
+    TRAP_FLAG = 0x100,
+    PAGE = 4096
+};
 
 static uint8_t *image, played[LENGTH];
 static uint32_t heads[HEADS], next[N + 1], state[ORDERSET_STATE], at[ORDERSET_STORES];
-static uint64_t version[1], value[ORDERSET_STORES], answer[ORDERSET_CHANGE_ANSWER];
-static uint64_t chance_state = 1;
-
-static uint64_t below(uint64_t n) {
-    uint64_t z = chance_state += 0x9e3779b97f4a7c15u;
-    z = (z ^ z >> 30) * 0xbf58476d1ce4e5b9u;
-    z = (z ^ z >> 27) * 0x94d049bb133111ebu;
-    return (z ^ z >> 31) % n;
-}
+static uint64_t version[1], value[ORDERSET_STORES], answer[ORDERSET_CHANGE_ANSWER], stored, unstored;
 
 static void expect(int holds, const char *what) {
     if (holds)
         return;
-    printf("persist: not so: %s\n", what);
+    printf("\nNOT SO: %s\nseed %" PRIu64 ", call %" PRIu64 "\n", what, seed, stored + unstored);
     exit(1);
 }
 
-/* ---- every store is seen: the image is read-only, and a store that faults is let through by itself */
+/* ---- watching: the memory is read-only and a store that faults is let through by itself; every instruction is seen */
 
-static struct {
-    uint64_t *word;
-    uint64_t value;
-} seen[64];
-static unsigned stores_seen;
+static uint8_t *volatile watched;
+static uint64_t *word; /* a store to it is under way */
+
+/* The address of an instruction's operand in memory; its description begins at p and ends the instruction. */
+static const uint8_t *operand(const uint8_t *p, unsigned rex, const greg_t *gregs) {
+    static const int number[16] = {REG_RAX, REG_RCX, REG_RDX, REG_RBX, REG_RSP, REG_RBP, REG_RSI, REG_RDI,
+                                   REG_R8,  REG_R9,  REG_R10, REG_R11, REG_R12, REG_R13, REG_R14, REG_R15};
+    unsigned mode = *p >> 6, low = *p & 7;
+    int32_t far_off = 0;
+    uint64_t address = 0;
+    p++;
+    int relative = mode == 0 && low == 5, based = !relative;
+    if (low == 4) { /* a base and an index */
+        unsigned index = (*p >> 3 & 7) | (rex & 2) << 2;
+        low = *p & 7;
+        based = !(mode == 0 && low == 5);
+        address = index == 4 ? 0 : (uint64_t)gregs[number[index]] << (*p >> 6);
+        p++;
+    }
+    if (based)
+        address += (uint64_t)gregs[number[low | (rex & 1) << 3]];
+    if (mode == 1)
+        return (const uint8_t *)(address + (uint64_t)(int64_t)(int8_t)*p);
+    if (mode == 2 || !based)
+        memcpy(&far_off, p, sizeof far_off);
+    return (const uint8_t *)(address + (relative ? (uint64_t)(p + 4) : 0) + (uint64_t)(int64_t)far_off);
+}
+
+/* Notes the next instruction where it is a flush or the fence. */
+static void look(const greg_t *gregs) {
+    const uint8_t *p = (const uint8_t *)gregs[REG_RIP];
+    int prefixed = *p == 0x66;
+    p += prefixed;
+    unsigned rex = (*p & 0xf0) == 0x40 ? *p++ : 0;
+    if (p[0] != 0x0f || p[1] != 0xae)
+        return;
+    unsigned in_memory = p[2] < 0xc0, digit = p[2] >> 3 & 7;
+    if (!prefixed && p[2] == 0xf8)
+        happened(EXECUTED_FENCE, NULL, 0);
+    else if (in_memory && (digit == 7 || (prefixed && digit == 6)))
+        happened(EXECUTED_FLUSH + (digit == 6 ? ORDERSET_CLWB : prefixed ? ORDERSET_CLFLUSHOPT : ORDERSET_CLFLUSH),
+                 operand(p + 2, rex, gregs), 0);
+}
 
 static void before_store(int number, siginfo_t *info, void *context) {
     (void)number;
-    if (stores_seen == sizeof seen / sizeof *seen)
+    (void)context;
+    word = info->si_addr;
+    if (!watched || (uint8_t *)word < watched || (uint8_t *)word >= watched + LENGTH) {
+        printf("\nNOT SO: a store is inside the image\n");
+        fflush(stdout);
         _exit(1);
-    seen[stores_seen].word = info->si_addr;
-    mprotect(image, LENGTH, PROT_READ | PROT_WRITE);
-    ((ucontext_t *)context)->uc_mcontext.gregs[REG_EFL] |= TRAP_FLAG;
+    }
+    mprotect(watched, LENGTH, PROT_READ | PROT_WRITE);
 }
 
-static void after_store(int number, siginfo_t *info, void *context) {
+static void after_instruction(int number, siginfo_t *info, void *context) {
+    greg_t *gregs = ((ucontext_t *)context)->uc_mcontext.gregs;
     (void)number;
     (void)info;
-    seen[stores_seen].value = *seen[stores_seen].word;
-    stores_seen++;
-    mprotect(image, LENGTH, PROT_READ);
-    ((ucontext_t *)context)->uc_mcontext.gregs[REG_EFL] &= ~(greg_t)TRAP_FLAG;
+    if (word) {
+        happened(STORE, word, *word);
+        mprotect(watched, LENGTH, PROT_READ);
+        word = NULL;
+    }
+    if (watched)
+        look(gregs);
+    gregs[REG_EFL] = watched ? gregs[REG_EFL] | TRAP_FLAG : gregs[REG_EFL] & ~(greg_t)TRAP_FLAG;
 }
 
-static void watch(void) {
-    struct sigaction segv = {.sa_sigaction = before_store, .sa_flags = SA_SIGINFO}, trap = {.sa_sigaction = after_store, .sa_flags = SA_SIGINFO};
+static void set_handlers(void) {
+    struct sigaction segv = {.sa_sigaction = before_store, .sa_flags = SA_SIGINFO};
+    struct sigaction trap = {.sa_sigaction = after_instruction, .sa_flags = SA_SIGINFO};
     sigaction(SIGSEGV, &segv, NULL);
     sigaction(SIGTRAP, &trap, NULL);
 }
 
-static void in_order(enum orderset_flush flush) {
-    stores_seen = 0;
-    mprotect(image, LENGTH, PROT_READ);
-    orderset_persist(image, at, value, flush);
-    mprotect(image, LENGTH, PROT_READ | PROT_WRITE);
-    expect(stores_seen == ORDERSET_STORES, "16 stores, each of one word");
-    for (unsigned i = 0; i < ORDERSET_STORES; i++)
-        expect(seen[i].word == (uint64_t *)image + at[i] && seen[i].value == value[i], "store i is the one that was handed out");
+static void watch(uint8_t *memory) {
+    mprotect(memory, LENGTH, PROT_READ);
+    watched = memory;
+    raise(SIGTRAP);
+}
+
+static void watch_no_more(void) {
+    uint8_t *memory = watched;
+    watched = NULL;
+    mprotect(memory, LENGTH, PROT_READ | PROT_WRITE);
 }
 
 /* ---- calls, persisted as the header asks */
 
-static uint64_t stored, unstored;
-
-static void counted(int accepted, unsigned flushed, unsigned fenced) {
-    expect(flushed == (accepted ? 2u : 0u), "two line flushes for a call that stores, else none");
-    expect(fenced == (accepted ? 1u : 0u), "one fence for a call that stores, else none");
-    *(accepted ? &stored : &unstored) += 1;
+static int is(unsigned i, unsigned what, const void *where) {
+    return i < events && event[i].what == what && event[i].where == where;
 }
 
-static void change(int put, uint64_t key, size_t size, enum orderset_flush flush, int watched) {
+/* The line is flushed: by that instruction where it is watched, and then comes the hook. Moves i past it. */
+static int is_flush(unsigned *i, const void *line, enum orderset_flush flush, int watching) {
+    int executed = !watching || is((*i)++, EXECUTED_FLUSH + flush, line);
+    return is((*i)++, FLUSH, line) && executed;
+}
+
+static int is_last_fence(unsigned i, int watching) {
+    int executed = !watching || is(i++, EXECUTED_FENCE, NULL);
+    return is(i, FENCE, NULL) && executed && events == i + 1;
+}
+
+static void persist(enum orderset_flush flush, int watching) {
+    unsigned i = 0;
+    if (watching)
+        watch(image);
+    int code = orderset_persist(image, LENGTH, at, value, flush);
+    if (watching)
+        watch_no_more();
+    expect(code == 0, "persist takes the stores of a call");
+    for (; watching && i < ORDERSET_STORES; i++)
+        expect(is(i, STORE, (uint64_t *)image + at[i]) && event[i].value == value[i],
+               "store i is the one that was handed out, of one word");
+    int both = is_flush(&i, (uint64_t *)image + at[0], flush, watching);
+    both &= is_flush(&i, (uint64_t *)image + at[8], flush, watching);
+    expect(both, "then both lines are flushed");
+    expect(is_last_fence(i, watching), "then there is one fence, and nothing more");
+}
+
+static void change(int put, uint64_t key, size_t size, enum orderset_flush flush, int watching) {
     uint8_t bytes[96];
-    for (size_t i = 0; i < sizeof bytes; i++)
-        bytes[i] = (uint8_t)below(256);
+    fill(bytes, sizeof bytes);
     memcpy(played, image, LENGTH);
-    unsigned flushed = flushes, fenced = fences;
-    uint32_t code = put ? orderset_put(image, LENGTH, heads, HEADS, next, N + 1, state, version, key, bytes, size, at, value, answer)
-                        : orderset_remove(image, LENGTH, heads, HEADS, next, N + 1, state, version, key, at, value, answer);
+    uint32_t code =
+        put ? orderset_put(image, LENGTH, heads, HEADS, next, N + 1, state, version, key, bytes, size, at, value,
+                           answer)
+            : orderset_remove(image, LENGTH, heads, HEADS, next, N + 1, state, version, key, at, value, answer);
     int accepted = code == ORDERSET_OK && answer[0] == ORDERSET_GIVEN;
     if (accepted) {
         expect(orderset_play(played, LENGTH, at, value, 8, 8) == ORDERSET_OK, "play takes the stores");
-        if (watched)
-            in_order(flush);
-        else
-            orderset_persist(image, at, value, flush);
+        persist(flush, watching);
     }
     expect(memcmp(image, played, LENGTH) == 0, "the image is as play leaves it");
-    counted(accepted, flushes - flushed, fences - fenced);
+    expect(accepted || events == 0, "a call that does not store flushes nothing");
+    *(accepted ? &stored : &unstored) += 1;
 }
 
 static void get(uint64_t key) {
     uint8_t out[ORDERSET_VALUE_MAX];
-    unsigned flushed = flushes, fenced = fences;
     uint32_t code = orderset_get(image, LENGTH, heads, HEADS, next, N + 1, key, out, sizeof out, answer);
-    expect(code == ORDERSET_OK, "get of an own index is not refused");
-    counted(0, flushes - flushed, fences - fenced);
+    expect(code == ORDERSET_OK && events == 0, "get of an own index is not refused and flushes nothing");
+    unstored++;
 }
 
-static void run(enum orderset_flush flush) {
-    expect(orderset_format(image, LENGTH, answer) == ORDERSET_OK, "format");
-    expect(orderset_recover(image, LENGTH, heads, HEADS, next, N + 1, state, version) == ORDERSET_OK, "recover");
+static void make(uint8_t *bytes) {
+    expect(orderset_format(bytes, LENGTH, answer) == ORDERSET_OK, "format");
+    expect(orderset_recover(bytes, LENGTH, heads, HEADS, next, N + 1, state, version) == ORDERSET_OK, "recover");
+}
+
+static void calls(enum orderset_flush flush) {
+    make(image);
     for (int i = 0; i < CALLS; i++) {
         uint64_t key = below(N + 10);
         size_t size = below(84);
         int put = below(3) > 0;
+        events = 0;
         if (below(4) == 0)
             get(key);
         else
-            change(put, key, size, flush, i < 2000);
+            change(put, key, size, flush, i < WATCHED);
     }
 }
 
-/* The fallback: what is stored in a mapped file is what the file then holds. */
+/* ---- stores that are no call's */
+
+static void refused(size_t length, uint32_t a, uint32_t b, enum orderset_flush flush) {
+    uint32_t bad[ORDERSET_STORES];
+    for (uint32_t i = 0; i < ORDERSET_STORES; i++)
+        bad[i] = i < 8 ? a + i : b + i - 8;
+    memcpy(played, image, LENGTH);
+    events = 0;
+    errno = 0;
+    expect(orderset_persist(image, length, bad, value, flush) == -1 && errno == EINVAL,
+           "persist refuses stores that are not two lines of the image");
+    errno = 0;
+    expect(orderset_persist_file(image, length, bad, value) == -1 && errno == EINVAL,
+           "persist_file refuses stores that are not two lines of the image");
+    expect(memcmp(image, played, LENGTH) == 0 && events == 0,
+           "refused stores are not made, nothing is flushed or synced");
+}
+
+static void no_calls_stores(enum orderset_flush flush) {
+    const uint32_t words = LENGTH / 8;
+    refused(LENGTH, 16, 16, flush);    /* one line twice */
+    refused(LENGTH, 0, 0, flush);      /* stores that are all zero */
+    refused(LENGTH, words, 16, flush); /* one line too far, in either half */
+    refused(LENGTH, 16, words, flush);
+    refused(LENGTH, 16, 1u << 31, flush);
+    refused(LENGTH, UINT32_MAX - 7, 16, flush);
+    refused(LENGTH - 1, words - 16, words - 8, flush); /* the last line is not whole inside */
+    refused(0, 0, 8, flush);
+    for (uint32_t i = 1; i < 8; i++) { /* not the beginning of a line, in either half */
+        refused(LENGTH, 16 + i, 32, flush);
+        refused(LENGTH, 16, 32 + i, flush);
+    }
+    for (int i = 0; i < 1000; i++) {
+        uint32_t a = (uint32_t)chance() | 1, b = (uint32_t)chance();
+        refused(LENGTH, below(2) ? a : words + 8 * (uint32_t)below(1000), b, flush);
+    }
+}
+
+/* ---- a start */
+
+static void whole_image(enum orderset_flush flush, int watching) {
+    unsigned i = 0, flushed = 0;
+    memcpy(played, image, LENGTH);
+    events = 0;
+    if (watching)
+        watch(image);
+    int code = orderset_persist_image(image, LENGTH, flush);
+    if (watching)
+        watch_no_more();
+    expect(code == 0, "persist_image takes an aligned image");
+    while (flushed < LINES && is_flush(&i, image + 64 * flushed, flush, watching))
+        flushed++;
+    expect(flushed == LINES, "persist_image flushes every line");
+    expect(is_last_fence(i, watching), "persist_image fences once, after every line");
+    expect(memcmp(image, played, LENGTH) == 0, "persist_image does not change the image");
+}
+
+static void misaligned_image(enum orderset_flush flush) {
+    events = 0;
+    expect(orderset_aligned(image) == 1, "an image that begins a line is aligned");
+    for (size_t i = 1; i < 64; i++) {
+        errno = 0;
+        expect(orderset_aligned(image + i) == 0, "an image that begins inside a line is not aligned");
+        expect(orderset_persist_image(image + i, LENGTH - 128, flush) == -1 && errno == EINVAL,
+               "persist_image refuses a misaligned image");
+    }
+    expect(events == 0, "a refused persist_image flushes nothing");
+}
+
+/* ---- the fallback: what is stored in a mapped file is what the file then holds */
+
+static const uint8_t *page_of(const uint8_t *mapped, uint32_t place) {
+    return mapped + (size_t)place * 8 / PAGE * PAGE;
+}
+
+static void put_in_file(uint8_t *mapped, int file, uint64_t key) {
+    uint8_t bytes[ORDERSET_VALUE_MAX], held[LENGTH];
+    fill(bytes, sizeof bytes);
+    memcpy(played, mapped, LENGTH);
+    expect(orderset_put(mapped, LENGTH, heads, HEADS, next, N + 1, state, version, key, bytes, below(81), at, value,
+                        answer)
+               == ORDERSET_OK,
+           "put");
+    expect(orderset_play(played, LENGTH, at, value, 8, 8) == ORDERSET_OK, "play takes the stores");
+    events = 0;
+    expect(orderset_persist_file(mapped, LENGTH, at, value) == 0, "persist_file takes the stores of a call");
+    expect(events == 1 && is(0, SYNC, page_of(mapped, at[0])) && event[0].value == PAGE,
+           "persist_file syncs the page of the call");
+    expect(pread(file, held, LENGTH, 0) == LENGTH && memcmp(held, played, LENGTH) == 0,
+           "the file is as play leaves it");
+}
+
+static void sync_errors(uint8_t *mapped) {
+    sync_fails = 1;
+    expect(orderset_persist_file(mapped, LENGTH, at, value) == -1 && errno == EIO,
+           "persist_file tells that msync fails");
+    expect(orderset_persist_image_file(mapped, LENGTH) == -1 && errno == EIO,
+           "persist_image_file tells that msync fails");
+    sync_fails = 0;
+}
+
+static void whole_file(uint8_t *mapped, int file) {
+    uint8_t held[LENGTH];
+    for (uint32_t i = 0; i < ORDERSET_STORES; i++)
+        at[i] = i < 8 ? 16 + i : PAGE / 8 + i - 8;
+    events = 0;
+    expect(orderset_persist_file(mapped, LENGTH, at, value) == 0, "persist_file takes two lines of two pages");
+    expect(events == 2 && is(0, SYNC, mapped) && is(1, SYNC, mapped + PAGE), "persist_file syncs both pages");
+    fill(mapped, LENGTH);
+    memcpy(played, mapped, LENGTH);
+    events = 0;
+    watch(mapped);
+    int code = orderset_persist_image_file(mapped, LENGTH);
+    watch_no_more();
+    expect(code == 0, "persist_image_file");
+    expect(is(0, STORE, mapped) && is(1, STORE, mapped + PAGE), "persist_image_file stores to every page again");
+    expect(events == 3 && is(2, SYNC, mapped) && event[2].value == LENGTH, "persist_image_file then syncs the image");
+    expect(memcmp(mapped, played, LENGTH) == 0, "persist_image_file leaves the image as it is");
+    expect(pread(file, held, LENGTH, 0) == LENGTH && memcmp(held, played, LENGTH) == 0,
+           "persist_image_file leaves the file as the image");
+    events = 0;
+    expect(orderset_persist_image_file(mapped + 64, LENGTH - 128) == -1 && errno == EINVAL && events == 0,
+           "persist_image_file refuses an image inside a page");
+}
+
 static void fallback(void) {
     FILE *file = tmpfile();
     expect(file && ftruncate(fileno(file), LENGTH) == 0, "a file");
     uint8_t *mapped = mmap(NULL, LENGTH, PROT_READ | PROT_WRITE, MAP_SHARED, fileno(file), 0);
     expect(mapped != MAP_FAILED, "a mapped file");
-    expect(orderset_format(mapped, LENGTH, answer) == ORDERSET_OK, "format");
-    expect(orderset_recover(mapped, LENGTH, heads, HEADS, next, N + 1, state, version) == ORDERSET_OK, "recover");
-    for (uint64_t key = 0; key < N - 1; key++) {
-        memcpy(played, mapped, LENGTH);
-        expect(orderset_put(mapped, LENGTH, heads, HEADS, next, N + 1, state, version, key, (const uint8_t *)"order", 5, at, value, answer) == ORDERSET_OK, "put");
-        expect(orderset_play(played, LENGTH, at, value, 8, 8) == ORDERSET_OK, "play takes the stores");
-        expect(orderset_persist_file(mapped, at, value) == 0, "msync");
-        expect(pread(fileno(file), image, LENGTH, 0) == LENGTH && memcmp(image, played, LENGTH) == 0, "the file is as play leaves it");
-    }
+    make(mapped);
+    for (uint64_t key = 0; key < N - 1; key++)
+        put_in_file(mapped, fileno(file), key);
+    sync_errors(mapped);
+    whole_file(mapped, fileno(file));
     fclose(file);
-    printf("%-10s  %d calls stored in a file\n", "msync", N - 1);
 }
 
-int main(void) {
-    static const char *const name[] = {"clflush", "clflushopt", "clwb"};
+int main(int count, char **words) {
+    begin_chance("persist", count > 1 ? words[1] : NULL);
     image = mmap(NULL, LENGTH, PROT_READ | PROT_WRITE, MAP_PRIVATE | MAP_ANONYMOUS, -1, 0);
-    expect(image != MAP_FAILED, "memory");
-    watch();
-    for (int flush = ORDERSET_CLFLUSH; flush <= (int)orderset_best_flush(); flush++) {
-        stored = unstored = 0;
-        run((enum orderset_flush)flush);
-        printf("%-10s  %" PRIu64 " calls stored, with 2 line flushes and 1 fence each; %" PRIu64 " did not, with none\n", name[flush], stored, unstored);
+    expect(image != MAP_FAILED && sysconf(_SC_PAGESIZE) == PAGE, "memory in pages of 4,096 bytes");
+    set_handlers();
+    unsigned kinds = (unsigned)orderset_best_flush() + 1;
+    for (unsigned flush = 0; flush < kinds; flush++) {
+        calls((enum orderset_flush)flush);
+        no_calls_stores((enum orderset_flush)flush);
+        whole_image((enum orderset_flush)flush, 0);
+        whole_image((enum orderset_flush)flush, 1);
+        misaligned_image((enum orderset_flush)flush);
     }
     fallback();
+    printf("%u kinds of flush, %" PRIu64 " calls stored with 2 line flushes and 1 fence each, %" PRIu64
+           " did not with none, and msync: all as the header says (%.0f s)\n",
+           kinds, stored, unstored, seconds());
     return 0;
 }

@@ -1,0 +1,344 @@
+/* Calls on lent memory that begins or ends at a page which nobody may touch. Each piece of memory is mapped twice, for
+ * reading alone and for writing too: what is const in a prototype is lent through the first mapping. So a call that
+ * reads or writes past what it was lent, or writes what is const, faults, and the fault ends the test. What a refused
+ * call was lent is compared with what it was. Images and indexes are sound, damaged and garbage; lengths are right and
+ * wrong.
+ *
+ *     guard [SEED [CALLS]]
+ */
+#define _GNU_SOURCE
+#include <inttypes.h>
+#include <signal.h>
+#include <stdarg.h>
+#include <stdio.h>
+#include <stdlib.h>
+#include <string.h>
+#include <sys/mman.h>
+#include <unistd.h>
+
+#include "chance.h"
+#include "images.h"
+#include "orderset.h"
+
+enum { CALLS = 5000000, PAGE = 4096, NEAR = 64 };
+enum which { FORMAT, RECOVER, PUT, REMOVE, GET, PLAY, PLAY_LIST, WHICH };
+static const char *const name[WHICH] = {"format", "recover", "put", "remove", "get", "play", "play_list"};
+
+static uint64_t calls, answers[WHICH][2]; /* [0] not refused, [1] refused */
+static enum which call;
+
+/* ---- pieces of memory */
+
+enum what { IMAGE, HEADS, NEXT, STATE, VERSION, BYTES, OUTPUT, AT, VALUE, ANSWER, PIECES };
+
+static struct piece {
+    const char *name;
+    size_t room;           /* whole pages */
+    uint8_t *write, *read; /* its two mappings, each between two pages that nobody may touch */
+    uint8_t *before;       /* what it was before the call */
+    size_t at, length;     /* what is lent of it: the first bytes or the last */
+} piece[PIECES] = {
+    {"image", ORDERSET_IMAGE_BYTES(ORDERSET_SLOTS_MAX) + PAGE, NULL, NULL, NULL, 0, 0},
+    {"heads", 4 * ORDERSET_HEADS_MAX + PAGE, NULL, NULL, NULL, 0, 0},
+    {"next", 4 * ORDERSET_HEADS_MAX + PAGE, NULL, NULL, NULL, 0, 0},
+    {"state", PAGE, NULL, NULL, NULL, 0, 0},
+    {"version", PAGE, NULL, NULL, NULL, 0, 0},
+    {"bytes", PAGE, NULL, NULL, NULL, 0, 0},
+    {"output", PAGE, NULL, NULL, NULL, 0, 0},
+    {"at", PAGE, NULL, NULL, NULL, 0, 0},
+    {"value", PAGE, NULL, NULL, NULL, 0, 0},
+    {"answer", PAGE, NULL, NULL, NULL, 0, 0},
+};
+
+static void __attribute__((format(printf, 1, 2))) show(const char *what, ...) {
+    va_list list;
+    printf("\nNOT SO: ");
+    va_start(list, what);
+    vprintf(what, list);
+    va_end(list);
+    printf("\nseed %" PRIu64 ", call %" PRIu64 ", %s\n", seed, calls, name[call]);
+    for (int i = 0; i < PIECES; i++)
+        printf("%s %zu bytes at the %s; ", piece[i].name, piece[i].length, piece[i].at ? "end" : "beginning");
+    printf("\n");
+    fflush(stdout);
+}
+
+static void fault(int number, siginfo_t *info, void *context) {
+    (void)context;
+    const uint8_t *where = info->si_addr;
+    for (int i = 0; i < PIECES; i++)
+        for (int j = 0; j < 2; j++) {
+            const uint8_t *start = (j ? piece[i].read : piece[i].write) + piece[i].at;
+            if (where < start - PAGE - piece[i].at || where >= start - piece[i].at + piece[i].room + PAGE)
+                continue;
+            show("signal %d: %s is touched at byte %td of %zu%s", number, piece[i].name, where - start, piece[i].length,
+                 j ? ", lent for reading" : "");
+            _exit(1);
+        }
+    show("signal %d at %p", number, info->si_addr);
+    _exit(1);
+}
+
+static uint8_t *map_between(int file, size_t room, int access) {
+    uint8_t *all = mmap(NULL, room + 2 * PAGE, PROT_NONE, MAP_PRIVATE | MAP_ANONYMOUS, -1, 0);
+    if (all == MAP_FAILED || mmap(all + PAGE, room, access, MAP_SHARED | MAP_FIXED, file, 0) == MAP_FAILED)
+        abort();
+    return all + PAGE;
+}
+
+static void make_pieces(void) {
+    static uint8_t stack[1 << 16];
+    stack_t other = {.ss_sp = stack, .ss_size = sizeof stack};
+    struct sigaction action = {.sa_sigaction = fault, .sa_flags = SA_SIGINFO | SA_ONSTACK};
+    for (struct piece *p = piece; p < piece + PIECES; p++) {
+        int file = memfd_create(p->name, 0);
+        if (file < 0 || ftruncate(file, (off_t)p->room))
+            abort();
+        p->write = map_between(file, p->room, PROT_READ | PROT_WRITE);
+        p->read = map_between(file, p->room, PROT_READ);
+        p->before = malloc(p->room);
+        close(file);
+    }
+    if (sysconf(_SC_PAGESIZE) != PAGE || sigaltstack(&other, NULL) || sigaction(SIGSEGV, &action, NULL)
+        || sigaction(SIGBUS, &action, NULL))
+        abort();
+}
+
+static void place(enum what what, size_t length) {
+    piece[what].length = length;
+    piece[what].at = below(2) ? 0 : piece[what].room - length;
+}
+
+static void *w(enum what what) {
+    return piece[what].write + piece[what].at;
+}
+
+static const void *r(enum what what) {
+    return piece[what].read + piece[what].at;
+}
+
+/* ---- before and after a call */
+
+static size_t from(const struct piece *p) {
+    return p->at > NEAR ? p->at - NEAR : 0;
+}
+
+static size_t to(const struct piece *p) {
+    return p->at + p->length + NEAR < p->room ? p->at + p->length + NEAR : p->room;
+}
+
+static void same(const struct piece *p, size_t start, size_t end, const char *why) {
+    if (memcmp(p->write + start, p->before + start, end - start) == 0)
+        return;
+    show("%s changed, %s", p->name, why);
+    exit(1);
+}
+
+/* The pieces of the list, up to PIECES, may be written by the call. */
+static void begin(enum which which, const enum what *writable) {
+    calls++;
+    call = which;
+    for (; *writable != PIECES; writable++) {
+        const struct piece *p = &piece[*writable];
+        memcpy(p->before + from(p), p->write + from(p), to(p) - from(p));
+    }
+}
+
+static uint32_t end(uint32_t code, const enum what *writable) {
+    answers[call][code != 0]++;
+    for (; *writable != PIECES; writable++) {
+        const struct piece *p = &piece[*writable];
+        same(p, from(p), p->at, "before what was lent");
+        same(p, p->at + p->length, to(p), "after what was lent");
+        if (code)
+            same(p, p->at, p->at + p->length, "by a refused call");
+    }
+    return code;
+}
+
+/* ---- the calls */
+
+static uint32_t slots; /* what the image was made for; 0 for another length */
+static size_t heads_length, next_length;
+
+static void call_format(void) {
+    static const enum what writable[] = {IMAGE, ANSWER, PIECES};
+    begin(FORMAT, writable);
+    end(orderset_format(w(IMAGE), piece[IMAGE].length, w(ANSWER)), writable);
+}
+
+static void call_recover(void) {
+    static const enum what writable[] = {HEADS, NEXT, STATE, VERSION, PIECES};
+    begin(RECOVER, writable);
+    end(orderset_recover(r(IMAGE), piece[IMAGE].length, w(HEADS), heads_length, w(NEXT), next_length, w(STATE),
+                         w(VERSION)),
+        writable);
+}
+
+static void call_play(size_t a, size_t b) {
+    static const enum what writable[] = {IMAGE, PIECES};
+    begin(PLAY, writable);
+    end(orderset_play(w(IMAGE), piece[IMAGE].length, r(AT), r(VALUE), a, b), writable);
+}
+
+/* 1 if there are stores to be made */
+static int call_change(int put, uint64_t key) {
+    static const enum what writable[] = {HEADS, NEXT, STATE, VERSION, AT, VALUE, ANSWER, PIECES};
+    uint64_t answer;
+    uint32_t code;
+    begin(put ? PUT : REMOVE, writable);
+    if (put)
+        code = orderset_put(r(IMAGE), piece[IMAGE].length, w(HEADS), heads_length, w(NEXT), next_length, w(STATE),
+                            w(VERSION), key, r(BYTES), piece[BYTES].length, w(AT), w(VALUE), w(ANSWER));
+    else
+        code = orderset_remove(r(IMAGE), piece[IMAGE].length, w(HEADS), heads_length, w(NEXT), next_length, w(STATE),
+                               w(VERSION), key, w(AT), w(VALUE), w(ANSWER));
+    end(code, writable);
+    memcpy(&answer, w(ANSWER), sizeof answer);
+    if (code == 0 && answer == ORDERSET_ABSENT)
+        for (const enum what *p = writable; *p != ANSWER; p++)
+            same(&piece[*p], piece[*p].at, piece[*p].at + piece[*p].length, "by a call that answers absent");
+    return code == 0 && answer == ORDERSET_GIVEN;
+}
+
+static void call_get(uint64_t key) {
+    static const enum what writable[] = {OUTPUT, ANSWER, PIECES};
+    const struct piece *out = &piece[OUTPUT];
+    uint64_t answer[ORDERSET_ANSWER];
+    begin(GET, writable);
+    uint32_t code = end(orderset_get(r(IMAGE), piece[IMAGE].length, r(HEADS), heads_length, r(NEXT), next_length, key,
+                                     w(OUTPUT), out->length, w(ANSWER)),
+                        writable);
+    memcpy(answer, w(ANSWER), sizeof answer);
+    if (code == 0)
+        same(out, out->at + answer[ORDERSET_LENGTH], out->at + out->length, "past the value");
+}
+
+static void call_play_list(void) {
+    static const enum what writable[] = {IMAGE, PIECES};
+    size_t places = below(20), values = below(4) ? places : below(20), words = piece[IMAGE].length / 8;
+    place(AT, 4 * places);
+    place(VALUE, 8 * values);
+    fill(w(VALUE), 8 * values);
+    for (size_t i = 0; i < places; i++)
+        ((uint32_t *)w(AT))[i] = below(40) ? (uint32_t)below(words + (words == 0)) : (uint32_t)(words + below(3));
+    begin(PLAY_LIST, writable);
+    end(orderset_play_list(w(IMAGE), piece[IMAGE].length, r(AT), places, r(VALUE), values), writable);
+}
+
+/* ---- sessions: an image, an index, and some calls on them */
+
+static size_t any_length(uint32_t n) {
+    switch (below(40)) {
+    case 0: return below(1000);
+    case 1: return 128 * below(8);
+    case 2: return ORDERSET_IMAGE_BYTES(n) - 1 + 2 * below(2);
+    default: return ORDERSET_IMAGE_BYTES(n);
+    }
+}
+
+static void any_index(void) {
+    struct m_index index = {w(HEADS), heads_length, w(NEXT), next_length, {0, 0, 0, 0}};
+    garbage_index(&index, slots);
+    memcpy(w(STATE), &index.state, 12);
+    memcpy(w(VERSION), &index.state.version, 8);
+}
+
+/* Returns how many keys the image has. */
+static uint64_t make_set(void) {
+    uint32_t n = (uint32_t)(below(400) ? 2 + below(12) : below(100) ? spread(14, 2000) : ORDERSET_SLOTS_MAX - below(3));
+    uint64_t keys = 1 + below(2 * n);
+    place(IMAGE, any_length(n));
+    slots = piece[IMAGE].length == ORDERSET_IMAGE_BYTES(n) ? n : 0;
+    heads_length = below(60)  ? 1 + below(2 * (n < 30000 ? n : 30000))
+                   : below(4) ? 0
+                              : ORDERSET_HEADS_MAX - 1 + below(3);
+    next_length = n + 1 - (below(60) == 0) + (below(60) == 0);
+    place(HEADS, 4 * heads_length);
+    place(NEXT, 4 * next_length);
+    place(STATE, 12);
+    place(VERSION, 8);
+    if (slots == 0 || below(12) == 0)
+        fill(w(IMAGE), piece[IMAGE].length);
+    else
+        any_image(w(IMAGE), n, keys);
+    for (uint64_t k = slots && below(3) == 0 ? 1 + below(3) : 0; k > 0; k--)
+        damage(w(IMAGE), n);
+    any_index();
+    return keys;
+}
+
+static uint64_t key_of_image(uint64_t keys) {
+    uint64_t key;
+    if (slots == 0 || below(2))
+        return any_key(keys);
+    memcpy(&key, (const uint8_t *)w(IMAGE) + 128 * (1 + below(slots)) + 8, sizeof key);
+    return key;
+}
+
+/* at and value as no call hands them out, or nearly as one does */
+static void any_stores(void) {
+    uint32_t first = 8 * (uint32_t)below(piece[IMAGE].length / 64 + 2), second = below(8) ? first ^ 8 : first;
+    for (uint32_t i = 0; i < ORDERSET_STORES; i++)
+        ((uint32_t *)w(AT))[i] = below(200) ? (i < 8 ? first : second) + i % 8 : (uint32_t)chance();
+    fill(w(VALUE), piece[VALUE].length);
+}
+
+static void lend_for_one_call(void) {
+    place(AT, 4 * ORDERSET_STORES);
+    place(VALUE, 8 * ORDERSET_STORES);
+    place(ANSWER, 8 * (call == PUT || call == REMOVE ? ORDERSET_CHANGE_ANSWER : ORDERSET_ANSWER));
+    place(BYTES, any_size());
+    place(OUTPUT, below(3) ? below(ORDERSET_VALUE_MAX + 17) : ORDERSET_VALUE_MAX);
+    fill(w(AT), piece[AT].length);
+    fill(w(VALUE), piece[VALUE].length);
+    fill(w(ANSWER), piece[ANSWER].length);
+    fill(w(BYTES), piece[BYTES].length);
+    fill(w(OUTPUT), piece[OUTPUT].length);
+}
+
+static void any_call(uint64_t keys) {
+    static const enum which often[] = {RECOVER, RECOVER, PUT, PUT, PUT, PUT, PUT,  REMOVE,
+                                       REMOVE,  REMOVE,  GET, GET, GET, GET, PLAY, PLAY_LIST};
+    call = below(40) ? often[below(sizeof often / sizeof *often)] : FORMAT;
+    lend_for_one_call();
+    switch (call) {
+    case FORMAT: call_format(); break;
+    case RECOVER: call_recover(); break;
+    case PUT:
+    case REMOVE:
+        if (call_change(call == PUT, key_of_image(keys)) && below(4))
+            call_play(below(4) ? 8 : below(10), below(4) ? 8 : below(10));
+        break;
+    case GET: call_get(key_of_image(keys)); break;
+    case PLAY: any_stores(), call_play(below(10), below(10)); break;
+    default: call_play_list(); break;
+    }
+}
+
+static int all_met(void) {
+    for (int i = 0; i < WHICH; i++)
+        if (answers[i][0] == 0 || answers[i][1] == 0)
+            return 0;
+    return 1;
+}
+
+int main(int count, char **word) {
+    uint64_t wanted = count > 2 ? strtoull(word[2], NULL, 10) : CALLS, refused = 0;
+    begin_chance("guard", count > 1 ? word[1] : NULL);
+    make_pieces();
+    while (calls < wanted) {
+        uint64_t keys = make_set();
+        if (below(4))
+            call_recover();
+        for (int k = 0; k < 16; k++)
+            any_call(keys);
+    }
+    for (int i = 0; i < WHICH; i++)
+        refused += answers[i][1];
+    printf("%" PRIu64 " calls, %" PRIu64 " of them refused: no fault, nothing changed that may not be (%.0f s)\n",
+           calls, refused, seconds());
+    if (!all_met())
+        printf("a function was always refused, or never\n");
+    return !all_met();
+}

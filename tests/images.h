@@ -1,0 +1,28 @@
+/* images.h: what the tests lend: images that are usually accepted, damaged ones, and index numbers that are no image's
+ * own. */
+#ifndef IMAGES_H
+#define IMAGES_H
+
+#include "model.h"
+
+/* A valid record of that kind (1 put, 2 remove) with random bytes. */
+void put_record(uint8_t *image, uint32_t slot, unsigned kind, uint64_t key, uint64_t version, size_t size);
+
+/* An image slot by slot: put and remove records of a few keys with distinct versions, empty slots, slots that a cut
+ * broke. Usually accepted. */
+void any_image(uint8_t *image, uint32_t n, uint64_t keys);
+
+/* One fault, of any kind that the rules name, or a word of garbage. */
+void damage(uint8_t *image, uint32_t n);
+
+/* A key of any_image. */
+uint64_t any_key(uint64_t keys);
+
+/* Numbers that are mostly slots; n may be 0. */
+void garbage_index(struct m_index *index, uint32_t n);
+
+/* A number of heads for n slots; a value's size, sometimes more than 80. */
+uint32_t any_heads(uint32_t n);
+size_t any_size(void);
+
+#endif

@@ -1,0 +1,133 @@
+#!/usr/bin/env bash
+# Planted faults: each edits a copy of one file below target/planted, and the test must then fail with that message.
+# Prints one line for each fault and ends with status 1 if one is not seen.
+#     planted.sh [WORD]    only the faults whose test, description or file has the word
+set -u
+cd "$(dirname "$0")/.."
+archive=target/staticlib/liborderset_c.a
+tree=target/planted/tree
+log=target/planted/log
+only=${1:-}
+count=0
+unseen=0
+
+copy_tree() {
+    rm -rf "$tree"
+    mkdir -p "$tree/target" "$tree/crates"
+    cp -r Makefile crates.txt include examples tests "$tree"
+    ln -s "$PWD/target/staticlib" "$tree/target/staticlib"
+}
+
+not_seen() {
+    unseen=$((unseen + 1))
+    echo "NOT SEEN  $1: $2"
+    tail -5 "$log"
+}
+
+# fault TEST 'WHAT' FILE 'EDIT (sed -E)' 'MESSAGE (grep -E)'
+fault() {
+    local test=$1 what=$2 file=$3 edit=$4 message=$5
+    case "$test $what $file" in *"$only"*) ;; *) return ;; esac
+    count=$((count + 1))
+    copy_tree
+    sed -E -i "$edit" "$tree/$file"
+    if cmp -s "$file" "$tree/$file"; then
+        echo "the edit changes nothing" >"$log"
+        not_seen "$test" "$what"
+    elif make -s -C "$tree" -o "$archive" "run-$test" SEED=1 >"$log" 2>&1 || ! grep -qE "$message" "$log"; then
+        not_seen "$test" "$what"
+    else
+        echo "seen      $test: $what: $(grep -m1 -E "$message" "$log" | cut -c1-100)"
+    fi
+}
+
+header=include/orderset_persist.h
+gateway=examples/gateway.c
+exchange='s/line \+ 0, value\[0\]/line + 8, value[8]/; s/line \+ 7, value\[7\]/line + 0, value[0]/
+    s/line \+ 8, value\[8\]/line + 7, value[7]/'
+
+fault header 'a store is left out' $header '/orderset_store\(line \+ 1,/d' 'NOT SO'
+
+fault persist 'the second line is not flushed' $header '/orderset_flush_line\(b, flush\);/d' \
+    'NOT SO: then both lines are flushed'
+fault persist 'the first line is flushed twice' $header 's/flush_line\(b, flush\)/flush_line(a, flush)/' \
+    'NOT SO: then both lines are flushed'
+fault persist 'the first and the last store change places' $header "$exchange" 'NOT SO: store i is the one'
+fault persist 'a line is flushed before its last store' $header \
+    's/orderset_store\(line \+ 7,/ORDERSET_FLUSHED(); &/' 'NOT SO: store i is the one'
+fault persist 'no fence' $header '/orderset_flush_line\(b, flush\);/,/orderset_fence/{/orderset_fence/d}' \
+    'NOT SO: then there is one fence'
+fault persist 'the hook of the fence and no fence' $header 's/__asm__ volatile\("sfence"[^;]*;//' \
+    'NOT SO: then there is one fence'
+fault persist 'the hook of a flush and no flush' $header 's/__asm__ volatile\("clflush %0[^;]*;/;/' \
+    'NOT SO: then both lines are flushed'
+fault persist 'any stores are taken' $header 's/return \(a \| b\) %.*/return (void)words, (void)a, (void)b, 1;/' \
+    'NOT SO: persist refuses stores'
+fault persist 'a line past the end is taken' $header 's/b < words/b <= words/' 'NOT SO: persist refuses stores'
+fault persist 'a start leaves out the last line' $header 's/i < (image_length; i \+= ORDER)/i + 64 < \1/' \
+    'NOT SO: persist_image flushes every line'
+fault persist 'a start takes a misaligned image' $header 's/if \(!orderset_aligned\(image\)\)/if (!image)/' \
+    'NOT SO: persist_image refuses a misaligned image'
+fault persist 'the fallback syncs one of two pages' $header 's/return a == b \? 0 : msync.*/return 0;/' \
+    'NOT SO: persist_file syncs both pages'
+fault persist 'a failed msync is not told' $header 's/return (msync\(image, image_length, MS_SYNC\))/return \1, 0/' \
+    'NOT SO: persist_image_file tells that msync fails'
+fault persist 'a start does not store to the pages again' $header '/__atomic_store_n\(word, __atomic_load_n/d' \
+    'NOT SO: persist_image_file stores to every page again'
+
+fault lock 'no lock' $gateway 's/flock\(file, how \| LOCK_NB\) == 0/(void)how, 1/' \
+    'NOT SO: a second gateway .* is refused'
+fault lock 'a lock that writers share' $gateway 's/writing \? LOCK_EX : LOCK_SH/LOCK_SH/' \
+    'NOT SO: a second gateway .* is refused'
+
+fault storm 'a start does not make the image durable' tests/storm.c \
+    's/\(after_kill \|\| below\(2\)\) \&\& orderset_persist_image\(.*\)\)/0)/' 'LOST key'
+fault storm 'a start makes every other line durable' $header 's/i \+= ORDERSET_LINE_BYTES/i += 128/' 'LOST key'
+fault storm 'the second line is not flushed' $header '/orderset_flush_line\(b, flush\);/d' 'LOST key'
+fault storm 'the first and the last store change places' $header "$exchange" 'LOST key'
+fault storm 'a call is acknowledged before it is persisted' tests/storm.c \
+    's|^    if \(orderset_persist\(visible|    map[i] = call.later, call.under_way = 0;\n&|' 'LOST key'
+
+fault kills 'a put is acknowledged before it is durable' $gateway \
+    '/^static uint32_t put/,/^}/{/persist\(s, c, at, value\);/d
+     s/print_change\(c, answer\);/&answered(); persist(s, c, at, value);/}' 'NOT SO: key'
+fault kills 'a remove is acknowledged, and stored later' $gateway \
+    '/^static uint32_t drop/,/^}/{/persist\(s, c, at, value\);/d
+     s/print_change\(c, answer\);/&answered(); usleep(3000); persist(s, c, at, value);/}' 'NOT SO: key'
+fault kills 'a start does not make the image durable' $gateway 's/^( +make_durable)\(s, file, path\);/(void)\1;/' \
+    'NOT SO: (key|the gateway recovers)'
+fault kills 'a call is not synced' $header 's/if \(msync\(\(void \*\)a, page, MS_SYNC\)\)/if (0)/' \
+    'NOT SO: (key|the gateway recovers)'
+fault kills 'a failed sync is acknowledged' $gateway \
+    's/(: orderset_persist_file\(s->image, s->length, at, value\))\)/\1 \&\& 0)/' \
+    'NOT SO: (key|the gateway recovers)'
+fault kills 'the directory of a new file is not synced' $gateway '/^static void make\(/,/^}/s/sync_name\(path\);//' \
+    'NOT SO: the directory of a new file'
+
+fault guard 'an output one byte longer than lent' tests/guard.c 's/w\(OUTPUT\), out->length/& + 1/' \
+    'NOT SO: signal 11: output is touched'
+fault guard 'heads one number longer than lent' tests/guard.c 's/r\(HEADS\), heads_length/& + 1/' \
+    'NOT SO: signal 11: heads is touched'
+fault guard 'a value one byte longer than lent' tests/guard.c 's/r\(BYTES\), piece\[BYTES\].length/& + 1/' \
+    'NOT SO: signal 11: bytes is touched'
+fault guard 'a call writes what it may only read' tests/guard.c \
+    's/orderset_play\(w\(IMAGE\)/orderset_play((uint8_t *)r(IMAGE)/' 'NOT SO: signal 11: image is .* lent for reading'
+fault guard 'a refused call changes the state' tests/guard.c \
+    's/end\(orderset_recover\(/(++*(uint8_t *)w(STATE), end)(orderset_recover(/' 'NOT SO: state changed, by a refused'
+
+fault differential 'a remove queues its record first' tests/model.c \
+    '/^struct m_change m_remove/,/^}/{s/append\(index, walk.slot\);/append(index, 0);/
+     s/append\(index, c.slot\);/append(index, walk.slot);/; s/append\(index, 0\);/append(index, c.slot);/}' \
+    'DIFFERENCE'
+fault differential 'the next version skips broken slots' tests/model.c \
+    's/if \(slot\[s\].highest > highest\)/if (slot[s].kind != BROKEN \&\& slot[s].highest > highest)/' 'DIFFERENCE'
+fault differential 'the mark is flipped' tests/model.c \
+    's/v = open;/v = 1 - m_word(image, 16 * (size_t)c->slot + (i < 8 ? 0 : 8));/' 'DIFFERENCE'
+fault differential 'the last spare slot is filled' tests/model.c 's/live \+ 1 >= n/live >= n/' 'DIFFERENCE'
+fault differential '9 is tested before 12' tests/model.c \
+    's/if \(!walk.slot \&\& /if (!(index->state.version >> 63) \&\& !walk.slot \&\& /' 'DIFFERENCE'
+fault differential 'a struck call counts as done with 8 and 7 stores' tests/differential.c \
+    's/a == 8 \&\& b == 8/a == 8 \&\& b >= 7/' 'DIFFERENCE in the plain map'
+
+echo "$count faults planted, $((count - unseen)) seen"
+[ $unseen -eq 0 ]

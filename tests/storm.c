@@ -1,0 +1,296 @@
+/* A storm of power cuts and kills. The program under test puts, removes and gets with the archive and makes its stores
+ * durable with orderset_persist.h, over a simulated cache: what a process sees and what is durable are apart, and each
+ * line has a list of the stores that are not durable yet. Whenever something strikes, the program starts again, makes
+ * the image durable and recovers. Then every acknowledged order must be there, the call that was struck must be there
+ * wholly or not at all, and nothing else may be there.
+ *
+ *     storm [SEED [STRIKES]]
+ */
+#include <inttypes.h>
+#include <setjmp.h>
+#include <stdarg.h>
+#include <stdio.h>
+#include <stdlib.h>
+#include <string.h>
+#include <sys/mman.h>
+#include <unistd.h>
+
+#include "chance.h"
+
+/* Every store, line flush and fence of the header goes through the simulated cache.
+ * line is orderset_flush_line's parameter. */
+static void store(volatile void *word, uint64_t value);
+static void flush_line(const void *line);
+static void fence(void);
+#define ORDERSET_FLUSHED() flush_line(line)
+#define ORDERSET_FENCED() fence()
+#define __atomic_store_n(word, value, order) store(word, value)
+#include "orderset_persist.h"
+
+enum { MAX_N = 300, MAX_HEADS = 40, MAX_KEYS = MAX_N + 3, LINES = 2 * (MAX_N + 1), WAITING = 32, STRIKES = 1000000 };
+
+static uint64_t strikes, cuts, kills, in_start, in_call, acknowledged;
+
+/* ---- the cache */
+
+static uint32_t n;
+static size_t length; /* of the image */
+static _Alignas(64) uint8_t visible[ORDERSET_IMAGE_BYTES(MAX_N)], durable[ORDERSET_IMAGE_BYTES(MAX_N)];
+
+/* the stores of a line that are not durable, the oldest first; the next fence makes the first `flushed` durable */
+static struct line {
+    unsigned count, flushed;
+    unsigned place[WAITING];
+    uint64_t value[WAITING];
+} waiting[LINES];
+
+/* The oldest stores of the line become durable. */
+static void write_back(size_t number, unsigned stores) {
+    struct line *line = &waiting[number];
+    for (unsigned i = 0; i < stores; i++)
+        memcpy(durable + 64 * number + 8 * line->place[i], &line->value[i], 8);
+    line->count -= stores;
+    line->flushed = line->flushed > stores ? line->flushed - stores : 0;
+    memmove(line->place, line->place + stores, line->count * sizeof *line->place);
+    memmove(line->value, line->value + stores, line->count * sizeof *line->value);
+}
+
+/* Each line keeps some number of its stores, counted from the first, and what is visible is what is durable. */
+static void cut(void) {
+    for (size_t i = 0; i < length / 64; i++) {
+        write_back(i, (unsigned)below(waiting[i].count + 1));
+        waiting[i].count = waiting[i].flushed = 0;
+    }
+    memcpy(visible, durable, length);
+}
+
+/* ---- what strikes, and where: each point of the program counts the fuse down */
+
+static unsigned fuse;
+static jmp_buf struck;
+
+static void point(void) {
+    if (fuse-- == 0)
+        longjmp(struck, 1);
+    if (below(32) == 0) { /* the cache writes a line back by itself */
+        size_t i = below(length / 64);
+        write_back(i, waiting[i].count);
+    }
+}
+
+static int calling;          /* 1 in a call, 0 in a start */
+static unsigned stores_made; /* of the last call */
+static int fenced;           /* the last call is durable */
+
+static void store(volatile void *word, uint64_t value) {
+    size_t place = (size_t)((const volatile uint8_t *)word - visible);
+    struct line *line = &waiting[place / 64];
+    point();
+    if (line->count == WAITING)
+        write_back(place / 64, WAITING);
+    line->place[line->count] = place % 64 / 8;
+    line->value[line->count++] = value;
+    memcpy(visible + place, &value, sizeof value);
+    stores_made++;
+}
+
+static void flush_line(const void *line) {
+    size_t number = (size_t)((const uint8_t *)line - visible) / 64;
+    point();
+    waiting[number].flushed = waiting[number].count;
+}
+
+static void fence(void) {
+    point();
+    for (size_t i = 0; i < length / 64; i++)
+        write_back(i, waiting[i].flushed);
+    fenced |= calling;
+    point();
+}
+
+/* ---- the plain map of what was acknowledged, and the call that may have been struck */
+
+struct value {
+    int held;
+    size_t size;
+    uint8_t bytes[ORDERSET_VALUE_MAX];
+};
+
+static uint32_t keys;
+static uint64_t key_of[MAX_KEYS];
+static struct value map[MAX_KEYS];
+
+static struct {
+    int under_way;
+    uint32_t key;
+    struct value later;
+} call;
+
+static void __attribute__((noreturn, format(printf, 1, 2))) lost(const char *what, ...) {
+    va_list list;
+    printf("\nLOST ");
+    va_start(list, what);
+    vprintf(what, list);
+    va_end(list);
+    printf("\nseed %" PRIu64 ", strike %" PRIu64 ", N %" PRIu32 ", %" PRIu32
+           " keys; call under way: %d, %u of its stores made, fenced: %d\n",
+           seed, strikes, n, keys, call.under_way, stores_made, fenced);
+    exit(1);
+}
+
+static int same(const struct value *x, const struct value *y) {
+    return x->held == y->held && (!x->held || (x->size == y->size && memcmp(x->bytes, y->bytes, x->size) == 0));
+}
+
+static uint32_t held(void) {
+    uint32_t count = 0;
+    for (uint32_t i = 0; i < keys; i++)
+        count += (uint32_t)map[i].held;
+    return count;
+}
+
+/* ---- the program */
+
+static size_t heads_length;
+static uint32_t heads[MAX_HEADS], next[MAX_N + 1], state[ORDERSET_STATE], at[ORDERSET_STORES];
+static uint64_t version[1], value[ORDERSET_STORES], answer[ORDERSET_CHANGE_ANSWER];
+static enum orderset_flush flush;
+static int after_kill;
+
+static struct value get(uint32_t i) {
+    struct value found = {0, 0, {0}};
+    uint32_t code = orderset_get(visible, length, heads, heads_length, next, n + 1, key_of[i], found.bytes,
+                                 sizeof found.bytes, answer);
+    if (code)
+        lost("get of key %" PRIu64 " is refused: %" PRIu32, key_of[i], code);
+    found.held = answer[0] == ORDERSET_GIVEN;
+    found.size = answer[ORDERSET_LENGTH];
+    return found;
+}
+
+/* What recovery found against what was acknowledged. The map goes on with what the struck call left. */
+static void check(void) {
+    for (uint32_t i = 0; i < keys; i++) {
+        struct value found = get(i);
+        int struck_key = call.under_way && i == call.key;
+        int earlier = same(&found, &map[i]) && !(struck_key && fenced),
+            later = struck_key && stores_made == ORDERSET_STORES && same(&found, &call.later);
+        if (!earlier && !later)
+            lost("key %" PRIu64 ": acknowledged %s of %zu bytes, found %s of %zu bytes", key_of[i],
+                 map[i].held ? "a value" : "absent", map[i].size, found.held ? "a value" : "absent", found.size);
+        if (later)
+            map[i] = call.later;
+    }
+    if (state[ORDERSET_LIVE] != held())
+        lost("a count: %" PRIu32 " orders, found %" PRIu32, held(), state[ORDERSET_LIVE]);
+    call.under_way = 0;
+}
+
+/* Every start makes the image durable first. After a power cut, and only then, it may leave that out. */
+static void start(void) {
+    if ((after_kill || below(2)) && orderset_persist_image(visible, length, flush))
+        lost("persist_image");
+    heads_length = 1 + below(below(2) ? MAX_HEADS : 3);
+    fill(heads, sizeof heads);
+    fill(next, sizeof next);
+    point(); /* recovery writes nothing to the image: a strike in it is one before or after it, with the index lost */
+    uint32_t code = orderset_recover(visible, length, heads, heads_length, next, n + 1, state, version);
+    point();
+    if (code)
+        lost("recovery refuses: %" PRIu32, code);
+    check();
+}
+
+static void change(uint32_t i, int put) {
+    uint32_t full = !map[i].held && held() + 1 >= n, code;
+    call.key = i;
+    call.later.held = put;
+    call.later.size = put ? below(ORDERSET_VALUE_MAX + 1) : 0;
+    fill(call.later.bytes, call.later.size);
+    code = put ? orderset_put(visible, length, heads, heads_length, next, n + 1, state, version, key_of[i],
+                              call.later.bytes, call.later.size, at, value, answer)
+               : orderset_remove(visible, length, heads, heads_length, next, n + 1, state, version, key_of[i], at,
+                                 value, answer);
+    if (code != (put && full ? ORDERSET_FULL : ORDERSET_OK))
+        lost("a call of key %" PRIu64 " answers %" PRIu32, key_of[i], code);
+    if (code || answer[0] == ORDERSET_ABSENT)
+        return;
+    stores_made = 0;
+    fenced = 0;
+    call.under_way = calling = 1;
+    if (orderset_persist(visible, length, at, value, flush))
+        lost("persist");
+    if (stores_made != ORDERSET_STORES || !fenced)
+        lost("persist: %u stores seen, fence seen: %d", stores_made, fenced);
+    point();
+    map[i] = call.later; /* acknowledged */
+    call.under_way = 0;
+    acknowledged++;
+}
+
+static void run_until_struck(void) {
+    calling = 0;
+    in_start++;
+    if (setjmp(struck))
+        return;
+    start();
+    in_start--;
+    for (;;) {
+        uint32_t i = (uint32_t)below(keys), kind = (uint32_t)below(8);
+        struct value found;
+        if (kind > 0)
+            change(i, kind > 2);
+        else if (found = get(i), !same(&found, &map[i]))
+            lost("get of key %" PRIu64, key_of[i]);
+        point();
+    }
+}
+
+/* ---- the storm */
+
+static void strike(void) {
+    after_kill = (int)below(2);
+    if (after_kill) {
+        kills++;
+        for (size_t i = 0; i < length / 64; i++)
+            waiting[i].flushed = 0;
+    } else {
+        cuts++;
+        cut();
+    }
+    in_call += (uint64_t)(calling && call.under_way);
+    strikes++;
+}
+
+/* A new set of slots and keys, durable. */
+static void make(void) {
+    n = (uint32_t)(below(200) ? 2 + below(11) : spread(13, MAX_N));
+    length = ORDERSET_IMAGE_BYTES(n);
+    keys = 1 + (uint32_t)below(n + 3);
+    for (uint32_t i = 0; i < keys; i++)
+        key_of[i] = below(2) ? i : chance() / MAX_KEYS * MAX_KEYS + i; /* distinct: key mod MAX_KEYS is i */
+    memset(map, 0, sizeof map);
+    memset(waiting, 0, sizeof waiting);
+    if (orderset_format(visible, length, answer))
+        lost("format");
+    memcpy(durable, visible, length);
+    call.under_way = after_kill = 0;
+}
+
+int main(int count, char **word) {
+    uint64_t wanted = count > 2 ? strtoull(word[2], NULL, 10) : STRIKES;
+    begin_chance("storm", count > 1 ? word[1] : NULL);
+    flush = orderset_best_flush();
+    while (strikes < wanted) {
+        make();
+        for (uint64_t k = 20 + below(n > 12 ? 100 : 2000); k > 0 && strikes < wanted; k--) {
+            fuse = (unsigned)(below(3) ? length / 64 + 4 + below(below(4) ? 70 : 500) : below(length / 64 + 4));
+            run_until_struck();
+            strike();
+        }
+    }
+    printf("%" PRIu64 " cuts and %" PRIu64 " kills, %" PRIu64 " of them in a start and %" PRIu64 " in a call, %" PRIu64
+           " calls acknowledged: nothing lost (%.0f s)\n",
+           cuts, kills, in_start, in_call, acknowledged, seconds());
+    return 0;
+}
