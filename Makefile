@@ -1,6 +1,6 @@
 # The C side: the archive's tests, the example and the measurements. The proofs are checked by .ci/run.
 #   make archive   the library, proved and built: target/staticlib/liborderset_c.a                    (rt)
-#   make test      the tests of docs/TESTS.md: the archive, the headers and the gateway               (gcc g++)
+#   make test      the tests of docs/TESTS.md: the archive, the headers and the gateway       (gcc g++ python3)
 #   make planted   that each test fails where a fault is planted                                      (gcc g++)
 #   make gateway   the example: a new file, orders, a restart, and the orders again                   (gcc)
 #   make bench     the table and the chart of docs/PERFORMANCE.md
@@ -23,7 +23,7 @@ CPLUS := $(CXX) -std=c++11 -Wall -Wextra -Iinclude $(CXXFLAGS) $(LDFLAGS)
 HEADERS := include/orderset.h include/orderset_persist.h
 CRATES := crates.txt $(shell find crates -name '*.rt' -o -name '*.antt')
 
-.PHONY: test planted gateway bench archive run-header run-persist run-guard run-storm run-lock run-kills run-differential
+.PHONY: test planted gateway bench archive run-names run-header run-persist run-guard run-storm run-lock run-kills run-differential
 archive: $(ARCHIVE)
 
 $(ARCHIVE): $(CRATES)
@@ -50,7 +50,9 @@ $(OUT)/gateway_on_disk: examples/gateway.c tests/disk.c $(HEADERS) $(ARCHIVE) | 
 	$(C) examples/gateway.c tests/disk.c $(ARCHIVE) -Wl,--wrap=mmap,--wrap=msync,--wrap=fsync,--wrap=renameat2 -o $@
 
 .NOTPARALLEL:
-test: run-header run-persist run-lock run-storm run-kills run-guard run-differential
+test: run-names run-header run-persist run-lock run-storm run-kills run-guard run-differential
+run-names:
+	@tests/names
 run-header: $(OUT)/header
 	@$(OUT)/header
 run-persist run-guard run-storm run-differential: run-%: $(OUT)/%

@@ -2,22 +2,23 @@
 use libc::STDIN_FILENO;
 use libc::STDOUT_FILENO;
 use session::Progress;
-use session::stream::end_input;
-use session::stream::open_stream;
-use session::stream::take_byte;
+use stream_code::stream::end_input;
+use stream_code::stream::open_stream;
+use stream_code::stream::take_byte;
 
-// Where the session stands, and whether to read on.
+// Where the session stands, whether the input may have more, and whether every write so far succeeded.
 struct Status {
     progress: Progress,
-    going: bool,
+    reading: bool,
+    written: bool,
 }
 
-// The stored output is written; the program reads on where that succeeds.
+// The stored output is written; where that fails, nothing more is read or written.
 fn flush(p: Progress, out: &[u8]) -> Status {
     let at = p.at;
-    let mut going = false;
+    let mut written = false;
     if at <= out.len() {
-        going = io::write_all(STDOUT_FILENO, &out[..at]);
+        written = io::write_all(STDOUT_FILENO, &out[..at]);
     }
     let parse = p.parse;
     let session = p.session;
@@ -28,11 +29,12 @@ fn flush(p: Progress, out: &[u8]) -> Status {
             session,
             at: 0,
         },
-        going,
+        reading: written,
+        written,
     }
 }
 
-// One byte; the output is written before a further line might lack room.
+// One byte, unless a write failed; the output is written before a further line might lack room.
 fn take(
     t: Status,
     byte: u8,
@@ -41,12 +43,16 @@ fn take(
     next: &mut [u32],
     out: &mut [u8],
 ) -> Status {
+    if !t.written {
+        return t;
+    }
     let p = t.progress;
     let q = take_byte(p, byte, image, heads, next, out);
     if q.at < out.len() && 64 <= out.len() - q.at {
         return Status {
             progress: q,
-            going: t.going,
+            reading: t.reading,
+            written: true,
         };
     }
     flush(q, out)
@@ -85,26 +91,36 @@ fn read_once(
         let p = t.progress;
         return Status {
             progress: p,
-            going: false,
+            reading: false,
+            written: t.written,
         };
     }
     take_bytes(t, &input[..n], image, heads, next, out)
+}
+
+// The end of the input, unless a write failed.
+fn finish(t: Status, image: &mut [u8], heads: &mut [u32], next: &mut [u32], out: &mut [u8]) {
+    if !t.written {
+        return;
+    }
+    let p = t.progress;
+    let last = end_input(p, image, heads, next, out);
+    flush(last, out);
 }
 
 // The whole input. Its reads are counted, since nothing says that it ends.
 fn run(input: &mut [u8], image: &mut [u8], heads: &mut [u32], next: &mut [u32], out: &mut [u8]) {
     let mut t = Status {
         progress: open_stream(),
-        going: true,
+        reading: true,
+        written: true,
     };
     let mut reads = u64::MAX;
-    while reads > 0 && t.going {
+    while reads > 0 && t.reading {
         t = read_once(t, input, image, heads, next, out);
         reads -= 1;
     }
-    let p = t.progress;
-    let last = end_input(p, image, heads, next, out);
-    flush(last, out);
+    finish(t, image, heads, next, out);
 }
 
 // The session of the whole input: a line of output for each line.

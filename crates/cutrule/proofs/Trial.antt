@@ -4,15 +4,16 @@ use Prim.Native.Nat.{ℕ, zero, suc, _^_, _≤_, _<_}
 use native.Mathlib.Omega.{arith}
 use lib.ListN.{length, getD, replicate}
 use Rattle.words.specs.Word.{AreBytes, word, setWord}
-use Rattle.plainmap.specs.World.{put, toPlay, calledChange, calledGet, called, playing, finished, valuesOf, worldAfter, recoveredWorld}
-use Rattle.plainmap.specs.Claims.{Sized, put-sized, remove-sized, get-sized, slotsMap}
-use Rattle.cutrule.specs.Event.{CutFits, done-fits, struck-fits, AllFit, none-left, one-more, cutImage, step}
-use Rattle.cutrule.specs.Rule.{Holds}
+use Rattle.plainmap.specs.World.{put, toPlay, calledChange, calledGet, called, playing, finished, worldAfter, recoveredWorld}
+use Rattle.plainmap.specs.Claims.{Typed, put-typed, remove-typed, get-typed, slotsMap}
+use Rattle.cutrule.specs.Event.{CutFits, done-fits, struck-fits, cutImage, step, Fits}
+use Rattle.prelude.specs.Members.{All, none-left, one-more, slots}
+use Rattle.cutrule.specs.Rule.{AllRight}
 use Rattle.cutrule.proofs.CutRule.{cut-rule}
-use Rattle.layout.specs.Refusal.{say, orElse, unlessRefused}
-use Rattle.layout.specs.Range.{anyOf, tabulate}
-use Rattle.layout.specs.Size.{slotsOf}
-use Rattle.layout.specs.Line.{lineTop}
+use Rattle.prelude.specs.Refusal.{say, orElse, unlessRefused}
+use Rattle.prelude.specs.Range.{anyOf, tabulate, greatest, topmost, count}
+use Rattle.layout.specs.Size.{slotsOf, slotsIn}
+use Rattle.layout.specs.Line.{lineTop, versionFault}
 use Rattle.layout.specs.Slot.{paired, slotTop, verdictOf, lineVerdict, isValid}
 use Rattle.layout.specs.Record.{keyFrom, keyOf, valueWord, valueByte, valueFront, valueOf}
 use Rattle.layout.specs.Content.{made, contentBy, contentOf, content, topOf}
@@ -21,38 +22,33 @@ use Rattle.layout.specs.Fault.{markFault, kindFault, wordFault, tailFault, faul
 use Rattle.stores.specs.Store.{zipped, played}
 use Rattle.stores.specs.Written.{marked, bodyA, bodyB, run, lineStores, recordStores}
 use Rattle.stores.specs.Play.{halfFault, halvesFault, playFault, counted, playResult, places, values}
-use Rattle.sorting.specs.Sorted.{keep, insert, sorted}
-use Rattle.sorting.specs.Members.{slots}
-use Rattle.table.specs.Table.{counts, keyIn, weight, greatest, topmost, count, nextVersion, decider, valueIn, valueAt, mapOf, decidingPut, live, spare, liveCount, sharedVersion, allLive}
+use Rattle.prelude.specs.Filter.{filter}
+use Rattle.sorting.specs.Sorted.{insert, sorted}
+use Rattle.table.specs.Table.{isRecord, keyIn, weight, nextVersion, decider, valueIn, valueAt, mapOf, decidingPut, live, spare, liveCount, sharedVersion, allLive}
 use Rattle.table.specs.Order.{rankOf, ordered, chainOf, reuseOf}
 use Rattle.index.specs.Index.{start, ahead, setNext, setStart, setLast, link}
 use Rattle.index.specs.Chained.{firstOf, lastOf, after, nextIn, chained}
-use Rattle.index.specs.Change.{take, linkNew, append, putNew, putHeld, removeHeld, roomFault, versionFault, reuseFault}
+use Rattle.index.specs.Change.{takeFirst, linkNew, append, putNew, putHeld, removeHeld, roomFault, reuseFault}
 use Rattle.index.specs.Walk.{walk, search, chainFault}
-use Rattle.recovery.specs.Recover.{slotsFault, recoverFault, chainsOf, placeOf, recoveredIndex, recoveredState, recovered, recoverResult, stateIn}
-use Rattle.orderset.specs.Format.{formatted}
-use Rattle.orderset.specs.Change.{noStores, unchanged, changed, putChecks, putFault, putDone, putResult, heldChecks, removeChecks, removeFault, removeDone, removeResult}
-use Rattle.orderset.specs.Get.{lengthChecks, getChecks, getFault, getDone, getResult}
+use Rattle.recovery.specs.Recover.{slotsFault, recoverFault, chainsOf, placeOf, recoveredIndex, recoveredState, recovered, recoverResult, noState}
+use Rattle.calls.specs.Format.{formatted}
+use Rattle.calls.specs.Change.{noStores, unchanged, changed, putLentFault, putLaterFault, putFault, putDone, putResult, heldFault, removeLaterFault, removeFault, removeDone, removeResult}
+use Rattle.calls.specs.Get.{lengthFault, getLaterFault, getFault, getDone, getResult}
 use Rattle.cutrule.specs.Trial.{answers, outputs, small, oneHead, twoSlots, cut, fresh, session, expected, expectedOutputs}
 
--- THE SESSION answers as document 01 says
+-- THE SESSION answers as document 01 says, with the outputs of its gets; recovery accepts its formatted image, which has two slots
+session-computed : (answers 1 fresh session ≡ expected) × (outputs 1 fresh session ≡ expectedOutputs)
+    × (recoverFault 1 (formatted 1 384) (length oneHead) (length twoSlots) ≡ 0) × (slotsIn (formatted 1 384) ≡ 2)
+unfolding word setWord say orElse unlessRefused anyOf tabulate slotsOf lineTop paired slotTop verdictOf lineVerdict isValid keyFrom keyOf valueWord valueByte valueFront valueOf made contentBy contentOf content topOf headerWord headerFault imageFault indexFault lentFault markFault kindFault wordFault tailFault faultOf recordFault zipped played marked bodyA bodyB run lineStores recordStores halfFault halvesFault playFault counted playResult filter insert sorted isRecord keyIn weight greatest topmost count nextVersion decider valueIn valueAt mapOf decidingPut live spare liveCount sharedVersion allLive rankOf slots ordered chainOf reuseOf start ahead setNext setStart setLast link firstOf lastOf after nextIn chained takeFirst linkNew append putNew putHeld removeHeld roomFault versionFault reuseFault walk search chainFault slotsFault recoverFault chainsOf placeOf recoveredIndex recoveredState recovered recoverResult formatted noStores unchanged changed putLentFault putLaterFault putFault putDone putResult heldFault removeLaterFault removeFault removeDone removeResult lengthFault getLaterFault getFault getDone getResult toPlay calledChange calledGet called places values playing finished noState worldAfter recoveredWorld cutImage step answers outputs small oneHead twoSlots cut fresh session expected expectedOutputs
+session-computed = (refl, refl, refl, refl)
+
 pub session-answers : answers 1 fresh session ≡ expected
-unfolding word setWord say orElse unlessRefused anyOf tabulate slotsOf lineTop paired slotTop verdictOf lineVerdict isValid keyFrom keyOf valueWord valueByte valueFront valueOf made contentBy contentOf content topOf headerWord headerFault imageFault indexFault lentFault markFault kindFault wordFault tailFault faultOf recordFault zipped played marked bodyA bodyB run lineStores recordStores halfFault halvesFault playFault counted playResult keep insert sorted counts keyIn weight greatest topmost count nextVersion decider valueIn valueAt mapOf decidingPut live spare liveCount sharedVersion allLive rankOf slots ordered chainOf reuseOf start ahead setNext setStart setLast link firstOf lastOf after nextIn chained take linkNew append putNew putHeld removeHeld roomFault versionFault reuseFault walk search chainFault slotsFault recoverFault chainsOf placeOf recoveredIndex recoveredState recovered recoverResult formatted noStores unchanged changed putChecks putFault putDone putResult heldChecks removeChecks removeFault removeDone removeResult lengthChecks getChecks getFault getDone getResult toPlay calledChange calledGet called places values playing finished valuesOf stateIn worldAfter recoveredWorld cutImage step answers outputs small oneHead twoSlots cut fresh session expected expectedOutputs
-session-answers = refl
+session-answers = session-computed .0
 
 pub session-outputs : outputs 1 fresh session ≡ expectedOutputs
-unfolding word setWord say orElse unlessRefused anyOf tabulate slotsOf lineTop paired slotTop verdictOf lineVerdict isValid keyFrom keyOf valueWord valueByte valueFront valueOf made contentBy contentOf content topOf headerWord headerFault imageFault indexFault lentFault markFault kindFault wordFault tailFault faultOf recordFault zipped played marked bodyA bodyB run lineStores recordStores halfFault halvesFault playFault counted playResult keep insert sorted counts keyIn weight greatest topmost count nextVersion decider valueIn valueAt mapOf decidingPut live spare liveCount sharedVersion allLive rankOf slots ordered chainOf reuseOf start ahead setNext setStart setLast link firstOf lastOf after nextIn chained take linkNew append putNew putHeld removeHeld roomFault versionFault reuseFault walk search chainFault slotsFault recoverFault chainsOf placeOf recoveredIndex recoveredState recovered recoverResult formatted noStores unchanged changed putChecks putFault putDone putResult heldChecks removeChecks removeFault removeDone removeResult lengthChecks getChecks getFault getDone getResult toPlay calledChange calledGet called places values playing finished valuesOf stateIn worldAfter recoveredWorld cutImage step answers outputs small oneHead twoSlots cut fresh session expected expectedOutputs
-session-outputs = refl
+session-outputs = session-computed .1
 
 -- ---- the hypotheses of the cut rule
-
-format-accepted : recoverFault 1 (formatted 1 384) (length oneHead) (length twoSlots) ≡ 0
-unfolding word setWord say orElse unlessRefused anyOf tabulate slotsOf lineTop paired slotTop verdictOf lineVerdict isValid keyFrom keyOf valueWord valueByte valueFront valueOf made contentBy contentOf content topOf headerWord headerFault imageFault indexFault lentFault markFault kindFault wordFault tailFault faultOf recordFault zipped played marked bodyA bodyB run lineStores recordStores halfFault halvesFault playFault counted playResult keep insert sorted counts keyIn weight greatest topmost count nextVersion decider valueIn valueAt mapOf decidingPut live spare liveCount sharedVersion allLive rankOf slots ordered chainOf reuseOf start ahead setNext setStart setLast link firstOf lastOf after nextIn chained take linkNew append putNew putHeld removeHeld roomFault versionFault reuseFault walk search chainFault slotsFault recoverFault chainsOf placeOf recoveredIndex recoveredState recovered recoverResult formatted noStores unchanged changed putChecks putFault putDone putResult heldChecks removeChecks removeFault removeDone removeResult lengthChecks getChecks getFault getDone getResult toPlay calledChange calledGet called places values playing finished valuesOf stateIn worldAfter recoveredWorld cutImage step answers outputs small oneHead twoSlots cut fresh session expected expectedOutputs
-format-accepted = refl
-
-two : slotsOf (length (formatted 1 384)) ≡ 2
-unfolding word setWord say orElse unlessRefused anyOf tabulate slotsOf lineTop paired slotTop verdictOf lineVerdict isValid keyFrom keyOf valueWord valueByte valueFront valueOf made contentBy contentOf content topOf headerWord headerFault imageFault indexFault lentFault markFault kindFault wordFault tailFault faultOf recordFault zipped played marked bodyA bodyB run lineStores recordStores halfFault halvesFault playFault counted playResult keep insert sorted counts keyIn weight greatest topmost count nextVersion decider valueIn valueAt mapOf decidingPut live spare liveCount sharedVersion allLive rankOf slots ordered chainOf reuseOf start ahead setNext setStart setLast link firstOf lastOf after nextIn chained take linkNew append putNew putHeld removeHeld roomFault versionFault reuseFault walk search chainFault slotsFault recoverFault chainsOf placeOf recoveredIndex recoveredState recovered recoverResult formatted noStores unchanged changed putChecks putFault putDone putResult heldChecks removeChecks removeFault removeDone removeResult lengthChecks getChecks getFault getDone getResult toPlay calledChange calledGet called places values playing finished valuesOf stateIn worldAfter recoveredWorld cutImage step answers outputs small oneHead twoSlots cut fresh session expected expectedOutputs
-two = refl
 
 right-size : indexFault 2 (length oneHead) (length twoSlots) ≡ 0
 unfolding indexFault say oneHead twoSlots
@@ -71,23 +67,23 @@ small-bytes n h (suc k) = nought-bytes 7 k
 key-sized : (key : ℕ) → key < 256 → key < (2 ^ 64) ^ 1
 key-sized key h = omega arith
 
-sized : (key value : ℕ) → key < 256 → value < 256 → Sized 1 (put key (small value))
-sized key value k v = put-sized (key-sized key k) (small-bytes value v)
+sized : (key value : ℕ) → key < 256 → value < 256 → Typed 1 (put key (small value))
+sized key value k v = put-typed (key-sized key k) (small-bytes value v)
 
 cut-fits : (a b : ℕ) → a ≤ 8 → b ≤ 8 → CutFits 2 (cut a b)
 unfolding cut
 cut-fits a b p q = record { few-a = p; few-b = q; size = right-size }
 
-session-fits : AllFit 1 2 session
+session-fits : All (Fits 1 2) session
 unfolding session
 session-fits =
     one-more (done-fits (sized 7 100 (omega arith) (omega arith))) (one-more (done-fits (sized 8 5 (omega arith) (omega arith)))
     (one-more (done-fits (sized 7 101 (omega arith) (omega arith)))
     (one-more (struck-fits (sized 7 102 (omega arith) (omega arith)) (cut-fits 8 3 (omega arith) (omega arith)))
-    (one-more (done-fits get-sized) (one-more (done-fits (remove-sized (key-sized 7 (omega arith)))) (one-more (done-fits get-sized)
+    (one-more (done-fits get-typed) (one-more (done-fits (remove-typed (key-sized 7 (omega arith)))) (one-more (done-fits get-typed)
     (one-more (done-fits (sized 8 5 (omega arith) (omega arith))) none-left)))))))
 
 -- AN INSTANCE of the cut rule
-pub session-holds : Holds 1 fresh (slotsMap 1 (formatted 1 384)) session
+pub session-holds : AllRight 1 fresh (slotsMap 1 (formatted 1 384)) session
 unfolding fresh
-session-holds = cut-rule (formatted 1 384) oneHead twoSlots format-accepted session (rw two session-fits)
+session-holds = cut-rule (formatted 1 384) oneHead twoSlots (session-computed .2) session (rw (session-computed .3) session-fits)

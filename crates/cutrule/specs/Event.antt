@@ -2,14 +2,15 @@
 -- recovery comes next, whatever its index held."
 use mathlib.Core.Path.{_≡_}
 use mathlib.Core.Bool.{Bool, true, cond}
-use mathlib.Core.List.{List, [], _∷_}
+use mathlib.Core.List.{List}
 use Prim.Native.Nat.{ℕ, _≤_}
 use lib.ListN.{length}
 use Rattle.layout.specs.Header.{indexFault}
 use Rattle.stores.specs.Cut.{bothStand}
 use Rattle.plainmap.specs.World.{World, Call, called, playing, finished, recoveredWorld}
-use Rattle.plainmap.specs.Plain.{PlainMap, Operation, operation, plainStep, isRefusal}
-use Rattle.plainmap.specs.Claims.{Sized}
+use Rattle.plainmap.specs.Plain.{PlainMap, Operation, operation, plainStep}
+use Rattle.prelude.specs.Answer.{refuses}
+use Rattle.plainmap.specs.Claims.{Typed, dueFault}
 
 -- a cut: a stores of the call's line A stand and b of its line B; heads and next are lent to the recovery after it
 pub record Cut : Type 0 where
@@ -49,9 +50,9 @@ unfoldable pub plainEvent : (stand : Bool) → Operation → (isRefused : Bool) 
 plainEvent stand op isRefused m = cond stand (plainStep op isRefused m) m
 
 -- the plain map after an event in world w: it is told whether all stores stand, the operation, and whether the rules refuse the call
-abbrev pub plainAfter : (l : ℕ) → World → PlainMap → Event → PlainMap
-plainAfter l w m event =
-    plainEvent (allStand event) (operation (callOf event)) (isRefusal (called l w (callOf event) .answer)) m
+abbrev pub mapAfterEvent : (l : ℕ) → World → PlainMap → Event → PlainMap
+mapAfterEvent l w m event =
+    plainEvent (allStand event) (operation (callOf event)) (refuses (dueFault l w m (callOf event))) m
 
 -- ---- what an event may be, in an image of n slots
 
@@ -62,9 +63,5 @@ pub record CutFits (n : ℕ) (cut : Cut) : Type 0 where
   pub size : indexFault n (length (cut .heads)) (length (cut .next)) ≡ 0
 
 pub data Fits (l n : ℕ) : Event → Type 0 where
-  done-fits : {call : Call} → Sized l call → Fits l n (done call)
-  struck-fits : {call : Call} {cut : Cut} → Sized l call → CutFits n cut → Fits l n (struck call cut)
-
-pub data AllFit (l n : ℕ) : List Event → Type 0 where
-  none-left : AllFit l n []
-  one-more : {event : Event} {events : List Event} → Fits l n event → AllFit l n events → AllFit l n (event ∷ events)
+  done-fits : {call : Call} → Typed l call → Fits l n (done call)
+  struck-fits : {call : Call} {cut : Cut} → Typed l call → CutFits n cut → Fits l n (struck call cut)

@@ -2,8 +2,8 @@
 use mathlib.Core.List.{List, [], _∷_}
 use Prim.Native.Nat.{ℕ}
 use lib.ListN.{replicate}
-use Rattle.layout.specs.Answer.{Answer, gives, absent, refused}
-use Rattle.orderset.specs.Format.{formatted}
+use Rattle.prelude.specs.Answer.{Answer, gives, absent, refused}
+use Rattle.calls.specs.Format.{formatted}
 use Rattle.plainmap.specs.World.{World, put, remove, get, called, recoveredWorld}
 use Rattle.cutrule.specs.Event.{Cut, Event, done, struck, callOf, step}
 

@@ -1,5 +1,5 @@
 // Recovers an image of three slots, whole and with one or two bytes changed, and prints the answer and the index each time. Every refusal from 1 to 8 is among them.
-use recovery::recover::recover;
+use orderset::recover;
 
 // Slot 1: a put of key 7, version 2, one byte. Slot 2: its remove, version 4. Slot 3: a put of key 8, version 3, no bytes.
 fn image() -> [u8; 512] {

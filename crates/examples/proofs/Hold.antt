@@ -2,23 +2,34 @@
 use mathlib.Core.Path.{_≡_, refl}
 use mathlib.Core.Bool.{true}
 use Rattle.words.specs.Word.{word, setWord}
-use Rattle.layout.specs.Refusal.{say, orElse, unlessRefused}
-use Rattle.layout.specs.Range.{anyOf, tabulate}
+use Rattle.prelude.specs.Refusal.{say, orElse, unlessRefused}
+use Rattle.prelude.specs.Range.{anyOf, tabulate, greatest, topmost, count}
+use Rattle.prelude.specs.Members.{slots}
+use Rattle.prelude.specs.Filter.{filter}
 use Rattle.layout.specs.Size.{slotsOf}
-use Rattle.layout.specs.Line.{lineTop}
-use Rattle.layout.specs.Slot.{paired, slotTop, verdictOf, lineVerdict}
+use Rattle.layout.specs.Line.{lineTop, versionFault}
+use Rattle.layout.specs.Slot.{paired, slotTop, verdictOf, lineVerdict, slotVerdict, isValid}
 use Rattle.layout.specs.Record.{keyFrom, keyOf, valueWord, valueByte, valueFront, valueOf}
-use Rattle.layout.specs.Content.{made, contentBy, contentOf, content, topOf}
+use Rattle.layout.specs.Content.{made, contentBy, contentOf, content, top, topOf}
 use Rattle.layout.specs.Header.{headerWord, headerFault, imageFault, indexFault, lentFault}
+use Rattle.layout.specs.Fault.{markFault, kindFault, wordFault, tailFault, faultOf, recordFault}
+use Rattle.stores.specs.Store.{zipped, played}
+use Rattle.stores.specs.Play.{places, values, halfFault, halvesFault, playFault, counted, playResult}
 use Rattle.stores.specs.Written.{marked, bodyA, bodyB, run, lineStores, recordStores}
-use Rattle.table.specs.Table.{weight, greatest, topmost, nextVersion, decider, valueIn, valueAt, mapOf}
+use Rattle.sorting.specs.Sorted.{insert, sorted}
+use Rattle.table.specs.Table.{isRecord, keyIn, weight, nextVersion, decider, valueIn, valueAt, mapOf, decidingPut, live, spare, liveCount, sharedVersion, allLive}
+use Rattle.table.specs.Order.{rankOf, ordered, chainOf, reuseOf}
 use Rattle.index.specs.Index.{setNext, setStart, setLast, link}
+use Rattle.index.specs.Chained.{firstOf, lastOf, after, nextIn, chained}
 use Rattle.index.specs.Walk.{walk, search, chainFault}
-use Rattle.index.specs.Change.{take, linkNew, putNew, roomFault, versionFault, reuseFault}
-use Rattle.orderset.specs.Format.{formatFault, formatted, formatResult}
-use Rattle.orderset.specs.Change.{unchanged, changed, putChecks, putFault, putDone, putResult}
-use Rattle.examples.specs.Examples.{bit, answer, verdict, held, values, ends, words, over, state, putOn, putAfter, leftover, removed, examples, same, agree}
+use Rattle.index.specs.Change.{takeFirst, linkNew, append, putNew, putHeld, removeHeld, roomFault, reuseFault}
+use Rattle.recovery.specs.Recover.{noState, slotsFault, recoverFault, chainsOf, placeOf, recoveredIndex, recoveredState, recovered, recoverResult}
+use Rattle.calls.specs.Format.{formatFault, formatted, formatResult}
+use Rattle.calls.specs.Change.{noStores, unchanged, changed, putLentFault, putLaterFault, putFault, putDone, putResult, heldFault, removeLaterFault, removeFault, removeDone, removeResult}
+use Rattle.calls.specs.Get.{lengthFault, getLaterFault, getFault, getDone, getResult}
+use Rattle.plainmap.specs.World.{toPlay, calledChange, calledGet, called, playing, finished, worldAfter, recoveredWorld}
+use Rattle.examples.specs.Examples.{bit, answer, verdict, held, formatNumbers, ends, words, over, leftover, recoveredSet, afterCalls, callAnswers, liveCounts, blank, emptySet, lateSet, removal, removedSet, get7, examples, equal, agree}
 
 pub examples-hold : agree examples ≡ true
-unfolding word setWord say orElse unlessRefused anyOf tabulate slotsOf lineTop paired slotTop verdictOf lineVerdict keyFrom keyOf valueWord valueByte valueFront valueOf made contentBy contentOf content topOf headerWord headerFault imageFault indexFault lentFault marked bodyA bodyB run lineStores recordStores weight greatest topmost nextVersion decider valueIn valueAt mapOf setNext setStart setLast link walk search chainFault take linkNew putNew roomFault versionFault reuseFault formatFault formatted formatResult unchanged changed putChecks putFault putDone putResult bit answer verdict held values ends words over state putOn putAfter leftover removed examples same agree
+unfolding word setWord say orElse unlessRefused anyOf tabulate greatest topmost count slots filter slotsOf lineTop paired slotTop verdictOf lineVerdict slotVerdict isValid keyFrom keyOf valueWord valueByte valueFront valueOf made contentBy contentOf content top topOf headerWord headerFault imageFault indexFault lentFault markFault kindFault wordFault tailFault faultOf recordFault zipped played places values halfFault halvesFault playFault counted playResult marked bodyA bodyB run lineStores recordStores insert sorted isRecord keyIn weight nextVersion decider valueIn valueAt mapOf decidingPut live spare liveCount sharedVersion allLive rankOf ordered chainOf reuseOf setNext setStart setLast link firstOf lastOf after nextIn chained walk search chainFault takeFirst linkNew append putNew putHeld removeHeld roomFault versionFault reuseFault noState slotsFault recoverFault chainsOf placeOf recoveredIndex recoveredState recovered recoverResult formatFault formatted formatResult noStores unchanged changed putLentFault putLaterFault putFault putDone putResult heldFault removeLaterFault removeFault removeDone removeResult lengthFault getLaterFault getFault getDone getResult toPlay calledChange calledGet called playing finished worldAfter recoveredWorld bit answer verdict held formatNumbers ends words over leftover recoveredSet afterCalls callAnswers liveCounts blank emptySet lateSet removal removedSet get7 examples equal agree
 examples-hold = refl

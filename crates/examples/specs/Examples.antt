@@ -2,21 +2,23 @@
 use mathlib.Core.Bool.{Bool, true, false, cond, _&&_}
 use mathlib.Core.Option.{Option, some, none}
 use mathlib.Core.List.{List, [], _∷_, _++_}
-use Prim.Native.Nat.{ℕ, zero, suc, _+_, _-_, _*_, _^_}
+use Prim.Native.Nat.{ℕ, _-_, _^_}
 use lib.Dec.{eqb}
 use lib.ListN.{getD, replicate}
-use Rattle.layout.specs.Answer.{Answer, gives, absent, refused}
+use Rattle.words.specs.Word.{word}
+use Rattle.prelude.specs.Answer.{Answer, gives, absent, refused}
 use Rattle.layout.specs.Line.{whole, versionOf}
-use Rattle.layout.specs.Slot.{verdictOf}
-use Rattle.layout.specs.Content.{content}
+use Rattle.layout.specs.Slot.{verdictOf, slotVerdict}
+use Rattle.layout.specs.Content.{content, tableOf}
 use Rattle.layout.specs.declared.Verdict.{Verdict}
 use Rattle.layout.specs.declared.Verdict.the-variants.{Valid, Empty, Broken}
 use Rattle.stores.specs.Store.{Store}
+use Rattle.stores.specs.Play.{values}
 use Rattle.stores.specs.Written.{recordStores}
-use Rattle.table.specs.Table.{nextVersion, mapOf}
-use Rattle.index.specs.declared.State.{State}
-use Rattle.orderset.specs.Format.{formatResult, formatted}
-use Rattle.orderset.specs.Change.{ChangeResult, putResult}
+use Rattle.table.specs.Table.{nextVersion, liveCount, mapOf}
+use Rattle.calls.specs.Format.{FormatResult, formatResult}
+use Rattle.plainmap.specs.World.{World, Call, put, remove, get, called, playing, finished, recoveredWorld}
+use Rattle.layout.specs.Size.{slotsIn}
 
 -- ---- results as numbers
 
@@ -26,7 +28,7 @@ bit false = 0 ∷ []
 
 -- 0 and the values, 1 for absent, 2 and the number of a refusal
 unfoldable pub answer : Answer → List ℕ
-answer (gives values) = 0 ∷ values
+answer (gives given) = 0 ∷ given
 answer absent = 1 ∷ []
 answer (refused number) = 2 ∷ number ∷ []
 
@@ -41,15 +43,15 @@ unfoldable pub held : Option (List ℕ) → List ℕ
 held none = 1 ∷ []
 held (some value) = 0 ∷ value
 
--- the values of the first and of the eighth store
-unfoldable pub values : List Store → List ℕ
-values [] = []
-values (s ∷ ss) = s .value ∷ values ss
+-- format's answer and the bytes that it leaves
+unfoldable pub formatNumbers : FormatResult → List ℕ
+formatNumbers r = answer (r .answer) ++ r .bytes
 
+-- the values of the first and of the eighth store
 unfoldable pub ends : List Store → List ℕ
 ends ss = getD (values ss) 0 0 ∷ getD (values ss) 7 0 ∷ []
 
--- ---- images and states
+-- ---- lines and slots by their words
 
 -- the words of an image that is zero but for these words: a number and its value, and so on
 unfoldable pub words : List ℕ → ℕ → ℕ
@@ -61,24 +63,49 @@ words (w ∷ v ∷ rest) i = cond (eqb i w) v (words rest i)
 unfoldable pub over : (mark stamp : ℕ) → List Store
 over mark stamp = recordStores 1 (words (16 ∷ mark ∷ 23 ∷ stamp ∷ [])) 1 7 1 [] 4
 
--- a put of key 7 on a formatted image of three slots with one head
-unfoldable pub state : (live version : ℕ) → State
-state live version = record { first = 1; last = 3; live = live; version = version }
-
-unfoldable pub putOn : State → (size : ℕ) → ChangeResult
-putOn s size = putResult 1 (formatted 1 512) (0 ∷ []) (0 ∷ 2 ∷ 3 ∷ 0 ∷ []) s 7 (replicate size 5)
-
--- the call after a call on the same image, with the index and the state that it left
-unfoldable pub putAfter : ChangeResult → ChangeResult
-putAfter r = putResult 1 (formatted 1 512) (r .heads) (r .next) (r .state) 8 []
-
 -- slot 1 valid with version 2, slot 2 broken: line A whole with version 3, line B open
 unfoldable pub leftover : ℕ → ℕ
 leftover = words (18 ∷ 1 ∷ 23 ∷ 4 ∷ 31 ∷ 4 ∷ 39 ∷ 6 ∷ 47 ∷ 1 ∷ [])
 
--- slot 1 a put of key 7 with version 2, slot 2 its remove with version 4
-unfoldable pub removed : ℕ → ℕ
-removed = words (17 ∷ 7 ∷ 18 ∷ 1 ∷ 23 ∷ 4 ∷ 31 ∷ 4 ∷ 33 ∷ 7 ∷ 34 ∷ 2 ∷ 39 ∷ 8 ∷ 47 ∷ 8 ∷ [])
+-- ---- sets of three slots
+
+-- an image with the index, of one head, and the state that recovery leaves
+unfoldable pub recoveredSet : (image : List ℕ) → World
+recoveredSet image = recoveredWorld 1 image (0 ∷ []) (replicate 4 0)
+
+-- the set after these calls, all their stores played, and what they answer
+unfoldable pub afterCalls : World → List Call → World
+afterCalls w [] = w
+afterCalls w (call ∷ calls) = afterCalls (finished 1 w call) calls
+
+unfoldable pub callAnswers : World → List Call → List ℕ
+callAnswers w [] = []
+callAnswers w (call ∷ calls) = answer (called 1 w call .answer) ++ callAnswers (finished 1 w call) calls
+
+-- the live count by the state and by the slots
+unfoldable pub liveCounts : World → List ℕ
+liveCounts w = w .state .live ∷ liveCount (tableOf 1 (w .image)) (slotsIn (w .image)) ∷ []
+
+-- a formatted image, and its set
+unfoldable pub blank : List ℕ
+blank = formatResult 1 (replicate 512 9) .bytes
+
+unfoldable pub emptySet : World
+emptySet = recoveredSet blank
+
+-- slot 1 holds a put of key 7 with version 2^63 − 2
+unfoldable pub lateSet : World
+lateSet = recoveredSet (playing blank (recordStores 1 (word blank) 1 7 1 [] (2 ^ 63 - 2)) 8 8)
+
+-- key 7 is put at version 2 and removed at 4
+unfoldable pub removal : List Call
+removal = put 8 [] ∷ put 7 [] ∷ put 8 [] ∷ remove 7 ∷ []
+
+unfoldable pub removedSet : World
+removedSet = afterCalls emptySet removal
+
+unfoldable pub get7 : List Call
+get7 = get 7 (replicate 80 0) ∷ []
 
 -- ---- the table
 
@@ -92,7 +119,8 @@ row got want = record { got = got; want = want }
 unfoldable pub examples : List Example
 examples =
     -- E1: 384 bytes format as N = 2; 383 bytes give 1
-    row (answer (formatResult 1 (replicate 384 9) .answer) ++ answer (formatResult 1 (replicate 383 9) .answer)) (0 ∷ 2 ∷ 2 ∷ 1 ∷ [])
+    row (formatNumbers (formatResult 1 (replicate 384 9))) ((0 ∷ 2 ∷ 2 ∷ replicate 7 0) ++ (1 ∷ replicate 375 0))
+    ∷ row (formatNumbers (formatResult 1 (replicate 383 9))) (2 ∷ 1 ∷ replicate 383 9)
     -- E2: mark 0, stamp 0: whole, version 0
     ∷ row (bit (whole 0 0) ++ (versionOf 0 ∷ [])) (1 ∷ 0 ∷ [])
     -- E3: mark 1, stamp 6: open
@@ -106,28 +134,31 @@ examples =
     -- E7: over E4's line: first 0, last 8
     ∷ row (ends (over 1 7)) (0 ∷ 8 ∷ [])
     -- E8: a value of 80 bytes is taken; 81 gives 10
-    ∷ row (answer (putOn (state 0 1) 80 .answer) ++ answer (putOn (state 0 1) 81 .answer)) (0 ∷ 1 ∷ 1 ∷ 2 ∷ 10 ∷ [])
+    ∷ row (callAnswers emptySet (put 7 (replicate 80 5) ∷ put 7 (replicate 81 5) ∷ [])) (0 ∷ 1 ∷ 1 ∷ 2 ∷ 10 ∷ [])
     -- E9: N = 3, new key: taken at live count 1, 12 at 2
-    ∷ row (answer (putOn (state 1 1) 0 .answer) ++ answer (putOn (state 2 1) 0 .answer)) (0 ∷ 1 ∷ 1 ∷ 2 ∷ 12 ∷ [])
+    ∷ row (liveCounts (afterCalls emptySet (put 7 [] ∷ []))) (1 ∷ 1 ∷ [])
+    ∷ row (liveCounts (afterCalls emptySet (put 7 [] ∷ put 8 [] ∷ []))) (2 ∷ 2 ∷ [])
+    ∷ row (callAnswers emptySet (put 7 [] ∷ put 8 [] ∷ put 9 [] ∷ [])) (0 ∷ 1 ∷ 1 ∷ 0 ∷ 2 ∷ 2 ∷ 2 ∷ 12 ∷ [])
     -- E10: the only whole line above version 2 is version 3 in a broken slot: next is 4
     ∷ row (nextVersion (content 1 leftover) 3 ∷ []) (4 ∷ [])
     -- E11: version 2^63 − 1 is still written; the call after gives 9
-    ∷ row
-    (answer (putOn (state 0 (2 ^ 63 - 1)) 0 .answer) ++ ends (putOn (state 0 (2 ^ 63 - 1)) 0 .stores)
-    ++ answer (putAfter (putOn (state 0 (2 ^ 63 - 1)) 0) .answer))
-    (0 ∷ 1 ∷ (2 ^ 63 - 1) ∷ 1 ∷ (2 ^ 64 - 1) ∷ 2 ∷ 9 ∷ [])
-    -- E12: key 7 put at version 2, removed at 4: absent
-    ∷ row (held (mapOf (content 1 removed) 3 7)) (1 ∷ [])
+    ∷ row (verdict (slotVerdict (word (afterCalls lateSet (put 8 [] ∷ []) .image)) 2)) (0 ∷ (2 ^ 63 - 1) ∷ [])
+    ∷ row (callAnswers lateSet (put 8 [] ∷ put 7 [] ∷ [])) (0 ∷ 2 ∷ (2 ^ 63 - 1) ∷ 2 ∷ 9 ∷ [])
+    ∷ row (callAnswers lateSet (put 8 [] ∷ remove 7 ∷ [])) (0 ∷ 2 ∷ (2 ^ 63 - 1) ∷ 2 ∷ 9 ∷ [])
+    -- E12: key 7 put at version 2, removed at 4: absent, by the slots and by get, with the calls' index and with recovery's
+    ∷ row (callAnswers emptySet removal) (0 ∷ 1 ∷ 1 ∷ 0 ∷ 2 ∷ 2 ∷ 0 ∷ 3 ∷ 3 ∷ 0 ∷ 1 ∷ 4 ∷ [])
+    ∷ row (held (mapOf (tableOf 1 (removedSet .image)) 3 7)) (1 ∷ [])
+    ∷ row (callAnswers removedSet get7 ++ callAnswers (recoveredSet (removedSet .image)) get7) (1 ∷ 1 ∷ [])
     ∷ []
 
 -- ---- the test
 
-unfoldable pub same : (xs ys : List ℕ) → Bool
-same [] [] = true
-same [] (y ∷ ys) = false
-same (x ∷ xs) [] = false
-same (x ∷ xs) (y ∷ ys) = eqb x y && same xs ys
+unfoldable pub equal : (xs ys : List ℕ) → Bool
+equal [] [] = true
+equal [] (y ∷ ys) = false
+equal (x ∷ xs) [] = false
+equal (x ∷ xs) (y ∷ ys) = eqb x y && equal xs ys
 
 unfoldable pub agree : List Example → Bool
 agree [] = true
-agree (e ∷ es) = same (e .got) (e .want) && agree es
+agree (e ∷ es) = equal (e .got) (e .want) && agree es

@@ -8,17 +8,18 @@ use native.Mathlib.Omega.{arith}
 use lib.Dec.{eqb}
 use lib.ListN.{length, getD}
 use borrow.Author.Tests.{eq-eqb, ne-eqb}
-use Rattle.sorting.specs.Sorted.{keep}
+use Rattle.prelude.specs.Filter.{filter}
 use Rattle.index.specs.Index.{Chain, reuse, head, Index, start, ahead, setNext, setLast}
 use Rattle.index.specs.Change.{linkNew}
-use Rattle.index.specs.Build.{push, build}
-use Rattle.sorting.specs.Members.{In, Once}
-use Rattle.index.specs.Linked.{endOf, Owner, free, of, same, give, withChain, Slot, Woven, Good, Room, ownerOf, chainsOf}
-use Rattle.index.proofs.Runs.{end-in}
+use Rattle.index.specs.inner.Build.{push, build}
+use Rattle.prelude.specs.Members.{In, Once}
+use Rattle.index.specs.Linked.{endOf, Owner, free, of, Entry, Disjoint, WellFormed}
+use Rattle.index.proofs.defs.Linked.{sameChain, give, withChain, Room, ownerOf, chainsBy}
+use Rattle.index.proofs.Paths.{end-in}
 use Rattle.index.proofs.Owners.{Told, is, isnt, told, Which, that, other, which, free-of, reuse-apart, give-same, give-other, with-same, with-other}
 use Rattle.index.proofs.Links.{set-here, set-else, set-heads, set-last, set-size, link-last, slot-size, room-size}
-use Rattle.index.proofs.Calls.{linkNew-next, linkNew-heads}
-use Rattle.index.proofs.Moves.{woven-set, woven-last, woven-insert}
+use Rattle.index.proofs.CallWrites.{linkNew-next, linkNew-heads}
+use Rattle.index.proofs.Relinks.{disjoint-set, disjoint-last, disjoint-insert}
 
 starts : (i : Index) → ((h : ℕ) → getD (i .heads) h 0 ≡ 0) → i .first ≡ 0 → (c : Chain) → ahead i c 0 ≡ 0
 unfolding ahead start
@@ -26,9 +27,9 @@ starts i h f reuse = f
 starts i h f (head k) = h k
 
 -- an index of empty chains
-pub good-empty : (i : Index) → ((h : ℕ) → getD (i .heads) h 0 ≡ 0) → i .first ≡ 0 → i .last ≡ 0 → Good i (λ _. free) (λ _. [])
+pub good-empty : (i : Index) → ((h : ℕ) → getD (i .heads) h 0 ≡ 0) → i .first ≡ 0 → i .last ≡ 0 → WellFormed i (λ _. free) (λ _. [])
 good-empty i h f l = record {
-  woven =
+  disjoint =
       record {
         runs = starts i h f;
         owned = record { mine = λ c x m. absurd m; has = λ c x e. absurd (free-of c e) };
@@ -38,13 +39,13 @@ good-empty i h f l = record {
 }
 
 -- a slot that nobody has, at the front of a chain
-woven-front : (i : Index) (owner : ℕ → Owner) (chains : Chain → List ℕ) (c : Chain) (s n : ℕ) → Woven i owner chains → Room i c
-    → Slot i s → owner s ≡ free → n ≡ ahead i c 0
-    → Woven (linkNew i c 0 s n) (give owner s (of c)) (withChain chains c (s ∷ chains c))
+disjoint-front : (i : Index) (owner : ℕ → Owner) (chains : Chain → List ℕ) (c : Chain) (s n : ℕ) → Disjoint i owner chains → Room i c
+    → Entry i s → owner s ≡ free → n ≡ ahead i c 0
+    → Disjoint (linkNew i c 0 s n) (give owner s (of c)) (withChain chains c (s ∷ chains c))
 unfolding linkNew
-woven-front i owner chains c s n w a t f e =
-    let v : Woven (setNext i s n) owner chains = woven-set _ _ _ s n w (t .low) f in
-    woven-insert _ _ _ c [] s (chains c) v refl (room-size _ _ c (set-heads i s n) a)
+disjoint-front i owner chains c s n w a t f e =
+    let v : Disjoint (setNext i s n) owner chains = disjoint-set _ _ _ s n w (t .low) f in
+    disjoint-insert _ _ _ c [] s (chains c) v refl (room-size _ _ c (set-heads i s n) a)
     (slot-size _ _ s (set-size i s n) t) f
     (set-here i s n c t ∙ e ∙ sym (set-else i s n c 0 (λ d. omega (arith, t .low))))
 
@@ -52,18 +53,18 @@ front-ends : (l s : ℕ) (xs : List ℕ) → ((x : ℕ) → In x xs → 0 < x) �
 front-ends l s [] p e = rw (eq-eqb l 0 e)
 front-ends l s (y ∷ ys) p e = rw (ne-eqb l 0 (λ z. omega (arith, p (endOf y ys) (end-in y ys)))) e
 
-pub good-push : (i : Index) (owner : ℕ → Owner) (chains : Chain → List ℕ) (c : Chain) (s : ℕ) → Good i owner chains → Room i c
-    → Slot i s → owner s ≡ free
-    → Good (push i c s) (give owner s (of c)) (withChain chains c (s ∷ chains c))
+pub good-push : (i : Index) (owner : ℕ → Owner) (chains : Chain → List ℕ) (c : Chain) (s : ℕ) → WellFormed i owner chains → Room i c
+    → Entry i s → owner s ≡ free
+    → WellFormed (push i c s) (give owner s (of c)) (withChain chains c (s ∷ chains c))
 unfolding push setLast ahead start
 good-push i owner chains reuse s g a t f = record {
-  woven = woven-last _ _ _ _ (woven-front _ _ _ reuse s (i .first) (g .woven) a t f refl);
+  disjoint = disjoint-last _ _ _ _ (disjoint-front _ _ _ reuse s (i .first) (g .disjoint) a t f refl);
   ends =
-      rw with-same (front-ends (i .last) s (chains reuse) (λ x m. g .woven .slot reuse x (g .woven .owned .mine reuse x m) .low)
+      rw with-same (front-ends (i .last) s (chains reuse) (λ x m. g .disjoint .slot reuse x (g .disjoint .owned .mine reuse x m) .low)
       (g .ends));
 }
 good-push i owner chains (head h) s g a t f = record {
-  woven = woven-front _ _ _ (head h) s (getD (i .heads) h 0) (g .woven) a t f refl;
+  disjoint = disjoint-front _ _ _ (head h) s (getD (i .heads) h 0) (g .disjoint) a t f refl;
   ends =
       unfold linkNew in link-last _ _ _ _ ∙ set-last _ _ _ ∙ g .ends ∙ ap (endOf 0)
       (sym (with-other chains (head h) _ reuse (reuse-apart h)));
@@ -85,30 +86,30 @@ unfolding ownerOf
 owner-out place [] x n = refl
 owner-out place (s ∷ l) x n = give-other (ownerOf place l) s (of (place s)) x (λ d. n (inl d)) ∙ owner-out place l x (λ m. n (inr m))
 
-chains-that : (place : ℕ → Chain) (s : ℕ) (l : List ℕ) (c : Chain) → same c (place s) ≡ true
-    → chainsOf place (s ∷ l) c ≡ s ∷ chainsOf place l c
-unfolding chainsOf keep
+chains-that : (place : ℕ → Chain) (s : ℕ) (l : List ℕ) (c : Chain) → sameChain c (place s) ≡ true
+    → chainsBy place (s ∷ l) c ≡ s ∷ chainsBy place l c
+unfolding chainsBy filter
 chains-that place s l c t = rw t
 
-chains-other : (place : ℕ → Chain) (s : ℕ) (l : List ℕ) (c : Chain) → same c (place s) ≡ false
-    → chainsOf place (s ∷ l) c ≡ chainsOf place l c
-unfolding chainsOf keep
+chains-other : (place : ℕ → Chain) (s : ℕ) (l : List ℕ) (c : Chain) → sameChain c (place s) ≡ false
+    → chainsBy place (s ∷ l) c ≡ chainsBy place l c
+unfolding chainsBy filter
 chains-other place s l c t = rw t
 
-good-chains : (i : Index) (o : ℕ → Owner) (c d : Chain → List ℕ) → c ≡ d → Good i o c → Good i o d
+good-chains : (i : Index) (o : ℕ → Owner) (c d : Chain → List ℕ) → c ≡ d → WellFormed i o c → WellFormed i o d
 good-chains i o c d e g = rw (← e) g
 
 -- one more slot in front of its chain
 chains-more : (place : ℕ → Chain) (s : ℕ) (l : List ℕ)
-    → withChain (chainsOf place l) (place s) (s ∷ chainsOf place l (place s)) ≡ chainsOf place (s ∷ l)
+    → withChain (chainsBy place l) (place s) (s ∷ chainsBy place l (place s)) ≡ chainsBy place (s ∷ l)
 chains-more place s l = fun-ext (λ c. go c (which c (place s)))
   where
     go : (c : Chain) → Which c (place s)
-        → withChain (chainsOf place l) (place s) (s ∷ chainsOf place l (place s)) c ≡ chainsOf place (s ∷ l) c
+        → withChain (chainsBy place l) (place s) (s ∷ chainsBy place l (place s)) c ≡ chainsBy place (s ∷ l) c
     go c (that t e) =
-        (rw e (with-same (chainsOf place l) (place s) (s ∷ chainsOf place l (place s)))) ∙ sym
-        (chains-that place s l c t ∙ ap (λ (k : Chain). s ∷ chainsOf place l k) e)
-    go c (other t n) = with-other (chainsOf place l) (place s) _ c n ∙ sym (chains-other place s l c t)
+        (rw e (with-same (chainsBy place l) (place s) (s ∷ chainsBy place l (place s)))) ∙ sym
+        (chains-that place s l c t ∙ ap (λ (k : Chain). s ∷ chainsBy place l k) e)
+    go c (other t n) = with-other (chainsBy place l) (place s) _ c n ∙ sym (chains-other place s l c t)
 
 -- ---- sizes
 
@@ -133,9 +134,9 @@ build-heads place i [] = refl
 build-heads place i (s ∷ l) = push-heads (build place i l) (place s) s ∙ build-heads place i l
 
 -- recovery's last step
-pub good-build : (place : ℕ → Chain) (i : Index) (l : List ℕ) → Good i (λ _. free) (λ _. []) → Once l → ((x : ℕ) → In x l → Slot i x)
-    → ((x : ℕ) → In x l → Room i (place x)) → Good (build place i l) (ownerOf place l) (chainsOf place l)
-unfolding build ownerOf chainsOf keep
+pub good-build : (place : ℕ → Chain) (i : Index) (l : List ℕ) → WellFormed i (λ _. free) (λ _. []) → Once l → ((x : ℕ) → In x l → Entry i x)
+    → ((x : ℕ) → In x l → Room i (place x)) → WellFormed (build place i l) (ownerOf place l) (chainsBy place l)
+unfolding build ownerOf chainsBy filter
 good-build place i [] g a h m = g
 good-build place i (s ∷ l) g a h m =
     let j = build place i l in

@@ -7,15 +7,16 @@ use native.Mathlib.Omega.{arith}
 use lib.ListN.{length, getD}
 use lib.Seq.{getD-set-other, ext-getD}
 use borrow.Author.Tests.{eq-eqb}
-use Rattle.words.proofs.Choice.{pick-true, pick-false}
-use Rattle.layout.specs.Range.{tabulate}
-use Rattle.layout.proofs.Tabulate.{tabulate-length, tabulate-get}
+use Rattle.prelude.proofs.Choice.{pick-true, pick-false}
+use Rattle.prelude.specs.Range.{tabulate}
+use Rattle.prelude.proofs.Tabulate.{tabulate-length, tabulate-get}
 use Rattle.index.specs.Index.{Index, Chain, reuse, head, start, ahead, setNext, setStart, setLast, link}
 use Rattle.index.specs.Change.{linkNew}
 use Rattle.index.specs.Chained.{firstOf, lastOf, after, nextIn, chained}
-use Rattle.sorting.specs.Members.{In, Once}
-use Rattle.index.specs.Linked.{Run, endOf, Room, chainsOf, Sits}
-use Rattle.index.specs.Build.{push, build, unbuilt}
+use Rattle.prelude.specs.Members.{In, Once}
+use Rattle.index.specs.Linked.{Run, endOf, Sits}
+use Rattle.index.proofs.defs.Linked.{Room, chainsBy}
+use Rattle.index.specs.inner.Build.{push, build, unbuilt}
 use Rattle.index.proofs.Owners.{Told, is, isnt, told}
 use Rattle.index.proofs.Links.{ahead-next}
 use Rattle.index.proofs.Builds.{good-empty}
@@ -54,7 +55,7 @@ same-parts heads heads′ next next′ first first′ last last′ a b c d = cc
 
 module _ (n b : ℕ) (place : ℕ → Chain) (i : Index) (chains : Chain → List ℕ) (g : Sits n b place i chains) where
   starts : (c : Chain) → ahead i c 0 ≡ firstOf (chains c)
-  starts c = run-first (ahead i c) (ahead i c 0) (chains c) (g .good .woven .runs c)
+  starts c = run-first (ahead i c) (ahead i c 0) (chains c) (g .good .disjoint .runs c)
 
   head-starts : (h : ℕ) → getD (i .heads) h 0 ≡ firstOf (chains (head h))
   unfolding ahead start
@@ -71,7 +72,7 @@ module _ (n b : ℕ) (place : ℕ → Chain) (i : Index) (chains : Chain → Lis
       let low : 0 < suc s = omega arith in
       let c = place (suc s) in
       sym (ahead-next i c (suc s) low)
-      ∙ run-next (ahead i c) (suc s) (ahead i c 0) (chains c) (g .good .woven .runs c) (sits-has _ _ _ _ _ g (suc s) low h)
+      ∙ run-next (ahead i c) (suc s) (ahead i c 0) (chains c) (g .good .disjoint .runs c) (sits-has _ _ _ _ _ g (suc s) low h)
 
   sits-chained : getD (i .next) 0 0 ≡ 0 → i ≡ chained n b chains place
   unfolding chained
@@ -110,7 +111,7 @@ room i (head k) h = h k refl
 pub built-sits : (n b : ℕ) (place : ℕ → Chain) (order heads next : List ℕ) → Once order
     → ((x : ℕ) → In x order → (0 < x) × (x ≤ n)) → ((x : ℕ) → 0 < x → x ≤ n → In x order)
     → ((s h : ℕ) → In s order → place s ≡ head h → h < b) → length heads ≡ b → length next ≡ n + 1
-    → ((h : ℕ) → getD heads h 0 ≡ 0) → Sits n b place (build place (unbuilt heads next) order) (chainsOf place order)
+    → ((h : ℕ) → getD heads h 0 ≡ 0) → Sits n b place (build place (unbuilt heads next) order) (chainsBy place order)
 built-sits n b place order heads next once inside all heads-in eb en zeros =
     let i = unbuilt heads next in
     sits-build n b place i order (good-empty i zeros refl refl) en eb once inside all

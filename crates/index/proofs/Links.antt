@@ -6,9 +6,10 @@ use native.Mathlib.Omega.{arith}
 use lib.ListN.{length, getD, length-set}
 use lib.Seq.{getD-set-same, getD-set-other}
 use Rattle.index.specs.Index.{Chain, reuse, head, Index, start, ahead, setNext, setStart, setLast, link}
-use Rattle.index.specs.Linked.{Slot, Room}
+use Rattle.index.specs.Linked.{Entry}
+use Rattle.index.proofs.defs.Linked.{Room}
 
-pub set-here : (i : Index) (s v : ℕ) (c : Chain) → Slot i s → ahead (setNext i s v) c s ≡ v
+pub set-here : (i : Index) (s v : ℕ) (c : Chain) → Entry i s → ahead (setNext i s v) c s ≡ v
 unfolding ahead setNext
 set-here i zero v c h = absurd (omega (arith, h .low))
 set-here i (suc s) v c h = getD-set-same (i .next) (suc s) v 0 (h .high)
@@ -100,7 +101,7 @@ pub room-size : (i j : Index) (c : Chain) → length (j .heads) ≡ length (i .h
 room-size i j reuse e m = m
 room-size i j (head h) e m = omega arith
 
-pub slot-size : (i j : Index) (x : ℕ) → length (j .next) ≡ length (i .next) → Slot i x → Slot j x
+pub slot-size : (i j : Index) (x : ℕ) → length (j .next) ≡ length (i .next) → Entry i x → Entry j x
 slot-size i j x e h = record { low = h .low; high = omega (arith, h .high) }
 
 pub set-heads : (i : Index) (s v : ℕ) → length (setNext i s v .heads) ≡ length (i .heads)

@@ -8,9 +8,10 @@ use native.Mathlib.Omega.{arith}
 use lib.Dec.{eqb}
 use borrow.Author.Tests.{eq-eqb, ne-eqb, eqb-true, eqb-false}
 use Rattle.index.specs.Index.{Chain, reuse, head}
-use Rattle.sorting.specs.Members.{In}
-use Rattle.index.specs.Linked.{Owner, free, of, same, give, withChain, Owned}
-use Rattle.index.proofs.Runs.{in-mid, mid-in}
+use Rattle.prelude.specs.Members.{In}
+use Rattle.index.specs.Linked.{Owner, free, of, Owned}
+use Rattle.index.proofs.defs.Linked.{sameChain, give, withChain}
+use Rattle.index.proofs.Paths.{in-mid, mid-in}
 
 -- two numbers are the same or not, as a test and as a fact
 pub data Told (x y : ℕ) : Type 0 where
@@ -26,8 +27,8 @@ told x y = go (eqb x y) refl
 
 -- and two chains
 pub data Which (c k : Chain) : Type 0 where
-  that : same c k ≡ true → c ≡ k → Which c k
-  other : same c k ≡ false → (c ≡ k → ⊥) → Which c k
+  that : sameChain c k ≡ true → c ≡ k → Which c k
+  other : sameChain c k ≡ false → (c ≡ k → ⊥) → Which c k
 
 pub apart-heads : (h k : ℕ) → head h ≡ head k → h ≡ k
 apart-heads h k e = cc
@@ -63,7 +64,7 @@ pub with-same : (chains : Chain → List ℕ) (c : Chain) (xs : List ℕ) → wi
 unfolding withChain
 with-same chains c xs = go (which c c)
   where
-    go : Which c c → cond (same c c) xs (chains c) ≡ xs
+    go : Which c c → cond (sameChain c c) xs (chains c) ≡ xs
     go (that t e) = rw t
     go (other t n) = absurd (n refl)
 
@@ -71,7 +72,7 @@ pub with-other : (chains : Chain → List ℕ) (c : Chain) (xs : List ℕ) (k : 
 unfolding withChain
 with-other chains c xs k n = go (which k c)
   where
-    go : Which k c → cond (same k c) xs (chains k) ≡ chains k
+    go : Which k c → cond (sameChain k c) xs (chains k) ≡ chains k
     go (that t e) = absurd (n e)
     go (other t _) = rw t
 

@@ -8,8 +8,8 @@ use lib.Seq.{drop-length, drop-cons}
 use borrow.Author.Tests.{eq-eqb, ne-eqb}
 use Rattle.index.specs.Index.{Index, indexOf, setNext, setStart, setLast, link}
 use Rattle.index.specs.Change.{linkNew}
-use Rattle.index.specs.Build.{push, build, chainOf, placeIn, unbuilt}
-use Rattle.index.specs.Parts.{Holds}
+use Rattle.index.specs.inner.Build.{push, build, chainFrom, placeIn, unbuilt}
+use Rattle.index.specs.inner.Parts.{PartsOf}
 use Rattle.index.specs.declared.State.{State}
 
 -- ---- push_front
@@ -17,27 +17,27 @@ use Rattle.index.specs.declared.State.{State}
 module _ (heads next : List ℕ) (s : State) (place slot : ℕ) where
   -- to the front of reuse, which was empty
   pub front-only : place ≡ 0 → s .last ≡ 0
-      → Holds heads (set next slot (s .first)) (record { first = slot; last = slot; live = s .live; version = s .version })
-      (push (indexOf heads next s) (chainOf place) slot) (s .live) (s .version)
-  unfolding push chainOf linkNew link setNext setStart setLast
+      → PartsOf heads (set next slot (s .first)) (record { first = slot; last = slot; live = s .live; version = s .version })
+      (push (indexOf heads next s) (chainFrom place) slot) (s .live) (s .version)
+  unfolding push chainFrom linkNew link setNext setStart setLast
   front-only e l = record { index = rw (e, eq-eqb (s .last) 0 l) refl; live-count = refl; next-version = refl }
 
   -- or was not
   pub front-reuse : place ≡ 0 → (s .last ≡ 0 → ⊥)
-      → Holds heads (set next slot (s .first)) (record { first = slot; last = s .last; live = s .live; version = s .version })
-      (push (indexOf heads next s) (chainOf place) slot) (s .live) (s .version)
-  unfolding push chainOf linkNew link setNext setStart setLast
+      → PartsOf heads (set next slot (s .first)) (record { first = slot; last = s .last; live = s .live; version = s .version })
+      (push (indexOf heads next s) (chainFrom place) slot) (s .live) (s .version)
+  unfolding push chainFrom linkNew link setNext setStart setLast
   front-reuse e l = record { index = rw (e, ne-eqb (s .last) 0 l) refl; live-count = refl; next-version = refl }
 
   -- to the front of a head's chain
   pub front-head : (place ≡ 0 → ⊥)
-      → Holds (set heads (place - 1) slot) (set next slot (getD heads (place - 1) 0)) s
-      (push (indexOf heads next s) (chainOf place) slot) (s .live) (s .version)
-  unfolding push chainOf linkNew link setNext setStart
+      → PartsOf (set heads (place - 1) slot) (set next slot (getD heads (place - 1) 0)) s
+      (push (indexOf heads next s) (chainFrom place) slot) (s .live) (s .version)
+  unfolding push chainFrom linkNew link setNext setStart
   front-head n =
       let e : place ≡ suc (place - 1) = omega arith in
       record {
-        index = sym (ap (λ (p : ℕ). push (indexOf heads next s) (chainOf p) slot) e);
+        index = sym (ap (λ (p : ℕ). push (indexOf heads next s) (chainFrom p) slot) e);
         live-count = refl;
         next-version = refl;
       }
@@ -49,7 +49,7 @@ pub record Going (heads₀ next₀ order places heads next : List ℕ) (s : Stat
   pub place : left ≤ length order
   pub heads-size : length heads ≡ length heads₀
   pub next-size : length next ≡ length next₀
-  pub done : Holds heads next s (build (placeIn places) (unbuilt heads₀ next₀) (drop left order)) 0 0
+  pub done : PartsOf heads next s (build (placeIn places) (unbuilt heads₀ next₀) (drop left order)) 0 0
 
 pub going-starts : (heads next order places : List ℕ)
     → Going heads next order places heads next (record { first = 0; last = 0; live = 0; version = 0 }) (length order)
@@ -69,8 +69,8 @@ module _
   going-slot h = omega (arith, g .place)
 
   pub going-on : (heads′ next′ : List ℕ) (s′ : State) → 0 < left → length heads′ ≡ length heads → length next′ ≡ length next
-      → Holds heads′ next′ s′
-      (push (indexOf heads next s) (chainOf (getD places (getD order (left - 1) 0) 0)) (getD order (left - 1) 0)) (s .live) (s .version)
+      → PartsOf heads′ next′ s′
+      (push (indexOf heads next s) (chainFrom (getD places (getD order (left - 1) 0) 0)) (getD order (left - 1) 0)) (s .live) (s .version)
       → Going heads₀ next₀ order places heads′ next′ s′ (left - 1)
   unfolding build placeIn
   going-on heads′ next′ s′ h lh ln p =
@@ -85,14 +85,14 @@ module _
         done =
             record {
               index =
-                  p .index ∙ ap (λ (i : Index). push i (chainOf (getD places x 0)) x) (g .done .index)
+                  p .index ∙ ap (λ (i : Index). push i (chainFrom (getD places x 0)) x) (g .done .index)
                   ∙ sym (ap (build (placeIn places) (unbuilt heads₀ next₀)) d);
               live-count = p .live-count ∙ g .done .live-count;
               next-version = p .next-version ∙ g .done .next-version;
             };
       }
 
-  pub going-ends : left ≤ 0 → Holds heads next s (build (placeIn places) (unbuilt heads₀ next₀) order) 0 0
+  pub going-ends : left ≤ 0 → PartsOf heads next s (build (placeIn places) (unbuilt heads₀ next₀) order) 0 0
   going-ends h =
       let e : left ≡ 0 = omega arith in
       record {

@@ -8,21 +8,21 @@ use native.Mathlib.Omega.{arith}
 use lib.Dec.{eqb}
 use lib.ListN.{length, getD}
 use borrow.Author.Tests.{eq-eqb, ne-eqb, le-ltb}
-use Rattle.layout.specs.Size.{slotsOf}
+use Rattle.layout.specs.Size.{slotsIn}
 use Rattle.index.specs.Index.{Chain, reuse, head, Index, start, ahead, headOf}
-use Rattle.sorting.specs.Members.{In}
-use Rattle.index.specs.Linked.{endOf, Owner, Woven, Linked}
+use Rattle.prelude.specs.Members.{In}
+use Rattle.index.specs.Linked.{endOf, Owner, Disjoint, Linked}
 use Rattle.index.specs.Walk.{walk, slotKey, search}
-use Rattle.index.specs.Sought.{sought}
+use Rattle.index.proofs.defs.SearchIn.{searchIn}
 use Rattle.index.specs.declared.Found.{Found}
-use Rattle.index.specs.declared.Found.the-variants.{At, Absent, Broken}
+use Rattle.index.specs.declared.Found.the-variants.{At, Missing, BadChain}
 use Rattle.index.proofs.Owners.{Told, is, isnt, told}
-use Rattle.index.proofs.Count.{chain-short, good-linked}
+use Rattle.index.proofs.ChainLengths.{chain-short, good-linked}
 
 pub walk-linked : (key : ℕ → ℕ) (next : List ℕ) (n k : ℕ) (xs : List ℕ) (left seen prev at : ℕ) → length next ≡ n + 1
     → Linked next at xs → length xs < left
-    → walk key next n k left seen prev at ≡ sought key k seen prev xs
-unfolding walk sought
+    → walk key next n k left seen prev at ≡ searchIn key k seen prev xs
+unfolding walk searchIn
 walk-linked key next n k xs zero seen prev at z r h = absurd (omega arith)
 walk-linked key next n k [] (suc left) seen prev at z r h = rw (eq-eqb at 0 r)
 walk-linked key next n k (x ∷ xs) (suc left) seen prev at z r h =
@@ -32,39 +32,39 @@ walk-linked key next n k (x ∷ xs) (suc left) seen prev at z r h =
     (walk-linked key next n k xs left (seen + 1) x (getD next x 0) z (r .3) (omega arith)))
 
 -- in a good index, from a head
-pub good-walk : (key : ℕ → ℕ) (i : Index) (owner : ℕ → Owner) (chains : Chain → List ℕ) (n k h f : ℕ) → Woven i owner chains
+pub good-walk : (key : ℕ → ℕ) (i : Index) (owner : ℕ → Owner) (chains : Chain → List ℕ) (n k h f : ℕ) → Disjoint i owner chains
     → length (i .next) ≡ n + 1 → In f (chains reuse)
-    → walk key (i .next) n k n 0 0 (getD (i .heads) h 0) ≡ sought key k 0 0 (chains (head h))
+    → walk key (i .next) n k n 0 0 (getD (i .heads) h 0) ≡ searchIn key k 0 0 (chains (head h))
 unfolding ahead start
 good-walk key i owner chains n k h f w z m =
     walk-linked _ _ _ _ _ _ _ _ _ z (good-linked _ _ _ (head h) w)
     (chain-short _ _ _ _ _ f w z m)
 
 -- the whole search of a key
-pub good-search : (l : ℕ) (image : List ℕ) (i : Index) (owner : ℕ → Owner) (chains : Chain → List ℕ) (key f : ℕ) → Woven i owner chains
-    → length (i .next) ≡ slotsOf (length image) + 1 → In f (chains reuse)
-    → search l image (i .heads) (i .next) key ≡ sought (slotKey l image) key 0 0 (chains (head (headOf key (length (i .heads)))))
+pub good-search : (l : ℕ) (image : List ℕ) (i : Index) (owner : ℕ → Owner) (chains : Chain → List ℕ) (key f : ℕ) → Disjoint i owner chains
+    → length (i .next) ≡ slotsIn image + 1 → In f (chains reuse)
+    → search l image (i .heads) (i .next) key ≡ searchIn (slotKey l image) key 0 0 (chains (head (headOf key (length (i .heads)))))
 unfolding search
 good-search l image i owner chains key f w z m =
-    good-walk (slotKey l image) i owner chains (slotsOf (length image)) key (headOf key (length (i .heads))) f w z m
+    good-walk (slotKey l image) i owner chains (slotsIn image) key (headOf key (length (i .heads))) f w z m
 
 -- ---- the search of a list
 
 pub sought-at : (key : ℕ → ℕ) (k : ℕ) (xs : List ℕ) (x : ℕ) (ys : List ℕ) (seen prev : ℕ) → key x ≡ k → ((y : ℕ) → In y xs → key y ≡ k → ⊥)
-    → sought key k seen prev (xs ++ x ∷ ys) ≡ At x (endOf prev xs) (seen + length xs + 1)
-unfolding sought
+    → searchIn key k seen prev (xs ++ x ∷ ys) ≡ At x (endOf prev xs) (seen + length xs + 1)
+unfolding searchIn
 sought-at key k [] x ys seen prev e n = rw (eq-eqb (key x) k e) (ap (λ (c : ℕ). At x prev c) (omega arith))
 sought-at key k (y ∷ xs) x ys seen prev e n =
     rw (ne-eqb (key y) k (n y (inl refl)))
     (sought-at key k xs x ys (seen + 1) y e (λ z m. n z (inr m)) ∙ ap (λ (c : ℕ). At x (endOf y xs) c) (omega arith))
 
 pub sought-absent : (key : ℕ → ℕ) (k : ℕ) (xs : List ℕ) (seen prev : ℕ) → ((y : ℕ) → In y xs → key y ≡ k → ⊥)
-    → sought key k seen prev xs ≡ Absent (endOf prev xs) (seen + length xs)
-unfolding sought
-sought-absent key k [] seen prev n = ap (λ (c : ℕ). Absent prev c) (omega arith)
+    → searchIn key k seen prev xs ≡ Missing (endOf prev xs) (seen + length xs)
+unfolding searchIn
+sought-absent key k [] seen prev n = ap (λ (c : ℕ). Missing prev c) (omega arith)
 sought-absent key k (y ∷ xs) seen prev n =
     rw (ne-eqb (key y) k (n y (inl refl)))
-    (sought-absent key k xs (seen + 1) y (λ z m. n z (inr m)) ∙ ap (λ (c : ℕ). Absent (endOf y xs) c) (omega arith))
+    (sought-absent key k xs (seen + 1) y (λ z m. n z (inr m)) ∙ ap (λ (c : ℕ). Missing (endOf y xs) c) (omega arith))
 
 -- a list has the key at a first place, or nowhere
 pub data Seen (key : ℕ → ℕ) (k : ℕ) (l : List ℕ) : Type 0 where
@@ -93,18 +93,18 @@ pub record Hit (key : ℕ → ℕ) (k : ℕ) (l : List ℕ) (s prev count : ℕ)
   pub count-is : count ≡ length before + 1
   pub key-is : key s ≡ k
 
-pub sought-hit : (key : ℕ → ℕ) (k : ℕ) (l : List ℕ) (s prev count : ℕ) → sought key k 0 0 l ≡ At s prev count → Hit key k l s prev count
+pub sought-hit : (key : ℕ → ℕ) (k : ℕ) (l : List ℕ) (s prev count : ℕ) → searchIn key k 0 0 l ≡ At s prev count → Hit key k l s prev count
 sought-hit key k l s prev count q = go (seen key k l)
   where
     go : Seen key k l → Hit key k l s prev count
     go (hit xs x ys d e n) =
-        let a : sought key k 0 0 l ≡ At x (endOf 0 xs) (0 + length xs + 1) = rw d (sought-at key k xs x ys 0 0 e n) in
+        let a : searchIn key k 0 0 l ≡ At x (endOf 0 xs) (0 + length xs + 1) = rw d (sought-at key k xs x ys 0 0 e n) in
         let es : s ≡ x = cc in
         let ep : prev ≡ endOf 0 xs = cc in
         let ec : count ≡ 0 + length xs + 1 = cc in
         record { before = xs; behind = ys; parts = rw es d; prev-is = ep; count-is = omega arith; key-is = rw es e }
     go (miss n) =
-        let a : sought key k 0 0 l ≡ Absent (endOf 0 l) (0 + length l) = sought-absent key k l 0 0 n in
+        let a : searchIn key k 0 0 l ≡ Missing (endOf 0 l) (0 + length l) = sought-absent key k l 0 0 n in
         let z : _≡_ {A = ℕ} 0 1 = cc in
         absurd (omega arith)
 
@@ -113,30 +113,30 @@ pub record Missed (key : ℕ → ℕ) (k : ℕ) (l : List ℕ) (prev count : ℕ
   pub count-is : count ≡ length l
   pub none : (y : ℕ) → In y l → key y ≡ k → ⊥
 
-pub sought-missed : (key : ℕ → ℕ) (k : ℕ) (l : List ℕ) (prev count : ℕ) → sought key k 0 0 l ≡ Absent prev count → Missed key k l prev count
+pub sought-missed : (key : ℕ → ℕ) (k : ℕ) (l : List ℕ) (prev count : ℕ) → searchIn key k 0 0 l ≡ Missing prev count → Missed key k l prev count
 sought-missed key k l prev count q = go (seen key k l)
   where
     go : Seen key k l → Missed key k l prev count
     go (hit xs x ys d e n) =
-        let a : sought key k 0 0 l ≡ At x (endOf 0 xs) (0 + length xs + 1) = rw d (sought-at key k xs x ys 0 0 e n) in
+        let a : searchIn key k 0 0 l ≡ At x (endOf 0 xs) (0 + length xs + 1) = rw d (sought-at key k xs x ys 0 0 e n) in
         let z : _≡_ {A = ℕ} 0 1 = cc in
         absurd (omega arith)
     go (miss n) =
-        let a : sought key k 0 0 l ≡ Absent (endOf 0 l) (0 + length l) = sought-absent key k l 0 0 n in
+        let a : searchIn key k 0 0 l ≡ Missing (endOf 0 l) (0 + length l) = sought-absent key k l 0 0 n in
         let ep : prev ≡ endOf 0 l = cc in
         let ec : count ≡ 0 + length l = cc in
         record { prev-is = ep; count-is = omega arith; none = n }
 
 -- a search of a list never breaks off
-pub never-broken : (key : ℕ → ℕ) (k : ℕ) (l : List ℕ) → sought key k 0 0 l ≡ Broken → ⊥
+pub never-broken : (key : ℕ → ℕ) (k : ℕ) (l : List ℕ) → searchIn key k 0 0 l ≡ BadChain → ⊥
 never-broken key k l q = go (seen key k l)
   where
     go : Seen key k l → ⊥
     go (hit xs x ys d e n) =
-        let a : sought key k 0 0 l ≡ At x (endOf 0 xs) (0 + length xs + 1) = rw d (sought-at key k xs x ys 0 0 e n) in
+        let a : searchIn key k 0 0 l ≡ At x (endOf 0 xs) (0 + length xs + 1) = rw d (sought-at key k xs x ys 0 0 e n) in
         let z : _≡_ {A = ℕ} 0 1 = cc in
         omega arith
     go (miss n) =
-        let a : sought key k 0 0 l ≡ Absent (endOf 0 l) (0 + length l) = sought-absent key k l 0 0 n in
+        let a : searchIn key k 0 0 l ≡ Missing (endOf 0 l) (0 + length l) = sought-absent key k l 0 0 n in
         let z : _≡_ {A = ℕ} 0 1 = cc in
         omega arith

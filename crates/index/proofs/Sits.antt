@@ -11,14 +11,15 @@ use lib.ListN.{length, getD}
 use borrow.Author.Tests.{eq-eqb, ne-eqb, lt-ltb, le-ltb}
 use Rattle.index.specs.Index.{Chain, reuse, head, Index, ahead}
 use Rattle.index.specs.Change.{putNew, putHeld, removeHeld}
-use Rattle.index.specs.Build.{build}
-use Rattle.sorting.specs.Members.{In, Once}
-use Rattle.index.specs.Linked.{Run, endOf, Owner, free, of, give, withChain, Good, Room, ownerOf, chainsOf, placed, Sits}
-use Rattle.index.proofs.Runs.{end-in}
+use Rattle.index.specs.inner.Build.{build}
+use Rattle.prelude.specs.Members.{In, Once}
+use Rattle.index.specs.Linked.{Run, endOf, Owner, free, of, WellFormed, placed, Sits}
+use Rattle.index.proofs.defs.Linked.{give, withChain, Room, ownerOf, chainsBy}
+use Rattle.index.proofs.Paths.{end-in}
 use Rattle.index.proofs.Links.{ahead-next}
 use Rattle.index.proofs.Owners.{Told, is, isnt, told, free-of, of-of, give-same, give-other}
-use Rattle.index.proofs.Calls.{first-is, owner-of, good-alike, good-new, good-held, good-remove, new-next, new-heads, held-next, held-heads, remove-next, remove-heads}
-use Rattle.index.proofs.Count.{run-once}
+use Rattle.index.proofs.CallWrites.{first-is, owner-of, good-alike, good-new, good-held, good-remove, new-next, new-heads, held-next, held-heads, remove-next, remove-heads}
+use Rattle.index.proofs.ChainLengths.{run-once}
 use Rattle.index.proofs.Builds.{good-build, build-next, build-heads, owner-in, owner-out}
 
 pub placed-in : (n : ℕ) (place : ℕ → Chain) (x : ℕ) → 0 < x → x ≤ n → placed n place x ≡ of (place x)
@@ -100,27 +101,27 @@ placed-two n place place′ s t h ls ms lt mt q r o =
 module _ (n b : ℕ) (place : ℕ → Chain) (i : Index) (chains : Chain → List ℕ) (g : Sits n b place i chains) where
   -- a slot stands in just the chain that is its place, and once
   pub sits-in : (c : Chain) (x : ℕ) → In x (chains c) → (0 < x) × (x ≤ n) × (place x ≡ c)
-  sits-in c x m = placed-of n place x c (g .good .woven .owned .mine c x m)
+  sits-in c x m = placed-of n place x c (g .good .disjoint .owned .mine c x m)
 
   pub sits-has : (x : ℕ) → 0 < x → x ≤ n → In x (chains (place x))
-  sits-has x l m = g .good .woven .owned .has (place x) x (placed-in n place x l m)
+  sits-has x l m = g .good .disjoint .owned .has (place x) x (placed-in n place x l m)
 
   pub sits-once : (c : Chain) → Once (chains c)
-  sits-once c = run-once (ahead i c) (ahead i c 0) (chains c) (λ y m. sits-in c y m .0) (g .good .woven .runs c)
+  sits-once c = run-once (ahead i c) (ahead i c 0) (chains c) (λ y m. sits-in c y m .0) (g .good .disjoint .runs c)
 
   second : (f : ℕ) (rest : List ℕ) → chains reuse ≡ f ∷ rest → Run (ahead i reuse) (getD (i .next) (i .first) 0) rest 0
   second f rest e =
-      let r : Run (ahead i reuse) (ahead i reuse 0) (f ∷ rest) 0 = rw e at (g .good .woven .runs reuse) in
+      let r : Run (ahead i reuse) (ahead i reuse 0) (f ∷ rest) 0 = rw e at (g .good .disjoint .runs reuse) in
       let q = sits-in reuse f (rw e (inl refl)) in
       let d : ahead i reuse f ≡ getD (i .next) (i .first) 0 =
       ahead-next i reuse f (q .0) ∙ ap (λ (x : ℕ). getD (i .next) x 0)
-      (sym (first-is _ _ _ f rest (g .good .woven) e)) in
+      (sym (first-is _ _ _ f rest (g .good .disjoint) e)) in
       rw d at (r .1)
 
   -- the tests of the reuse chain pass
   pub sits-first : (f : ℕ) (rest : List ℕ) → chains reuse ≡ f ∷ rest → (i .first ≡ f) × (0 < i .first) × (i .first ≤ n)
   sits-first f rest e =
-      let d : i .first ≡ f = first-is _ _ _ f rest (g .good .woven) e in
+      let d : i .first ≡ f = first-is _ _ _ f rest (g .good .disjoint) e in
       let q = sits-in reuse f (rw e (inl refl)) in
       (d, omega (arith, q .0), omega (arith, q .1))
 
@@ -136,7 +137,7 @@ module _ (n b : ℕ) (place : ℕ → Chain) (i : Index) (chains : Chain → Lis
 
   module _ (place′ : ℕ → Chain) (h prev f : ℕ) (rest : List ℕ) (e : chains reuse ≡ f ∷ rest) where
     first-in : (0 < f) × (f ≤ n) × (place f ≡ reuse)
-    first-in = placed-of n place f reuse (owner-of _ _ _ reuse [] f rest (g .good .woven) e)
+    first-in = placed-of n place f reuse (owner-of _ _ _ reuse [] f rest (g .good .disjoint) e)
 
     pub sits-new : h < b → prev ≡ endOf 0 (chains (head h)) → place′ f ≡ head h
         → ((x : ℕ) → 0 < x → x ≤ n → (x ≡ f → ⊥) → place′ x ≡ place x)
@@ -152,7 +153,7 @@ module _ (n b : ℕ) (place : ℕ → Chain) (i : Index) (chains : Chain → Lis
 
     module _ (xs : List ℕ) (old : ℕ) (ys : List ℕ) (d : chains (head h) ≡ xs ++ old ∷ ys) (p : prev ≡ endOf 0 xs) where
       old-in : (0 < old) × (old ≤ n) × (place old ≡ head h)
-      old-in = placed-of n place old (head h) (owner-of _ _ _ (head h) xs old ys (g .good .woven) d)
+      old-in = placed-of n place old (head h) (owner-of _ _ _ (head h) xs old ys (g .good .disjoint) d)
 
       pub sits-held : place′ f ≡ head h → place′ old ≡ reuse → ((x : ℕ) → 0 < x → x ≤ n → (x ≡ f → ⊥) → (x ≡ old → ⊥) → place′ x ≡ place x)
           → Sits n b place′ (putHeld i h prev old) (withChain (withChain chains reuse (rest ++ old ∷ [])) (head h) (xs ++ f ∷ ys))
@@ -178,10 +179,10 @@ module _ (n b : ℕ) (place : ℕ → Chain) (i : Index) (chains : Chain → Lis
       }
 
 -- recovery's last step, from a list of all slots
-pub sits-build : (n b : ℕ) (place : ℕ → Chain) (i : Index) (l : List ℕ) → Good i (λ _. free) (λ _. []) → length (i .next) ≡ n + 1
+pub sits-build : (n b : ℕ) (place : ℕ → Chain) (i : Index) (l : List ℕ) → WellFormed i (λ _. free) (λ _. []) → length (i .next) ≡ n + 1
     → length (i .heads) ≡ b → Once l
     → ((x : ℕ) → In x l → (0 < x) × (x ≤ n)) → ((x : ℕ) → 0 < x → x ≤ n → In x l) → ((x : ℕ) → In x l → Room i (place x))
-    → Sits n b place (build place i l) (chainsOf place l)
+    → Sits n b place (build place i l) (chainsBy place l)
 sits-build n b place i l g en eb a h k m = record {
   good =
       good-alike (build place i l) _ _ _ _ (placed-alike n (ownerOf place l) place (λ x u v. owner-in place l x (k x u v))

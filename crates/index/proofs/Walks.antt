@@ -8,11 +8,11 @@ use native.Mathlib.Omega.{arith}
 use lib.Dec.{eqb, ltb}
 use lib.ListN.{length, getD}
 use borrow.Author.Tests.{lt-ltb, le-ltb, eq-eqb, ne-eqb, ltb-false, eqb-false}
-use Rattle.words.proofs.Choice.{pick-true, pick-false}
-use Rattle.layout.specs.Size.{slotsOf}
+use Rattle.prelude.proofs.Choice.{pick-true, pick-false}
+use Rattle.layout.specs.Size.{slotsIn}
 use Rattle.index.specs.Walk.{walk, slotKey, search}
 use Rattle.index.specs.declared.Found.{Found}
-use Rattle.index.specs.declared.Found.the-variants.{At, Absent, Broken}
+use Rattle.index.specs.declared.Found.the-variants.{At, Missing, BadChain}
 
 -- before a turn: what is left of the walk is the whole search
 pub record Going (image heads next : List ℕ) (n key at prev compared left : ℕ) : Type 0 where
@@ -20,7 +20,7 @@ pub record Going (image heads next : List ℕ) (n key at prev compared left : �
   pub count : compared + left ≡ n
   pub rest : walk (slotKey 1 image) next n key left compared prev at ≡ search 1 image heads next key
 
-pub begins : (image heads next : List ℕ) (n key : ℕ) → slotsOf (length image) ≡ n → key < 2 ^ 64
+pub begins : (image heads next : List ℕ) (n key : ℕ) → slotsIn image ≡ n → key < 2 ^ 64
     → getD heads (key % length heads) 0 < 2 ^ 32 → Going image heads next n key (getD heads (key % length heads) 0) 0 0 n
 unfolding search
 begins image heads next n key e k f =
@@ -30,13 +30,13 @@ begins image heads next n key e k f =
       rest =
           ap (λ (m : ℕ). walk (slotKey 1 image) next m key m 0 0 (getD heads (key % length heads) 0)) (sym e)
           ∙ ap
-          (λ (k : ℕ). walk (slotKey 1 image) next (slotsOf (length image)) key (slotsOf (length image)) 0 0 (getD heads (k % length heads) 0))
+          (λ (k : ℕ). walk (slotKey 1 image) next (slotsIn image) key (slotsIn image) 0 0 (getD heads (k % length heads) 0))
           (sym (mod-eq-of-lt k));
     }
 
 -- the bound is used up
 pub out : (image heads next : List ℕ) (n key at prev compared left : ℕ) → Going image heads next n key at prev compared left
-    → left ≤ 0 → Broken ≡ search 1 image heads next key
+    → left ≤ 0 → BadChain ≡ search 1 image heads next key
 unfolding walk
 out image heads next n key at prev compared left g h =
     let e : left ≡ 0 = omega arith in
@@ -47,8 +47,8 @@ module _
     (more : 0 < left) where
   turn :
       search 1 image heads next key ≡
-      cond (eqb at 0) (Absent prev compared)
-      (cond (ltb n at) Broken
+      cond (eqb at 0) (Missing prev compared)
+      (cond (ltb n at) BadChain
       (cond (eqb (slotKey 1 image at) key) (At at prev (compared + 1))
       (walk (slotKey 1 image) next n key (left - 1) (compared + 1) at (getD next at 0))))
   unfolding walk
@@ -57,12 +57,12 @@ module _
       sym (g .rest) ∙ ap (λ (l : ℕ). walk (slotKey 1 image) next n key l compared prev at) e
 
   -- the chain's end
-  pub at-end : at ≡ 0 → Absent prev compared ≡ search 1 image heads next key
+  pub at-end : at ≡ 0 → Missing prev compared ≡ search 1 image heads next key
   at-end e = sym (turn ∙ pick-true (eqb at 0) _ _ (eq-eqb at 0 e))
 
   module _ (z : at ≡ 0 → ⊥) where
     -- a link above n
-    pub past : n < at → Broken ≡ search 1 image heads next key
+    pub past : n < at → BadChain ≡ search 1 image heads next key
     past h = sym (turn ∙ pick-false (eqb at 0) _ _ (ne-eqb at 0 z) ∙ pick-true (ltb n at) _ _ (lt-ltb n at h))
 
     module _ (h : at ≤ n) (k : ℕ) (ek : k ≡ slotKey 1 image at) where
@@ -90,8 +90,8 @@ module _
 -- what is found lies inside an index of n slots
 abbrev Within : ℕ → Found → Type 0
 Within n (At slot prev compared) = (0 < slot) × (slot ≤ n) × (prev ≤ n)
-Within n (Absent prev compared) = prev ≤ n
-Within n Broken = Unit
+Within n (Missing prev compared) = prev ≤ n
+Within n BadChain = Unit
 
 either-way : (n : ℕ) (b : Bool) (x y : Found) → (b ≡ true → Within n x) → (b ≡ false → Within n y) → Within n (cond b x y)
 either-way n true x y f g = f refl
@@ -111,7 +111,7 @@ walk-within keys next n key (suc left) compared prev at h =
     either-way n (eqb (keys at) key) _ _ (λ k. (low, high, h))
     (λ k. walk-within keys next n key left (compared + 1) at (getD next at 0) high)))
 
-module _ (l : ℕ) (image heads next : List ℕ) (n key : ℕ) (e : slotsOf (length image) ≡ n) where
+module _ (l : ℕ) (image heads next : List ℕ) (n key : ℕ) (e : slotsIn image ≡ n) where
   within : Within n (search l image heads next key)
   unfolding search
   within = rw e (walk-within (slotKey l image) next n key n 0 0 _ (omega arith))
@@ -120,5 +120,5 @@ module _ (l : ℕ) (image heads next : List ℕ) (n key : ℕ) (e : slotsOf (len
       → (0 < slot) × (slot ≤ n) × (prev ≤ n)
   at-inside slot prev compared f = subst (Within n) f within
 
-  pub absent-inside : (prev compared : ℕ) → search l image heads next key ≡ Absent prev compared → prev ≤ n
+  pub absent-inside : (prev compared : ℕ) → search l image heads next key ≡ Missing prev compared → prev ≤ n
   absent-inside prev compared f = subst (Within n) f within

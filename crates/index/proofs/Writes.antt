@@ -8,8 +8,8 @@ use native.Mathlib.Omega.{arith}
 use lib.ListN.{length, getD, set}
 use borrow.Author.Tests.{eq-eqb, ne-eqb}
 use Rattle.index.specs.Index.{Index, reuse, head, indexOf, setNext, setStart, setLast, link}
-use Rattle.index.specs.Change.{take, append, linkNew, putNew, putHeld, removeHeld}
-use Rattle.index.specs.Parts.{Holds, linkHeads, linkNext, takeState, appendNext, appendState}
+use Rattle.index.specs.Change.{takeFirst, append, linkNew, putNew, putHeld, removeHeld}
+use Rattle.index.specs.inner.Parts.{PartsOf, linkHeads, linkNext, takeState, appendNext, appendState}
 use Rattle.index.specs.declared.State.{State}
 
 -- ---- what the parts keep of a state
@@ -41,10 +41,10 @@ pub append-version : (s t : State) (slot : ℕ) → t ≡ appendState s slot →
 unfolding appendState
 append-version s t slot e = ap (λ (u : State). u .version) e
 
--- ---- the parts make up take, link and append
+-- ---- the parts make up takeFirst, link and append
 
-pub index-take : (heads next : List ℕ) (s : State) → take (indexOf heads next s) ≡ indexOf heads next (takeState next s)
-unfolding take takeState setLast setStart
+pub index-take : (heads next : List ℕ) (s : State) → takeFirst (indexOf heads next s) ≡ indexOf heads next (takeState next s)
+unfolding takeFirst takeState setLast setStart
 index-take heads next s = refl
 
 pub index-link : (heads next : List ℕ) (s : State) (h prev slot : ℕ)
@@ -69,12 +69,12 @@ index-append heads next s slot =
 -- ---- the calls' changes
 
 module _ (heads next : List ℕ) (s rest : State) (h prev : ℕ) (er : rest ≡ takeState next s) where
-  took : take (indexOf heads next s) ≡ indexOf heads next rest
+  took : takeFirst (indexOf heads next s) ≡ indexOf heads next rest
   took = index-take heads next s ∙ ap (indexOf heads next) (sym er)
 
   pub put-new : (heads′ next′ : List ℕ) → heads′ ≡ linkHeads heads h prev (s .first)
       → next′ ≡ linkNext (set next (s .first) 0) prev (s .first)
-      → Holds heads′ next′ (record { first = rest .first; last = rest .last; live = rest .live + 1; version = rest .version + 1 })
+      → PartsOf heads′ next′ (record { first = rest .first; last = rest .last; live = rest .live + 1; version = rest .version + 1 })
       (putNew (indexOf heads next s) h prev) (s .live + 1) (s .version + 1)
   unfolding putNew linkNew setNext
   put-new heads′ next′ eh en =
@@ -92,7 +92,7 @@ module _ (heads next : List ℕ) (s rest : State) (h prev : ℕ) (er : rest ≡ 
       (en : next₂ ≡ appendNext next₁ rest old) where
     pub put-held : heads′ ≡ linkHeads heads h prev (s .first)
         → next₁ ≡ linkNext (set next (s .first) (getD next old 0)) prev (s .first)
-        → Holds heads′ next₂ (record { first = back .first; last = back .last; live = back .live; version = back .version + 1 })
+        → PartsOf heads′ next₂ (record { first = back .first; last = back .last; live = back .live; version = back .version + 1 })
         (putHeld (indexOf heads next s) h prev old) (s .live) (s .version + 1)
     unfolding putHeld linkNew setNext
     put-held eh e₁ =
@@ -108,7 +108,7 @@ module _ (heads next : List ℕ) (s rest : State) (h prev : ℕ) (er : rest ≡ 
 
     pub remove-held : (next₃ : List ℕ) (all : State) → heads′ ≡ linkHeads heads h prev (getD next old 0)
         → next₁ ≡ linkNext next prev (getD next old 0) → all ≡ appendState back (s .first) → next₃ ≡ appendNext next₂ back (s .first)
-        → Holds heads′ next₃ (record { first = all .first; last = all .last; live = all .live - 1; version = all .version + 1 })
+        → PartsOf heads′ next₃ (record { first = all .first; last = all .last; live = all .live - 1; version = all .version + 1 })
         (removeHeld (indexOf heads next s) h prev old) (s .live - 1) (s .version + 1)
     unfolding removeHeld
     remove-held next₃ all eh e₁ ea e₃ =

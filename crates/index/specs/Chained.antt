@@ -3,7 +3,7 @@ use mathlib.Core.Bool.{cond}
 use mathlib.Core.List.{List, [], _∷_}
 use Prim.Native.Nat.{ℕ, zero, suc, _+_}
 use lib.Dec.{eqb}
-use Rattle.layout.specs.Range.{tabulate}
+use Rattle.prelude.specs.Range.{tabulate}
 use Rattle.index.specs.Index.{Index, Chain, reuse, head}
 
 -- the first and the last slot of a chain, 0 if it has none

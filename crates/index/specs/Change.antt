@@ -1,18 +1,17 @@
 -- What the calls write to the index, and the refusals that go by it. Document 01, "The index": "The index is written in this order."
 use mathlib.Core.Bool.{cond}
 use mathlib.Core.List.{List}
-use Prim.Native.Nat.{ℕ, _+_, _^_}
+use Prim.Native.Nat.{ℕ, _+_}
 use lib.Dec.{eqb, ltb, leb}
 use lib.ListN.{getD}
-use Rattle.layout.specs.Refusal.{say}
+use Rattle.prelude.specs.Refusal.{say}
 use Rattle.index.specs.Index.{Index, Chain, reuse, head, setNext, setStart, setLast, link}
-use Rattle.index.specs.declared.State.{State}
 use Rattle.index.specs.declared.Found.{Found}
-use Rattle.index.specs.declared.Found.the-variants.{At, Absent, Broken}
+use Rattle.index.specs.declared.Found.the-variants.{At, Missing, BadChain}
 
 -- "Taking makes the first reuse slot's next the new first; if that is zero, the last is zero too"
-unfoldable pub take : Index → Index
-take i =
+unfoldable pub takeFirst : Index → Index
+takeFirst i =
     setLast (setStart i reuse (getD (i .next) (i .first) 0)) (cond (eqb (getD (i .next) (i .first) 0) 0) 0 (i .last))
 
 -- "Then the taken slot's next, where it is linked, and after it the link to it": slot s, whose next becomes v, after prev
@@ -25,25 +24,21 @@ append i s = setLast (link (setNext i s 0) reuse (i .last) s) s
 
 -- "A put of a new key takes the first reuse slot and links it at the end of its head's chain", whose last slot is prev
 unfoldable pub putNew : Index → (h prev : ℕ) → Index
-putNew i h prev = linkNew (take i) (head h) prev (i .first) 0
+putNew i h prev = linkNew (takeFirst i) (head h) prev (i .first) 0
 
 -- "A put of a held key takes the first reuse slot, which replaces the old slot in its chain; the old slot joins the end of the reuse chain"
 unfoldable pub putHeld : Index → (h prev old : ℕ) → Index
-putHeld i h prev old = append (linkNew (take i) (head h) prev (i .first) (getD (take i .next) old 0)) old
+putHeld i h prev old = append (linkNew (takeFirst i) (head h) prev (i .first) (getD (takeFirst i .next) old 0)) old
 
 -- "A remove takes the first reuse slot, unlinks the old slot, and appends to the reuse chain the old slot and then the slot just taken"
 unfoldable pub removeHeld : Index → (h prev old : ℕ) → Index
-removeHeld i h prev old = append (append (link (take i) (head h) prev (getD (take i .next) old 0)) old) (i .first)
+removeHeld i h prev old = append (append (link (takeFirst i) (head h) prev (getD (takeFirst i .next) old 0)) old) (i .first)
 
 -- "12 when the key is not held and the live count plus 1 is at least N"
 unfoldable pub roomFault : Found → (n live : ℕ) → ℕ
 roomFault (At slot prev compared) n live = 0
-roomFault (Absent prev compared) n live = say (leb n (live + 1)) 12 0
-roomFault Broken n live = 0
-
--- "9 when the next version is 2^63 or more"
-unfoldable pub versionFault : (version : ℕ) → ℕ
-versionFault version = say (leb (2 ^ 63) version) 9 0
+roomFault (Missing prev compared) n live = say (leb n (live + 1)) 12 0
+roomFault BadChain n live = 0
 
 -- "11 when the reuse chain's first or last slot is zero or above N, or the first's next is above N"
 unfoldable pub reuseFault : (next : List ℕ) → (n first last : ℕ) → ℕ

@@ -1,8 +1,6 @@
 -- The index as lists of numbers. Document 01, "The index". For any numbers, an index of the image or not.
-use mathlib.Core.Bool.{cond}
 use mathlib.Core.List.{List}
 use Prim.Native.Nat.{ℕ, zero, suc, _%_, _^_}
-use lib.Dec.{eqb}
 use lib.ListN.{getD, set}
 use Rattle.index.specs.declared.State.{State}
 

@@ -1,6 +1,6 @@
 -- Following a key's chain. Document 01, "What each operation may say no to", Put: "11 when, following the key's chain up to the first slot with that
 -- key or the end, a link above N is met or N slots pass without the key".
-use mathlib.Core.Bool.{Bool, true, false, cond}
+use mathlib.Core.Bool.{cond}
 use mathlib.Core.List.{List}
 use Prim.Native.Nat.{ℕ, zero, suc, _+_}
 use lib.Dec.{eqb, ltb}
@@ -8,17 +8,17 @@ use lib.ListN.{length, getD}
 use Rattle.words.specs.Word.{word}
 use Rattle.layout.specs.Line.{lineA}
 use Rattle.layout.specs.Record.{keyOf}
-use Rattle.layout.specs.Size.{slotsOf}
+use Rattle.layout.specs.Size.{slotsIn}
 use Rattle.index.specs.Index.{headOf}
 use Rattle.index.specs.declared.Found.{Found}
-use Rattle.index.specs.declared.Found.the-variants.{At, Absent, Broken}
+use Rattle.index.specs.declared.Found.the-variants.{At, Missing, BadChain}
 
 -- from slot `at`, with `prev` before it, `compared` slots compared and `left` that may still be; `keys` gives a slot's key
 unfoldable pub walk : (keys : ℕ → ℕ) → (next : List ℕ) → (n key left compared prev at : ℕ) → Found
-walk keys next n key zero compared prev at = Broken
+walk keys next n key zero compared prev at = BadChain
 walk keys next n key (suc left) compared prev at =
-    cond (eqb at 0) (Absent prev compared)
-    (cond (ltb n at) Broken
+    cond (eqb at 0) (Missing prev compared)
+    (cond (ltb n at) BadChain
     (cond (eqb (keys at) key) (At at prev (compared + 1))
     (walk keys next n key left (compared + 1) at (getD next at 0))))
 
@@ -29,15 +29,10 @@ slotKey l image s = keyOf l (lineA (word image) s)
 -- the key's chain from its head on
 unfoldable pub search : (l : ℕ) → (image heads next : List ℕ) → (key : ℕ) → Found
 search l image heads next key =
-    walk (slotKey l image) next (slotsOf (length image)) key (slotsOf (length image)) 0 0 (getD heads (headOf key (length heads)) 0)
+    walk (slotKey l image) next (slotsIn image) key (slotsIn image) 0 0 (getD heads (headOf key (length heads)) 0)
 
 -- 11 by the chain
 unfoldable pub chainFault : Found → ℕ
 chainFault (At slot prev compared) = 0
-chainFault (Absent prev compared) = 0
-chainFault Broken = 11
-
-unfoldable pub isHeld : Found → Bool
-isHeld (At slot prev compared) = true
-isHeld (Absent prev compared) = false
-isHeld Broken = false
+chainFault (Missing prev compared) = 0
+chainFault BadChain = 11

@@ -1,8 +1,4 @@
 // The index: chains of slots in two lent slices of numbers, and a state beside them.
-pub mod build;
-pub mod change;
-pub mod fault;
-pub mod search;
 
 // The reuse chain's first and last slot, the live count and the next version.
 pub struct State {
@@ -16,6 +12,6 @@ pub struct State {
 // the chain's last slot (0 for the head) and the count; or a chain that no set has.
 pub enum Found {
     At { slot: u32, prev: u32, compared: u32 },
-    Absent { prev: u32, compared: u32 },
-    Broken,
+    Missing { prev: u32, compared: u32 },
+    BadChain,
 }

@@ -1,23 +1,23 @@
 -- What a verdict and a content say of the two lines of a slot, and the length of its value. Assumes nothing.
 use mathlib.Core.Path.{_≡_, refl, sym, ap, ap₂, _∙_}
-use mathlib.Core.Bool.{true, false, cond}
+use mathlib.Core.Bool.{true, false, cond, true≢false}
 use mathlib.Core.Logic.{_⊎_, inl, inr}
 use mathlib.Core.List.{List}
-use Prim.Native.Nat.{ℕ, _+_, _/_, _%_, _≤_, _<_}
+use Prim.Native.Nat.{ℕ, _+_, _/_, _%_, _≤_, _<_, _*_}
 use native.Mathlib.Omega.{arith}
 use lib.ListN.{length}
 use lib.Dec.{eqb}
 use borrow.Author.Tests.{eq-eqb, ne-eqb, eqb-true, eqb-false}
-use Rattle.words.proofs.Choice.{pick-true, pick-false, split, true-not-false}
+use Rattle.prelude.proofs.Choice.{pick-true, pick-false, split}
 use Rattle.layout.specs.Line.{lineA, lineB, whole, versionOf, lineTop}
 use Rattle.layout.specs.Slot.{paired, slotTop, verdictOf, lineVerdict}
 use Rattle.layout.specs.Record.{kindOf, lengthOf, keyOf, limit, valueByte, valueFront, valueOf}
 use Rattle.layout.specs.Content.{broken, empty, put, remove, made, contentBy, contentOf, content, top, topOf}
 use Rattle.layout.specs.Fault.{wordFault, tailFault, faultOf}
 use Rattle.layout.specs.declared.Verdict.the-variants.{Valid, Empty, Broken}
-use Rattle.layout.proofs.Any.{or-none}
-use Rattle.layout.proofs.Records.{within}
-use Rattle.layout.proofs.Tabulate.{tabulate-length}
+use Rattle.prelude.proofs.Any.{or-none}
+use Rattle.layout.proofs.RecordFields.{within}
+use Rattle.prelude.proofs.Tabulate.{tabulate-length}
 
 -- ---- the top of a line
 
@@ -53,12 +53,12 @@ module _ (mA sA mB sB : ℕ) where
   a-pair e = go (split (whole mA sA)) (split (whole mB sB)) (split (eqb (sA / 2) (sB / 2)))
     where
       none : (whole mA sA ≡ true → whole mB sB ≡ true → versionOf sA ≡ versionOf sB → ⊥) → ⊥
-      none h = true-not-false (sym e ∙ unpaired h)
+      none h = true≢false (sym e ∙ unpaired h)
 
       go : (whole mA sA ≡ true) ⊎ (whole mA sA ≡ false) → (whole mB sB ≡ true) ⊎ (whole mB sB ≡ false)
           → (eqb (sA / 2) (sB / 2) ≡ true) ⊎ (eqb (sA / 2) (sB / 2) ≡ false) → Pair mA sA mB sB
-      go (inr p) q r = absurd (none (λ x y z. true-not-false (sym x ∙ p)))
-      go (inl p) (inr q) r = absurd (none (λ x y z. true-not-false (sym y ∙ q)))
+      go (inr p) q r = absurd (none (λ x y z. true≢false (sym x ∙ p)))
+      go (inl p) (inr q) r = absurd (none (λ x y z. true≢false (sym y ∙ q)))
       go (inl p) (inl q) (inr r) = absurd (none (λ x y z. eqb-false (sA / 2) (sB / 2) r z))
       go (inl p) (inl q) (inl r) = record { first = p; second = q; one-version = eqb-true (sA / 2) (sB / 2) r }
 
@@ -218,3 +218,8 @@ blank-content l m s a b c d =
   where
     clear : {mark stamp : ℕ} → mark ≡ 0 → stamp ≡ 0 → whole mark stamp ≡ true
     clear p q = ap₂ whole p q
+
+pub blank-table : (l : ℕ) (m : ℕ → ℕ) → ((i : ℕ) → 16 ≤ i → m i ≡ 0) → (s : ℕ) → 1 ≤ s → content l m s ≡ empty
+blank-table l m h s low =
+    blank-content l m s (h (8 * (2 * s) + 0) (omega arith)) (h (8 * (2 * s) + 7) (omega arith))
+    (h (8 * (2 * s + 1) + 0) (omega arith)) (h (8 * (2 * s + 1) + 7) (omega arith))

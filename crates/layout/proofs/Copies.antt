@@ -1,14 +1,14 @@
 -- A value copied by the word: a word's eight bytes are the next eight of the value. Assumes nothing.
-use mathlib.Core.Path.{_≡_, refl, sym, ap, ap₂, _∙_}
+use mathlib.Core.Path.{_≡_, sym, ap, ap₂, _∙_}
 use mathlib.Core.List.{List, _++_}
 use Prim.Native.Nat.{ℕ, _+_, _*_, _/_, _%_, _^_, _≤_, _<_}
 use native.Mathlib.Nat.{div-one}
 use native.Mathlib.Omega.{arith}
 use lib.ListN.{length, drop, set}
 use Rattle.words.specs.Word.{setWord}
-use Rattle.layout.specs.Range.{tabulate}
+use Rattle.prelude.specs.Range.{tabulate}
 use Rattle.layout.specs.Record.{valueWord, valueByte}
-use Rattle.layout.proofs.Tabulate.{tabulate-set}
+use Rattle.prelude.proofs.Tabulate.{tabulate-set}
 
 -- the front of a list is the values so far
 abbrev pub Filled : (ℕ → ℕ) → (old : List ℕ) → (k : ℕ) → (out : List ℕ) → Type 0

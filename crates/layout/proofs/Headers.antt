@@ -1,21 +1,20 @@
 -- The refusals 1, 2, 3 and 4, by what the tests on the image and the index gave. Assumes nothing.
 use mathlib.Core.Path.{_≡_, sym, ap, _∙_}
-use mathlib.Core.Bool.{Bool, true, false, not}
+use mathlib.Core.Bool.{Bool, true, false, not, true≢false}
 use mathlib.Core.List.{List}
 use mathlib.Core.Logic.{_≢_, by-cases}
 use Prim.Native.Nat.{ℕ, _-_, _≤_}
 use native.Mathlib.Decide.{ℕ-discrete}
 use native.Mathlib.Omega.{arith}
 use lib.Dec.{eqb}
-use lib.ListN.{length}
 use borrow.Author.Tests.{eq-eqb, ne-eqb}
 use Rattle.words.specs.Word.{word}
-use Rattle.layout.specs.Range.{anyOf}
-use Rattle.layout.specs.Size.{slotsOf}
+use Rattle.prelude.specs.Range.{anyOf}
+use Rattle.layout.specs.Size.{slotsIn}
 use Rattle.layout.specs.Header.{headerWord, headerFault, imageFault, indexFault, lentFault}
-use Rattle.words.proofs.Choice.{pick-false, true-not-false}
-use Rattle.layout.proofs.Any.{any-some, any-none}
-use Rattle.layout.proofs.Refusals.{say-true, say-false, orElse-first, orElse-later}
+use Rattle.prelude.proofs.Choice.{pick-false}
+use Rattle.prelude.proofs.Any.{any-some, any-none}
+use Rattle.prelude.proofs.Refusals.{say-true, say-false, orElse-first, orElse-later}
 
 -- a word that is not zero
 abbrev nonzero : (ℕ → ℕ) → ℕ → Bool
@@ -41,7 +40,7 @@ module _ (l n : ℕ) (m : ℕ → ℕ) where
 
   first-same : anyOf differs 0 8 ≡ false → m 0 ≡ n
   unfolding headerWord
-  first-same e = by-cases (ℕ-discrete (m 0) n) (λ (q : m 0 ≡ n). q) (λ (ne : m 0 ≢ n). absurd (true-not-false (sym (ap not (ne-eqb (m 0) n ne)) ∙ any-none differs 0 8 e 0 (omega arith))))
+  first-same e = by-cases (ℕ-discrete (m 0) n) (λ (q : m 0 ≡ n). q) (λ (ne : m 0 ≢ n). absurd (true≢false (sym (ap not (ne-eqb (m 0) n ne)) ∙ any-none differs 0 8 e 0 (omega arith))))
 
 -- header_fault: b says whether a word of the header is other than laid down, v is header word 0
 module _ (l n : ℕ) (m : ℕ → ℕ) (b : Bool) (f : b ≡ anyOf (λ i. not (eqb (m i) (headerWord l n i))) 0 8) where
@@ -61,16 +60,16 @@ module _ (l n : ℕ) (m : ℕ → ℕ) (b : Bool) (f : b ≡ anyOf (λ i. not (e
         sym (say-false _ _ _ (ne-eqb (m 0) 0 (λ q. ne (e ∙ q))) ∙ say-true _ _ _ (sym f ∙ t))
 
 -- image_fault: n is the slots of the image
-module _ (l : ℕ) (image : List ℕ) (n : ℕ) (e : n ≡ slotsOf (length image)) where
+module _ (l : ℕ) (image : List ℕ) (n : ℕ) (e : n ≡ slotsIn image) where
   pub no-slots : n ≡ 0 → 1 ≡ imageFault l image
   unfolding imageFault
-  no-slots z = sym (say-true _ _ _ (eq-eqb (slotsOf (length image)) 0 (sym e ∙ z)))
+  no-slots z = sym (say-true _ _ _ (eq-eqb (slotsIn image) 0 (sym e ∙ z)))
 
   pub by-header : (n ≡ 0 → ⊥) → (r : ℕ) → r ≡ headerFault l n (word image) → r ≡ imageFault l image
   unfolding imageFault
   by-header ne r f =
       f ∙ ap (λ (x : ℕ). headerFault l x (word image)) e
-      ∙ sym (say-false _ _ _ (ne-eqb (slotsOf (length image)) 0 (λ q. ne (e ∙ q))))
+      ∙ sym (say-false _ _ _ (ne-eqb (slotsIn image) 0 (λ q. ne (e ∙ q))))
 
 -- lent_fault: fault is that of the image
 module _ (l : ℕ) (image : List ℕ) (heads next fault : ℕ) (e : fault ≡ imageFault l image) where
@@ -78,6 +77,6 @@ module _ (l : ℕ) (image : List ℕ) (heads next fault : ℕ) (e : fault ≡ im
   unfolding lentFault
   by-image ne = e ∙ sym (orElse-first _ _ (λ q. ne (e ∙ q)))
 
-  pub by-index : fault ≡ 0 → (n r : ℕ) → n ≡ slotsOf (length image) → r ≡ indexFault n heads next → r ≡ lentFault l image heads next
+  pub by-index : fault ≡ 0 → (n r : ℕ) → n ≡ slotsIn image → r ≡ indexFault n heads next → r ≡ lentFault l image heads next
   unfolding lentFault
   by-index z n r f g = g ∙ ap (λ (x : ℕ). indexFault x heads next) f ∙ sym (orElse-later _ _ (sym e ∙ z))

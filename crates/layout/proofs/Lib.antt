@@ -1,11 +1,10 @@
-pub mod Refusals
-pub mod Any
-pub mod Tabulate
 pub mod Size
 pub mod Headers
 pub mod Verdicts
-pub mod Records
-pub mod Keys
 pub mod Content
 pub mod Tails
 pub mod Copies
+pub mod Lents
+pub mod KeyWords
+pub mod RecordFields
+pub mod defs

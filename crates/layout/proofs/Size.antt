@@ -6,10 +6,10 @@ use Prim.Native.Nat.{ℕ, _+_, _-_, _*_, _/_, _%_, _≤_}
 use native.Mathlib.Decide.{decLt, ℕ-discrete}
 use native.Mathlib.Omega.{arith}
 use borrow.Author.Tests.{le-ltb, eq-eqb}
-use Rattle.words.proofs.Tests.{tests}
-use Rattle.layout.specs.Refusal.{say}
+use Rattle.prelude.proofs.Tests.{tests}
+use Rattle.prelude.specs.Refusal.{say}
 use Rattle.layout.specs.Size.{slotsOf}
-use Rattle.layout.proofs.Refusals.{say-false}
+use Rattle.prelude.proofs.Refusals.{say-false}
 
 -- what a length that has slots is
 pub record Long (len : ℕ) : Type 0 where

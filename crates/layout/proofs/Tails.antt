@@ -9,8 +9,8 @@ use native.Mathlib.Omega.{arith}
 use lib.Dec.{eqb}
 use lib.Pow.{pow-add}
 use borrow.Author.Tests.{eq-eqb, ne-eqb}
-use Rattle.words.proofs.Choice.{pick-true, pick-false}
-use Rattle.layout.specs.Range.{anyOf}
+use Rattle.prelude.proofs.Choice.{pick-true, pick-false}
+use Rattle.prelude.specs.Range.{anyOf}
 use Rattle.layout.specs.Record.{limit, valueWord, valueByte}
 
 -- ---- tests over a range

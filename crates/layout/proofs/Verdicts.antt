@@ -10,7 +10,7 @@ use Rattle.layout.specs.Slot.{paired, verdictOf, lineVerdict, slotVerdic
 use Rattle.layout.specs.Fault.{markFault}
 use Rattle.layout.specs.declared.Verdict.{Verdict}
 use Rattle.layout.specs.declared.Verdict.the-variants.{Valid, Empty, Broken}
-use Rattle.words.proofs.Choice.{pick-true, pick-false}
+use Rattle.prelude.proofs.Choice.{pick-true, pick-false}
 
 -- judge: p says whether the lines are a pair
 module _ (ma sa mb sb : ℕ) (p : Bool) (e : p ≡ paired ma sa mb sb) where

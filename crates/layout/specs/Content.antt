@@ -8,6 +8,7 @@ use Rattle.layout.specs.Slot.{slotTop, lineVerdict}
 use Rattle.layout.specs.Record.{kindOf, keyOf, valueOf}
 use Rattle.layout.specs.declared.Verdict.{Verdict}
 use Rattle.layout.specs.declared.Verdict.the-variants.{Valid, Empty, Broken}
+use Rattle.words.specs.Word.{word}
 
 -- a broken slot with the highest version on a whole line of it, an empty slot, or a valid one: a put or a remove
 pub data Content : Type 0 where
@@ -29,7 +30,7 @@ contentBy l A B (Broken top) = broken top
 unfoldable pub contentOf : (l : ℕ) → (A B : ℕ → ℕ) → Content
 contentOf l A B = contentBy l A B (lineVerdict A B)
 
--- slot s of an image: its table, one content for each slot
+-- what slot s holds, by the words of an image
 unfoldable pub content : (l : ℕ) → (ℕ → ℕ) → ℕ → Content
 content l m s = contentOf l (lineA m s) (lineB m s)
 
@@ -43,3 +44,10 @@ topOf (broken t) = t
 topOf empty = 0
 topOf (put version key value) = version
 topOf (remove version key) = version
+
+-- the table of an image: what each slot holds
+abbrev pub Table : Type 0
+Table = ℕ → Content
+
+abbrev pub tableOf : (l : ℕ) → (image : List ℕ) → Table
+tableOf l image = content l (word image)

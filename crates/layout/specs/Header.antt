@@ -3,11 +3,10 @@ use mathlib.Core.Bool.{cond, not}
 use mathlib.Core.List.{List}
 use Prim.Native.Nat.{ℕ, _+_}
 use lib.Dec.{ltb, eqb}
-use lib.ListN.{length}
 use Rattle.words.specs.Word.{word}
-use Rattle.layout.specs.Refusal.{say, orElse}
-use Rattle.layout.specs.Range.{anyOf}
-use Rattle.layout.specs.Size.{slotsOf}
+use Rattle.prelude.specs.Refusal.{say, orElse}
+use Rattle.prelude.specs.Range.{anyOf}
+use Rattle.layout.specs.Size.{slotsIn}
 
 -- "Slot 0, line A is the header: word 0 is N, word 1 is 1 (the layout), words 2 to 7 are zero"
 unfoldable pub headerWord : (l n i : ℕ) → ℕ
@@ -19,7 +18,7 @@ headerFault l n m = say (eqb (m 0) 0) 2 (say (anyOf (λ i. not (eqb (m i) (heade
 
 -- "1 when the length is not 128 × (N + 1) with N in range", then 2 and 3
 unfoldable pub imageFault : (l : ℕ) → List ℕ → ℕ
-imageFault l image = say (eqb (slotsOf (length image)) 0) 1 (headerFault l (slotsOf (length image)) (word image))
+imageFault l image = say (eqb (slotsIn image) 0) 1 (headerFault l (slotsIn image) (word image))
 
 -- "4 when B is out of range or next has not N + 1 entries": heads and next are the lengths of the two slices
 unfoldable pub indexFault : (n heads next : ℕ) → ℕ
@@ -27,4 +26,4 @@ indexFault n heads next = say (ltb heads 1) 4 (say (ltb 65536 heads) 4 (say (not
 
 -- 1, 2, 3, 4: what the lent image and the lent index are refused for
 unfoldable pub lentFault : (l : ℕ) → List ℕ → (heads next : ℕ) → ℕ
-lentFault l image heads next = orElse (imageFault l image) (indexFault (slotsOf (length image)) heads next)
+lentFault l image heads next = orElse (imageFault l image) (indexFault (slotsIn image) heads next)

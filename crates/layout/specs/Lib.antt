@@ -1,6 +1,3 @@
-pub mod Refusal
-pub mod Answer
-pub mod Range
 pub mod Size
 pub mod Line
 pub mod Slot
@@ -8,4 +5,4 @@ pub mod Record
 pub mod Content
 pub mod Header
 pub mod Fault
-pub mod Inside
+pub mod inner

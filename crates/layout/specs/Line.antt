@@ -1,7 +1,8 @@
 -- Lines. An image is given by its words, m : ℕ → ℕ. Document 01, "Lines, slots and words", "Which record counts" and "How a call writes".
 use mathlib.Core.Bool.{Bool, cond}
-use Prim.Native.Nat.{ℕ, _+_, _-_, _*_, _/_, _%_}
-use lib.Dec.{eqb}
+use Prim.Native.Nat.{ℕ, _+_, _-_, _*_, _/_, _%_, _^_}
+use lib.Dec.{eqb, leb}
+use Rattle.prelude.specs.Refusal.{say}
 
 -- "A line is 64 bytes, 8 words numbered 0 to 7": word i of line n. i counts modulo 8, so that a line speaks of its own eight words alone
 abbrev pub line : (ℕ → ℕ) → ℕ → ℕ → ℕ
@@ -36,3 +37,7 @@ firstWord stamp = 1 - closeBit stamp
 -- "the last makes the stamp version × 2 + (1 − c)"
 abbrev pub lastWord : (stamp version : ℕ) → ℕ
 lastWord stamp version = version * 2 + firstWord stamp
+
+-- "9 when the next version is 2^63 or more"
+unfoldable pub versionFault : (version : ℕ) → ℕ
+versionFault version = say (leb (2 ^ 63) version) 9 0

@@ -3,9 +3,14 @@
 -- Layout l has l key words from word 1 on, the kind word at word l + 1, and the value from word l + 2 on.
 use mathlib.Core.Bool.{cond}
 use mathlib.Core.List.{List}
-use Prim.Native.Nat.{ℕ, zero, suc, _+_, _-_, _*_, _/_, _%_, _^_}
+use Prim.Native.Nat.{ℕ, zero, suc, _+_, _-_, _*_, _/_, _%_, _^_, _≤_}
 use lib.Dec.{ltb}
-use Rattle.layout.specs.Range.{tabulate}
+use Rattle.prelude.specs.Range.{tabulate}
+
+-- the layout is 1 or 2
+pub record Layout (l : ℕ) : Type 0 where
+  pub low : 1 ≤ l
+  pub high : l ≤ 2
 
 -- the number whose words, low word first, are n words of A from word i on
 unfoldable pub keyFrom : (ℕ → ℕ) → (i n : ℕ) → ℕ

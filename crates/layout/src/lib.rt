@@ -1,8 +1,4 @@
-// Lines, slots, the header and the fields of a record, read from the words of an image.
-pub mod fields;
-pub mod header;
-pub mod line;
-pub mod slot;
+// Lines, slots, the header and the fields of a record: types, definitions and laws.
 
 // What a slot's marks and stamps say of it: valid with its version, empty, or broken with the highest version on a whole line.
 pub enum Verdict {

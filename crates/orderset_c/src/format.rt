@@ -1,10 +1,9 @@
 // Format.
 ghost use mathlib.Core.Path.{_≡_};
-ghost use Prim.Native.Nat.{ℕ};
-ghost use Rattle.orderset.specs.Format.{formatResult};
-ghost use Rattle.orderset_c.specs.Call.{formatLeft, formatCall};
+ghost use Rattle.calls.specs.Format.{formatResult};
+ghost use Rattle.exports.specs.Call.{formatLeft, formatCall};
 use orderset::Formatted;
-use orderset::format::format;
+use orderset::format;
 
 // The bytes become an empty image; the answer is the number of its slots.
 #[no_mangle]

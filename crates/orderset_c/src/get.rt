@@ -1,10 +1,9 @@
 // Get.
 ghost use mathlib.Core.Path.{_≡_};
-ghost use Prim.Native.Nat.{ℕ};
-ghost use Rattle.orderset.specs.Get.{getResult};
-ghost use Rattle.orderset_c.specs.Call.{getLeft, getCall};
+ghost use Rattle.calls.specs.Get.{getResult};
+ghost use Rattle.exports.specs.Call.{getLeft, getCall};
 use orderset::Got;
-use orderset::get::get;
+use orderset::get;
 
 // The value of the key fills the front of out; the answer is its length, or absent.
 #[no_mangle]

@@ -1,9 +1,8 @@
 // Play, with two counts and of a list.
 ghost use mathlib.Core.Path.{_≡_};
-ghost use Prim.Native.Nat.{ℕ};
 ghost use Rattle.stores.specs.Play.{playEnd, playResult, playListResult};
-use orderset::play::play;
-use orderset::play::play_list;
+use orderset::play;
+use orderset::play_list;
 use stores::Stores;
 
 // The first a stores of the first half and the first b of the second are made.

@@ -1,12 +1,11 @@
 // Recover.
 ghost use mathlib.Core.Path.{_≡_};
-ghost use Prim.Native.Nat.{ℕ};
 ghost use Rattle.recovery.specs.Recover.{recoverResult};
-ghost use Rattle.orderset_c.specs.State.{stateFrom};
-ghost use Rattle.orderset_c.specs.Call.{recoverLeft, recoverCall};
+ghost use Rattle.exports.specs.State.{stateFrom};
+ghost use Rattle.exports.specs.Call.{recoverLeft, recoverCall};
 use crate::state::keep_state;
-use recovery::Recovered;
-use recovery::recover::recover;
+use orderset::Recovered;
+use orderset::recover;
 
 // The index of the image is rebuilt; the answer is the state beside it.
 #[no_mangle]
@@ -22,7 +21,7 @@ pub extern "C" fn orderset_recover(
     let recovered = recover(image, heads, next);
     match recovered {
         Recovered::Refused(number) => number,
-        Recovered::Index(after) => {
+        Recovered::Rebuilt(after) => {
             keep_state(after, state, version);
             0
         }

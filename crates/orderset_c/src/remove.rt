@@ -1,13 +1,12 @@
 // Remove.
 ghost use mathlib.Core.Path.{_≡_};
-ghost use Prim.Native.Nat.{ℕ};
 ghost use Rattle.stores.specs.Store.{zipped};
-ghost use Rattle.orderset.specs.Change.{removeResult};
-ghost use Rattle.orderset_c.specs.State.{stateFrom};
-ghost use Rattle.orderset_c.specs.Call.{changeLeft, changeCall};
+ghost use Rattle.calls.specs.Change.{removeResult};
+ghost use Rattle.exports.specs.State.{stateFrom};
+ghost use Rattle.exports.specs.Call.{changeLeft, changeCall};
 use crate::answer::hand_out;
 use crate::state::state_from;
-use orderset::remove::remove;
+use orderset::remove;
 
 // The key is dropped; the answer is the slot taken and the version, or absent, and the stores are to be made by the caller.
 #[no_mangle]

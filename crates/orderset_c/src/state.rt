@@ -1,7 +1,6 @@
 // The state as lent numbers: first, last and live count of 32 bits, and the next version of 64.
 ghost use mathlib.Core.Path.{_≡_};
-ghost use Prim.Native.Nat.{ℕ};
-ghost use Rattle.orderset_c.specs.State.{stateFrom};
+ghost use Rattle.exports.specs.State.{stateFrom};
 use index::State;
 
 // The state in the lent numbers.

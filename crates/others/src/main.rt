@@ -2,17 +2,17 @@
 // counts 0 and 0 changes nothing; 9 in a count gives 14.
 use index::State;
 use orderset::Change;
-use orderset::format::format;
-use orderset::get::get;
-use orderset::play::play;
-use orderset::put::put;
-use recovery::Recovered;
-use recovery::recover::recover;
+use orderset::Recovered;
+use orderset::format;
+use orderset::get;
+use orderset::play;
+use orderset::put;
+use orderset::recover;
 
 // The state that recovery leaves, or an empty one.
 fn state_of(r: Recovered) -> State {
     match r {
-        Recovered::Index(s) => s,
+        Recovered::Rebuilt(s) => s,
         Recovered::Refused(_) => State {
             first: 0,
             last: 0,

@@ -2,30 +2,37 @@
 use mathlib.Core.Path.{_≡_, refl, sym, ap, _∙_, subst}
 use mathlib.Core.Bool.{Bool, true, false, cond}
 use mathlib.Core.Logic.{by-cases}
-use mathlib.Core.List.{List}
+use mathlib.Core.List.{List, []}
 use Prim.Native.Nat.{ℕ, _≤_}
 use native.Mathlib.Decide.{ℕ-discrete}
 use native.Mathlib.Omega.{arith}
 use lib.Dec.{eqb}
 use borrow.Author.Tests.{eq-eqb, ne-eqb}
 use Rattle.words.specs.Word.{word}
-use Rattle.layout.specs.Size.{slotsOf}
-use Rattle.layout.specs.Content.{Content}
-use Rattle.stores.specs.Store.{Store}
+use Rattle.layout.specs.Size.{slotsOf, slotsIn}
+use Rattle.layout.specs.Content.{Content, Table, tableOf}
+use Rattle.stores.specs.Store.{Store, played, zipped}
 use Rattle.stores.specs.Written.{recordStores}
 use Rattle.stores.specs.Cut.{bothStand}
-use Rattle.table.specs.Table.{Table, mapOf, nextVersion, valueIn}
-use Rattle.table.specs.Write.{Slot, Free, only, upd, Record}
+use Rattle.table.specs.Table.{mapOf, nextVersion, valueIn}
+use Rattle.prelude.specs.Members.{Slot}
+use Rattle.table.proofs.defs.Write.{Free, only, upd, Record}
 use Rattle.table.proofs.Write.{above-next, lose-map, write-map}
 use Rattle.index.specs.Index.{Index}
-use Rattle.orderset.specs.Change.{changed}
-use Rattle.plainmap.specs.World.{World, tableOf, slotsIn, Call, Called, toPlay, calledChange, called, playing, finished}
-use Rattle.plainmap.specs.Plain.{PlainMap, operation, plainStep, isRefusal}
-use Rattle.plainmap.specs.Sound.{Accepted}
+use Rattle.calls.specs.Change.{changed}
+use Rattle.plainmap.specs.World.{World, Call, Called, toPlay, calledChange, called, playing, finished}
+use Rattle.plainmap.specs.Plain.{PlainMap, operation, plainStep}
+use Rattle.prelude.proofs.defs.Answer.{isRefusal}
+use Rattle.plainmap.specs.Accepted.{Accepted}
 use Rattle.plainmap.specs.Claims.{slotsMap}
 use Rattle.plainmap.proofs.Struck.{made-record, TableCut, kept, done, lost, nextRecord, nextStores, struckImage, struck-length, struck-table, struck-accepted}
-use Rattle.plainmap.proofs.Runs.{worldWith, SomeSound, Wrote}
-use Rattle.plainmap.proofs.Steps.{Stepped, stored-none, stored-record}
+use Rattle.plainmap.proofs.Outcomes.{worldWith, SomeSound, Wrote}
+use Rattle.plainmap.proofs.CallSteps.{Stepped, stored-none, stored-record}
+use Rattle.stores.specs.Play.{playEnd, playListResult, listFault, places, values}
+use Rattle.prelude.specs.Range.{anyOf}
+use Rattle.prelude.specs.Refusal.{say, unlessRefused}
+use Rattle.plainmap.proofs.Playing.{list-record, playing-none}
+use Rattle.plainmap.proofs.AcceptedImages.{accepted-slots, accepted-long}
 
 -- ---- tables
 
@@ -59,6 +66,10 @@ module _ (f f′ : Table) (n s key : ℕ) (c : Content) (a b : ℕ) (slot : Slot
 -- the image with a and b of the call's stores played
 abbrev pub playedImage : (l : ℕ) → World → Call → (a b : ℕ) → List ℕ
 playedImage l w call a b = playing (w .image) (called l w call .stores) a b
+
+nothing-listed : (image : List ℕ) → playListResult image (places []) (values []) ≡ playEnd 0 (playing image [] 8 8)
+unfolding playListResult listFault places values played zipped anyOf say unlessRefused
+nothing-listed image = ap (playEnd 0) (sym (playing-none image 8 8))
 
 -- it is accepted, as long as before, and its map made the plain map's step where all stores stand
 pub record After (l : ℕ) (w : World) (call : Call) (a b : ℕ) : Type 0 where
@@ -122,7 +133,7 @@ module _ (l : ℕ) (w : World) (call : Call) (accepted : Accepted l (w .image)) 
   pub after-call : (a b : ℕ) → a ≤ 8 → b ≤ 8 → Stepped l w call → After l w call a b
   unfolding playing
   after-call a b p q (stored-none none sound same) =
-      let e : playedImage l w call a b ≡ w .image = ap (λ (ss : List Store). playing (w .image) ss a b) none in
+      let e : playedImage l w call a b ≡ w .image = ap (λ (ss : List Store). playing (w .image) ss a b) none ∙ playing-none (w .image) a b in
       record {
         accepted = subst (Accepted l) (sym e) accepted;
         slots = ap (λ (t : List ℕ). slotsIn t) e;
@@ -142,7 +153,7 @@ module _ (l : ℕ) (w : World) (call : Call) (accepted : Accepted l (w .image)) 
   pub after-sound : Stepped l w call → SomeSound l (finished l w call)
   unfolding playing finished calledChange changed
   after-sound (stored-none none sound same) =
-      subst (λ (t : List ℕ). SomeSound l (worldWith t (called l w call))) (sym (ap (λ (ss : List Store). playing (w .image) ss 8 8) none)) sound
+      subst (λ (t : List ℕ). SomeSound l (worldWith t (called l w call))) (sym (ap (λ (ss : List Store). playing (w .image) ss 8 8) none ∙ playing-none (w .image) 8 8)) sound
   after-sound (stored-record key kind value i alive d wr step) =
       let p : 8 ≤ 8 = omega arith in
       subst (λ (t : List ℕ). SomeSound l (worldWith t (called l w call))) (sym (as-struck 8 8 key kind value i alive p p d wr))
@@ -150,3 +161,14 @@ module _ (l : ℕ) (w : World) (call : Call) (accepted : Accepted l (w .image)) 
       (wr .sound _ (same-slots 8 8 key kind value i alive p p d wr)
       (all-done _ _ (slotsIn (w .image)) (w .state .first) key _ 8 8 (wr .slot) (wr .free) (made-record kind _ key value)
       (table-is 8 8 key kind value i alive p p d wr) refl refl)))
+
+  -- THE PLAY OF A LIST of a call's stores leaves the image that play with 8 and 8 leaves
+  pub after-list : Stepped l w call
+      → playListResult (w .image) (places (called l w call .stores)) (values (called l w call .stores)) ≡ playEnd 0 (finished l w call .image)
+  unfolding finished
+  after-list (stored-none none sound same) =
+      ap (λ (ss : List Store). playListResult (w .image) (places ss) (values ss)) none
+      ∙ nothing-listed (w .image) ∙ ap (λ (ss : List Store). playEnd 0 (playing (w .image) ss 8 8)) (sym none)
+  after-list (stored-record key kind value i alive d wr step) =
+      list-record l (w .image) _ (w .state .first) key kind value _ (accepted-slots l (w .image) accepted)
+      (omega (arith, wr .slot, accepted-long l (w .image) accepted .size)) _ (stores-are key kind value i alive d)

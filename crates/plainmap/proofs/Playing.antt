@@ -1,26 +1,25 @@
 -- Play of a record's stores: what a cut leaves of them. Assumes nothing.
-use mathlib.Core.Path.{_≡_, refl, sym, ap, ap₂, _∙_, subst}
+use mathlib.Core.Path.{_≡_, refl, sym, ap, _∙_}
 use mathlib.Core.Bool.{false, cond}
-use mathlib.Core.List.{List, [], _∷_, _++_}
-use Prim.Native.Nat.{ℕ, _+_, _*_, _≤_, _<_}
+use mathlib.Core.List.{List, [], _∷_}
+use Prim.Native.Nat.{ℕ, _+_, _*_, _≤_, _<_, _/_}
 use native.Mathlib.Omega.{arith}
 use lib.Dec.{eqb}
-use lib.ListN.{length, getD, take, drop, List·getD-append}
-use lib.Seq.{take-nil, take-at, drop-at, getD-append-add}
+use lib.ListN.{length, getD, List·getD-append}
+use lib.Seq.{getD-append-add}
 use borrow.Author.Tests.{eq-eqb, ne-eqb}
-use Rattle.words.proofs.Choice.{pick-true, pick-false}
-use Rattle.layout.specs.Range.{tabulate}
-use Rattle.layout.specs.Size.{slotsOf}
-use Rattle.layout.specs.Line.{line}
-use Rattle.layout.proofs.Any.{any-clear}
-use Rattle.layout.proofs.Refusals.{taken-leaves, alike}
-use Rattle.layout.proofs.Tabulate.{tabulate-length, tabulate-get}
+use Rattle.prelude.proofs.Choice.{pick-true, pick-false}
+use Rattle.prelude.specs.Range.{tabulate}
+use Rattle.layout.specs.Size.{slotsOf, slotsIn}
+use Rattle.prelude.proofs.Any.{any-clear}
+use Rattle.prelude.proofs.Refusals.{taken-leaves, alike, refused-keeps}
+use Rattle.prelude.proofs.Tabulate.{tabulate-length, tabulate-get}
 use Rattle.stores.specs.Store.{Store, zipped, played, standing}
-use Rattle.stores.specs.Written.{newA, newB, run, lineStores, recordPlaces, recordStores}
-use Rattle.stores.specs.Play.{halfFault, playFault, counted, playResult, places, values}
-use Rattle.stores.proofs.Line.{stores-length}
+use Rattle.stores.specs.Written.{run, lineStores, recordStores}
+use Rattle.stores.specs.inner.Written.{recordPlaces}
+use Rattle.stores.specs.Play.{halfFault, playFault, counted, playResult, places, values, playEnd, playListResult}
 use Rattle.stores.proofs.Plays.{half-order, halves-fine, play-halves}
-use Rattle.stores.proofs.Halves.{AllOn, line-on, counted-stands}
+use Rattle.stores.proofs.Halves.{play-stands, list-plays, playable}
 use Rattle.plainmap.specs.World.{playing}
 
 -- the stores are their word numbers and values
@@ -48,6 +47,10 @@ second-line s i h =
     ap (λ (x : ℕ). getD (recordPlaces s) (x + i) 0) (sym (tabulate-length (λ j. 8 * (2 * s) + j) 0 8))
     ∙ getD-append-add (tabulate (λ j. 8 * (2 * s) + j) 0 8) _ i 0
     ∙ tabulate-get (λ j. 8 * (2 * s + 1) + j) 0 8 i h ∙ omega arith
+
+places-length : (s : ℕ) → length (recordPlaces s) ≡ 16
+unfolding recordPlaces tabulate
+places-length s = refl
 
 -- words 0 to 7 of line n inside the image, in order
 half-passes : (len : ℕ) (at : List ℕ) (k n : ℕ) → 64 * (n + 1) ≤ len → ((i : ℕ) → i < 8 → getD at (k + i) 0 ≡ 8 * n + i)
@@ -78,39 +81,50 @@ record-passes l len m s key kind value version a b ne h p q =
 -- the counted stores, where play does not refuse them
 playing-counted : (image : List ℕ) (ss : List Store) (a b : ℕ) → playFault (length image) (places ss) a b ≡ 0
     → playing image ss a b ≡ played (counted a b ss) image
-unfolding playing playResult counted played
-playing-counted image [] a b e = ap₂ (λ (t u : List Store). played (t ++ u) image) (sym (take-nil a)) (sym (take-nil b))
-playing-counted image (s ∷ ss) a b e =
-    taken-leaves _ image (playFault (length image) (places (s ∷ ss)) a b) e
-    ∙ ap (λ (t : List Store). played (counted a b t) image) (zipped-stores (s ∷ ss))
+unfolding playing playResult
+playing-counted image ss a b e =
+    taken-leaves _ image (playFault (length image) (places ss) a b) e ∙ ap (λ (t : List Store). played (counted a b t) image) (zipped-stores ss)
 
-module _ (l : ℕ) (m : ℕ → ℕ) (s key kind : ℕ) (value : List ℕ) (version : ℕ) where
-  -- the two halves of a record's stores
-  abbrev one : List Store
-  one = lineStores (2 * s) (newA l (line m (2 * s) 7) key kind value version)
-
-  abbrev two : List Store
-  two = lineStores (2 * s + 1) (newB l (line m (2 * s + 1) 7) value version)
-
-  first-on : AllOn (2 * s) (take 8 (recordStores l m s key kind value version))
-  unfolding recordStores
-  first-on = subst (AllOn (2 * s)) (sym (take-at one two 8 (stores-length (2 * s) _))) (line-on (2 * s) _)
-
-  second-on : AllOn (2 * s + 1) (drop 8 (recordStores l m s key kind value version))
-  unfolding recordStores
-  second-on = subst (AllOn (2 * s + 1)) (sym (drop-at one two 8 (stores-length (2 * s) _))) (line-on (2 * s + 1) _)
+-- no stores: play refuses them, since they are not two lines
+pub playing-none : (image : List ℕ) (a b : ℕ) → playing image [] a b ≡ image
+unfolding playing playResult places
+playing-none image a b =
+    refused-keeps _ image (playFault (length image) [] a b)
+    (λ z. let h = playable (length image) [] a b z .first .order 1 (omega arith) in omega (arith, h))
 
 -- PLAY OF A RECORD'S STORES with two counts is what a cut with these counts leaves
 pub playing-record : (l : ℕ) (image : List ℕ) (m : ℕ → ℕ) (s key kind : ℕ) (value : List ℕ) (version a b : ℕ) (counts : ℕ → ℕ)
-    → (slotsOf (length image) ≡ 0 → ⊥) → 128 * (s + 1) ≤ length image → a ≤ 8 → b ≤ 8 → counts (2 * s) ≡ a → counts (2 * s + 1) ≡ b
+    → (slotsIn image ≡ 0 → ⊥) → 128 * (s + 1) ≤ length image → a ≤ 8 → b ≤ 8 → counts (2 * s) ≡ a → counts (2 * s + 1) ≡ b
     → playing image (recordStores l m s key kind value version) a b ≡
     played (standing counts (recordStores l m s key kind value version)) image
 playing-record l image m s key kind value version a b counts ne h p q e f =
-    playing-counted image (recordStores l m s key kind value version) a b
-    (record-passes l (length image) m s key kind value version a b ne h p q)
+    playing-counted image ss a b passes
     ∙ ap (λ (t : List Store). played t image)
-    (counted-stands (recordStores l m s key kind value version) (2 * s) (2 * s + 1) a b counts p (λ z. omega arith)
-    (first-on l m s key kind value version) (second-on l m s key kind value version) e f)
+    (ap (counted a b) (sym (zipped-stores ss))
+    ∙ play-stands (length image) (places ss) (values ss) a b counts (ap length (record-places l m s key kind value version) ∙ places-length s) passes
+    (ap counts (line-of 0 (2 * s) (first-line s 0 (omega arith))) ∙ e) (ap counts (line-of 8 (2 * s + 1) (second-line s 0 (omega arith))) ∙ f)
+    ∙ ap (standing counts) (zipped-stores ss))
+  where
+    ss : List Store
+    ss = recordStores l m s key kind value version
+
+    passes : playFault (length image) (places ss) a b ≡ 0
+    passes = record-passes l (length image) m s key kind value version a b ne h p q
+
+    line-of : (k n : ℕ) → getD (recordPlaces s) k 0 ≡ 8 * n + 0 → getD (places ss) k 0 / 8 ≡ n
+    line-of k n d = omega (arith, ap (λ (at : List ℕ). getD at k 0) (record-places l m s key kind value version), d)
+
+-- THE PLAY OF A LIST of a record's stores leaves what play with 8 and 8 leaves
+pub list-record : (l : ℕ) (image : List ℕ) (m : ℕ → ℕ) (s key kind : ℕ) (value : List ℕ) (version : ℕ)
+    → (slotsIn image ≡ 0 → ⊥) → 128 * (s + 1) ≤ length image → (ss : List Store) → ss ≡ recordStores l m s key kind value version
+    → playListResult image (places ss) (values ss) ≡ playEnd 0 (playing image ss 8 8)
+unfolding playResult playing recordStores lineStores run places values
+list-record l image m s key kind value version ne h ss e =
+    let z = record-passes l (length image) m s key kind value version 8 8 ne h (omega arith) (omega arith) in
+    ap (λ (t : List Store). playListResult image (places t) (values t)) e
+    ∙ list-plays image (places (recordStores l m s key kind value version)) (values (recordStores l m s key kind value version)) refl refl z
+    ∙ ap (λ (k : ℕ). playEnd k (playing image (recordStores l m s key kind value version) 8 8)) z
+    ∙ ap (λ (t : List Store). playEnd 0 (playing image t 8 8)) (sym e)
 
 -- ---- counts
 

@@ -1,6 +1,6 @@
 -- The refusals of the calls where the image is accepted and the index is its own: those that the rules leave. Assumes nothing.
 use mathlib.Core.Path.{_≡_, refl, sym, ap, ap₂, _∙_}
-use mathlib.Core.Bool.{Bool, true, false, cond, not, _&&_}
+use mathlib.Core.Bool.{Bool, true, false, cond, not, _&&_, true≢false}
 use mathlib.Core.Logic.{_↔_}
 use mathlib.Core.Option.{Option, some, none}
 use mathlib.Core.List.{List}
@@ -9,29 +9,35 @@ use native.Mathlib.Omega.{arith}
 use lib.Dec.{eqb, ltb, leb}
 use lib.ListN.{length}
 use borrow.Author.Tests.{eq-eqb, ne-eqb, le-ltb, ltb-false, le-leb, leb-true}
-use Rattle.words.proofs.Choice.{pick-true, pick-false, true-not-false}
-use Rattle.layout.specs.Refusal.{say, orElse}
+use Rattle.prelude.proofs.Choice.{pick-true, pick-false, both-left, both-right}
+use Rattle.prelude.specs.Refusal.{say, orElse}
 use Rattle.layout.specs.Record.{limit}
 use Rattle.layout.specs.Header.{lentFault}
-use Rattle.layout.proofs.Refusals.{say-false, orElse-later}
-use Rattle.table.specs.Table.{Table, decider, valueIn, mapOf, live, liveCount}
-use Rattle.table.specs.Write.{Slot, isHeld}
-use Rattle.table.proofs.Count.{count-more}
+use Rattle.prelude.proofs.Refusals.{say-false, orElse-later}
+use Rattle.layout.specs.Content.{Table, tableOf}
+use Rattle.table.specs.Table.{decider, valueIn, mapOf, live, liveCount}
+use Rattle.prelude.specs.Members.{Slot}
+use Rattle.table.specs.Write.{isHeld}
+use Rattle.prelude.proofs.Count.{count-more}
 use Rattle.table.proofs.Held.{Held, held, unheld, held-or, some-none}
 use Rattle.index.specs.Index.{Index, Chain, reuse}
 use Rattle.index.specs.Linked.{Sits}
 use Rattle.index.specs.Walk.{search, chainFault}
-use Rattle.index.specs.Change.{roomFault, versionFault, reuseFault}
+use Rattle.index.specs.Change.{roomFault, reuseFault}
+use Rattle.layout.specs.Line.{versionFault}
 use Rattle.index.specs.declared.State.{State}
 use Rattle.index.specs.declared.Found.{Found}
 use Rattle.index.proofs.Sits.{sits-first, sits-last, sits-second}
-use Rattle.orderset.specs.Change.{putChecks, putFault, heldChecks, removeChecks, removeFault}
-use Rattle.orderset.specs.Get.{lengthChecks, getChecks, getFault}
-use Rattle.plainmap.specs.World.{World, tableOf, slotsIn, put, remove, get}
+use Rattle.calls.specs.Change.{putLaterFault, putFault, heldFault, removeLaterFault, removeFault}
+use Rattle.calls.specs.Get.{lengthFault, getLaterFault, getFault}
+use Rattle.calls.proofs.Lookups.{put-after}
+use Rattle.plainmap.specs.World.{World, put, remove, get}
+use Rattle.layout.specs.Size.{slotsIn}
 use Rattle.plainmap.specs.Plain.{sizeOf, ruleFault}
-use Rattle.plainmap.specs.Sound.{Accepted, Starts, starts, Sound}
+use Rattle.plainmap.specs.Accepted.{Accepted}
+use Rattle.plainmap.specs.Sound.{Starts, starts, Sound}
 use Rattle.plainmap.specs.Claims.{slotsMap, dueFault}
-use Rattle.plainmap.proofs.Accepted.{accepted-right}
+use Rattle.plainmap.proofs.AcceptedImages.{accepted-right}
 use Rattle.plainmap.proofs.Sees.{Sees, sees-held, sees-absent, sound-sees}
 use Rattle.plainmap.proofs.Values.{Keeps, live-keeps}
 
@@ -87,8 +93,8 @@ module _ (f : Table) (n key : ℕ) (chain : List ℕ) where
   sees-whole found (sees-absent p m) = refl
 
   put-checks : (next : List ℕ) (s : State) → reuseFault next n (s .first) (s .last) ≡ 0 → (found : Found) → Sees f n key chain found
-      → putChecks found next n s ≡ say (not (isHeld (mapOf f n key)) && leb n (s .live + 1)) 12 (versionFault (s .version))
-  unfolding putChecks chainFault roomFault orElse say isHeld
+      → putLaterFault found next n s ≡ say (not (isHeld (mapOf f n key)) && leb n (s .live + 1)) 12 (versionFault (s .version))
+  unfolding putLaterFault chainFault roomFault orElse say isHeld
   put-checks next s z found (sees-held xs ys v d p i q e m u) =
       or-none (versionFault (s .version)) _ z
       ∙ sym (ap (λ (o : Option (List ℕ)). say (not (isHeld o) && leb n (s .live + 1)) 12 (versionFault (s .version))) m)
@@ -97,8 +103,8 @@ module _ (f : Table) (n key : ℕ) (chain : List ℕ) where
       ∙ sym (ap (λ (o : Option (List ℕ)). say (not (isHeld o) && leb n (s .live + 1)) 12 (versionFault (s .version))) m)
 
   remove-checks : (next : List ℕ) (s : State) → reuseFault next n (s .first) (s .last) ≡ 0 → s .live ≡ liveCount f n → (found : Found)
-      → Sees f n key chain found → removeChecks found next n s ≡ cond (isHeld (mapOf f n key)) (versionFault (s .version)) 0
-  unfolding removeChecks heldChecks isHeld
+      → Sees f n key chain found → removeLaterFault found next n s ≡ cond (isHeld (mapOf f n key)) (versionFault (s .version)) 0
+  unfolding removeLaterFault heldFault isHeld
   remove-checks next s z c found (sees-held xs ys v d p i q e m u) =
       or-none (versionFault (s .version)) _
       (orElse-later _ _ z ∙ say-false _ 11 0 (ne-eqb (s .live) 0 (λ y. omega (arith, held-counted f n key v m, c))))
@@ -107,8 +113,8 @@ module _ (f : Table) (n key : ℕ) (chain : List ℕ) where
 
   get-checks : (l : ℕ) (image : List ℕ) (size : ℕ)
       → ((t : ℕ) (v : List ℕ) → Slot n t → live f n t ≡ true → valueIn (f t) ≡ some v → Keeps l image t v)
-      → (found : Found) → Sees f n key chain found → getChecks l image size found ≡ say (ltb size (sizeOf (mapOf f n key))) 13 0
-  unfolding getChecks lengthChecks sizeOf
+      → (found : Found) → Sees f n key chain found → getLaterFault l image size found ≡ say (ltb size (sizeOf (mapOf f n key))) 13 0
+  unfolding getLaterFault lengthFault sizeOf
   get-checks l image size keeps found (sees-held xs ys v d p i q e m u) =
       let k = keeps _ v i e u in
       say-false _ 6 _ (le-ltb (limit l) _ (omega (arith, k .size, k .fits)))
@@ -127,14 +133,10 @@ twelve false false v e = absurd (go (leb (2 ^ 63) v) e)
     go true q = omega arith
     go false q = omega arith
 
-both : (a b : Bool) → a && b ≡ true → (a ≡ true) × (b ≡ true)
-both true b e = (refl, e)
-both false b e = absurd (true-not-false (sym e))
-
 not-held : (o : Option (List ℕ)) → not (isHeld o) ≡ true → o ≡ none
 unfolding isHeld
 not-held none e = refl
-not-held (some v) e = absurd (true-not-false (sym e))
+not-held (some v) e = absurd (true≢false (sym e))
 
 -- the row of put, whose map has o for the key: 12 exactly for a value within the limit, a key that is not held and one slot left
 twelve-row : (limit n count version size : ℕ) (o : Option (List ℕ)) → count < n
@@ -144,8 +146,7 @@ unfolding say isHeld
 twelve-row limit n count version size o room = (
   λ e.
       let a = twelve _ _ _ e in
-      let b = both (not (isHeld o)) _ (a .1) in
-      (ltb-false limit size (a .0), not-held o (b .0), omega (arith, leb-true n (count + 1) (b .1))),
+      (ltb-false limit size (a .0), not-held o (both-left (not (isHeld o)) _ (a .1)), omega (arith, leb-true n (count + 1) (both-right (not (isHeld o)) _ (a .1)))),
   λ h.
       let r : n ≤ count + 1 = omega (arith, h .2) in
       rw (le-ltb limit size (h .0), h .1, le-leb n (count + 1) r),
@@ -169,9 +170,9 @@ module _ (l : ℕ) (w : World) (chains : Chain → List ℕ) (a : Accepted l (w 
   -- PUT is refused where the rules refuse it
   pub put-fault : (key : ℕ) (value : List ℕ)
       → putFault l (w .image) (w .heads) (w .next) (w .state) key (length value) ≡ dueFault l w (slotsMap l (w .image)) (put key value)
-  unfolding putFault ruleFault
+  unfolding ruleFault
   put-fault key value =
-      orElse-later _ _ sound-lent
+      put-after l (w .image) (w .heads) (w .next) (w .state) key (length value) sound-lent
       ∙ ap (say (ltb (limit l) (length value)) 10)
       (put-checks (tableOf l (w .image)) (slotsIn (w .image)) key _ (w .next) (w .state) sound-reuse _ (sound-sees l w chains s key)
       ∙ ap₂ (λ (c v : ℕ). say (not (isHeld (slotsMap l (w .image) key)) && leb (slotsIn (w .image)) (c + 1)) 12 (versionFault v)) (s .live-count)

@@ -1,19 +1,24 @@
 -- The answers of put and remove in a sound world: refused exactly where the rules refuse, and otherwise as the plain map answers. Assumes nothing.
 use mathlib.Core.Path.{_≡_, refl, sym, ap, _∙_}
-use mathlib.Core.Bool.{true}
-use mathlib.Core.Option.{none}
+use mathlib.Core.Bool.{true, Bool, false, cond, not}
+use mathlib.Core.Option.{none, Option, some}
 use mathlib.Core.List.{List, [], _∷_}
 use Prim.Native.Nat.{ℕ}
 use native.Mathlib.Omega.{arith}
-use Rattle.layout.specs.Answer.{Answer, gives, absent, refused}
+use Rattle.prelude.specs.Answer.{Answer, gives, absent, refused, refusalIn, refuses}
+use Rattle.prelude.proofs.defs.Answer.{isRefusal}
 use Rattle.stores.specs.Store.{Store}
 use Rattle.table.specs.Table.{nextVersion}
 use Rattle.table.specs.Write.{isHeld}
-use Rattle.orderset.specs.Change.{ChangeResult, changed, unchanged}
-use Rattle.plainmap.specs.World.{World, tableOf, slotsIn, Call, outOf, Called, toPlay, calledChange, called}
-use Rattle.plainmap.specs.Plain.{plainAnswer, plainOut, refusalIn}
+use Rattle.calls.specs.Change.{ChangeResult, changed, unchanged}
+use Rattle.plainmap.specs.World.{World, Call, outOf, Called, toPlay, calledChange, called, put, remove, get}
+use Rattle.layout.specs.Size.{slotsIn}
+use Rattle.layout.specs.Content.{tableOf}
+use Rattle.plainmap.specs.Plain.{plainAnswer, plainOut, PlainMap, lengthAnswer}
 use Rattle.plainmap.specs.Claims.{slotsMap, dueFault, Untouched, Right}
-use Rattle.plainmap.proofs.Runs.{Ran, ran-refused, ran-absent, ran-wrote}
+use Rattle.plainmap.proofs.Outcomes.{Ran, ran-refused, ran-absent, ran-wrote}
+use lib.Dec.{eqb}
+use borrow.Author.Tests.{eqb-true, eqb-false}
 
 pub gives-absent : (given : List ℕ) → gives given ≡ absent → ⊥
 gives-absent given e = let z : _≡_ {A = ℕ} 0 1 = cc in omega arith
@@ -71,3 +76,34 @@ module _
         refused-still = λ x. absurd (x (sym due ∙ z));
         absent-still = λ x. absurd (gives-absent _ (sym (ap (λ (c : Called). c .answer) d) ∙ x));
       }
+
+-- ---- the answer is a refusal exactly where the rules refuse
+
+refused-is : (answer : Answer) → (refusalIn answer ≡ 0 → ⊥) → isRefusal answer ≡ true
+unfolding refusalIn isRefusal
+refused-is (gives values) ne = absurd (ne refl)
+refused-is absent ne = absurd (ne refl)
+refused-is (refused number) ne = refl
+
+plain-given : (slot version : ℕ) (m : PlainMap) (call : Call) → isRefusal (plainAnswer slot version m call) ≡ false
+unfolding plainAnswer isRefusal lengthAnswer
+plain-given slot version m (put key value) = refl
+plain-given slot version m (remove key) = go (isHeld (m key))
+  where
+    go : (b : Bool) → isRefusal (cond b (gives (slot ∷ version ∷ [])) absent) ≡ false
+    go true = refl
+    go false = refl
+plain-given slot version m (get key out) = go (m key)
+  where
+    go : (o : Option (List ℕ)) → isRefusal (lengthAnswer o) ≡ false
+    go none = refl
+    go (some value) = refl
+
+pub right-refuses : (l : ℕ) (w : World) (m : PlainMap) (call : Call) → Right l w m call
+    → isRefusal (called l w call .answer) ≡ refuses (dueFault l w m call)
+unfolding refuses
+right-refuses l w m call r = go (eqb (dueFault l w m call) 0) refl
+  where
+    go : (b : Bool) → eqb (dueFault l w m call) 0 ≡ b → isRefusal (called l w call .answer) ≡ not b
+    go true e = ap isRefusal (r .answer (eqb-true _ 0 e)) ∙ plain-given _ _ m call
+    go false e = refused-is (called l w call .answer) (λ z. eqb-false _ 0 e (sym (r .refusal) ∙ z))

@@ -7,27 +7,28 @@ use mathlib.Core.Logic.{_⊎_, inl, inr}
 use Prim.Native.Nat.{ℕ}
 use native.Mathlib.Omega.{arith}
 use lib.ListN.{length}
-use Rattle.words.proofs.Choice.{pick-true, pick-false, split}
-use Rattle.sorting.specs.Members.{In}
-use Rattle.table.specs.Table.{Table, keyIn, decider, valueIn, valueAt, mapOf, live}
-use Rattle.table.specs.Write.{Slot}
-use Rattle.table.specs.Reuse.{Spares}
-use Rattle.table.specs.Chains.{Chains}
-use Rattle.table.proofs.Content.{value-at}
+use Rattle.prelude.proofs.Choice.{pick-true, pick-false, split}
+use Rattle.prelude.specs.Members.{In, Slot}
+use Rattle.layout.specs.Content.{Table, tableOf}
+use Rattle.table.specs.Table.{keyIn, decider, valueIn, valueAt, mapOf, live}
+use Rattle.table.proofs.defs.Reuse.{Spares}
+use Rattle.table.proofs.defs.Chains.{Chains}
+use Rattle.table.proofs.OneSlot.{value-at}
 use Rattle.table.proofs.Map.{Live, lives, live-is}
 use Rattle.index.specs.Index.{Index, Chain, reuse, head, headOf}
 use Rattle.index.specs.Linked.{endOf, Sits}
 use Rattle.index.specs.Walk.{slotKey, search}
-use Rattle.index.specs.Sought.{sought}
+use Rattle.index.proofs.defs.SearchIn.{searchIn}
 use Rattle.index.specs.declared.Found.{Found}
-use Rattle.index.specs.declared.Found.the-variants.{At, Absent, Broken}
+use Rattle.index.specs.declared.Found.the-variants.{At, Missing, BadChain}
 use Rattle.index.proofs.Owners.{apart-heads, reuse-apart}
 use Rattle.index.proofs.Sits.{sits-in, sits-has, sits-once}
 use Rattle.index.proofs.Searches.{good-search, sought-hit, sought-missed, never-broken}
 use Rattle.recovery.specs.Recover.{placeOf}
 use Rattle.recovery.specs.Represents.{Answers}
 use Rattle.recovery.proofs.Answers.{live-slot-key, chain-at, chain-absent, sought-answers}
-use Rattle.plainmap.specs.World.{World, tableOf, slotsIn}
+use Rattle.plainmap.specs.World.{World}
+use Rattle.layout.specs.Size.{slotsIn}
 use Rattle.plainmap.specs.Sound.{Starts, starts, Sound}
 
 -- ---- a slot's chain says whether it is live
@@ -80,7 +81,7 @@ module _ (f : Table) (n b : ℕ) (i : Index) (chains : Chain → List ℕ) (g : 
       record {
         slot = λ h t m. sits-slot (head h) t m .0;
         alive = λ h t m. head-placed f n b t h (sits-slot (head h) t m .1) .0;
-        homed = λ h t m. head-placed f n b t h (sits-slot (head h) t m .1) .1;
+        in-head = λ h t m. head-placed f n b t h (sits-slot (head h) t m .1) .1;
         all = λ t j e. in-place t (head (headOf (keyIn (f t)) b)) j (place-live f n b t e);
         once = λ h. sits-once _ _ _ _ _ g (head h);
       }
@@ -92,7 +93,7 @@ pub data Sees (f : Table) (n key : ℕ) (chain : List ℕ) : Found → Type 0 wh
   sees-held : {old prev compared : ℕ} (xs ys v : List ℕ) → chain ≡ xs ++ old ∷ ys → prev ≡ endOf 0 xs → Slot n old
       → decider f n key ≡ old → live f n old ≡ true → mapOf f n key ≡ some v → valueIn (f old) ≡ some v
       → Sees f n key chain (At old prev compared)
-  sees-absent : {prev compared : ℕ} → prev ≡ endOf 0 chain → mapOf f n key ≡ none → Sees f n key chain (Absent prev compared)
+  sees-absent : {prev compared : ℕ} → prev ≡ endOf 0 chain → mapOf f n key ≡ none → Sees f n key chain (Missing prev compared)
 
 live-some : (f : Table) (n s : ℕ) → Live f n s → (v : List ℕ) × (valueIn (f s) ≡ some v)
 unfolding valueIn
@@ -101,7 +102,7 @@ live-some f n s (lives w k v e d) = (v, ap valueIn e)
 module _
     (l : ℕ) (image : List ℕ) (f : Table) (n b key : ℕ) (keys : (s : ℕ) → live f n s ≡ true → keyIn (f s) ≡ slotKey l image s)
     (ch : ℕ → List ℕ) (cs : Chains f n (λ k. headOf k b) ch) where
-  pub sought-sees : (found : Found) → found ≡ sought (slotKey l image) key 0 0 (ch (headOf key b)) → Sees f n key (ch (headOf key b)) found
+  pub sought-sees : (found : Found) → found ≡ searchIn (slotKey l image) key 0 0 (ch (headOf key b)) → Sees f n key (ch (headOf key b)) found
   unfolding mapOf
   sought-sees (At old prev compared) e =
       let h = sought-hit _ _ _ _ _ _ (sym e) in
@@ -109,10 +110,10 @@ module _
       let v = live-some f n old (live-is f n old (a .1)) in
       sees-held (h .before) (h .behind) (v .0) (h .parts) (h .prev-is) (a .2) (a .0) (a .1)
       (ap (valueAt f) (a .0) ∙ value-at f n old (a .2) ∙ v .1) (v .1)
-  sought-sees (Absent prev compared) e =
+  sought-sees (Missing prev compared) e =
       let h = sought-missed _ _ _ _ _ (sym e) in
       sees-absent (h .prev-is) (chain-absent l image f n b key keys ch cs prev compared h)
-  sought-sees Broken e = absurd (never-broken _ _ _ (sym e))
+  sought-sees BadChain e = absurd (never-broken _ _ _ (sym e))
 
 -- ---- in a sound world
 
@@ -129,10 +130,10 @@ module _ (l : ℕ) (w : World) (chains : Chain → List ℕ) (s : Sound l w chai
   sound-chains = sits-chains _ _ _ _ _ (s .index)
 
   pub sound-search : (key : ℕ)
-      → search l (w .image) (w .heads) (w .next) key ≡ sought (slotKey l (w .image)) key 0 0 (chains (head (headOf key (length (w .heads)))))
+      → search l (w .image) (w .heads) (w .next) key ≡ searchIn (slotKey l (w .image)) key 0 0 (chains (head (headOf key (length (w .heads)))))
   sound-search key =
       let t = starts-in (chains reuse) (s .some-spare) in
-      good-search l (w .image) _ _ chains key (t .0) (s .index .good .woven) (s .index .slots) (t .1)
+      good-search l (w .image) _ _ chains key (t .0) (s .index .good .disjoint) (s .index .slots) (t .1)
 
   -- THE SEARCH
   pub sound-sees : (key : ℕ)

@@ -1,32 +1,32 @@
 -- Sound indexes: from the parts, and from recovery. Assumes nothing.
 use mathlib.Core.Path.{_≡_, refl, sym, ap, ap₂, _∙_, subst}
-use mathlib.Core.Bool.{not}
 use mathlib.Core.List.{List, _∷_}
 use Prim.Native.Nat.{ℕ, _+_, _≤_, _<_}
 use native.Mathlib.Omega.{arith}
-use lib.Dec.{eqb, ltb}
 use lib.ListN.{length}
-use borrow.Author.Tests.{eqb-true, ltb-false, not-false}
 use Rattle.layout.specs.Header.{indexFault}
-use Rattle.layout.proofs.Refusals.{say-zero}
-use Rattle.sorting.specs.Members.{In}
-use Rattle.table.specs.Table.{Table, live, liveCount, nextVersion}
-use Rattle.table.specs.Write.{Distinct}
+use Rattle.prelude.specs.Members.{In}
+use Rattle.layout.specs.Content.{Table, tableOf}
+use Rattle.table.specs.Table.{live, liveCount, nextVersion}
+use Rattle.table.proofs.defs.Write.{Distinct}
 use Rattle.table.specs.Reuse.{HiddenFirst}
-use Rattle.table.proofs.Count.{Gap, gap}
+use Rattle.prelude.proofs.Count.{Gap, gap}
 use Rattle.table.proofs.LiveCount.{room-spare}
 use Rattle.table.proofs.Distinct.{distinct-apart}
 use Rattle.table.proofs.Recovery.{recovery-hidden}
 use Rattle.index.specs.Index.{Index, Chain, reuse, stateOf}
 use Rattle.index.specs.Linked.{Sits}
 use Rattle.index.proofs.Sits.{sits-has}
-use Rattle.recovery.specs.Recover.{Result, chainsOf, placeOf, recoveredIndex, recoveredState, recovered, stateIn}
+use Rattle.recovery.specs.Recover.{Result, chainsOf, placeOf, recoveredIndex, recoveredState, recovered}
 use Rattle.recovery.proofs.Represents.{recovered-sits}
 use Rattle.recovery.proofs.Lent.{recovery-taken}
-use Rattle.plainmap.specs.World.{tableOf, slotsIn, worldAfter, valuesOf, recoveredWorld}
-use Rattle.plainmap.specs.Sound.{Accepted, RightSize, Starts, starts, Sound}
+use Rattle.layout.specs.Size.{slotsIn}
+use Rattle.plainmap.specs.World.{worldAfter, recoveredWorld}
+use Rattle.plainmap.specs.Accepted.{Accepted, RightSize}
+use Rattle.plainmap.specs.Sound.{Starts, starts, Sound}
 use Rattle.plainmap.proofs.Sees.{place-idle}
-use Rattle.plainmap.proofs.Accepted.{accepted-distinct, accepted-room, accepted-recovers}
+use Rattle.plainmap.proofs.AcceptedImages.{accepted-distinct, accepted-room, accepted-recovers}
+use Rattle.layout.proofs.Lents.{index-sized}
 
 -- ---- a spare slot stands in reuse
 
@@ -62,29 +62,20 @@ sound-parts l image i alive version n b f chains en ef size g hf room ea ev =
 recovered-parts : (l : ℕ) (image : List ℕ) (b : ℕ) → 1 ≤ b → Distinct (tableOf l image) (slotsIn image) → liveCount (tableOf l image) (slotsIn image) < slotsIn image
     → indexFault (slotsIn image) b (slotsIn image + 1) ≡ 0
     → Sound l (worldAfter image (recovered (tableOf l image) (slotsIn image) b)) (chainsOf (tableOf l image) (slotsIn image) b)
-unfolding worldAfter recovered valuesOf stateIn recoveredState chainsOf
+unfolding worldAfter recovered recoveredState chainsOf
 recovered-parts l image b few d room size =
     sound-parts l image (recoveredIndex (tableOf l image) (slotsIn image) b) (liveCount (tableOf l image) (slotsIn image))
     (nextVersion (tableOf l image) (slotsIn image)) (slotsIn image) b (tableOf l image)
     (chainsOf (tableOf l image) (slotsIn image) b) refl refl size (recovered-sits (tableOf l image) (slotsIn image) b few)
     (recovery-hidden (tableOf l image) (slotsIn image) (distinct-apart (tableOf l image) (slotsIn image) d)) room refl refl
 
--- an index of the right size has an entry for each slot, and one more
-next-size : (n heads next : ℕ) → indexFault n heads next ≡ 0 → (1 ≤ heads) × (next ≡ n + 1)
-unfolding indexFault
-next-size n heads next z =
-    let a = say-zero (ltb heads 1) _ _ z (omega arith) in
-    let b = say-zero (ltb 65536 heads) _ _ (a .1) (omega arith) in
-    let c = say-zero (not (eqb next (n + 1))) _ _ (b .1) (omega arith) in
-    (ltb-false heads 1 (a .0), eqb-true next (n + 1) (not-false _ (c .0)))
-
 -- RECOVERY LEAVES A SOUND INDEX
 pub recovered-sound : (l : ℕ) (image heads next : List ℕ) → Accepted l image → RightSize image heads next
     → Sound l (recoveredWorld l image heads next) (chainsOf (tableOf l image) (slotsIn image) (length heads))
 unfolding recoveredWorld
 recovered-sound l image heads next accepted size =
-    let t = next-size (slotsIn image) (length heads) (length next) size in
+    let t = index-sized (slotsIn image) (length heads) (length next) size in
     subst (λ (r : Result). Sound l (worldAfter image r) (chainsOf (tableOf l image) (slotsIn image) (length heads)))
     (sym (recovery-taken l image heads next (accepted-recovers l image (length heads) (length next) accepted size)))
     (recovered-parts l image (length heads) (t .0) (accepted-distinct l image accepted) (accepted-room l image accepted)
-    (ap (indexFault (slotsIn image) (length heads)) (sym (t .1)) ∙ size))
+    (ap (indexFault (slotsIn image) (length heads)) (sym (t .2)) ∙ size))

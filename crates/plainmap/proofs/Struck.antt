@@ -9,22 +9,23 @@ use native.Mathlib.Omega.{arith}
 use lib.Dec.{eqb}
 use lib.ListN.{length}
 use Rattle.words.specs.Word.{word}
-use Rattle.layout.specs.Size.{slotsOf}
-use Rattle.layout.specs.Content.{Content, broken, put, remove, made, top}
+use Rattle.layout.specs.Size.{slotsOf, slotsIn}
+use Rattle.layout.specs.Content.{Content, broken, put, remove, made, top, Table, tableOf}
 use Rattle.layout.specs.Header.{headerWord}
 use Rattle.layout.proofs.Content.{top-is}
 use Rattle.stores.specs.Store.{Store, played, standing}
 use Rattle.stores.specs.Written.{recordStores}
 use Rattle.stores.specs.Cut.{SlotCut, kept as slot-kept, done as slot-done, lost as slot-lost, Fields, Lawful, Written}
 use Rattle.stores.proofs.Bytes.{played-length, image-law}
-use Rattle.table.specs.Table.{Table, nextVersion, liveCount}
-use Rattle.table.specs.Write.{Slot, Distinct, upd, only, Record, Free}
-use Rattle.table.proofs.Content.{upd-same, upd-other}
+use Rattle.table.specs.Table.{nextVersion, liveCount}
+use Rattle.prelude.specs.Members.{Slot}
+use Rattle.table.proofs.defs.Write.{Distinct, upd, only, Record, Free}
+use Rattle.table.proofs.OneSlot.{upd-same, upd-other}
 use Rattle.table.proofs.Write.{put-record, remove-record, above-next, lose-count, lose-distinct, write-distinct}
-use Rattle.plainmap.specs.World.{tableOf, slotsIn, playing}
-use Rattle.plainmap.specs.Sound.{Accepted}
+use Rattle.plainmap.specs.World.{playing}
+use Rattle.plainmap.specs.Accepted.{Accepted}
 use Rattle.plainmap.proofs.Playing.{playing-record, countsOf, counts-first, counts-second}
-use Rattle.plainmap.proofs.Accepted.{RightHeader, passed-header, right-header, RightSlots, right-slots, accepted-slots, accepted-long, accepted-right}
+use Rattle.plainmap.proofs.AcceptedImages.{RightHeader, passed-header, right-header, RightSlots, right-slots, accepted-slots, accepted-long, accepted-right}
 
 pub made-record : (kind version key : ℕ) (value : List ℕ) → Record (made kind version key value) version key
 unfolding made

@@ -7,24 +7,24 @@ use Prim.Native.Nat.{ℕ, _≤_}
 use native.Mathlib.Omega.{arith}
 use lib.ListN.{length}
 use Rattle.words.specs.Word.{word}
-use Rattle.words.proofs.Choice.{pick-true}
+use Rattle.prelude.proofs.Choice.{pick-true}
 use Rattle.layout.specs.Line.{lineA, lineB}
 use Rattle.layout.specs.Slot.{lineVerdict, isValid}
 use Rattle.layout.specs.Record.{limit, valueOf}
-use Rattle.layout.specs.Content.{put, content}
+use Rattle.layout.specs.Content.{put, content, tableOf}
 use Rattle.layout.specs.Fault.{faultOf, recordFault}
 use Rattle.layout.proofs.Content.{ValidAt, PutAt, put-at, verdict-valid, value-length, length-bound}
 use Rattle.table.specs.Table.{valueIn, mapOf, live}
-use Rattle.table.specs.Write.{Slot}
+use Rattle.prelude.specs.Members.{Slot}
 use Rattle.table.proofs.Map.{Live, lives, live-is}
-use Rattle.table.proofs.Content.{value-at}
+use Rattle.table.proofs.OneSlot.{value-at}
 use Rattle.table.proofs.Held.{Held, held, unheld, held-or}
-use Rattle.orderset.specs.Get.{slotLength}
-use Rattle.plainmap.specs.World.{slotsIn}
+use Rattle.calls.specs.Get.{slotLength}
+use Rattle.layout.specs.Size.{slotsIn}
 use Rattle.plainmap.specs.Plain.{sizeOf}
-use Rattle.plainmap.specs.Sound.{Accepted}
+use Rattle.plainmap.specs.Accepted.{Accepted}
 use Rattle.plainmap.specs.Claims.{slotsMap}
-use Rattle.plainmap.proofs.Accepted.{RightSlots, accepted-right}
+use Rattle.plainmap.proofs.AcceptedImages.{RightSlots, accepted-right}
 
 -- a valid slot without a fault has none by its lines
 valid-fault : (l : ℕ) (m : ℕ → ℕ) (s v : ℕ) → ValidAt (lineA m s) (lineB m s) v → recordFault l m s ≡ false → faultOf l (lineA m s) (lineB m s) ≡ false
@@ -45,10 +45,10 @@ some-some : (v u : List ℕ) → some v ≡ some u → v ≡ u
 some-some v u e = cc
 
 module _ (l : ℕ) (image : List ℕ) (n : ℕ) (right : RightSlots l (word image) n) where
-  pub live-keeps : (s : ℕ) (v : List ℕ) → Slot n s → live (content l (word image)) n s ≡ true → valueIn (content l (word image) s) ≡ some v
+  pub live-keeps : (s : ℕ) (v : List ℕ) → Slot n s → live (tableOf l image) n s ≡ true → valueIn (tableOf l image s) ≡ some v
       → Keeps l image s v
   unfolding content valueIn
-  live-keeps s v i e q = go (live-is (content l (word image)) n s e)
+  live-keeps s v i e q = go (live-is (tableOf l image) n s e)
     where
       kept : (w k : ℕ) → PutAt l (lineA (word image) s) (lineB (word image) s) w k v → Keeps l image s v
       kept w k at =
@@ -64,19 +64,19 @@ module _ (l : ℕ) (image : List ℕ) (n : ℕ) (right : RightSlots l (word imag
                 );
           }
 
-      go : Live (content l (word image)) n s → Keeps l image s v
+      go : Live (tableOf l image) n s → Keeps l image s v
       go (lives w k u d b) =
           kept w k
           (put-at l (lineA (word image) s) (lineB (word image) s) w k v
           (d ∙ ap (λ (x : List ℕ). put w k x) (some-some u v (sym (ap valueIn d) ∙ q))))
 
-  map-fits : (key : ℕ) → sizeOf (mapOf (content l (word image)) n key) ≤ limit l
+  map-fits : (key : ℕ) → sizeOf (mapOf (tableOf l image) n key) ≤ limit l
   unfolding sizeOf mapOf
-  map-fits key = go (held-or (content l (word image)) n key)
+  map-fits key = go (held-or (tableOf l image) n key)
     where
-      go : Held (content l (word image)) n key → sizeOf (mapOf (content l (word image)) n key) ≤ limit l
+      go : Held (tableOf l image) n key → sizeOf (mapOf (tableOf l image) n key) ≤ limit l
       go (unheld h m) = rw m (omega arith)
-      go (held v i e m) = rw m (live-keeps _ v i e (sym (value-at (content l (word image)) n _ i) ∙ m) .fits)
+      go (held v i e m) = rw m (live-keeps _ v i e (sym (value-at (tableOf l image) n _ i) ∙ m) .fits)
 
 -- THE LIMIT: in an accepted image no value is longer
 pub accepted-fits : (l : ℕ) (image : List ℕ) → Accepted l image → (key : ℕ) → sizeOf (slotsMap l image key) ≤ limit l

@@ -1,28 +1,23 @@
 -- What it is that the calls are a plain map: the statements of the laws of this crate. The fields of the calls are numbers of their size, the only side condition.
 use mathlib.Core.Path.{_≡_}
-use mathlib.Core.List.{List, [], _∷_}
+use mathlib.Core.List.{List, []}
 use Prim.Native.Nat.{ℕ, _^_, _≤_, _<_}
 use lib.ListN.{length}
 use Rattle.words.specs.Word.{AreBytes}
-use Rattle.layout.specs.Answer.{absent}
+use Rattle.prelude.specs.Answer.{absent, refusalIn, refuses}
 use Rattle.layout.specs.Record.{limit}
 use Rattle.table.specs.Table.{mapOf, liveCount, nextVersion}
-use Rattle.index.specs.Index.{Chain}
-use Rattle.orderset.specs.Get.{getResult}
-use Rattle.plainmap.specs.World.{World, tableOf, slotsIn, Call, put, remove, get, outOf, Called, called, finished}
-use Rattle.plainmap.specs.Plain.{PlainMap, operation, plainStep, ruleFault, lengthAnswer, filled, plainAnswer, plainOut, refusalIn, isRefusal}
-use Rattle.plainmap.specs.Sound.{Accepted, Sound}
-
--- the layout is 1 or 2
-pub record Layout (l : ℕ) : Type 0 where
-  pub low : 1 ≤ l
-  pub high : l ≤ 2
+use Rattle.calls.specs.Get.{getResult}
+use Rattle.plainmap.specs.World.{World, Call, put, remove, get, outOf, Called, called}
+use Rattle.layout.specs.Size.{slotsIn}
+use Rattle.layout.specs.Content.{tableOf}
+use Rattle.plainmap.specs.Plain.{PlainMap, operation, plainStep, ruleFault, lengthAnswer, filled, plainAnswer, plainOut}
 
 -- a key has l words, a value is bytes
-pub data Sized (l : ℕ) : Call → Type 0 where
-  put-sized : {key : ℕ} {value : List ℕ} → key < (2 ^ 64) ^ l → AreBytes value → Sized l (put key value)
-  remove-sized : {key : ℕ} → key < (2 ^ 64) ^ l → Sized l (remove key)
-  get-sized : {key : ℕ} {out : List ℕ} → Sized l (get key out)
+pub data Typed (l : ℕ) : Call → Type 0 where
+  put-typed : {key : ℕ} {value : List ℕ} → key < (2 ^ 64) ^ l → AreBytes value → Typed l (put key value)
+  remove-typed : {key : ℕ} → key < (2 ^ 64) ^ l → Typed l (remove key)
+  get-typed : {key : ℕ} {out : List ℕ} → Typed l (get key out)
 
 -- the map of the slots
 abbrev pub slotsMap : (l : ℕ) → (image : List ℕ) → PlainMap
@@ -57,13 +52,6 @@ pub record Right (l : ℕ) (w : World) (m : PlainMap) (call : Call) : Type 0 whe
 
 -- ---- between calls
 
--- the image is accepted, the index is its own, and the map of its slots is m
-pub record Agrees (l : ℕ) (w : World) (m : PlainMap) : Type 0 where
-  pub accepted : Accepted l (w .image)
-  pub chains : Chain → List ℕ
-  pub sound : Sound l w chains
-  pub slots : (k : ℕ) → slotsMap l (w .image) k ≡ m k
-
 -- a get with room for any value gives what m has
 abbrev pub Reads : (l : ℕ) → World → PlainMap → Type 0
 Reads l w m =
@@ -72,16 +60,6 @@ Reads l w m =
 
 -- ---- every list of calls, without cuts
 
-pub data AllSized (l : ℕ) : List Call → Type 0 where
-  none-left : AllSized l []
-  one-more : {call : Call} {calls : List Call} → Sized l call → AllSized l calls → AllSized l (call ∷ calls)
-
--- the plain map after a call with all its stores played
-abbrev pub plainAfter : (l : ℕ) → World → PlainMap → Call → PlainMap
-plainAfter l w m call = plainStep (operation call) (isRefusal (called l w call .answer)) m
-
--- at each call the set is the plain map, by its slots and by get, and the call answers right; so it is at the end
-abbrev pub PlainRule : (l : ℕ) → World → PlainMap → List Call → Type 0
-PlainRule l w m [] = Agrees l w m × Reads l w m
-PlainRule l w m (call ∷ calls) =
-    Agrees l w m × Reads l w m × Right l w m call × PlainRule l (finished l w call) (plainAfter l w m call) calls
+-- the plain map after a call with all its stores played: it is told "whether these rules refuse it"
+abbrev pub mapAfterCall : (l : ℕ) → World → PlainMap → Call → PlainMap
+mapAfterCall l w m call = plainStep (operation call) (refuses (dueFault l w m call)) m

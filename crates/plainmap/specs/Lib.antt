@@ -3,3 +3,4 @@ pub mod Plain
 pub mod Sound
 pub mod Claims
 pub mod Map
+pub mod Accepted

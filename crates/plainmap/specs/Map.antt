@@ -2,22 +2,32 @@
 use mathlib.Core.Path.{_≡_}
 use mathlib.Core.Logic.{_↔_}
 use mathlib.Core.Option.{none}
-use mathlib.Core.List.{List}
+use mathlib.Core.List.{List, [], _∷_}
 use Prim.Native.Nat.{ℕ, _+_, _≤_}
 use lib.ListN.{length}
-use Rattle.layout.specs.Size.{slotsOf}
+use Rattle.layout.specs.Size.{slotsOf, slotsIn}
 use Rattle.layout.specs.Record.{limit}
 use Rattle.table.specs.Table.{liveCount}
 use Rattle.index.specs.Index.{Chain}
 use Rattle.index.specs.Walk.{search}
 use Rattle.recovery.specs.Recover.{chainsOf}
 use Rattle.recovery.specs.Represents.{Answers}
-use Rattle.orderset.specs.Format.{formatted}
-use Rattle.orderset.specs.Change.{putFault}
-use Rattle.plainmap.specs.World.{World, tableOf, slotsIn, Call, finished, recoveredWorld}
+use Rattle.calls.specs.Format.{formatted}
+use Rattle.calls.specs.Change.{putFault}
+use Rattle.plainmap.specs.World.{World, Call, finished, recoveredWorld, called}
+use Rattle.layout.specs.Content.{tableOf}
 use Rattle.plainmap.specs.Plain.{PlainMap}
-use Rattle.plainmap.specs.Sound.{Accepted, RightSize, Sound}
-use Rattle.plainmap.specs.Claims.{Sized, slotsMap, Right, Agrees, Reads, AllSized, plainAfter, PlainRule}
+use Rattle.plainmap.specs.Accepted.{Accepted, RightSize}
+use Rattle.plainmap.specs.Sound.{Sound, Agrees}
+use Rattle.plainmap.specs.Claims.{Typed, slotsMap, Right, Reads, mapAfterCall}
+use Rattle.prelude.specs.Members.{All}
+use Rattle.stores.specs.Play.{playEnd, playListResult, places, values}
+
+-- at each call the set is the plain map, by its slots and by get, and the call answers right; so it is at the end
+abbrev pub PlainRule : (l : ℕ) → World → PlainMap → List Call → Type 0
+PlainRule l w m [] = Agrees l w m × Reads l w m
+PlainRule l w m (call ∷ calls) =
+    Agrees l w m × Reads l w m × Right l w m call × PlainRule l (finished l w call) (mapAfterCall l w m call) calls
 
 pub record IsMap (l : ℕ) : Type 0 where
   -- recovery of an accepted image leaves an index that is its own
@@ -27,9 +37,12 @@ pub record IsMap (l : ℕ) : Type 0 where
   pub finds : (w : World) (chains : Chain → List ℕ) → Sound l w chains → (key : ℕ)
       → Answers (tableOf l (w .image)) (slotsIn (w .image)) key (search l (w .image) (w .heads) (w .next) key)
   -- every call is refused exactly where the rules refuse it, and otherwise answers as the plain map does; a refused call and an absent one change nothing
-  pub answers : (w : World) (m : PlainMap) → Agrees l w m → (call : Call) → Sized l call → Right l w m call
+  pub answers : (w : World) (m : PlainMap) → Agrees l w m → (call : Call) → Typed l call → Right l w m call
   -- with its stores played it leaves an accepted image, an index that is its own, and the plain map's next map
-  pub keeps : (w : World) (m : PlainMap) → Agrees l w m → (call : Call) → Sized l call → Agrees l (finished l w call) (plainAfter l w m call)
+  pub keeps : (w : World) (m : PlainMap) → Agrees l w m → (call : Call) → Typed l call → Agrees l (finished l w call) (mapAfterCall l w m call)
+  -- the play of a list of its stores leaves that image too
+  pub list-plays : (w : World) (m : PlainMap) → Agrees l w m → (call : Call) → Typed l call
+      → playListResult (w .image) (places (called l w call .stores)) (values (called l w call .stores)) ≡ playEnd 0 (finished l w call .image)
   -- "A put is refused for room only when one slot is left that holds no open key": exactly then, for a key that is not held
   pub room : (w : World) (chains : Chain → List ℕ) → Accepted l (w .image) → Sound l w chains → (key : ℕ) (value : List ℕ)
       → (putFault l (w .image) (w .heads) (w .next) (w .state) key (length value) ≡ 12)
@@ -40,6 +53,6 @@ pub record IsMap (l : ℕ) : Type 0 where
   -- a formatted image's map is empty
   pub empty : (len : ℕ) → (slotsOf len ≡ 0 → ⊥) → (key : ℕ) → slotsMap l (formatted l len) key ≡ none
   -- every list of calls answers as the plain map does, and so does every list from a formatted image
-  pub lists : (w : World) (m : PlainMap) (calls : List Call) → Agrees l w m → AllSized l calls → PlainRule l w m calls
+  pub lists : (w : World) (m : PlainMap) (calls : List Call) → Agrees l w m → All (Typed l) calls → PlainRule l w m calls
   pub fresh : (len : ℕ) (heads next : List ℕ) → (slotsOf len ≡ 0 → ⊥) → RightSize (formatted l len) heads next
-      → (calls : List Call) → AllSized l calls → PlainRule l (recoveredWorld l (formatted l len) heads next) (λ k. none) calls
+      → (calls : List Call) → All (Typed l) calls → PlainRule l (recoveredWorld l (formatted l len) heads next) (λ k. none) calls

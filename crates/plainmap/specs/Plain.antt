@@ -1,15 +1,15 @@
 -- The plain map. Document 01, "The plain map and the cut rule".
-use mathlib.Core.Bool.{Bool, true, false, cond, not, _&&_}
+use mathlib.Core.Bool.{Bool, cond, not, _&&_}
 use mathlib.Core.Option.{Option, some, none}
 use mathlib.Core.List.{List, [], _∷_, _++_}
 use Prim.Native.Nat.{ℕ, _+_}
 use lib.Dec.{eqb, ltb, leb}
 use lib.ListN.{length, drop}
-use Rattle.layout.specs.Refusal.{say}
-use Rattle.layout.specs.Answer.{Answer, gives, absent, refused}
+use Rattle.prelude.specs.Refusal.{say}
+use Rattle.prelude.specs.Answer.{Answer, gives, absent}
 use Rattle.layout.specs.Record.{limit}
 use Rattle.table.specs.Write.{isHeld}
-use Rattle.index.specs.Change.{versionFault}
+use Rattle.layout.specs.Line.{versionFault}
 use Rattle.plainmap.specs.World.{Call, put, remove, get}
 
 -- "Its state is a set of keys with a value each, perhaps of 0 bytes"
@@ -70,14 +70,3 @@ unfoldable pub plainOut : PlainMap → Call → List ℕ
 plainOut m (put key value) = []
 plainOut m (remove key) = []
 plainOut m (get key out) = filled (m key) out
-
--- the number of a refusal, 0 for any other answer
-unfoldable pub refusalIn : Answer → ℕ
-refusalIn (gives given) = 0
-refusalIn absent = 0
-refusalIn (refused number) = number
-
-unfoldable pub isRefusal : Answer → Bool
-isRefusal (gives given) = false
-isRefusal absent = false
-isRefusal (refused number) = true

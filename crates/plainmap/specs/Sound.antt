@@ -3,23 +3,17 @@ use mathlib.Core.Path.{_≡_}
 use mathlib.Core.List.{List, _∷_}
 use Prim.Native.Nat.{ℕ}
 use lib.ListN.{length}
-use Rattle.words.specs.Word.{word}
-use Rattle.layout.specs.Header.{imageFault, indexFault}
 use Rattle.table.specs.Table.{liveCount, nextVersion}
 use Rattle.table.specs.Reuse.{HiddenFirst}
 use Rattle.index.specs.Index.{Chain, reuse, indexOf}
 use Rattle.index.specs.Linked.{Sits}
-use Rattle.recovery.specs.Recover.{slotsFault, placeOf}
-use Rattle.plainmap.specs.World.{World, tableOf, slotsIn}
-
--- "an accepted image, one that recovery does not refuse": 1, 2, 3 and 5 to 8 are not due. 4 is about the lent index
-pub record Accepted (l : ℕ) (image : List ℕ) : Type 0 where
-  pub header : imageFault l image ≡ 0
-  pub slots : slotsFault l (word image) (slotsIn image) ≡ 0
-
--- "That index has the right size when 4 is not due"
-abbrev pub RightSize : (image heads next : List ℕ) → Type 0
-RightSize image heads next = indexFault (slotsIn image) (length heads) (length next) ≡ 0
+use Rattle.recovery.specs.Recover.{placeOf}
+use Rattle.plainmap.specs.World.{World}
+use Rattle.layout.specs.Size.{slotsIn}
+use Rattle.layout.specs.Content.{tableOf}
+use Rattle.plainmap.specs.Accepted.{RightSize, Accepted}
+use Rattle.plainmap.specs.Plain.{PlainMap}
+use Rattle.plainmap.specs.Claims.{slotsMap}
 
 -- a list that is not empty
 pub data Starts (xs : List ℕ) : Type 0 where
@@ -37,3 +31,10 @@ pub record Sound (l : ℕ) (w : World) (chains : Chain → List ℕ) : Type 0 wh
   pub some-spare : Starts (chains reuse)
   pub live-count : w .state .live ≡ liveCount (tableOf l (w .image)) (slotsIn (w .image))
   pub next-version : w .state .version ≡ nextVersion (tableOf l (w .image)) (slotsIn (w .image))
+
+-- the image is accepted, the index is its own, and the map of its slots is m
+pub record Agrees (l : ℕ) (w : World) (m : PlainMap) : Type 0 where
+  pub accepted : Accepted l (w .image)
+  pub chains : Chain → List ℕ
+  pub sound : Sound l w chains
+  pub slots : (k : ℕ) → slotsMap l (w .image) k ≡ m k

@@ -1,18 +1,13 @@
 -- The lent image and index with the state beside them, and what calls and recovery make of them: nothing but the definitions that the contracts of the public calls cite.
-use mathlib.Core.List.{List, [], _∷_}
+use mathlib.Core.List.{List, []}
 use Prim.Native.Nat.{ℕ}
-use lib.ListN.{length}
-use Rattle.words.specs.Word.{word}
-use Rattle.layout.specs.Answer.{Answer, gives, absent, refused}
-use Rattle.layout.specs.Size.{slotsOf}
-use Rattle.layout.specs.Content.{content}
+use Rattle.prelude.specs.Answer.{Answer, gives, absent, refused}
 use Rattle.stores.specs.Store.{Store}
 use Rattle.stores.specs.Play.{places, values, playResult}
-use Rattle.table.specs.Table.{Table}
 use Rattle.index.specs.declared.State.{State}
-use Rattle.recovery.specs.Recover.{Result, stateIn, recoverResult}
-use Rattle.orderset.specs.Change.{ChangeResult, putResult, removeResult}
-use Rattle.orderset.specs.Get.{GetResult, getResult}
+use Rattle.recovery.specs.Recover.{Result, recoverResult}
+use Rattle.calls.specs.Change.{ChangeResult, putResult, removeResult}
+use Rattle.calls.specs.Get.{GetResult, getResult}
 
 -- "Each call gets the image with all stores played so far and the index and state the last one left"
 pub record World : Type 0 where
@@ -20,13 +15,6 @@ pub record World : Type 0 where
   pub heads : List ℕ
   pub next : List ℕ
   pub state : State
-
--- an image's table and its number of slots
-abbrev pub tableOf : (l : ℕ) → (image : List ℕ) → Table
-tableOf l image = content l (word image)
-
-abbrev pub slotsIn : (image : List ℕ) → ℕ
-slotsIn image = slotsOf (length image)
 
 -- ---- calls
 
@@ -81,10 +69,9 @@ called l w (get key out) = calledGet w (getResult l (w .image) (w .heads) (w .ne
 
 -- ---- play
 
--- "play makes the counted stores, if there are any"
+-- "play makes the counted stores, if there are any"; where there are none it is refused and changes nothing
 unfoldable pub playing : (image : List ℕ) → List Store → (a b : ℕ) → List ℕ
-playing image [] a b = image
-playing image (s ∷ ss) a b = playResult image (places (s ∷ ss)) (values (s ∷ ss)) a b .bytes
+playing image ss a b = playResult image (places ss) (values ss) a b .bytes
 
 -- a call and then all its stores
 unfoldable pub finished : (l : ℕ) → World → Call → World
@@ -98,15 +85,9 @@ finished l w call =
 
 -- ---- recovery
 
--- the values that an answer gives
-unfoldable pub valuesOf : Answer → List ℕ
-valuesOf (gives given) = given
-valuesOf absent = []
-valuesOf (refused number) = []
-
 -- "with the index and state it leaves"
 unfoldable pub worldAfter : (image : List ℕ) → Result → World
-worldAfter image r = record { image = image; heads = r .heads; next = r .next; state = stateIn (valuesOf (r .answer)) }
+worldAfter image r = record { image = image; heads = r .heads; next = r .next; state = r .state }
 
 unfoldable pub recoveredWorld : (l : ℕ) → (image heads next : List ℕ) → World
 recoveredWorld l image heads next = worldAfter image (recoverResult l image heads next)

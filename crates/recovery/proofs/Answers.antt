@@ -5,26 +5,23 @@ use mathlib.Core.Option.{none}
 use mathlib.Core.List.{List, _∷_}
 use mathlib.Core.Logic.{inl}
 use Prim.Native.Nat.{ℕ, _+_, _≤_}
-use native.Mathlib.Omega.{arith}
-use lib.Dec.{ltb}
 use lib.ListN.{length}
-use borrow.Author.Tests.{ltb-false}
 use Rattle.words.specs.Word.{word}
-use Rattle.layout.specs.Size.{slotsOf}
+use Rattle.layout.specs.Size.{slotsIn}
 use Rattle.layout.specs.Line.{lineA, lineB}
-use Rattle.layout.specs.Content.{content}
-use Rattle.layout.specs.Header.{imageFault, indexFault, lentFault}
-use Rattle.layout.proofs.Refusals.{say-zero, orElse-zero}
+use Rattle.layout.specs.Content.{content, Table, tableOf}
+use Rattle.layout.specs.Header.{imageFault, lentFault}
+use Rattle.prelude.proofs.Refusals.{orElse-zero}
 use Rattle.layout.proofs.Content.{put-at}
-use Rattle.sorting.specs.Members.{In}
-use Rattle.table.specs.Table.{Table, keyIn, decider, valueIn, valueAt, mapOf, live, allLive}
+use Rattle.prelude.specs.Members.{In, Slot}
+use Rattle.table.specs.Table.{keyIn, decider, valueIn, valueAt, mapOf, live, allLive}
 use Rattle.table.specs.Order.{chainOf, reuseOf}
-use Rattle.table.specs.Write.{Slot}
-use Rattle.table.specs.Chains.{Chains, seek}
-use Rattle.table.proofs.Content.{value-at, weight-key}
-use Rattle.table.proofs.Count.{Gap, gap}
+use Rattle.table.proofs.defs.Chains.{Chains}
+use Rattle.table.specs.Chains.{firstWith}
+use Rattle.table.proofs.OneSlot.{value-at, weight-key}
+use Rattle.prelude.proofs.Count.{Gap, gap}
 use Rattle.table.proofs.Held.{Held, held, unheld, held-or, holder-value}
-use Rattle.table.proofs.Lists.{in-right}
+use Rattle.prelude.proofs.Lists.{in-right}
 use Rattle.table.proofs.LiveCount.{all-room, room-spare}
 use Rattle.table.proofs.Map.{Live, lives, live-is, decider-weight}
 use Rattle.table.proofs.Recovery.{recovery-chains, recovery-spares}
@@ -32,17 +29,17 @@ use Rattle.table.proofs.Search.{chain-decider, chain-has, seek-holder}
 use Rattle.index.specs.Index.{Index, reuse, head, headOf}
 use Rattle.index.specs.Linked.{Sits}
 use Rattle.index.specs.Walk.{slotKey, search}
-use Rattle.index.specs.Sought.{sought}
+use Rattle.index.proofs.defs.SearchIn.{searchIn}
 use Rattle.index.specs.declared.Found.{Found}
 use Rattle.index.proofs.Searches.{good-search, Hit, Missed, sought-hit, sought-missed, never-broken}
-use Rattle.recovery.specs.Recover.{Result, recoverFault, chainsOf, placeOf, recoveredIndex, recovered, recoverResult}
+use Rattle.recovery.specs.Recover.{recoverFault, chainsOf, placeOf, recoveredIndex}
 use Rattle.recovery.specs.Represents.{Answers}
 use Rattle.recovery.proofs.Clear.{slots-clear}
 use Rattle.recovery.proofs.Represents.{recovered-sits}
-use Rattle.recovery.proofs.Lent.{recovery-taken}
+use Rattle.layout.proofs.Lents.{index-sized}
 
 -- the map by the key's chain
-pub recovered-seek : (f : Table) (n b key : ℕ) → valueAt f (seek f key (chainsOf f n b (head (headOf key b)))) ≡ mapOf f n key
+pub recovered-seek : (f : Table) (n b key : ℕ) → valueAt f (firstWith f key (chainsOf f n b (head (headOf key b)))) ≡ mapOf f n key
 unfolding chainsOf
 recovered-seek f n b key =
     ap (valueAt f) (seek-holder f n (λ k. headOf k b) (chainOf f n (λ k. headOf k b)) (recovery-chains f n (λ k. headOf k b)) key)
@@ -51,16 +48,15 @@ recovered-seek f n b key =
 -- ---- what a recovery that is not refused has passed
 
 pub passed-heads : (l : ℕ) (image : List ℕ) (heads next : ℕ) → recoverFault l image heads next ≡ 0 → 1 ≤ heads
-unfolding recoverFault lentFault indexFault
+unfolding recoverFault lentFault
 passed-heads l image heads next z =
-    ltb-false heads 1
-    (say-zero (ltb heads 1) 4 _ (orElse-zero (imageFault l image) _ (orElse-zero _ _ z .0) .1) (omega arith) .0)
+    index-sized (slotsIn image) heads next (orElse-zero (imageFault l image) _ (orElse-zero _ _ z .0) .1) .0
 
 pub passed-room : (l : ℕ) (image : List ℕ) (heads next : ℕ) → recoverFault l image heads next ≡ 0
-    → allLive (content l (word image)) (slotsOf (length image)) ≡ false
+    → allLive (tableOf l image) (slotsIn image) ≡ false
 unfolding recoverFault
 passed-room l image heads next z =
-    slots-clear l (word image) (slotsOf (length image)) (orElse-zero (lentFault l image heads next) _ z .1) .room
+    slots-clear l (word image) (slotsIn image) (orElse-zero (lentFault l image heads next) _ z .1) .room
 
 -- with room the reuse chain has a slot
 some-spare : (f : Table) (n b : ℕ) → allLive f n ≡ false → (s : ℕ) × In s (chainsOf f n b reuse)
@@ -72,12 +68,12 @@ some-spare f n b e = go (room-spare f n (all-room f n e))
 
 -- ---- a live slot's key, by line A alone
 
-pub live-slot-key : (l : ℕ) (image : List ℕ) (n s : ℕ) → live (content l (word image)) n s ≡ true
-    → keyIn (content l (word image) s) ≡ slotKey l image s
+pub live-slot-key : (l : ℕ) (image : List ℕ) (n s : ℕ) → live (tableOf l image) n s ≡ true
+    → keyIn (tableOf l image s) ≡ slotKey l image s
 unfolding keyIn content
-live-slot-key l image n s e = go (live-is (content l (word image)) n s e)
+live-slot-key l image n s e = go (live-is (tableOf l image) n s e)
   where
-    go : Live (content l (word image)) n s → keyIn (content l (word image) s) ≡ slotKey l image s
+    go : Live (tableOf l image) n s → keyIn (tableOf l image s) ≡ slotKey l image s
     go (lives w k v d b) = ap keyIn d ∙ sym (put-at l (lineA (word image) s) (lineB (word image) s) w k v d .key)
 
 -- ---- the search
@@ -110,7 +106,7 @@ module _
           (sym (keys (decider f n key) e) ∙ weight-key key (f (decider f n key)) (decider-weight f n key (decider f n key) i refl)))
       go (unheld a m) = m
 
-  pub sought-answers : (found : Found) → found ≡ sought (slotKey l image) key 0 0 (ch (headOf key b)) → Answers f n key found
+  pub sought-answers : (found : Found) → found ≡ searchIn (slotKey l image) key 0 0 (ch (headOf key b)) → Answers f n key found
   sought-answers found e =
       record {
         holds = λ slot prev compared q. chain-holds slot prev compared (sought-hit _ _ _ _ _ _ (sym e ∙ q));
@@ -123,37 +119,24 @@ chains-hold : (f : Table) (n b : ℕ) → Chains f n (λ k. headOf k b) (λ h. c
 unfolding chainsOf
 chains-hold f n b = recovery-chains f n (λ k. headOf k b)
 
-searched : (l : ℕ) (image : List ℕ) (f : Table) (n b key : ℕ) (i : Index) → slotsOf (length image) ≡ n → Sits n b (placeOf f n b) i (chainsOf f n b)
+searched : (l : ℕ) (image : List ℕ) (f : Table) (n b key : ℕ) (i : Index) → slotsIn image ≡ n → Sits n b (placeOf f n b) i (chainsOf f n b)
     → allLive f n ≡ false
-    → search l image (i .heads) (i .next) key ≡ sought (slotKey l image) key 0 0 (chainsOf f n b (head (headOf key b)))
+    → search l image (i .heads) (i .next) key ≡ searchIn (slotKey l image) key 0 0 (chainsOf f n b (head (headOf key b)))
 searched l image f n b key i size g e =
     let s = some-spare f n b e in
-    good-search l image i _ (chainsOf f n b) key (s .0) (g .good .woven) (g .slots ∙ ap (λ (k : ℕ). k + 1) (sym size)) (s .1)
-    ∙ ap (λ (w : ℕ). sought (slotKey l image) key 0 0 (chainsOf f n b (head (headOf key w)))) (g .width)
+    good-search l image i _ (chainsOf f n b) key (s .0) (g .good .disjoint) (g .slots ∙ ap (λ (k : ℕ). k + 1) (sym size)) (s .1)
+    ∙ ap (λ (w : ℕ). searchIn (slotKey l image) key 0 0 (chainsOf f n b (head (headOf key w)))) (g .width)
 
 -- THE SEARCH of the recovered index: the map of the slots
 pub recovered-search : (l : ℕ) (image heads next : List ℕ) → recoverFault l image (length heads) (length next) ≡ 0 → (key : ℕ)
-    → Answers (content l (word image)) (slotsOf (length image)) key
-    (search l image (recoveredIndex (content l (word image)) (slotsOf (length image)) (length heads) .heads)
-    (recoveredIndex (content l (word image)) (slotsOf (length image)) (length heads) .next) key)
+    → Answers (tableOf l image) (slotsIn image) key
+    (search l image (recoveredIndex (tableOf l image) (slotsIn image) (length heads) .heads)
+    (recoveredIndex (tableOf l image) (slotsIn image) (length heads) .next) key)
 recovered-search l image heads next z key =
-    sought-answers l image (content l (word image)) (slotsOf (length image)) (length heads) key
-    (live-slot-key l image (slotsOf (length image))) (λ h. chainsOf (content l (word image)) (slotsOf (length image)) (length heads) (head h))
-    (chains-hold (content l (word image)) (slotsOf (length image)) (length heads)) _
-    (searched l image (content l (word image)) (slotsOf (length image)) (length heads) key
-    (recoveredIndex (content l (word image)) (slotsOf (length image)) (length heads)) refl
-    (recovered-sits (content l (word image)) (slotsOf (length image)) (length heads) (passed-heads l image (length heads) (length next) z))
+    sought-answers l image (tableOf l image) (slotsIn image) (length heads) key
+    (live-slot-key l image (slotsIn image)) (λ h. chainsOf (tableOf l image) (slotsIn image) (length heads) (head h))
+    (chains-hold (tableOf l image) (slotsIn image) (length heads)) _
+    (searched l image (tableOf l image) (slotsIn image) (length heads) key
+    (recoveredIndex (tableOf l image) (slotsIn image) (length heads)) refl
+    (recovered-sits (tableOf l image) (slotsIn image) (length heads) (passed-heads l image (length heads) (length next) z))
     (passed-room l image (length heads) (length next) z))
-
-answers-at : (f : Table) (n key : ℕ) (x y : Found) → x ≡ y → Answers f n key x → Answers f n key y
-answers-at f n key x y e a = subst (λ (t : Found). Answers f n key t) e a
-
--- the same of the slices as recovery leaves them
-pub recover-search : (l : ℕ) (image heads next : List ℕ) → recoverFault l image (length heads) (length next) ≡ 0 → (key : ℕ)
-    → Answers (content l (word image)) (slotsOf (length image)) key
-    (search l image (recoverResult l image heads next .heads) (recoverResult l image heads next .next) key)
-unfolding recovered
-recover-search l image heads next z key =
-    answers-at (content l (word image)) (slotsOf (length image)) key _ _
-    (sym (ap (λ (r : Result). search l image (r .heads) (r .next) key) (recovery-taken l image heads next z)))
-    (recovered-search l image heads next z key)

@@ -3,10 +3,10 @@ use mathlib.Core.Path.{_≡_}
 use mathlib.Core.Bool.{false}
 use Prim.Native.Nat.{ℕ}
 use native.Mathlib.Omega.{arith}
-use Rattle.layout.specs.Range.{anyOf}
+use Rattle.prelude.specs.Range.{anyOf}
 use Rattle.layout.specs.Content.{content}
 use Rattle.layout.specs.Fault.{markFault, recordFault}
-use Rattle.layout.proofs.Refusals.{say-zero}
+use Rattle.prelude.proofs.Refusals.{say-zero}
 use Rattle.table.specs.Table.{sharedVersion, allLive}
 use Rattle.recovery.specs.Recover.{slotsFault}
 

@@ -1,6 +1,6 @@
 -- The pass over the slots by key and rank leaves each live slot the chain of its key's head and every other slot the reuse chain. Assumes nothing.
 use mathlib.Core.Path.{_≡_, refl, sym, ap, _∙_}
-use mathlib.Core.Bool.{Bool, true, false, cond, not}
+use mathlib.Core.Bool.{Bool, true, false, cond, not, true≢false}
 use mathlib.Core.List.{List}
 use Prim.Native.Nat.{ℕ, zero, suc, _+_, _≤_, _<_}
 use native.Mathlib.Omega.{arith}
@@ -8,23 +8,25 @@ use borrow.Author.Tests.{eqb-true, eq-eqb, ne-eqb, ltb-true, lt-ltb}
 use lib.Dec.{eqb, ltb}
 use lib.ListN.{length, getD, set, length-set}
 use lib.Seq.{getD-set-same, getD-set-other}
-use Rattle.words.proofs.Choice.{true-not-false}
-use Rattle.layout.specs.Content.{Content, broken, empty, put, remove}
+use Rattle.layout.specs.Content.{Content, broken, empty, put, remove, Table}
 use Rattle.sorting.specs.Sorted.{sorted}
-use Rattle.sorting.specs.Members.{Rising, Once, slots}
+use Rattle.prelude.proofs.defs.Members.{Rising}
+use Rattle.prelude.specs.Members.{Once, slots, Slot}
 use Rattle.sorting.proofs.Order.{Compared, low, high, compared, at-in, rising-sorted}
-use Rattle.table.specs.Table.{Table, keyIn, weight, decider, decidingPut, live, liveCount}
+use Rattle.table.specs.Table.{keyIn, weight, decider, decidingPut, live, liveCount}
 use Rattle.table.specs.Order.{rankOf, ordered}
-use Rattle.table.specs.Write.{Slot, Distinct, ApartByKey}
-use Rattle.table.proofs.Content.{weight-put, weight-key}
-use Rattle.table.proofs.Count.{count-same}
+use Rattle.table.proofs.defs.Write.{Distinct, ApartByKey}
+use Rattle.table.proofs.OneSlot.{weight-put, weight-key}
+use Rattle.prelude.proofs.Count.{count-same}
 use Rattle.table.proofs.Distinct.{distinct-apart}
-use Rattle.table.proofs.Lists.{Whole, whole-slots, whole-sorted}
+use Rattle.prelude.proofs.Lists.{Whole, whole-slots}
+use Rattle.sorting.proofs.Whole.{whole-sorted}
 use Rattle.table.proofs.Map.{decider-newest, decider-unique}
 use Rattle.index.specs.Index.{headOf}
-use Rattle.recovery.specs.Scan.{putPlace, Listed}
-use Rattle.recovery.specs.Decide.{followed, decided, placedCount, livePlace}
-use Rattle.recovery.proofs.Standing.{Stands, stands, once-at, rising-at, RisingByKey, by-key-at, sorted-by-key}
+use Rattle.recovery.specs.inner.Scan.{putPlace, Listed}
+use Rattle.recovery.specs.inner.Decide.{followed, decided, placedCount, livePlace}
+use Rattle.sorting.proofs.Places.{Stands, stands, once-at, rising-at, RisingByKey, by-key-at, sorted-by-key}
+use Rattle.table.proofs.Recovery.{rank-weight}
 
 -- a place that is followed, and one that is not
 
@@ -35,7 +37,7 @@ followed-inside keys l i e = go (ltb (i + 1) (length l)) refl e
     go : (b : Bool) → ltb (i + 1) (length l) ≡ b → cond b (eqb (getD keys (getD l i 0) 0) (getD keys (getD l (i + 1) 0) 0)) false ≡ true
         → i + 1 < length l
     go true d q = ltb-true (i + 1) (length l) d
-    go false d q = absurd (true-not-false (sym q))
+    go false d q = absurd (true≢false (sym q))
 
 followed-key : (keys l : List ℕ) (i : ℕ) → followed keys l i ≡ true → getD keys (getD l i 0) 0 ≡ getD keys (getD l (i + 1) 0) 0
 unfolding followed
@@ -44,7 +46,7 @@ followed-key keys l i e = go (ltb (i + 1) (length l)) refl e
     go : (b : Bool) → ltb (i + 1) (length l) ≡ b → cond b (eqb (getD keys (getD l i 0) 0) (getD keys (getD l (i + 1) 0) 0)) false ≡ true
         → getD keys (getD l i 0) 0 ≡ getD keys (getD l (i + 1) 0) 0
     go true d q = eqb-true (getD keys (getD l i 0) 0) (getD keys (getD l (i + 1) 0) 0) q
-    go false d q = absurd (true-not-false (sym q))
+    go false d q = absurd (true≢false (sym q))
 
 is-followed : (keys l : List ℕ) (i : ℕ) → i + 1 < length l → getD keys (getD l i 0) 0 ≡ getD keys (getD l (i + 1) 0) 0
     → followed keys l i ≡ true
@@ -104,21 +106,6 @@ decided-at keys l (suc i) p j o h k u = go (compared i j) (λ v. decided-at keys
     go (high a v) ih = past v (followed keys l i) ∙ ih v
 
 -- rank and weight
-
-rank-weight : (k : ℕ) (c : Content) → 0 < weight k c → rankOf c ≡ suc (weight k c)
-unfolding rankOf weight
-rank-weight k (broken t) h = absurd (omega arith)
-rank-weight k empty h = absurd (omega arith)
-rank-weight k (put w j v) h = go (eqb j k) h
-  where
-    go : (b : Bool) → 0 < cond b (suc w) 0 → 2 + w ≡ suc (cond b (suc w) 0)
-    go true l = omega arith
-    go false l = absurd (omega arith)
-rank-weight k (remove w j) h = go (eqb j k) h
-  where
-    go : (b : Bool) → 0 < cond b (suc w) 0 → 2 + w ≡ suc (cond b (suc w) 0)
-    go true l = omega arith
-    go false l = absurd (omega arith)
 
 weight-rank : (k : ℕ) (c : Content) → 2 ≤ rankOf c → keyIn c ≡ k → suc (weight k c) ≡ rankOf c
 unfolding rankOf weight keyIn
@@ -212,7 +199,7 @@ last-decides f n keys l j w k v h a u e q =
 
     -- a slot of this key does not stand later
     none-later : (i : ℕ) → j < i → i < length l → getD keys (getD l i 0) 0 ≡ k → ⊥
-    none-later i b c z = true-not-false (sym (is-followed keys l j (omega arith) (alike (compared (j + 1) i) (compared i (j + 1)))) ∙ q)
+    none-later i b c z = true≢false (sym (is-followed keys l j (omega arith) (alike (compared (j + 1) i) (compared i (j + 1)))) ∙ q)
       where
         first : getD keys s 0 ≤ getD keys (getD l (j + 1) 0) 0
         first = rising-at (λ x. getD keys x 0) l j (j + 1) (h .rising) (omega arith) (omega arith)

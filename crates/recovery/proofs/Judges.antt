@@ -9,32 +9,33 @@ use lib.Dec.{eqb}
 use lib.ListN.{length, getD}
 use Rattle.words.specs.Word.{AreBytes, word}
 use Rattle.words.proofs.Laws.{word-range}
-use Rattle.words.proofs.Choice.{pick-true, pick-false, split}
-use Rattle.layout.specs.Refusal.{say}
-use Rattle.layout.specs.Range.{anyOf}
+use Rattle.prelude.proofs.Choice.{pick-true, pick-false, split}
+use Rattle.prelude.specs.Refusal.{say}
+use Rattle.prelude.specs.Range.{anyOf}
 use Rattle.layout.specs.Line.{lineA, lineB, whole, versionOf, lineTop}
 use Rattle.layout.specs.Slot.{slotTop}
-use Rattle.layout.specs.Content.{content, top, topOf}
+use Rattle.layout.specs.Content.{top, topOf, Table, tableOf}
 use Rattle.layout.specs.Fault.{markFault, recordFault}
-use Rattle.layout.proofs.Refusals.{say-true}
+use Rattle.prelude.proofs.Refusals.{say-true}
 use Rattle.layout.proofs.Content.{top-is}
 use Rattle.sorting.specs.Sorted.{sorted}
-use Rattle.sorting.specs.Members.{slots}
+use Rattle.prelude.specs.Members.{slots}
 use Rattle.sorting.proofs.Order.{sorted-alike}
-use Rattle.table.specs.Table.{Table, liveCount, nextVersion, sharedVersion, allLive}
+use Rattle.table.specs.Table.{liveCount, nextVersion, sharedVersion, allLive}
 use Rattle.table.specs.Order.{rankOf, ordered}
-use Rattle.table.specs.Write.{Distinct}
-use Rattle.table.proofs.Lists.{slots-in, Whole, whole-sorted}
-use Rattle.table.proofs.Most.{greatest-least}
+use Rattle.table.proofs.defs.Write.{Distinct}
+use Rattle.prelude.proofs.Lists.{slots-in, Whole}
+use Rattle.sorting.proofs.Whole.{whole-sorted}
+use Rattle.prelude.proofs.Most.{greatest-least}
 use Rattle.table.proofs.Distinct.{shared-distinct}
 use Rattle.recovery.specs.Recover.{slotsFault}
-use Rattle.recovery.specs.Scan.{Scanned}
-use Rattle.recovery.specs.Decide.{twins, decided, placedCount, livePlace, Within}
-use Rattle.recovery.specs.Judge.{foundFault, Judgement}
+use Rattle.recovery.specs.inner.Scan.{Scanned}
+use Rattle.recovery.specs.inner.Decide.{equalNeighbours, decided, placedCount, livePlace, Within}
+use Rattle.recovery.specs.inner.Judge.{foundFault, Judgement}
 use Rattle.recovery.specs.declared.Scan.{Scan}
 use Rattle.recovery.proofs.Clear.{slots-clear}
 use Rattle.recovery.proofs.Orders.{whole-order, whole-within}
-use Rattle.recovery.proofs.Twins.{twins-shared}
+use Rattle.recovery.proofs.Neighbours.{neighbours-shared}
 use Rattle.recovery.proofs.Decides.{decided-live, counted-live}
 
 -- ---- versions fit
@@ -47,7 +48,7 @@ line-small mark stamp h = go (split (whole mark stamp))
     go (inl e) = omega (arith, pick-true (whole mark stamp) (versionOf stamp) 0 e)
     go (inr e) = omega (arith, pick-false (whole mark stamp) (versionOf stamp) 0 e)
 
-top-small : (image : List ℕ) (s : ℕ) → AreBytes image → topOf (content 1 (word image) s) < 2 ^ 63
+top-small : (image : List ℕ) (s : ℕ) → AreBytes image → topOf (tableOf 1 image s) < 2 ^ 63
 unfolding top slotTop
 top-small image s b =
     omega (
@@ -61,15 +62,15 @@ top-small image s b =
 
 module _ (image : List ℕ) (n b : ℕ) (ranks keys places₁ order by-key places : List ℕ) (all : Scan) (shared : Bool) (live-count : ℕ)
     (bytes : AreBytes image) (size : length places₁ ≡ n + 1) (s : Scanned (word image) n b ranks keys places₁ all)
-    (in-order : order ≡ sorted (λ x. getD ranks x 0) (slots n)) (twin : shared ≡ anyOf (twins ranks order) 0 (n - 1))
+    (in-order : order ≡ sorted (λ x. getD ranks x 0) (slots n)) (twin : shared ≡ anyOf (equalNeighbours ranks order) 0 (n - 1))
     (keyed : by-key ≡ sorted (λ x. getD keys x 0) order) (done : places ≡ decided keys by-key n places₁)
     (counted : live-count ≡ placedCount places n) where
   f : Table
-  f = content 1 (word image)
+  f = tableOf 1 image
 
   shared-is : shared ≡ sharedVersion f n
   unfolding f
-  shared-is = twin ∙ twins-shared f n ranks order (s .listed .rank-at) in-order
+  shared-is = twin ∙ neighbours-shared f n ranks order (s .listed .rank-at) in-order
 
   order-is : order ≡ ordered f (slots n)
   unfolding f ordered
@@ -119,7 +120,7 @@ module _ (image : List ℕ) (n b : ℕ) (ranks keys places₁ order by-key place
       omega (
         arith,
         s .top-is,
-        greatest-least (λ t. topOf (content 1 (word image) t)) n (2 ^ 63 - 1) (λ t i. let h = top-small image t bytes in omega arith),
+        greatest-least (λ t. topOf (tableOf 1 image t)) n (2 ^ 63 - 1) (λ t i. let h = top-small image t bytes in omega arith),
       )
 
   pub judged : (fault : ℕ) → fault ≡ foundFault (all .mark) (all .fault) shared live-count n
@@ -150,9 +151,9 @@ module _ (order₀ order ranks₀ ranks : List ℕ) (n : ℕ) (e : order ≡ sor
   all-slots : Whole n order
   all-slots = whole-order (λ x. getD ranks x 0) n order in-rank
 
-  pub twins-ready : 1 ≤ n → length ranks ≡ length ranks₀ → length ranks₀ ≡ n + 1
+  pub neighbours-ready : 1 ≤ n → length ranks ≡ length ranks₀ → length ranks₀ ≡ n + 1
       → (length order ≡ n) × (1 ≤ n) × (length ranks ≡ n + 1) × Within order n
-  twins-ready some p q = (all-slots .size, some, p ∙ q, whole-within order n all-slots)
+  neighbours-ready some p q = (all-slots .size, some, p ∙ q, whole-within order n all-slots)
 
   pub decide-ready : (keys₀ keys places₀ places by-key : List ℕ) → by-key ≡ sorted (λ x. getD keys x 0) order → n ≤ 65535
       → length keys ≡ length keys₀ → length keys₀ ≡ n + 1 → length places ≡ length places₀ → length places₀ ≡ n + 1

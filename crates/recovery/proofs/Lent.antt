@@ -3,25 +3,23 @@ use mathlib.Core.Path.{_≡_, sym, ap, ap₂, _∙_}
 use mathlib.Core.List.{List}
 use Prim.Native.Nat.{ℕ}
 use lib.ListN.{length}
-use Rattle.words.specs.Word.{word}
-use Rattle.layout.specs.Answer.{refused}
-use Rattle.layout.specs.Size.{slotsOf}
-use Rattle.layout.specs.Content.{content}
-use Rattle.layout.proofs.Refusals.{taken-leaves}
-use Rattle.recovery.specs.Recover.{recoverFault, recovered, recoverResult}
+use Rattle.layout.specs.Size.{slotsIn}
+use Rattle.layout.specs.Content.{tableOf}
+use Rattle.prelude.proofs.Refusals.{taken-leaves}
+use Rattle.recovery.specs.Recover.{recoverFault, recovered, recoverResult, refusedResult}
 
 -- a recovery that is not refused leaves the recovered index
 pub recovery-taken : (l : ℕ) (image heads next : List ℕ) → recoverFault l image (length heads) (length next) ≡ 0
-    → recoverResult l image heads next ≡ recovered (content l (word image)) (slotsOf (length image)) (length heads)
+    → recoverResult l image heads next ≡ recovered (tableOf l image) (slotsIn image) (length heads)
 unfolding recoverResult
 recovery-taken l image heads next z =
-    taken-leaves (recovered (content l (word image)) (slotsOf (length image)) (length heads))
-    (record { answer = refused (recoverFault l image (length heads) (length next)); heads = heads; next = next })
+    taken-leaves (recovered (tableOf l image) (slotsIn image) (length heads))
+    (refusedResult (recoverFault l image (length heads) (length next)) heads next)
     (recoverFault l image (length heads) (length next)) z
 
 pub same-recovery : (l : ℕ) (image heads next heads′ next′ : List ℕ) → length heads ≡ length heads′ → length next ≡ length next′
     → recoverFault l image (length heads) (length next) ≡ 0 → recoverResult l image heads next ≡ recoverResult l image heads′ next′
 same-recovery l image heads next heads′ next′ p q z =
     recovery-taken l image heads next z
-    ∙ ap (recovered (content l (word image)) (slotsOf (length image))) p
+    ∙ ap (recovered (tableOf l image) (slotsIn image)) p
     ∙ sym (recovery-taken l image heads′ next′ (sym (ap₂ (recoverFault l image) p q) ∙ z))

@@ -1,8 +1,6 @@
 pub mod Clear
 pub mod Scans
 pub mod Orders
-pub mod Twins
-pub mod Standing
 pub mod Decides
 pub mod Rebuilt
 pub mod Judges
@@ -11,3 +9,5 @@ pub mod Represents
 pub mod Lent
 pub mod Answers
 pub mod Unwritten
+pub mod Neighbours
+pub mod defs

@@ -10,35 +10,35 @@ use native.Mathlib.Omega.{arith}
 use lib.Dec.{eqb}
 use lib.ListN.{length, getD, replicate, length-replicate}
 use borrow.Author.Tests.{eq-eqb, ne-eqb}
-use Rattle.words.proofs.Choice.{pick-true, pick-false, split}
-use Rattle.layout.specs.Range.{tabulate}
-use Rattle.sorting.specs.Sorted.{keep}
-use Rattle.sorting.specs.Members.{In, slots}
-use Rattle.sorting.proofs.Order.{keep-sorted}
-use Rattle.table.specs.Table.{Table, keyIn, live, spare}
+use Rattle.prelude.proofs.Choice.{pick-true, pick-false, split}
+use Rattle.prelude.specs.Range.{tabulate}
+use Rattle.prelude.specs.Filter.{filter}
+use Rattle.prelude.specs.Members.{In, slots}
+use Rattle.sorting.proofs.Order.{filter-sorted}
+use Rattle.layout.specs.Content.{Table}
+use Rattle.table.specs.Table.{keyIn, live, spare}
 use Rattle.table.specs.Order.{rankOf, ordered, chainOf, reuseOf}
-use Rattle.table.proofs.Lists.{slots-in, Whole}
+use Rattle.prelude.proofs.Lists.{slots-in, Whole}
 use Rattle.index.specs.Index.{Chain, reuse, head, headOf}
 use Rattle.index.specs.Chained.{firstOf, lastOf, after, nextIn, chained}
-use Rattle.index.specs.Parts.{Holds}
+use Rattle.index.specs.inner.Parts.{PartsOf}
 use Rattle.index.specs.declared.State.{State}
-use Rattle.index.specs.Build.{build, placeIn, unbuilt, Ordered}
-use Rattle.index.specs.Build as building
-use Rattle.index.specs.Linked.{same, Sits}
-use Rattle.index.specs.Linked as linked
+use Rattle.index.specs.inner.Build.{build, placeIn, unbuilt, Ordered, chainFrom}
+use Rattle.index.proofs.defs.Linked.{sameChain, chainsBy}
+use Rattle.index.specs.Linked.{Sits}
 use Rattle.index.proofs.Chained.{built-sits, built-chained}
 use Rattle.recovery.specs.Recover.{chainsOf, placeOf, recoveredIndex}
-use Rattle.recovery.specs.Decide.{livePlace}
-use Rattle.recovery.specs.Judge.{Arranged}
+use Rattle.recovery.specs.inner.Decide.{livePlace}
+use Rattle.recovery.specs.inner.Judge.{Arranged}
 use Rattle.recovery.proofs.Orders.{whole-order}
 
 -- ---- lists and tables that agree where it counts
 
-keep-alike : (p q : ℕ → Bool) (l : List ℕ) → ((x : ℕ) → In x l → p x ≡ q x) → keep p l ≡ keep q l
-unfolding keep
-keep-alike p q [] h = refl
-keep-alike p q (x ∷ l) h =
-    ap₂ (λ (b : Bool) (t : List ℕ). cond b (x ∷ t) t) (h x (inl refl)) (keep-alike p q l (λ y i. h y (inr i)))
+filter-alike : (p q : ℕ → Bool) (l : List ℕ) → ((x : ℕ) → In x l → p x ≡ q x) → filter p l ≡ filter q l
+unfolding filter
+filter-alike p q [] h = refl
+filter-alike p q (x ∷ l) h =
+    ap₂ (λ (b : Bool) (t : List ℕ). cond b (x ∷ t) t) (h x (inl refl)) (filter-alike p q l (λ y i. h y (inr i)))
 
 tabulate-alike : (f g : ℕ → ℕ) (k n : ℕ) → ((i : ℕ) → k ≤ i → i < k + n → f i ≡ g i) → tabulate f k n ≡ tabulate g k n
 unfolding tabulate
@@ -80,32 +80,32 @@ eqb-swap x y =
     (λ ne. ne-eqb x y ne ∙ sym (ne-eqb y x (λ e. ne (sym e))))
 
 -- a slot's chain by its number is its chain by the table
-place-of : (f : Table) (n b s : ℕ) → building.chainOf (livePlace f n b s) ≡ placeOf f n b s
-unfolding building.chainOf livePlace placeOf
+place-of : (f : Table) (n b s : ℕ) → chainFrom (livePlace f n b s) ≡ placeOf f n b s
+unfolding chainFrom livePlace placeOf
 place-of f n b s = go (split (live f n s))
   where
     next : headOf (keyIn (f s)) b + 1 ≡ suc (headOf (keyIn (f s)) b)
     next = omega arith
 
-    go : (live f n s ≡ true) ⊎ (live f n s ≡ false) → building.chainOf (cond (live f n s) (headOf (keyIn (f s)) b + 1) 0) ≡ cond (live f n s) (head (headOf (keyIn (f s)) b)) reuse
+    go : (live f n s ≡ true) ⊎ (live f n s ≡ false) → chainFrom (cond (live f n s) (headOf (keyIn (f s)) b + 1) 0) ≡ cond (live f n s) (head (headOf (keyIn (f s)) b)) reuse
     go (inl e) =
-        ap building.chainOf (pick-true (live f n s) _ _ e ∙ next) ∙ sym (pick-true (live f n s) (head (headOf (keyIn (f s)) b)) reuse e)
-    go (inr e) = ap building.chainOf (pick-false (live f n s) _ _ e) ∙ sym (pick-false (live f n s) (head (headOf (keyIn (f s)) b)) reuse e)
+        ap chainFrom (pick-true (live f n s) _ _ e ∙ next) ∙ sym (pick-true (live f n s) (head (headOf (keyIn (f s)) b)) reuse e)
+    go (inr e) = ap chainFrom (pick-false (live f n s) _ _ e) ∙ sym (pick-false (live f n s) (head (headOf (keyIn (f s)) b)) reuse e)
 
 -- the test for a chain by place is the test of document 01's chain
-in-reuse : (f : Table) (n b s : ℕ) → same reuse (placeOf f n b s) ≡ spare f n s
+in-reuse : (f : Table) (n b s : ℕ) → sameChain reuse (placeOf f n b s) ≡ spare f n s
 unfolding placeOf spare
 in-reuse f n b s = go (split (live f n s))
   where
-    go : (live f n s ≡ true) ⊎ (live f n s ≡ false) → same reuse (cond (live f n s) (head (headOf (keyIn (f s)) b)) reuse) ≡ not (live f n s)
+    go : (live f n s ≡ true) ⊎ (live f n s ≡ false) → sameChain reuse (cond (live f n s) (head (headOf (keyIn (f s)) b)) reuse) ≡ not (live f n s)
     go (inl e) = rw e
     go (inr e) = rw e
 
-in-head : (f : Table) (n b h s : ℕ) → same (head h) (placeOf f n b s) ≡ (live f n s && eqb (headOf (keyIn (f s)) b) h)
+in-head : (f : Table) (n b h s : ℕ) → sameChain (head h) (placeOf f n b s) ≡ (live f n s && eqb (headOf (keyIn (f s)) b) h)
 unfolding placeOf
 in-head f n b h s = go (split (live f n s))
   where
-    go : (live f n s ≡ true) ⊎ (live f n s ≡ false) → same (head h) (cond (live f n s) (head (headOf (keyIn (f s)) b)) reuse) ≡ (live f n s && eqb (headOf (keyIn (f s)) b) h)
+    go : (live f n s ≡ true) ⊎ (live f n s ≡ false) → sameChain (head h) (cond (live f n s) (head (headOf (keyIn (f s)) b)) reuse) ≡ (live f n s && eqb (headOf (keyIn (f s)) b) h)
     go (inl e) = rw e (eqb-swap h (headOf (keyIn (f s)) b))
     go (inr e) = rw e
 
@@ -138,7 +138,7 @@ ordered-whole f n order e = whole-order (λ s. rankOf (f s)) n order e
 pub arranged-place : (f : Table) (n b : ℕ) (order places : List ℕ) (live-count top : ℕ) → Arranged f n b order places live-count top
     → (s : ℕ) → 0 < s → s ≤ n → placeIn places s ≡ placeOf f n b s
 unfolding placeIn
-arranged-place f n b order places live-count top a s low high = ap building.chainOf (a .place-is s low high) ∙ place-of f n b s
+arranged-place f n b order places live-count top a s low high = ap chainFrom (a .place-is s low high) ∙ place-of f n b s
 
 -- all slots by rising rank, pushed into an index of zeros
 module _ (f : Table) (n b : ℕ) (order : List ℕ) (place : ℕ → Chain) (few : 1 ≤ b) (order-is : order ≡ ordered f (slots n))
@@ -146,18 +146,18 @@ module _ (f : Table) (n b : ℕ) (order : List ℕ) (place : ℕ → Chain) (few
   whole : Whole n order
   whole = ordered-whole f n order order-is
 
-  kept : (p q : ℕ → Bool) → ((s : ℕ) → 0 < s → s ≤ n → p s ≡ q s) → keep p order ≡ ordered f (keep q (slots n))
+  kept : (p q : ℕ → Bool) → ((s : ℕ) → 0 < s → s ≤ n → p s ≡ q s) → filter p order ≡ ordered f (filter q (slots n))
   unfolding ordered
   kept p q h =
-      ap (keep p) order-is ∙ keep-sorted (λ s. rankOf (f s)) p (slots n)
-      ∙ ap (ordered f) (keep-alike p q (slots n) (λ x i. let t = slots-in n x i in h x (t .0) (t .1)))
+      ap (filter p) order-is ∙ filter-sorted (λ s. rankOf (f s)) p (slots n)
+      ∙ ap (ordered f) (filter-alike p q (slots n) (λ x i. let t = slots-in n x i in h x (t .0) (t .1)))
 
-  chains-are : (c : Chain) → linked.chainsOf place order c ≡ chainsOf f n b c
-  unfolding linked.chainsOf chainsOf reuseOf chainOf
-  chains-are reuse = kept (λ s. same reuse (place s)) (spare f n) (λ s low high. ap (same reuse) (at-place s low high) ∙ in-reuse f n b s)
+  chains-are : (c : Chain) → chainsBy place order c ≡ chainsOf f n b c
+  unfolding chainsBy chainsOf reuseOf chainOf
+  chains-are reuse = kept (λ s. sameChain reuse (place s)) (spare f n) (λ s low high. ap (sameChain reuse) (at-place s low high) ∙ in-reuse f n b s)
   chains-are (head h) =
-      kept (λ s. same (head h) (place s)) (λ s. live f n s && eqb (headOf (keyIn (f s)) b) h)
-      (λ s low high. ap (same (head h)) (at-place s low high) ∙ in-head f n b h s)
+      kept (λ s. sameChain (head h) (place s)) (λ s. live f n s && eqb (headOf (keyIn (f s)) b) h)
+      (λ s low high. ap (sameChain (head h)) (at-place s low high) ∙ in-head f n b h s)
 
   heads-in : (s h : ℕ) → In s order → place s ≡ head h → h < b
   heads-in s h i e = let t = whole .within s i in head-in f n b s h few (sym (at-place s (t .0) (t .1)) ∙ e)
@@ -189,8 +189,8 @@ ordered-kept heads next heads′ next′ order places p q o =
 
 pub rebuilt : (heads next order places heads₁ next₁ heads′ next′ : List ℕ) (built : State) (live-count top : ℕ)
     → heads₁ ≡ replicate (length heads) 0 → next₁ ≡ replicate (length next) 0
-    → Holds heads′ next′ built (build (placeIn places) (unbuilt heads₁ next₁) order) 0 0
-    → Holds heads′ next′ (record { first = built .first; last = built .last; live = live-count; version = top + 1 })
+    → PartsOf heads′ next′ built (build (placeIn places) (unbuilt heads₁ next₁) order) 0 0
+    → PartsOf heads′ next′ (record { first = built .first; last = built .last; live = live-count; version = top + 1 })
     (build (placeIn places) (unbuilt (replicate (length heads) 0) (replicate (length next) 0)) order) live-count (top + 1)
 rebuilt heads next order places heads₁ next₁ heads′ next′ built live-count top p q h =
     record {

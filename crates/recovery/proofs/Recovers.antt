@@ -2,7 +2,7 @@
 use mathlib.Core.Path.{_≡_, refl, sym, ap, ap₂, _∙_}
 use mathlib.Core.Bool.{true, false, cond}
 use mathlib.Core.Logic.{_⊎_, inl, inr}
-use mathlib.Core.List.{List, [], _∷_}
+use mathlib.Core.List.{List}
 use Prim.Native.Nat.{ℕ, zero, suc, _+_, _%_, _^_, _≤_, _<_}
 use native.Mathlib.Nat.{mod-lt}
 use native.Mathlib.Omega.{arith}
@@ -11,49 +11,49 @@ use lib.Seq.{length-take-le}
 use lib.Dec.{eqb}
 use borrow.Author.Tests.{eq-eqb, ne-eqb}
 use Rattle.words.specs.Word.{word}
-use Rattle.words.proofs.Choice.{pick-true, pick-false, split}
-use Rattle.layout.specs.Answer.{gives, refused}
-use Rattle.layout.specs.Size.{slotsOf}
+use Rattle.prelude.proofs.Choice.{pick-true, pick-false, split}
+use Rattle.prelude.specs.Answer.{gives}
+use Rattle.layout.specs.Size.{slotsIn}
 use Rattle.layout.specs.Header.{lentFault}
-use Rattle.layout.specs.Content.{content}
-use Rattle.layout.proofs.Refusals.{orElse-first, orElse-later, taken-leaves, refused-keeps}
-use Rattle.table.specs.Table.{Table, keyIn, live, nextVersion}
-use Rattle.index.specs.Index.{Index, headOf}
-use Rattle.index.specs.Parts.{Holds}
-use Rattle.index.specs.Build.{build, placeIn, unbuilt, Ordered}
+use Rattle.layout.specs.Content.{Table, tableOf}
+use Rattle.prelude.proofs.Refusals.{orElse-first, orElse-later, taken-leaves, refused-keeps}
+use Rattle.table.specs.Table.{keyIn, live, nextVersion}
+use Rattle.index.specs.Index.{Index, headOf, stateOf}
+use Rattle.index.specs.inner.Parts.{PartsOf}
+use Rattle.index.specs.inner.Build.{build, placeIn, unbuilt, Ordered}
 use Rattle.index.specs.declared.State.{State}
-use Rattle.index.proofs.Lents.{lent-sized, lent-heads, lent-slots}
-use Rattle.recovery.specs.Recover.{Result, stateValues, recoverSays, slotsFault, recoverFault, recoveredIndex, recoveredState, recovered, recoverResult}
-use Rattle.recovery.specs.Decide.{livePlace, Within}
-use Rattle.recovery.specs.Judge.{Ready, Roomy, Judgeable, Arranged, Judgement, Left, answered, recoverEnd}
+use Rattle.layout.proofs.Lents.{lent-sized, lent-heads, lent-slots}
+use Rattle.recovery.specs.Recover.{Result, stateValues, recoverSays, slotsFault, recoverFault, recoveredIndex, recoveredState, recovered, recoverResult, recoverEnd, recoverState, refusedResult}
+use Rattle.recovery.specs.inner.Decide.{livePlace, Within}
+use Rattle.recovery.specs.inner.Judge.{Ready, Roomy, Judgeable, Arranged, Judgement, Left, answerBy}
 use Rattle.recovery.specs.declared.Judged.{Judged}
 use Rattle.recovery.specs.declared.Recovered.{Recovered}
-use Rattle.recovery.specs.declared.Recovered.the-variants.{Index as Rebuilt, Refused}
+use Rattle.recovery.specs.declared.Recovered.the-variants.{Rebuilt, Refused}
 use Rattle.recovery.proofs.Rebuilt.{arranged-index, arranged-place, ordered-whole}
 use Rattle.recovery.proofs.Orders.{whole-within}
 
 -- the result by the refusal's number
 module _ (image heads next : List ℕ) (fault : ℕ) (e : recoverFault 1 image (length heads) (length next) ≡ fault) where
-  result-refused : (fault ≡ 0 → ⊥) → record { answer = refused fault; heads = heads; next = next } ≡ recoverResult 1 image heads next
+  result-refused : (fault ≡ 0 → ⊥) → refusedResult fault heads next ≡ recoverResult 1 image heads next
   unfolding recoverResult
   result-refused ne =
       sym
-      (refused-keeps (recovered (content 1 (word image)) (slotsOf (length image)) (length heads))
-      (record { answer = refused (recoverFault 1 image (length heads) (length next)); heads = heads; next = next })
+      (refused-keeps (recovered (tableOf 1 image) (slotsIn image) (length heads))
+      (refusedResult (recoverFault 1 image (length heads) (length next)) heads next)
       (recoverFault 1 image (length heads) (length next)) (λ z. ne (sym e ∙ z))
-      ∙ ap (λ (k : ℕ). record { answer = refused k; heads = heads; next = next }) e)
+      ∙ ap (λ (k : ℕ). refusedResult k heads next) e)
 
-  result-taken : fault ≡ 0 → recovered (content 1 (word image)) (slotsOf (length image)) (length heads) ≡ recoverResult 1 image heads next
+  result-taken : fault ≡ 0 → recovered (tableOf 1 image) (slotsIn image) (length heads) ≡ recoverResult 1 image heads next
   unfolding recoverResult
   result-taken z =
       sym
-      (taken-leaves (recovered (content 1 (word image)) (slotsOf (length image)) (length heads))
-      (record { answer = refused (recoverFault 1 image (length heads) (length next)); heads = heads; next = next })
+      (taken-leaves (recovered (tableOf 1 image) (slotsIn image) (length heads))
+      (refusedResult (recoverFault 1 image (length heads) (length next)) heads next)
       (recoverFault 1 image (length heads) (length next)) (e ∙ z))
 
 -- 1 to 4
 pub lent-refused : (image heads next : List ℕ) (fault : ℕ) → fault ≡ lentFault 1 image (length heads) (length next) → (fault ≡ 0 → ⊥)
-    → record { answer = refused fault; heads = heads; next = next } ≡ recoverResult 1 image heads next
+    → refusedResult fault heads next ≡ recoverResult 1 image heads next
 unfolding recoverFault
 lent-refused image heads next fault e ne =
     result-refused image heads next fault (orElse-first _ _ (λ z. ne (e ∙ z)) ∙ sym e) ne
@@ -69,18 +69,18 @@ module _ (image heads next : List ℕ) (n : ℕ) (ready : Ready image heads next
   by-slots fault e = orElse-later _ _ (ready .lent) ∙ ap (slotsFault 1 (word image)) (ready .sized .slots) ∙ sym e
 
   slots-refused : (fault : ℕ) → fault ≡ slotsFault 1 (word image) n → (fault ≡ 0 → ⊥)
-      → record { answer = refused fault; heads = heads; next = next } ≡ recoverResult 1 image heads next
+      → refusedResult fault heads next ≡ recoverResult 1 image heads next
   slots-refused fault e ne = result-refused image heads next fault (by-slots fault e) ne
 
   -- the result of an index with this live count and this next version
   shown : Index → (live-count version : ℕ) → Result
   shown i live-count version =
-      record { answer = gives (i .first ∷ i .last ∷ live-count ∷ version ∷ []); heads = i .heads; next = i .next }
+      record { answer = gives (stateValues (stateOf i live-count version)); state = stateOf i live-count version; heads = i .heads; next = i .next }
 
   slots-taken : (fault : ℕ) → fault ≡ slotsFault 1 (word image) n → fault ≡ 0 → (order places heads′ next′ : List ℕ) (live-count top : ℕ) (r : State)
-      → Arranged (content 1 (word image)) n (length heads) order places live-count top
-      → Holds heads′ next′ r (build (placeIn places) (unbuilt (replicate (length heads) 0) (replicate (length next) 0)) order) live-count (top + 1)
-      → record { answer = gives (stateValues r); heads = heads′; next = next′ } ≡ recoverResult 1 image heads next
+      → Arranged (tableOf 1 image) n (length heads) order places live-count top
+      → PartsOf heads′ next′ r (build (placeIn places) (unbuilt (replicate (length heads) 0) (replicate (length next) 0)) order) live-count (top + 1)
+      → record { answer = gives (stateValues r); state = r; heads = heads′; next = next′ } ≡ recoverResult 1 image heads next
   unfolding shown recovered recoveredState
   slots-taken fault e z order places heads′ next′ live-count top r a h =
       ap (λ (i : Index). shown i (r .live) (r .version)) (h .index ∙ built)
@@ -89,7 +89,7 @@ module _ (image heads next : List ℕ) (n : ℕ) (ready : Ready image heads next
       ∙ result-taken image heads next fault (by-slots fault e) z
     where
       f : Table
-      f = content 1 (word image)
+      f = tableOf 1 image
 
       built : build (placeIn places) (unbuilt (replicate (length heads) 0) (replicate (length next) 0)) order ≡ recoveredIndex f n (length heads)
       built =
@@ -104,15 +104,15 @@ module _ (image heads next : List ℕ) (n : ℕ) (ready : Ready image heads next
 -- both ways of a call, by the refusal's number
 pub slots-answered : (image heads next order places : List ℕ) (n : ℕ) (found : Judged) (heads′ next′ : List ℕ) (state : State) (r : Recovered)
     → Ready image heads next n → Judgement (word image) n (length heads) order places found
-    → Left (found .fault) heads next order places (found .live) (found .top) heads′ next′ state → r ≡ answered (found .fault) state
+    → Left (found .fault) heads next order places (found .live) (found .top) heads′ next′ state → r ≡ answerBy (found .fault) state
     → recoverEnd r heads′ next′ ≡ recoverResult 1 image heads next
-unfolding recoverSays answered
+unfolding recoverSays recoverState answerBy
 slots-answered image heads next order places n found heads′ next′ state r ready j v q = go (zero-or-not fault)
   where
     fault : ℕ
     fault = found .fault
 
-    says : (w : Recovered) → answered fault state ≡ w → recoverEnd r heads′ next′ ≡ recoverEnd w heads′ next′
+    says : (w : Recovered) → answerBy fault state ≡ w → recoverEnd r heads′ next′ ≡ recoverEnd w heads′ next′
     says w u = ap (λ (x : Recovered). recoverEnd x heads′ next′) (q ∙ u)
 
     go : (fault ≡ 0) ⊎ (fault ≡ 0 → ⊥) → recoverEnd r heads′ next′ ≡ recoverResult 1 image heads next
@@ -143,14 +143,14 @@ pub rebuild-ordered : (image heads next ranks keys places₀ order₀ by-key spa
     → Ordered heads next order places
 rebuild-ordered image heads next ranks keys places₀ order₀ by-key spare order places n found ready g j same z = ordered-by
   where
-    a : Arranged (content 1 (word image)) n (length heads) order places (found .live) (found .top)
+    a : Arranged (tableOf 1 image) n (length heads) order places (found .live) (found .top)
     a = j .arranged z
 
     size : length places ≡ n + 1
     size = same ∙ g .places-size
 
     f : Table
-    f = content 1 (word image)
+    f = tableOf 1 image
 
     few : 1 ≤ length heads
     few = ready .sized .some-head
@@ -195,7 +195,7 @@ judgeable image heads next ranks keys places order by-key spare n ready room =
       places-size = length-take-le (n + 1) places (omega arith);
       order-size = length-take-le n order (omega arith);
       by-key-size = length-take-le n by-key (omega arith);
-      spare-size = length-take-le n spare (omega arith);
+      scratch-size = length-take-le n spare (omega arith);
       some-slots = ready .some-slots;
       few = ready .sized .few;
       heads-low = ready .sized .some-head;
@@ -204,7 +204,7 @@ judgeable image heads next ranks keys places order by-key spare n ready room =
 
 -- what is lent and not refused with 1 to 4
 pub lent-ready : (image heads next : List ℕ) (fault n : ℕ) → fault ≡ lentFault 1 image (length heads) (length next) → fault ≡ 0
-    → n ≡ slotsOf (length image) → Ready image heads next n
+    → n ≡ slotsIn image → Ready image heads next n
 lent-ready image heads next fault n e z size =
     record {
       lent = sym e ∙ z;
@@ -214,5 +214,5 @@ lent-ready image heads next fault n e z size =
     }
 
 pub lent-few : (image heads next : List ℕ) (fault n : ℕ) → fault ≡ lentFault 1 image (length heads) (length next) → fault ≡ 0
-    → n ≡ slotsOf (length image) → n < 65536
+    → n ≡ slotsIn image → n < 65536
 lent-few image heads next fault n e z size = omega (arith, lent-sized 1 fault image heads next e z n size .few)

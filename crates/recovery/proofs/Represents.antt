@@ -1,17 +1,16 @@
 -- The recovered index holds the chains of document 01, each slot in just one of them. Assumes nothing.
 use mathlib.Core.Path.{_≡_, refl, _∙_}
 use Prim.Native.Nat.{ℕ, _≤_}
-use native.Mathlib.Omega.{arith}
 use lib.ListN.{getD}
-use Rattle.sorting.specs.Members.{slots}
-use Rattle.table.specs.Table.{Table}
+use Rattle.prelude.specs.Members.{slots}
+use Rattle.layout.specs.Content.{Table}
 use Rattle.table.specs.Order.{ordered, chainOf, reuseOf}
 use Rattle.index.specs.Index.{Index, reuse, head, headOf, start, ahead}
 use Rattle.index.specs.Chained.{lastOf}
 use Rattle.index.specs.Linked.{Linked, Sits}
 use Rattle.index.proofs.Chained.{end-last}
 use Rattle.index.proofs.Sits.{sits-in, sits-has, sits-once}
-use Rattle.index.proofs.Count.{good-linked}
+use Rattle.index.proofs.ChainLengths.{good-linked}
 use Rattle.recovery.specs.Recover.{chainsOf, placeOf, recoveredIndex}
 use Rattle.recovery.specs.Represents.{Represents}
 use Rattle.recovery.proofs.Rebuilt.{arranged-sits, arranged-index}
@@ -27,11 +26,11 @@ recovered-sits f n b few =
 module _ (f : Table) (n b : ℕ) (i : Index) (g : Sits n b (placeOf f n b) i (chainsOf f n b)) where
   by-head : (h : ℕ) → Linked (i .next) (getD (i .heads) h 0) (chainOf f n (λ key. headOf key b) h)
   unfolding chainsOf ahead start
-  by-head h = good-linked _ _ _ (head h) (g .good .woven)
+  by-head h = good-linked _ _ _ (head h) (g .good .disjoint)
 
   by-first : Linked (i .next) (i .first) (reuseOf f n)
   unfolding chainsOf ahead start
-  by-first = good-linked _ _ _ reuse (g .good .woven)
+  by-first = good-linked _ _ _ reuse (g .good .disjoint)
 
   by-last : i .last ≡ lastOf (reuseOf f n)
   unfolding chainsOf

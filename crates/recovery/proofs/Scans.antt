@@ -13,8 +13,8 @@ use lib.Seq.{getD-set-same, getD-set-other}
 use borrow.Author.Tests.{eq-eqb, ne-eqb}
 use Rattle.words.specs.Word.{AreBytes, word}
 use Rattle.words.proofs.Laws.{word-range}
-use Rattle.words.proofs.Choice.{pick-true, pick-false}
-use Rattle.layout.specs.Range.{anyOf}
+use Rattle.prelude.proofs.Choice.{pick-true, pick-false}
+use Rattle.prelude.specs.Range.{anyOf, greatest}
 use Rattle.layout.specs.Line.{lineA, lineB, lineTop}
 use Rattle.layout.specs.Slot.{paired, verdictOf, lineVerdict, slotVerdict, isValid}
 use Rattle.layout.specs.Record.{kindOf, keyOf, valueOf}
@@ -22,10 +22,10 @@ use Rattle.layout.specs.Content.{put, remove, made, contentBy, contentOf, conte
 use Rattle.layout.specs.Fault.{markFault, faultOf, recordFault}
 use Rattle.layout.specs.declared.Verdict.{Verdict}
 use Rattle.layout.specs.declared.Verdict.the-variants.{Valid, Empty, Broken}
-use Rattle.table.specs.Table.{keyIn, greatest}
+use Rattle.table.specs.Table.{keyIn}
 use Rattle.table.specs.Order.{rankOf}
 use Rattle.index.specs.Index.{headOf}
-use Rattle.recovery.specs.Scan.{putPlace, Scannable, validSummary, Summed, Scanned}
+use Rattle.recovery.specs.inner.Scan.{putPlace, Scannable, validSummary, Summed, Scanned}
 use Rattle.recovery.specs.declared.Summary.{Summary}
 use Rattle.recovery.specs.declared.Scan.{Scan}
 

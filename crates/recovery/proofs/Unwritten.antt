@@ -6,37 +6,37 @@ use mathlib.Core.List.{List, [], _∷_}
 use Prim.Native.Nat.{ℕ, _+_, _-_, _≤_}
 use native.Mathlib.Omega.{arith}
 use lib.Dec.{eqb}
-use Rattle.words.proofs.Choice.{pick-true, pick-false}
-use Rattle.layout.specs.Refusal.{say}
-use Rattle.layout.specs.Range.{anyOf}
-use Rattle.layout.specs.Content.{empty, topOf}
-use Rattle.layout.proofs.Refusals.{say-false}
-use Rattle.layout.proofs.Any.{any-clear}
-use Rattle.sorting.specs.Sorted.{keep, sorted}
-use Rattle.sorting.specs.Members.{In, slots}
+use Rattle.prelude.proofs.Choice.{pick-true, pick-false}
+use Rattle.prelude.specs.Refusal.{say}
+use Rattle.prelude.specs.Range.{anyOf}
+use Rattle.layout.specs.Content.{empty, topOf, Table}
+use Rattle.prelude.proofs.Refusals.{say-false}
+use Rattle.prelude.proofs.Any.{any-clear}
+use Rattle.prelude.specs.Filter.{filter}
+use Rattle.sorting.specs.Sorted.{sorted}
+use Rattle.prelude.specs.Members.{In, slots, Slot}
 use Rattle.sorting.proofs.Order.{sorted-rising}
 use Rattle.sorting.proofs.Counts.{flat}
-use Rattle.table.specs.Table.{Table, counts, keyIn, nextVersion, decidingPut, live, spare, liveCount, sharedVersion, allLive}
+use Rattle.table.specs.Table.{isRecord, keyIn, nextVersion, decidingPut, live, spare, liveCount, sharedVersion, allLive}
 use Rattle.table.specs.Order.{rankOf, ordered, chainOf, reuseOf}
-use Rattle.table.specs.Write.{Slot}
-use Rattle.table.proofs.Lists.{slots-in}
-use Rattle.table.proofs.Count.{count-none}
+use Rattle.prelude.proofs.Lists.{slots-in}
+use Rattle.prelude.proofs.Count.{count-none}
 use Rattle.table.proofs.LiveCount.{room-all}
-use Rattle.table.proofs.Most.{greatest-least}
-use Rattle.recovery.specs.Represents.{Fresh}
+use Rattle.prelude.proofs.Most.{greatest-least}
+use Rattle.recovery.proofs.defs.Represents.{Fresh}
 
 -- ---- filters by a test that holds everywhere or nowhere
 
-keep-all : (p : ℕ → Bool) (l : List ℕ) → ((x : ℕ) → In x l → p x ≡ true) → keep p l ≡ l
-unfolding keep
-keep-all p [] h = refl
-keep-all p (x ∷ l) h =
-    pick-true (p x) _ _ (h x (inl refl)) ∙ ap (λ (t : List ℕ). x ∷ t) (keep-all p l (λ y i. h y (inr i)))
+filter-all : (p : ℕ → Bool) (l : List ℕ) → ((x : ℕ) → In x l → p x ≡ true) → filter p l ≡ l
+unfolding filter
+filter-all p [] h = refl
+filter-all p (x ∷ l) h =
+    pick-true (p x) _ _ (h x (inl refl)) ∙ ap (λ (t : List ℕ). x ∷ t) (filter-all p l (λ y i. h y (inr i)))
 
-keep-none : (p : ℕ → Bool) (l : List ℕ) → ((x : ℕ) → In x l → p x ≡ false) → keep p l ≡ []
-unfolding keep
-keep-none p [] h = refl
-keep-none p (x ∷ l) h = pick-false (p x) _ _ (h x (inl refl)) ∙ keep-none p l (λ y i. h y (inr i))
+filter-none : (p : ℕ → Bool) (l : List ℕ) → ((x : ℕ) → In x l → p x ≡ false) → filter p l ≡ []
+unfolding filter
+filter-none p [] h = refl
+filter-none p (x ∷ l) h = pick-false (p x) _ _ (h x (inl refl)) ∙ filter-none p l (λ y i. h y (inr i))
 
 -- ---- a table of empty slots
 
@@ -68,28 +68,28 @@ module _ (f : Table) (n : ℕ) (blank : (s : ℕ) → Slot n s → f s ≡ empty
   pub unwritten-reuse : reuseOf f n ≡ slots n
   unfolding reuseOf ordered
   unwritten-reuse =
-      ap (sorted (λ s. rankOf (f s))) (keep-all (spare f n) (slots n) (λ x i. spare-all x (slots-in n x i)))
+      ap (sorted (λ s. rankOf (f s))) (filter-all (spare f n) (slots n) (λ x i. spare-all x (slots-in n x i)))
       ∙ sorted-rising (λ s. rankOf (f s)) (slots n) (flat (λ s. rankOf (f s)) 1 (slots n) (λ x i. rank-one x (slots-in n x i)))
 
   pub unwritten-chain : (head : ℕ → ℕ) (h : ℕ) → chainOf f n head h ≡ []
   unfolding chainOf ordered sorted
   unwritten-chain head h =
       ap (sorted (λ s. rankOf (f s)))
-      (keep-none (λ s. live f n s && eqb (head (keyIn (f s))) h) (slots n)
+      (filter-none (λ s. live f n s && eqb (head (keyIn (f s))) h) (slots n)
       (λ x i. ap (λ (t : Bool). t && eqb (head (keyIn (f x))) h) (unwritten-live x (slots-in n x i))))
 
-  counts-not : (s : ℕ) → Slot n s → counts (f s) ≡ false
-  unfolding counts
-  counts-not s i = ap counts (blank s i)
+  counts-not : (s : ℕ) → Slot n s → isRecord (f s) ≡ false
+  unfolding isRecord
+  counts-not s i = ap isRecord (blank s i)
 
   pub unwritten-shared : sharedVersion f n ≡ false
   unfolding sharedVersion
   unwritten-shared =
-      any-clear (λ s. anyOf (λ t. counts (f s) && (counts (f t) && eqb (topOf (f s)) (topOf (f t)))) 1 (s - 1)) 1 n
+      any-clear (λ s. anyOf (λ t. isRecord (f s) && (isRecord (f t) && eqb (topOf (f s)) (topOf (f t)))) 1 (s - 1)) 1 n
       (λ i l.
-      any-clear (λ t. counts (f (1 + i)) && (counts (f t) && eqb (topOf (f (1 + i))) (topOf (f t)))) 1 (1 + i - 1)
+      any-clear (λ t. isRecord (f (1 + i)) && (isRecord (f t) && eqb (topOf (f (1 + i))) (topOf (f t)))) 1 (1 + i - 1)
       (λ j k.
-      ap (λ (b : Bool). b && (counts (f (1 + j)) && eqb (topOf (f (1 + i))) (topOf (f (1 + j)))))
+      ap (λ (b : Bool). b && (isRecord (f (1 + j)) && eqb (topOf (f (1 + i))) (topOf (f (1 + j)))))
       (counts-not (1 + i) (omega arith))))
 
   pub unwritten-room : 1 ≤ n → allLive f n ≡ false

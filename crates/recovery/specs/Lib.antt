@@ -1,5 +1,3 @@
 pub mod Recover
-pub mod Scan
-pub mod Decide
-pub mod Judge
 pub mod Represents
+pub mod inner

@@ -2,39 +2,45 @@
 use mathlib.Core.Bool.{cond}
 use mathlib.Core.List.{List, [], _∷_}
 use Prim.Native.Nat.{ℕ}
-use lib.ListN.{length, getD}
+use lib.ListN.{length}
 use Rattle.words.specs.Word.{word}
-use Rattle.layout.specs.Refusal.{say, orElse, unlessRefused}
-use Rattle.layout.specs.Answer.{Answer, gives, refused}
-use Rattle.layout.specs.Range.{anyOf}
-use Rattle.layout.specs.Size.{slotsOf}
-use Rattle.layout.specs.Content.{content}
+use Rattle.prelude.specs.Refusal.{say, orElse, unlessRefused}
+use Rattle.prelude.specs.Answer.{Answer, gives, refused}
+use Rattle.prelude.specs.Range.{anyOf}
+use Rattle.layout.specs.Size.{slotsIn}
+use Rattle.layout.specs.Content.{content, Table, tableOf}
 use Rattle.layout.specs.Header.{lentFault}
 use Rattle.layout.specs.Fault.{markFault, recordFault}
-use Rattle.table.specs.Table.{Table, keyIn, live, liveCount, nextVersion, sharedVersion, allLive}
+use Rattle.table.specs.Table.{keyIn, live, liveCount, nextVersion, sharedVersion, allLive}
 use Rattle.table.specs.Order.{chainOf, reuseOf}
 use Rattle.index.specs.Index.{Index, Chain, reuse, head, headOf, stateOf}
 use Rattle.index.specs.Chained.{chained}
 use Rattle.index.specs.declared.State.{State}
 use Rattle.recovery.specs.declared.Recovered.{Recovered}
-use Rattle.recovery.specs.declared.Recovered.the-variants.{Index as Rebuilt, Refused}
+use Rattle.recovery.specs.declared.Recovered.the-variants.{Rebuilt, Refused}
 
--- recovery's answer and the index that it leaves
+-- recovery's answer, and the state and the index that it leaves
 pub record Result : Type 0 where
   pub answer : Answer
+  pub state : State
   pub heads : List ℕ
   pub next : List ℕ
 
--- the answer's values: first, last, live count, next version; and back
+-- the answer's values: first, last, live count, next version
 abbrev pub stateValues : State → List ℕ
 stateValues s = s .first ∷ s .last ∷ s .live ∷ s .version ∷ []
-
-unfoldable pub stateIn : (values : List ℕ) → State
-stateIn values = record { first = getD values 0 0; last = getD values 1 0; live = getD values 2 0; version = getD values 3 0 }
 
 unfoldable pub recoverSays : Recovered → Answer
 recoverSays (Rebuilt s) = gives (stateValues s)
 recoverSays (Refused number) = refused number
+
+-- the state beside the rebuilt index; with a refusal there is none, and zeros stand for it
+unfoldable pub noState : State
+noState = record { first = 0; last = 0; live = 0; version = 0 }
+
+unfoldable pub recoverState : Recovered → State
+recoverState (Rebuilt s) = s
+recoverState (Refused number) = noState
 
 -- 5, 6, 7, 8, each over all slots before the next
 unfoldable pub slotsFault : (l : ℕ) → (m : ℕ → ℕ) → (n : ℕ) → ℕ
@@ -45,7 +51,7 @@ slotsFault l m n =
 -- 1 to 8 in their order
 unfoldable pub recoverFault : (l : ℕ) → (image : List ℕ) → (heads next : ℕ) → ℕ
 recoverFault l image heads next =
-    orElse (lentFault l image heads next) (slotsFault l (word image) (slotsOf (length image)))
+    orElse (lentFault l image heads next) (slotsFault l (word image) (slotsIn image))
 
 -- "Each live slot is in its head's chain, each spare slot in the one reuse chain": the chains, and the chain of each slot
 unfoldable pub chainsOf : Table → (n b : ℕ) → Chain → List ℕ
@@ -66,13 +72,21 @@ unfoldable pub recovered : Table → (n b : ℕ) → Result
 recovered f n b =
     record {
       answer = gives (stateValues (recoveredState f n b));
+      state = recoveredState f n b;
       heads = recoveredIndex f n b .heads;
       next = recoveredIndex f n b .next;
     }
 
 -- a refused recovery leaves the index as it was lent
+abbrev pub refusedResult : (number : ℕ) → (heads next : List ℕ) → Result
+refusedResult number heads next = record { answer = refused number; state = noState; heads = heads; next = next }
+
 unfoldable pub recoverResult : (l : ℕ) → (image heads next : List ℕ) → Result
 recoverResult l image heads next =
     unlessRefused (recoverFault l image (length heads) (length next))
-    (recovered (content l (word image)) (slotsOf (length image)) (length heads))
-    (record { answer = refused (recoverFault l image (length heads) (length next)); heads = heads; next = next })
+    (recovered (tableOf l image) (slotsIn image) (length heads))
+    (refusedResult (recoverFault l image (length heads) (length next)) heads next)
+
+-- what a call of recover with this answer left
+abbrev pub recoverEnd : Recovered → (heads next : List ℕ) → Result
+recoverEnd r heads next = record { answer = recoverSays r; state = recoverState r; heads = heads; next = next }

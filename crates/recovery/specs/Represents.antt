@@ -1,19 +1,18 @@
 -- What a recovered index is to a reader: the chains of document 01 along its links, each slot in just one of them, and what a search says of the map.
 use mathlib.Core.Path.{_≡_}
-use mathlib.Core.Bool.{true, false}
+use mathlib.Core.Bool.{true}
 use mathlib.Core.Option.{none}
-use mathlib.Core.List.{[]}
 use Prim.Native.Nat.{ℕ, _+_, _<_}
 use lib.ListN.{length, getD}
-use Rattle.sorting.specs.Members.{In, Once, slots}
-use Rattle.table.specs.Table.{Table, valueIn, mapOf, live, liveCount, nextVersion, sharedVersion, allLive}
+use Rattle.prelude.specs.Members.{In, Once, Slot}
+use Rattle.layout.specs.Content.{Table}
+use Rattle.table.specs.Table.{valueIn, mapOf, live}
 use Rattle.table.specs.Order.{chainOf, reuseOf}
-use Rattle.table.specs.Write.{Slot}
 use Rattle.index.specs.Index.{Index, Chain, headOf}
 use Rattle.index.specs.Chained.{lastOf}
 use Rattle.index.specs.Linked.{Linked}
 use Rattle.index.specs.declared.Found.{Found}
-use Rattle.index.specs.declared.Found.the-variants.{At, Absent, Broken}
+use Rattle.index.specs.declared.Found.the-variants.{At, Missing, BadChain}
 use Rattle.recovery.specs.Recover.{chainsOf, placeOf}
 
 -- "Records are chained by a next index, and zero ends the chain": from each head its chain, from the first spare slot the reuse chain
@@ -31,14 +30,5 @@ pub record Represents (f : Table) (n b : ℕ) (i : Index) : Type 0 where
 -- what the search of a key found is what the map of the slots says of it
 pub record Answers (f : Table) (n key : ℕ) (found : Found) : Type 0 where
   pub holds : (slot prev compared : ℕ) → found ≡ At slot prev compared → (mapOf f n key ≡ valueIn (f slot)) × (live f n slot ≡ true) × Slot n slot
-  pub absent : (prev compared : ℕ) → found ≡ Absent prev compared → mapOf f n key ≡ none
-  pub unbroken : found ≡ Broken → ⊥
-
--- what recovery reads of a table with no record: all slots spare in the order of their numbers, and no refusal 7 or 8
-pub record Fresh (f : Table) (n : ℕ) : Type 0 where
-  pub live-count : liveCount f n ≡ 0
-  pub next-version : nextVersion f n ≡ 1
-  pub all-spare : reuseOf f n ≡ slots n
-  pub no-chain : (head : ℕ → ℕ) (h : ℕ) → chainOf f n head h ≡ []
-  pub none-shared : sharedVersion f n ≡ false
-  pub some-room : allLive f n ≡ false
+  pub absent : (prev compared : ℕ) → found ≡ Missing prev compared → mapOf f n key ≡ none
+  pub unbroken : found ≡ BadChain → ⊥

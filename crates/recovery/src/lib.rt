@@ -1,16 +1,10 @@
-// Recovery: the refusals 5 to 8 and the index of an accepted image.
-pub mod judging;
-pub mod ordering;
-pub mod rebuilding;
-pub mod recover;
-pub mod scanning;
-pub mod scratch;
+// Recovery: types, definitions and laws.
 
 use index::State;
 
 // Recovery's answer: the state beside the rebuilt index, or a refusal.
 pub enum Recovered {
-    Index(State),
+    Rebuilt(State),
     Refused(u32),
 }
 

@@ -6,12 +6,13 @@ use native.Mathlib.Nat.{suc-inj}
 use native.Mathlib.Omega.{arith}
 use lib.ListN.{length, take, drop}
 use borrow.Author.Tests.{ltb-false}
-use Rattle.layout.proofs.Refusals.{say-zero, orElse-zero, taken-leaves}
+use Rattle.prelude.proofs.Refusals.{say-zero, orElse-zero, taken-leaves}
 use Rattle.stores.specs.Store.{zipped}
 use Rattle.stores.specs.Play.{places, values, Played, playEnd, playResult}
-use Rattle.session.specs.Output.{Printed}
-use Rattle.session.specs.Step.{leaves, slotsFor, sizeFault, lineFault, playedOn, lineStep, followedBy, frontStep, stepResult}
-use Rattle.session.specs.declared.Line.{Line}
+use Rattle.text.specs.Output.{Printed}
+use Rattle.session.specs.Step.{leaves, slotsFor, sizeFault, lineFault, lineStep, followedBy, frontStep, stepResult}
+use Rattle.plainmap.specs.World.{playing}
+use Rattle.text.specs.declared.Line.{Line}
 use Rattle.session.specs.declared.Session.{Session}
 
 -- ---- the stores of a call
@@ -27,8 +28,8 @@ parts-zipped (w ∷ at) (v ∷ value) e =
 
 -- the 16 stores of a call are played
 pub played-on : (image at value : List ℕ) → length at ≡ 16 → length value ≡ 16 → (a b k : ℕ) (after : List ℕ)
-    → playEnd k after ≡ playResult image at value a b → after ≡ playedOn image (zipped at value) a b
-unfolding playedOn
+    → playEnd k after ≡ playResult image at value a b → after ≡ playing image (zipped at value) a b
+unfolding playing
 played-on image at value words numbers a b k after e =
     let p = parts-zipped at value (words ∙ sym numbers) in
     ap (λ (r : Played). r .bytes) (e ∙ ap₂ (λ (ws vs : List ℕ). playResult image ws vs a b) (sym (p .0)) (sym (p .1)))

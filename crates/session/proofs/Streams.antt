@@ -4,14 +4,16 @@ use mathlib.Core.Bool.{Bool, true, false, cond}
 use mathlib.Core.List.{List, [], _∷_, _++_, append-nil}
 use Prim.Native.Nat.{ℕ}
 use lib.Dec.{eqb}
-use Rattle.session.specs.Forms.{lineOf}
-use Rattle.session.specs.Parsing.{fed, fedAll, finished}
-use Rattle.session.specs.Output.{text}
+use Rattle.text.specs.Forms.{lineOf}
+use Rattle.text.specs.Parsing.{fed, lineRead}
+use Rattle.text.proofs.defs.Parsing.{fedAll}
+use Rattle.text.specs.Output.{text}
 use Rattle.session.specs.Step.{StepResult}
-use Rattle.session.specs.Stream.{inFront, linesOf, stepAfter, outputOf, byteOutput}
-use Rattle.session.specs.declared.Parse.{Parse}
-use Rattle.session.specs.declared.Parse.the-variants.{Start}
-use Rattle.session.proofs.Parsed.{parsed}
+use Rattle.session.specs.Stream.{inFront, linesOf, stepAfter}
+use Rattle.session.proofs.defs.Stream.{outputOf, byteOutput}
+use Rattle.text.specs.declared.Parse.{Parse}
+use Rattle.text.specs.declared.Parse.the-variants.{Start}
+use Rattle.text.proofs.Parsed.{parsed}
 
 -- ---- the whole input
 
@@ -49,7 +51,7 @@ some-more [] byte = refl
 some-more (b ∷ bytes) byte = refl
 
 -- the step at the end of a line that was read byte by byte
-step-line : (r : StepResult) (line : List ℕ) → stepAfter r (finished (fedAll Start line)) ≡ stepAfter r (lineOf line)
+step-line : (r : StepResult) (line : List ℕ) → stepAfter r (lineRead (fedAll Start line)) ≡ stepAfter r (lineOf line)
 step-line r line = ap (stepAfter r) (parsed line)
 
 -- one byte, the rest being known
@@ -58,8 +60,8 @@ one-byte : (byte : ℕ) (bytes read : List ℕ) (r : StepResult) (t : Bool)
     → byteOutput r (fedAll Start (read ++ (byte ∷ []))) (some (read ++ (byte ∷ []))) bytes ≡
     outputOf r (allInFront (read ++ (byte ∷ [])) (linesOf bytes))
     → cond t
-    (text (stepAfter r (finished (fedAll Start read)) .answer)
-    ++ byteOutput (stepAfter r (finished (fedAll Start read))) Start false bytes)
+    (text (stepAfter r (lineRead (fedAll Start read)) .answer)
+    ++ byteOutput (stepAfter r (lineRead (fedAll Start read))) Start false bytes)
     (byteOutput r (fed (fedAll Start read) byte) true bytes) ≡
     outputOf r (allInFront read (cond t ([] ∷ linesOf bytes) (inFront byte (linesOf bytes))))
 unfolding outputOf

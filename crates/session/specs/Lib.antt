@@ -1,5 +1,6 @@
-pub mod Forms
-pub mod Parsing
-pub mod Output
 pub mod Step
 pub mod Stream
+pub mod Lines
+pub mod Rule
+pub mod Printed
+pub mod inner

@@ -4,23 +4,22 @@ use Prim.Native.Nat.{ℕ, _+_, _*_}
 use lib.Dec.{ltb}
 use lib.ListN.{length, take, drop, replicate}
 use Rattle.words.specs.Word.{word, setWord}
-use Rattle.layout.specs.Refusal.{say, orElse, unlessRefused}
-use Rattle.layout.specs.Answer.{Answer, gives, absent, refused}
+use Rattle.prelude.specs.Refusal.{say, orElse, unlessRefused}
+use Rattle.prelude.specs.Answer.{Answer, gives, absent, refused}
 use Rattle.stores.specs.Store.{Store}
-use Rattle.stores.specs.Play.{places, values, playResult}
+use Rattle.stores.specs.Play.{values}
 use Rattle.index.specs.declared.State.{State}
-use Rattle.recovery.specs.Recover.{Result, stateIn, recoverResult}
-use Rattle.orderset.specs.Format.{FormatResult, formatResult}
-use Rattle.orderset.specs.Change.{ChangeResult, putResult, removeResult}
-use Rattle.orderset.specs.Get.{GetResult, getResult}
-use Rattle.session.specs.Output.{Printed, ok, found, cut, replySays}
-use Rattle.session.specs.Output.{absent as notHeld, refused as no}
-use Rattle.session.specs.declared.Line.{Line}
-use Rattle.session.specs.declared.Line.the-variants.{New, Put, Remove, Get, Cut, Bad}
+use Rattle.recovery.specs.Recover.{Result, noState, recoverResult}
+use Rattle.calls.specs.Format.{FormatResult, formatResult}
+use Rattle.calls.specs.Change.{ChangeResult, putResult, removeResult}
+use Rattle.calls.specs.Get.{GetResult, getResult}
+use Rattle.text.specs.Output.{Printed, ok, found, cut, notHeld, no}
+use Rattle.text.specs.declared.Line.{Line}
+use Rattle.text.specs.declared.Line.the-variants.{New, Put, Remove, Get, Cut, Bad}
 use Rattle.session.specs.declared.Waiting.{Waiting}
 use Rattle.session.specs.declared.Waiting.the-variants.{Nothing, Counts}
 use Rattle.session.specs.declared.Session.{Session}
-use Rattle.session.specs.declared.Stepped.{Stepped}
+use Rattle.plainmap.specs.World.{playing}
 
 -- the answer, the session after it, and the lent image and index
 pub record StepResult : Type 0 where
@@ -33,13 +32,9 @@ pub record StepResult : Type 0 where
 abbrev pub leaves : Printed → Session → (image heads next : List ℕ) → StepResult
 leaves p s image heads next = record { answer = p; session = s; image = image; heads = heads; next = next }
 
--- what a step with this answer left
-abbrev pub stepEnd : Stepped → (image heads next : List ℕ) → StepResult
-stepEnd r image heads next = leaves (replySays (r .reply)) (r .session) image heads next
-
 -- before an accepted n: no slots, and no cut waits
 unfoldable pub noSet : Session
-noSet = record { n = 0; state = record { first = 0; last = 0; live = 0; version = 0 }; waiting = Nothing }
+noSet = record { n = 0; state = noState; waiting = Nothing }
 
 -- ---- refusals
 
@@ -87,14 +82,14 @@ lineFault line s image heads next =
 -- ---- recovery, after which the session goes on; no cut waits any more
 
 -- p is what the line prints. Where recovery refuses an image there is no set any more (it answers no absent)
-unfoldable pub recoveredAs : (p : Printed) → (n : ℕ) → (image heads next : List ℕ) → Answer → StepResult
-recoveredAs p n image heads next (gives values) =
-    leaves p (record { n = n; state = stateIn values; waiting = Nothing }) image heads next
-recoveredAs p n image heads next absent = leaves notHeld noSet image heads next
-recoveredAs p n image heads next (refused number) = leaves (no number) noSet image heads next
+unfoldable pub recoveredAs : (p : Printed) → (n : ℕ) → (image heads next : List ℕ) → State → Answer → StepResult
+recoveredAs p n image heads next state (gives values) =
+    leaves p (record { n = n; state = state; waiting = Nothing }) image heads next
+recoveredAs p n image heads next state absent = leaves notHeld noSet image heads next
+recoveredAs p n image heads next state (refused number) = leaves (no number) noSet image heads next
 
 unfoldable pub recoveredBy : (p : Printed) → (n : ℕ) → (image : List ℕ) → Result → StepResult
-recoveredBy p n image r = recoveredAs p n image (r .heads) (r .next) (r .answer)
+recoveredBy p n image r = recoveredAs p n image (r .heads) (r .next) (r .state) (r .answer)
 
 unfoldable pub recoverStep : (p : Printed) → (n : ℕ) → (image heads next : List ℕ) → StepResult
 recoverStep p n image heads next = recoveredBy p n image (recoverResult 1 image heads next)
@@ -114,16 +109,12 @@ makeStep n s image heads next = madeBy n s heads next (formatResult 1 image)
 
 -- ---- `p K W` and `r K`
 
--- the image after play of these stores with these counts
-unfoldable pub playedOn : (image : List ℕ) → List Store → (a b : ℕ) → List ℕ
-playedOn image stores a b = playResult image (places stores) (values stores) a b .bytes
-
 -- "`ok slot version`". A waiting cut: "the next accepted p, or r that stores, plays only A and B stores, and recovery runs"
 unfoldable pub storedWith : (n : ℕ) → (values : List ℕ) → State → List Store → (image heads next : List ℕ) → Waiting → StepResult
 storedWith n values state stores image heads next Nothing =
-    leaves (ok values) (record { n = n; state = state; waiting = Nothing }) (playedOn image stores 8 8) heads next
+    leaves (ok values) (record { n = n; state = state; waiting = Nothing }) (playing image stores 8 8) heads next
 storedWith n values state stores image heads next (Counts a b) =
-    recoverStep (ok values) n (playedOn image stores a b) heads next
+    recoverStep (ok values) n (playing image stores a b) heads next
 
 -- by the answer of the call; "the same, or `absent`", or its refusal, with which a cut goes on waiting
 unfoldable pub changedAs : Session → State → List Store → (image heads next : List ℕ) → Answer → StepResult

@@ -1,15 +1,15 @@
 -- The whole input, byte by byte: a line ends at a byte 10, and a last line may lack it. Document 01, "The trial session": "writes one line for each".
+use mathlib.Core.Path.{_≡_}
 use mathlib.Core.Bool.{Bool, true, false, cond}
 use mathlib.Core.List.{List, [], _∷_, _++_}
-use Prim.Native.Nat.{ℕ}
-use lib.Dec.{eqb}
-use Rattle.session.specs.Forms.{lineOf}
-use Rattle.session.specs.Parsing.{fed, finished}
-use Rattle.session.specs.Output.{text, Rendered, renderResult}
+use Prim.Native.Nat.{ℕ, _+_}
+use lib.Dec.{eqb, ltb}
+use lib.ListN.{length, take}
+use Rattle.text.specs.Parsing.{fed, lineRead}
+use Rattle.text.specs.Output.{Rendered, renderResult}
 use Rattle.session.specs.Step.{StepResult, noSet, stepResult}
-use Rattle.session.specs.declared.Line.{Line}
-use Rattle.session.specs.declared.Parse.{Parse}
-use Rattle.session.specs.declared.Parse.the-variants.{Start}
+use Rattle.text.specs.declared.Line.{Line}
+use Rattle.text.specs.declared.Parse.the-variants.{Start}
 use Rattle.session.specs.declared.Progress.{Progress}
 
 -- ---- line by line
@@ -28,19 +28,7 @@ linesOf (byte ∷ bytes) = cond (eqb byte 10) ([] ∷ linesOf bytes) (inFront by
 unfoldable pub stepAfter : StepResult → Line → StepResult
 stepAfter r line = stepResult line (r .session) (r .image) (r .heads) (r .next)
 
--- the output of a session: a line for each line of input
-unfoldable pub outputOf : StepResult → List (List ℕ) → List ℕ
-outputOf r [] = []
-outputOf r (line ∷ lines) = text (stepAfter r (lineOf line) .answer) ++ outputOf (stepAfter r (lineOf line)) lines
-
 -- ---- byte by byte: the part of a line that was read, and whether there is one
-
-unfoldable pub byteOutput : StepResult → Parse → (begun : Bool) → List ℕ → List ℕ
-byteOutput r parse begun [] = cond begun (text (stepAfter r (finished parse) .answer)) []
-byteOutput r parse begun (byte ∷ bytes) =
-    cond (eqb byte 10)
-    (text (stepAfter r (finished parse) .answer) ++ byteOutput (stepAfter r (finished parse)) Start false bytes)
-    (byteOutput r (fed parse byte) true bytes)
 
 -- ---- with the output in a lent slice
 
@@ -76,7 +64,7 @@ answeredBy at output r = printedBy r (renderResult (r .answer) output at)
 -- a line ends
 unfoldable pub answerResult : Progress → (image heads next output : List ℕ) → StreamResult
 answerResult s image heads next output =
-    answeredBy (s .at) output (stepResult (finished (s .parse)) (s .session) image heads next)
+    answeredBy (s .at) output (stepResult (lineRead (s .parse)) (s .session) image heads next)
 
 -- one more byte
 unfoldable pub byteResult : Progress → (byte : ℕ) → (image heads next output : List ℕ) → StreamResult
@@ -94,3 +82,42 @@ byteResult s byte image heads next output =
 unfoldable pub endResult : Progress → (image heads next output : List ℕ) → StreamResult
 endResult s image heads next output =
     cond (s .begun) (answerResult s image heads next output) (streamEnd s image heads next output)
+
+-- ---- everything that a caller of take_byte and end_input writes, as `console` does
+
+-- after one more byte, and after the end of the input
+abbrev pub afterByte : StreamResult → (byte : ℕ) → StreamResult
+afterByte q byte = byteResult (q .progress) byte (q .image) (q .heads) (q .next) (q .output)
+
+abbrev pub afterEnd : StreamResult → StreamResult
+afterEnd q = endResult (q .progress) (q .image) (q .heads) (q .next) (q .output)
+
+-- the part of the lent output that is stored
+unfoldable pub storedPart : StreamResult → List ℕ
+storedPart q = take (q .progress .at) (q .output)
+
+-- fewer than 64 bytes of the lent output are left: a further line might not be stored
+unfoldable pub isFull : StreamResult → Bool
+isFull q = ltb (length (q .output)) (q .progress .at + 64)
+
+-- the stored part was written: the next line is stored at the front
+unfoldable pub flushed : StreamResult → StreamResult
+flushed q =
+    record {
+      progress = record { parse = q .progress .parse; begun = q .progress .begun; session = q .progress .session; at = 0 };
+      image = q .image;
+      heads = q .heads;
+      next = q .next;
+      output = q .output;
+    }
+
+-- after each byte the stored part is written where `flushes` says so, by the bytes left and the result so far; at the end, what is stored then
+unfoldable pub resultOutput : (flushes : List ℕ → StreamResult → Bool) → StreamResult → List ℕ → List ℕ
+resultOutput flushes q [] = storedPart (afterEnd q)
+resultOutput flushes q (byte ∷ bytes) =
+    let after = afterByte q byte in
+    cond (flushes bytes after) (storedPart after ++ resultOutput flushes (flushed after) bytes) (resultOutput flushes after bytes)
+
+-- the caller writes at least where the lent output is full; `console` writes exactly there, with `λ left. isFull`
+abbrev pub FlushesFull : (List ℕ → StreamResult → Bool) → Type 0
+FlushesFull flushes = (left : List ℕ) (q : StreamResult) → flushes left q ≡ false → isFull q ≡ false

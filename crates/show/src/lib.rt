@@ -5,7 +5,7 @@ use orderset::Change;
 use orderset::Formatted;
 use orderset::Got;
 use orderset::Outcome;
-use recovery::Recovered;
+use orderset::Recovered;
 use stores::Stores;
 
 pub fn text(label: &[u8]) {
@@ -81,7 +81,7 @@ pub fn state(s: State) {
 // Recovery's answer.
 pub fn recovered(r: Recovered) {
     match r {
-        Recovered::Index(s) => state(s),
+        Recovered::Rebuilt(s) => state(s),
         Recovered::Refused(k) => refused(k),
     }
 }

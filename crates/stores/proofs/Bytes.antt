@@ -11,12 +11,13 @@ use lib.ListN.{length}
 use lib.Dec.{eqb, ltb}
 use borrow.Author.Tests.{eq-eqb, ne-eqb}
 use Rattle.words.specs.Word.{word, setWord}
-use Rattle.words.proofs.Choice.{pick-true, pick-false}
+use Rattle.prelude.proofs.Choice.{pick-true, pick-false}
 use Rattle.words.proofs.Laws.{setWord-length, word-same, word-other, word-range}
 use Rattle.layout.specs.Content.{top}
 use Rattle.stores.specs.Store.{Store, played, stored, playedWords, less, standing}
 use Rattle.stores.specs.Written.{marked, bodyA, bodyB, run, lineStores, recordStores}
-use Rattle.stores.specs.Cut.{struck, Fields, Lawful, Written, Inside, nil-in, cons-in}
+use Rattle.stores.specs.Cut.{struck, Fields, Lawful, Written}
+use Rattle.stores.proofs.defs.Cut.{nil-in, cons-in, StoresInside}
 use Rattle.stores.proofs.Table.{table-law}
 
 -- ---- play
@@ -36,39 +37,39 @@ played-length [] img = refl
 played-length (s ∷ ss) img = played-length ss (setWord img (s .word) (s .value)) ∙ setWord-length img (s .word) (s .value)
 
 -- THE BRIDGE
-bridge : {ss : List Store} (img : List ℕ) {n : ℕ} → Inside n ss → length img ≡ n → word (played ss img) ≡ playedWords ss (word img)
+bridge : {ss : List Store} (img : List ℕ) {n : ℕ} → StoresInside n ss → length img ≡ n → word (played ss img) ≡ playedWords ss (word img)
 unfolding played playedWords
 bridge img nil-in e = refl
 bridge img (cons-in {s = s} {ss = ss} h b r) e =
     bridge (setWord img (s .word) (s .value)) r (setWord-length img (s .word) (s .value) ∙ e)
     ∙ ap (playedWords ss) (one-store img (s .word) (s .value) (omega arith) b)
 
-pub played-words : {ss : List Store} (img : List ℕ) → Inside (length img) ss → word (played ss img) ≡ playedWords ss (word img)
+pub played-words : {ss : List Store} (img : List ℕ) → StoresInside (length img) ss → word (played ss img) ≡ playedWords ss (word img)
 played-words img r = bridge img r refl
 
-pub standing-inside : {n : ℕ} {ss : List Store} (counts : ℕ → ℕ) → Inside n ss → Inside n (standing counts ss)
+pub standing-inside : {n : ℕ} {ss : List Store} (counts : ℕ → ℕ) → StoresInside n ss → StoresInside n (standing counts ss)
 unfolding standing
 standing-inside counts nil-in = nil-in
 standing-inside {n = n} counts (cons-in {s = s} {ss = ss} h b r) =
     go (eqb (counts (s .word / 8)) 0) (standing-inside counts r) (standing-inside (less (s .word / 8) counts) r)
   where
-    go : (t : Bool) → Inside n (standing counts ss) → Inside n (standing (less (s .word / 8) counts) ss)
-        → Inside n (cond t (standing counts ss) (s ∷ standing (less (s .word / 8) counts) ss))
+    go : (t : Bool) → StoresInside n (standing counts ss) → StoresInside n (standing (less (s .word / 8) counts) ss)
+        → StoresInside n (cond t (standing counts ss) (s ∷ standing (less (s .word / 8) counts) ss))
     go true x y = x
     go false x y = cons-in h b y
 
 -- a cut on the bytes is the cut on the words
-pub struck-words : {ss : List Store} (counts : ℕ → ℕ) (img : List ℕ) → Inside (length img) ss
+pub struck-words : {ss : List Store} (counts : ℕ → ℕ) (img : List ℕ) → StoresInside (length img) ss
     → word (played (standing counts ss) img) ≡ struck counts ss (word img)
 struck-words counts img r = played-words img (standing-inside counts r)
 
 -- ---- a record's stores
 
-pub append-inside : {n : ℕ} {x y : List Store} → Inside n x → Inside n y → Inside n (x ++ y)
+pub append-inside : {n : ℕ} {x y : List Store} → StoresInside n x → StoresInside n y → StoresInside n (x ++ y)
 append-inside nil-in q = q
 append-inside (cons-in h b r) q = cons-in h b (append-inside r q)
 
-run-inside : (n base : ℕ) (words : ℕ → ℕ) (k j : ℕ) → 8 * (base + k + j) ≤ n → ((i : ℕ) → words i < 2 ^ 64) → Inside n (run base words k j)
+run-inside : (n base : ℕ) (words : ℕ → ℕ) (k j : ℕ) → 8 * (base + k + j) ≤ n → ((i : ℕ) → words i < 2 ^ 64) → StoresInside n (run base words k j)
 unfolding run
 run-inside n base words k zero h b = nil-in
 run-inside n base words k (suc j) h b =
@@ -94,7 +95,7 @@ unfolding bodyB
 bodyB-below l key kind value fine i = word-range value (i + 4 - l) (fine .bytes)
 
 pub record-inside : (n l : ℕ) (m : ℕ → ℕ) (s key kind : ℕ) (value : List ℕ) (version : ℕ) → Fields l key kind value → version < 2 ^ 63 → 128 * (s + 1) ≤ n
-    → Inside n (recordStores l m s key kind value version)
+    → StoresInside n (recordStores l m s key kind value version)
 unfolding recordStores lineStores
 record-inside n l m s key kind value version fine small h =
     append-inside

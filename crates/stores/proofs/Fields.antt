@@ -10,16 +10,16 @@ use lib.ListN.{length, getD, List·getD-eq-default}
 use lib.Dec.{eqb, ltb, leb}
 use borrow.Author.Tests.{eq-eqb, ne-eqb, lt-ltb, le-ltb, lt-leb}
 use Rattle.words.specs.Word.{word}
-use Rattle.words.proofs.Choice.{pick-true, pick-false}
+use Rattle.prelude.proofs.Choice.{pick-true, pick-false}
 use Rattle.words.proofs.Laws.{word-byte}
 use Rattle.layout.specs.Line.{whole, versionOf}
 use Rattle.layout.specs.Slot.{paired}
 use Rattle.layout.specs.Record.{keyOf, keyWord, kindWord, kindOf, lengthOf, limit, valueWord, valueByte, valueFront, valueOf}
 use Rattle.layout.specs.Content.{made, contentOf}
 use Rattle.layout.specs.Fault.{kindFault, wordFault, tailFault, faultOf}
-use Rattle.layout.proofs.Any.{any-clear}
-use Rattle.layout.proofs.Tabulate.{tabulate-list}
-use Rattle.layout.proofs.Keys.{key-again}
+use Rattle.prelude.proofs.Any.{any-clear}
+use Rattle.prelude.proofs.Tabulate.{tabulate-list}
+use Rattle.layout.proofs.KeyWords.{key-again}
 use Rattle.layout.proofs.Content.{paired-by, valid-content}
 use Rattle.stores.specs.Written.{bodyA, bodyB, newA, newB}
 use Rattle.stores.specs.Cut.{Fields, Lawful, a-put, a-remove}
@@ -72,7 +72,7 @@ module _ (l stampA stampB key kind : ℕ) (value : List ℕ) (version : ℕ) (fi
       })
 
   pub the-kind-word : A (l + 1) ≡ kindWord kind (length value)
-  the-kind-word = inA (l + 1) (omega arith) (omega (arith, fine .layout-high)) ∙ body-kind l key kind value
+  the-kind-word = inA (l + 1) (omega arith) (omega (arith, fine .layout .high)) ∙ body-kind l key kind value
 
   pub the-kind : kindOf (A (l + 1)) ≡ kind
   the-kind = ap kindOf the-kind-word ∙ omega (arith, fine .kind-fits)
@@ -83,7 +83,7 @@ module _ (l stampA stampB key kind : ℕ) (value : List ℕ) (version : ℕ) (fi
   pub the-key : keyOf l A ≡ key
   the-key =
       key-again l A key
-      (λ j h. inA (1 + j) (omega arith) (omega (arith, fine .layout-high)) ∙ body-key l key kind value j h) (fine .key-fits)
+      (λ j h. inA (1 + j) (omega arith) (omega (arith, fine .layout .high)) ∙ body-key l key kind value j h) (fine .key-fits)
 
   pub the-word : (i : ℕ) → l + i < 11 → valueWord l A B i ≡ word value i
   unfolding valueWord
@@ -92,7 +92,7 @@ module _ (l stampA stampB key kind : ℕ) (value : List ℕ) (version : ℕ) (fi
       (λ p. pick-true (ltb (l + 2 + i) 7) _ _ (lt-ltb (l + 2 + i) 7 p) ∙ inA (l + 2 + i) (omega arith) p ∙ body-value l key kind value i)
       (λ p.
       pick-false (ltb (l + 2 + i) 7) _ _ (le-ltb (l + 2 + i) 7 (omega arith))
-      ∙ inB (l + i - 4) (omega arith) (omega arith) ∙ body-more l value i (fine .layout-high) (omega arith))
+      ∙ inB (l + i - 4) (omega arith) (omega arith) ∙ body-more l value i (fine .layout .high) (omega arith))
 
   pub the-byte : (k : ℕ) → k < limit l → valueByte l A B k ≡ getD value k 0
   unfolding valueByte

@@ -1,24 +1,26 @@
 -- Stores of one line, stores of two lines, and play with two counts: they are the standing stores. Assumes nothing.
 use mathlib.Core.Path.{_≡_, refl, sym, ap, ap₂, _∙_, subst}
 use mathlib.Core.Bool.{Bool, true, false, not}
-use mathlib.Core.Logic.{_⊎_, inl, inr}
+use mathlib.Core.Logic.{_⊎_, inl, inr, by-cases}
 use mathlib.Core.List.{List, [], _∷_, _++_, append-nil}
 use Prim.Native.Nat.{ℕ, zero, suc, _+_, _-_, _*_, _/_, _%_, _≤_, _<_}
 use native.Mathlib.Omega.{arith}
 use lib.ListN.{length, getD, take, drop, take-append-drop, length-drop}
 use lib.Seq.{take-all, take-nil, take-take}
 use lib.Dec.{eqb, ltb}
-use borrow.Author.Tests.{eqb-true, eqb-false, ltb-false, not-false}
-use Rattle.words.proofs.Choice.{split}
+use borrow.Author.Tests.{eqb-true, eqb-false, ltb-false, not-false, le-ltb}
+use Rattle.prelude.proofs.Choice.{split}
 use Rattle.layout.specs.Size.{slotsOf}
-use Rattle.layout.specs.Range.{anyOf}
-use Rattle.layout.proofs.Any.{or-none, any-none}
-use Rattle.layout.proofs.Refusals.{say-zero}
-use Rattle.stores.specs.Store.{Store, zipped, less, standing}
-use Rattle.stores.specs.Written.{run, lineStores}
-use Rattle.stores.specs.Play.{halfFault, halvesFault, playFault, counted, listFault}
-use Rattle.stores.specs.Needs.{Makeable}
-use Rattle.stores.proofs.Standing.{none-stands, one-stands, less-own, less-other, take-next}
+use Rattle.prelude.specs.Range.{anyOf}
+use Rattle.prelude.proofs.Any.{or-none, any-none, any-clear}
+use Rattle.prelude.proofs.Refusals.{say-zero}
+use Rattle.stores.specs.Store.{Store, zipped, less, standing, played}
+use Rattle.stores.specs.Play.{halfFault, halvesFault, playFault, counted, listFault, playEnd, playResult, playListResult}
+use Rattle.stores.specs.inner.Needs.{Makeable}
+use Rattle.stores.proofs.StandingStores.{none-stands, one-stands, less-own, less-other, take-next}
+use Rattle.stores.proofs.Plays.{zipped-short, list-fine}
+use Rattle.prelude.specs.Refusal.{unlessRefused}
+use native.Mathlib.Decide.{decLt}
 
 -- ---- stores of one line
 
@@ -57,15 +59,6 @@ two-halves {x} {y} n o counts ne p q =
     first-half n y (λ k. take (k o) y) (λ k. only-half o k q) (λ k. ap (λ (j : ℕ). take j y) (less-other n k o ne)) counts p
 
 -- ---- the stores of a line
-
-run-on : (n : ℕ) (words : ℕ → ℕ) (k j : ℕ) → k + j ≤ 8 → AllOn n (run (8 * n) words k j)
-unfolding run
-run-on n words k zero h = none-on
-run-on n words k (suc j) h = one-on {s = record { word = 8 * n + k; value = words k }} (omega arith) (run-on n words (suc k) j (omega arith))
-
-pub line-on : (n : ℕ) (words : ℕ → ℕ) → AllOn n (lineStores n words)
-unfolding lineStores
-line-on n words = run-on n words 0 8 (omega arith)
 
 -- ---- what play asks
 
@@ -134,12 +127,6 @@ zipped-on (w ∷ at) (v ∷ value) n (suc k) (suc c) h =
     zipped-on at value n k (suc c)
     (λ i p. let e : suc (k + i) ≡ suc k + i = omega arith in ap (λ (x : ℕ). getD (w ∷ at) x 0 / 8) e ∙ h i p)
 
-zipped-short : (at value : List ℕ) → length (zipped at value) ≤ length at
-unfolding zipped
-zipped-short [] value = omega arith
-zipped-short (w ∷ at) [] = omega arith
-zipped-short (w ∷ at) (v ∷ value) = omega (arith, zipped-short at value)
-
 -- two halves of eight, each on its line
 pub counted-stands : (ss : List Store) (n o a b : ℕ) (counts : ℕ → ℕ) → a ≤ 8 → (o ≡ n → ⊥) → AllOn n (take 8 ss) → AllOn o (drop 8 ss)
     → counts n ≡ a → counts o ≡ b → counted a b ss ≡ standing counts ss
@@ -202,3 +189,44 @@ list-makeable len at value e =
     at-place i none h =
         let z : i ≡ 0 + i = omega arith in
         ap (λ (x : ℕ). ltb len (8 * getD at x 0 + 8)) z ∙ any-none (λ j. ltb len (8 * getD at j 0 + 8)) 0 (length at) none i h
+
+-- ---- sixteen stores that play takes, made as a list
+
+zipped-full : (at value : List ℕ) (n : ℕ) → length at ≡ n → length value ≡ n → length (zipped at value) ≡ n
+unfolding zipped
+zipped-full [] value n e f = e
+zipped-full (w ∷ at) [] n e f = absurd (omega arith)
+zipped-full (w ∷ at) (v ∷ value) zero e f = absurd (omega arith)
+zipped-full (w ∷ at) (v ∷ value) (suc n) e f = ap suc (zipped-full at value n (omega arith) (omega arith))
+
+-- all of them are counted
+counted-all : (ss : List Store) → length ss ≡ 16 → counted 8 8 ss ≡ ss
+unfolding counted
+counted-all ss e =
+    ap (λ (t : List Store). take 8 ss ++ t) (take-all 8 (drop 8 ss) (omega (arith, length-drop 8 ss))) ∙ take-append-drop 8 ss
+
+halves-inside : (len : ℕ) (at : List ℕ) → Half len at 0 → Half len at 8 → (i : ℕ) → i < 16 → ltb len (8 * getD at (0 + i) 0 + 8) ≡ false
+halves-inside len at f s i h = le-ltb len (8 * getD at (0 + i) 0 + 8) (by-cases (decLt i 8) early (λ l. late (i - 8) (omega (arith, l))))
+  where
+    early : i < 8 → 8 * getD at (0 + i) 0 + 8 ≤ len
+    early l = omega (arith, f .order i l, f .room)
+
+    late : (j : ℕ) → i ≡ 8 + j → 8 * getD at (0 + i) 0 + 8 ≤ len
+    late j e =
+        let q : 0 + i ≡ 8 + j = omega arith in omega (arith, ap (λ (x : ℕ). getD at x 0) q, s .order j (omega arith), s .room)
+
+-- THE PLAY OF A LIST leaves what play with 8 and 8 leaves
+pub list-plays : (image at value : List ℕ) → length at ≡ 16 → length value ≡ 16 → playFault (length image) at 8 8 ≡ 0
+    → playListResult image at value ≡ playResult image at value 8 8
+unfolding playListResult playResult
+list-plays image at value e f z =
+    ap₂ (λ (k : ℕ) (t : List Store). playEnd k (unlessRefused k (played t image) image)) (sym fine ∙ sym z)
+    (sym (counted-all (zipped at value) (zipped-full at value 16 e f)))
+  where
+    p : Playable (length image) at 8 8
+    p = playable (length image) at 8 8 z
+
+    fine : 0 ≡ listFault (length image) at (length value)
+    fine =
+        list-fine (length image) at (length value) (e ∙ sym f) false
+        (sym (any-clear _ 0 (length at) (λ i h. halves-inside (length image) at (p .first) (p .second) i (omega arith)))) refl

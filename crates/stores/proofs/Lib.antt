@@ -1,11 +1,11 @@
-pub mod Records
 pub mod Making
 pub mod Plays
-pub mod Standing
 pub mod Line
 pub mod Fields
 pub mod Slot
 pub mod Table
 pub mod Bytes
 pub mod Halves
-pub mod Blank
+pub mod RecordStores
+pub mod StandingStores
+pub mod defs

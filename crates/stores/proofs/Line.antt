@@ -7,16 +7,16 @@ use Prim.Native.Nat.{ℕ, zero, suc, _+_, _*_, _/_, _%_, _≤_, _<_}
 use native.Mathlib.Nat.{mod-lt, zero-lt-suc, mod-eq-of-lt}
 use native.Mathlib.Decide.{decLt}
 use native.Mathlib.Omega.{arith}
-use lib.ListN.{length, take}
+use lib.ListN.{take}
 use lib.Arith.{digits-mod, digits-div}
 use lib.Dec.{eqb, ltb}
 use borrow.Author.Tests.{eqb-true, eqb-false, eq-eqb, ne-eqb, lt-ltb, le-ltb}
-use Rattle.words.proofs.Choice.{pick-true, pick-false, split}
+use Rattle.prelude.proofs.Choice.{pick-true, pick-false, split}
 use Rattle.layout.specs.Line.{line, whole, versionOf, firstWord, lastWord}
 use Rattle.stores.specs.Store.{Store, stored, playedWords, onLine}
 use Rattle.stores.specs.Written.{marked, run, lineStores}
-use Rattle.stores.specs.Cut.{struck, LineCut, same, torn, full}
-use Rattle.stores.proofs.Standing.{on-hit, on-miss, cut-at}
+use Rattle.stores.specs.Cut.{struck, LineCut, untouched, torn, full}
+use Rattle.stores.proofs.StandingStores.{on-hit, on-miss, cut-at}
 
 -- ---- the stores of a line among others
 
@@ -51,15 +51,6 @@ own-stores n words = own-run n words 0 8 (omega arith)
 pub other-stores : (n o : ℕ) (words : ℕ → ℕ) → (o ≡ n → ⊥) → onLine n (lineStores o words) ≡ []
 unfolding lineStores
 other-stores n o words ne = other-run n o words 0 8 ne (omega arith)
-
-run-length : (base : ℕ) (words : ℕ → ℕ) (k n : ℕ) → length (run base words k n) ≡ n
-unfolding run
-run-length base words k zero = refl
-run-length base words k (suc n) = ap suc (run-length base words (suc k) n)
-
-pub stores-length : (n : ℕ) (words : ℕ → ℕ) → length (lineStores n words) ≡ 8
-unfolding lineStores
-stores-length n words = run-length (8 * n) words 0 8
 
 -- ---- the first c of a run, however large c is
 
@@ -154,7 +145,7 @@ pub line-law : (counts m : ℕ → ℕ) (ss : List Store) (n version : ℕ) (bod
 line-law counts m ss n version body own =
     by-cases (decLt 0 (counts n))
     (λ p. by-cases (decLt (counts n) 8) (λ q. torn p q (opened p q)) (λ q. full (omega arith) (line-full counts m ss n new own (omega arith))))
-    (λ p. same (omega arith) (line-same counts m ss n new own (omega arith)))
+    (λ p. untouched (omega arith) (line-same counts m ss n new own (omega arith)))
   where
     new : ℕ → ℕ
     new = marked (line m n 7) version body

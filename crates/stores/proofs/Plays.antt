@@ -1,6 +1,6 @@
 -- What the functions that give play's refusals lean on: each refusal from the tests that led to it. Assumes nothing.
 use mathlib.Core.Path.{_≡_, refl, sym, ap, ap₂, _∙_}
-use mathlib.Core.Bool.{Bool, true, false, not, cond}
+use mathlib.Core.Bool.{Bool, true, false, not}
 use mathlib.Core.List.{List, [], _∷_, _++_}
 use Prim.Native.Nat.{ℕ, _+_, _*_, _%_, _≤_, _<_}
 use native.Mathlib.Omega.{arith}
@@ -8,10 +8,10 @@ use lib.Dec.{eqb, ltb}
 use lib.ListN.{length, getD, take, drop}
 use lib.Seq.{take-all}
 use borrow.Author.Tests.{eq-eqb, ne-eqb, lt-ltb, le-ltb}
-use Rattle.words.proofs.Choice.{pick-true, pick-false}
-use Rattle.layout.specs.Range.{anyOf}
+use Rattle.prelude.proofs.Choice.{pick-true, pick-false}
+use Rattle.prelude.specs.Range.{anyOf}
 use Rattle.layout.specs.Size.{slotsOf}
-use Rattle.layout.proofs.Refusals.{say-true, say-false, apart, alike, refused-keeps, taken-leaves}
+use Rattle.prelude.proofs.Refusals.{say-true, say-false, apart, alike, refused-keeps, taken-leaves}
 use Rattle.words.specs.Word.{setWord}
 use Rattle.stores.specs.Store.{Store, zipped, played}
 use Rattle.stores.specs.Play.{playEnd, halfFault, halvesFault, playFault, counted, playResult, listFault, playListResult}
@@ -117,7 +117,7 @@ module _ (len : ℕ) (at : List ℕ) (values : ℕ) where
 
 -- ---- what play leaves
 
-zipped-short : (at value : List ℕ) → length (zipped at value) ≤ length at
+pub zipped-short : (at value : List ℕ) → length (zipped at value) ≤ length at
 unfolding zipped
 zipped-short [] value = omega arith
 zipped-short (w ∷ at) [] = omega arith

@@ -1,18 +1,18 @@
 -- What a cut leaves of a slot whose two lines a record is written over: its content, its top, and no new fault. Assumes nothing.
 use mathlib.Core.Path.{_≡_, refl, sym, ap, ap₂, _∙_}
-use mathlib.Core.Bool.{Bool, true, false, cond}
+use mathlib.Core.Bool.{Bool, true, false, cond, true≢false}
 use mathlib.Core.Logic.{_⊎_, inl, inr}
 use mathlib.Core.List.{List}
 use Prim.Native.Nat.{ℕ, _≤_, _<_}
 use native.Mathlib.Omega.{arith}
-use Rattle.words.proofs.Choice.{pick-false, true-not-false}
+use Rattle.prelude.proofs.Choice.{pick-false}
 use Rattle.layout.specs.Line.{whole, versionOf, lineTop}
 use Rattle.layout.specs.Slot.{paired, slotTop, lineVerdict, isValid}
 use Rattle.layout.specs.Content.{made, contentOf}
 use Rattle.layout.specs.Fault.{faultOf}
 use Rattle.layout.proofs.Content.{top-whole, top-open, unpaired, verdict-broken, broken-content}
 use Rattle.stores.specs.Written.{marked, bodyA, bodyB, newA, newB}
-use Rattle.stores.specs.Cut.{LineCut, same, torn, full, SlotCut, kept, done, lost, Fields, Lawful}
+use Rattle.stores.specs.Cut.{LineCut, untouched, torn, full, SlotCut, kept, done, lost, Fields, Lawful}
 use Rattle.stores.proofs.Line.{marked-whole, marked-version}
 use Rattle.stores.proofs.Fields.{the-content, the-fault}
 
@@ -27,12 +27,12 @@ module _ (old now : ℕ → ℕ) (stamp version : ℕ) (body : ℕ → ℕ) (k :
       top-whole (now 0) (now 7) (ap₂ whole (h 0 (omega arith)) (h 7 (omega arith)) ∙ marked-whole stamp version body) ∙ full-version h
 
   cut-top : LineCut old (marked stamp version body) now k → lineTop (old 0) (old 7) < version → lineTop (now 0) (now 7) ≤ version
-  cut-top (same z e) h = rw e (omega arith)
+  cut-top (untouched z e) h = rw e (omega arith)
   cut-top (torn p q o) h = omega (arith, top-open (now 0) (now 7) o)
   cut-top (full p w) h = omega (arith, full-top w)
 
   cut-top-full : LineCut old (marked stamp version body) now k → 8 ≤ k → lineTop (now 0) (now 7) ≡ version
-  cut-top-full (same z e) h = absurd (omega arith)
+  cut-top-full (untouched z e) h = absurd (omega arith)
   cut-top-full (torn p q o) h = absurd (omega arith)
   cut-top-full (full p w) h = full-top w
 
@@ -76,28 +76,28 @@ module _ (l key kind : ℕ) (value : List ℕ) (version : ℕ) (fine : Fields l 
     no-pair : (a ≡ 0 → b ≡ 0 → ⊥) → (8 ≤ a → 8 ≤ b → ⊥) → paired (A′ 0) (A′ 7) (B′ 0) (B′ 7) ≡ false → Way
 
   open-A : whole (A′ 0) (A′ 7) ≡ false → paired (A′ 0) (A′ 7) (B′ 0) (B′ 7) ≡ false
-  open-A o = unpaired (A′ 0) (A′ 7) (B′ 0) (B′ 7) (λ x y r. true-not-false (sym x ∙ o))
+  open-A o = unpaired (A′ 0) (A′ 7) (B′ 0) (B′ 7) (λ x y r. true≢false (sym x ∙ o))
 
   open-B : whole (B′ 0) (B′ 7) ≡ false → paired (A′ 0) (A′ 7) (B′ 0) (B′ 7) ≡ false
-  open-B o = unpaired (A′ 0) (A′ 7) (B′ 0) (B′ 7) (λ x y r. true-not-false (sym y ∙ o))
+  open-B o = unpaired (A′ 0) (A′ 7) (B′ 0) (B′ 7) (λ x y r. true≢false (sym y ∙ o))
 
   way : Way
   way = go cutA cutB
     where
       go : LineCut A (newA l stampA key kind value version) A′ a → LineCut B (newB l stampB value version) B′ b → Way
-      go (same z e) (same y f) = as-was z y e f
+      go (untouched z e) (untouched y f) = as-was z y e f
       go (full p u) (full q w) = all-new p q u w
-      go (torn p q o) (same z e) = no-pair (λ x y. omega arith) (λ x y. omega arith) (open-A o)
+      go (torn p q o) (untouched z e) = no-pair (λ x y. omega arith) (λ x y. omega arith) (open-A o)
       go (torn p q o) (torn p2 q2 o2) = no-pair (λ x y. omega arith) (λ x y. omega arith) (open-A o)
       go (torn p q o) (full p2 w) = no-pair (λ x y. omega arith) (λ x y. omega arith) (open-A o)
-      go (same z e) (torn p q o) = no-pair (λ x y. omega arith) (λ x y. omega arith) (open-B o)
+      go (untouched z e) (torn p q o) = no-pair (λ x y. omega arith) (λ x y. omega arith) (open-B o)
       go (full p w) (torn p2 q2 o) = no-pair (λ x y. omega arith) (λ x y. omega arith) (open-B o)
-      go (full p w) (same z e) =
+      go (full p w) (untouched z e) =
           no-pair (λ x y. omega arith) (λ x y. omega arith)
           (unpaired (A′ 0) (A′ 7) (B′ 0) (B′ 7)
           (λ x y r.
           omega (arith, older B B′ stampB version (bodyB l value) b e above-B y, full-version A A′ stampA version (bodyA l key kind value) a w)))
-      go (same z e) (full p w) =
+      go (untouched z e) (full p w) =
           no-pair (λ x y. omega arith) (λ x y. omega arith)
           (unpaired (A′ 0) (A′ 7) (B′ 0) (B′ 7)
           (λ x y r.

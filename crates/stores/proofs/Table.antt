@@ -9,21 +9,22 @@ use native.Mathlib.Decide.{decLt, ℕ-discrete}
 use native.Mathlib.Omega.{arith}
 use lib.Dec.{ltb}
 use borrow.Author.Tests.{lt-ltb, le-ltb}
-use Rattle.words.proofs.Choice.{pick-true, pick-false}
+use Rattle.prelude.proofs.Choice.{pick-true, pick-false}
 use Rattle.layout.specs.Line.{line}
 use Rattle.layout.specs.Slot.{slotTop, lineVerdict, isValid}
 use Rattle.layout.specs.Content.{made, contentOf, content, top}
 use Rattle.layout.specs.Fault.{faultOf, recordFault}
 use Rattle.stores.specs.Store.{Store, onLine}
 use Rattle.stores.specs.Written.{marked, bodyA, bodyB, newA, newB, lineStores, recordStores}
-use Rattle.stores.specs.Cut.{struck, LineCut, SlotCut, Fields, Lawful, Carries, Spares, Written}
-use Rattle.stores.proofs.Standing.{line-out}
+use Rattle.stores.specs.Cut.{struck, LineCut, SlotCut, Fields, Lawful, Written}
+use Rattle.stores.proofs.defs.Cut.{Carries, Avoids}
+use Rattle.stores.proofs.StandingStores.{line-out}
 use Rattle.stores.proofs.Line.{on-append, own-stores, other-stores, line-cut, marked-first, line-law}
 use Rattle.stores.proofs.Slot.{slot-top, slot-top-full, slot-cut, slot-fault}
 
 -- ---- any stores that write nothing into slot t
 
-module _ (l : ℕ) (counts m : ℕ → ℕ) (ss : List Store) (t : ℕ) (none : Spares ss t) where
+module _ (l : ℕ) (counts m : ℕ → ℕ) (ss : List Store) (t : ℕ) (none : Avoids ss t) where
   spare-A : line (struck counts ss m) (2 * t) ≡ line m (2 * t)
   spare-A = line-out counts m ss (2 * t) (none .line-A)
 
@@ -90,7 +91,7 @@ module _ (l : ℕ) (m : ℕ → ℕ) (s key kind : ℕ) (value : List ℕ) (vers
       ap₂ (λ (x y : List Store). x ++ y)
       (other-stores n (2 * s) _ (λ (e : 2 * s ≡ n). h (omega arith))) (other-stores n (2 * s + 1) _ (λ (e : 2 * s + 1 ≡ n). h (omega arith)))
 
-  pub record-spares : (t : ℕ) → (t ≡ s → ⊥) → Spares (recordStores l m s key kind value version) t
+  pub record-spares : (t : ℕ) → (t ≡ s → ⊥) → Avoids (recordStores l m s key kind value version) t
   record-spares t h =
       record {
         line-A = record-off (2 * t) (λ (e : 2 * t / 2 ≡ s). h (omega arith));

@@ -2,17 +2,16 @@
 use mathlib.Core.Path.{_≡_}
 use mathlib.Core.Bool.{Bool, false, _&&_}
 use mathlib.Core.Logic.{_⊎_}
-use mathlib.Core.List.{List, [], _∷_}
-use Prim.Native.Nat.{ℕ, _+_, _*_, _/_, _^_, _≤_, _<_}
+use mathlib.Core.List.{List, []}
+use Prim.Native.Nat.{ℕ, _/_, _^_, _≤_, _<_}
 use lib.Dec.{eqb}
 use lib.ListN.{length}
 use Rattle.words.specs.Word.{AreBytes}
 use Rattle.layout.specs.Line.{line, whole}
-use Rattle.layout.specs.Record.{limit}
+use Rattle.layout.specs.Record.{Layout, limit}
 use Rattle.layout.specs.Content.{Content, broken, made, content, top}
 use Rattle.layout.specs.Fault.{recordFault}
-use Rattle.stores.specs.Store.{Store, standing, playedWords, onLine}
-use Rattle.stores.specs.Written.{newA, newB, lineStores}
+use Rattle.stores.specs.Store.{Store, standing, playedWords}
 
 -- the words after a cut that leaves `counts n` stores of line n
 abbrev pub struck : (counts : ℕ → ℕ) → List Store → (ℕ → ℕ) → ℕ → ℕ
@@ -24,7 +23,7 @@ bothStand a b = eqb a 8 && eqb b 8
 
 -- what k stores make of a line: `old` before, `new` with all stores, `now` after
 pub data LineCut (old new now : ℕ → ℕ) (k : ℕ) : Type 0 where
-  same : k ≡ 0 → now ≡ old → LineCut old new now k
+  untouched : k ≡ 0 → now ≡ old → LineCut old new now k
   torn : 0 < k → k < 8 → whole (now 0) (now 7) ≡ false → LineCut old new now k
   full : 8 ≤ k → ((i : ℕ) → i < 8 → now i ≡ new i) → LineCut old new now k
 
@@ -36,8 +35,7 @@ pub data SlotCut (old new now : Content) (version a b : ℕ) : Type 0 where
 
 -- the fields of a record fit layout l
 pub record Fields (l key kind : ℕ) (value : List ℕ) : Type 0 where
-  pub layout-low : 1 ≤ l
-  pub layout-high : l ≤ 2
+  pub layout : Layout l
   pub key-fits : key < (2 ^ 64) ^ l
   pub kind-fits : kind < 256
   pub size : length value ≤ limit l
@@ -48,16 +46,6 @@ pub data Lawful (kind : ℕ) (value : List ℕ) : Type 0 where
   a-put : kind ≡ 1 → Lawful kind value
   a-remove : kind ≡ 2 → value ≡ [] → Lawful kind value
 
--- the stores ss, whatever else they hold, write this record into slot s
-pub record Carries (l : ℕ) (m : ℕ → ℕ) (ss : List Store) (s key kind : ℕ) (value : List ℕ) (version : ℕ) : Type 0 where
-  pub line-A : onLine (2 * s) ss ≡ lineStores (2 * s) (newA l (line m (2 * s) 7) key kind value version)
-  pub line-B : onLine (2 * s + 1) ss ≡ lineStores (2 * s + 1) (newB l (line m (2 * s + 1) 7) value version)
-
--- they write nothing into slot s
-pub record Spares (ss : List Store) (s : ℕ) : Type 0 where
-  pub line-A : onLine (2 * s) ss ≡ []
-  pub line-B : onLine (2 * s + 1) ss ≡ []
-
 -- a record was written into slot s with a stores standing on line A and b on line B: the words were m and are m′
 pub record Written (l : ℕ) (m m′ : ℕ → ℕ) (s key kind : ℕ) (value : List ℕ) (version a b : ℕ) : Type 0 where
   pub others : (t : ℕ) → (t ≡ s → ⊥) → content l m′ t ≡ content l m t
@@ -67,8 +55,3 @@ pub record Written (l : ℕ) (m m′ : ℕ → ℕ) (s key kind : ℕ) (value : 
   pub faults : (t : ℕ) → recordFault l m t ≡ false → recordFault l m′ t ≡ false
   pub top-below : top m′ s ≤ version
   pub top-full : (8 ≤ a) ⊎ (8 ≤ b) → top m′ s ≡ version
-
--- every store is inside an image of n bytes, and its value is a word
-pub data Inside (n : ℕ) : List Store → Type 0 where
-  nil-in : Inside n []
-  cons-in : {s : Store} {ss : List Store} → 8 * s .word + 8 ≤ n → s .value < 2 ^ 64 → Inside n ss → Inside n (s ∷ ss)

@@ -2,4 +2,4 @@ pub mod Store
 pub mod Written
 pub mod Cut
 pub mod Play
-pub mod Needs
+pub mod inner

@@ -4,8 +4,8 @@ use mathlib.Core.List.{List, [], _∷_, _++_}
 use Prim.Native.Nat.{ℕ, _+_, _*_, _%_}
 use lib.Dec.{eqb, ltb}
 use lib.ListN.{length, getD, take, drop}
-use Rattle.layout.specs.Refusal.{say, unlessRefused}
-use Rattle.layout.specs.Range.{anyOf}
+use Rattle.prelude.specs.Refusal.{say, unlessRefused}
+use Rattle.prelude.specs.Range.{anyOf}
 use Rattle.layout.specs.Size.{slotsOf}
 use Rattle.stores.specs.Store.{Store, zipped, played}
 

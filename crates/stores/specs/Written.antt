@@ -5,7 +5,6 @@ use Prim.Native.Nat.{ℕ, zero, suc, _+_, _-_, _*_}
 use lib.Dec.{eqb, ltb}
 use lib.ListN.{length}
 use Rattle.words.specs.Word.{word}
-use Rattle.layout.specs.Range.{tabulate}
 use Rattle.layout.specs.Line.{line, firstWord, lastWord}
 use Rattle.layout.specs.Record.{keyWord, kindWord}
 use Rattle.stores.specs.Store.{Store}
@@ -29,14 +28,6 @@ newA l stamp key kind value version = marked stamp version (bodyA l key kind val
 
 abbrev pub newB : (l stamp : ℕ) → List ℕ → (version : ℕ) → ℕ → ℕ
 newB l stamp value version = marked stamp version (bodyB l value)
-
--- the word numbers and the values of the 16 stores, over lines with stamps a and b
-unfoldable pub recordPlaces : (s : ℕ) → List ℕ
-recordPlaces s = tabulate (λ i. 8 * (2 * s) + i) 0 8 ++ tabulate (λ i. 8 * (2 * s + 1) + i) 0 8
-
-unfoldable pub recordWords : (l a b key kind : ℕ) → List ℕ → (version : ℕ) → List ℕ
-recordWords l a b key kind value version =
-    tabulate (newA l a key kind value version) 0 8 ++ tabulate (newB l b value version) 0 8
 
 -- the stores of words base + k up to base + k + n - 1, in order
 unfoldable pub run : (base : ℕ) → (words : ℕ → ℕ) → (k n : ℕ) → List Store

@@ -1,7 +1,4 @@
-// Stores: the 16 stores of a record, the making of stores, and what play refuses.
-pub mod make;
-pub mod play;
-pub mod record;
+// Stores and what stands of them after a cut: types, definitions and laws.
 
 // Sixteen stores: store i sets word at[i] of the image to value[i].
 pub struct Stores {

@@ -4,9 +4,10 @@ use mathlib.Core.Bool.{Bool, true, false}
 use mathlib.Core.Logic.{inl, inr}
 use Prim.Native.Nat.{ℕ, zero, suc, _<_}
 use native.Mathlib.Omega.{arith}
-use Rattle.sorting.specs.Members.{In}
-use Rattle.table.specs.Table.{Table}
-use Rattle.table.specs.Reuse.{Hides, HiddenFirst, appended}
+use Rattle.prelude.specs.Members.{In}
+use Rattle.layout.specs.Content.{Table}
+use Rattle.table.specs.Reuse.{Hides, HiddenFirst}
+use Rattle.table.proofs.defs.Reuse.{appended}
 
 -- what is appended: the old slot, where there is one, or the slot taken, where a remove went there
 pub data Joined (o : ℕ) (p : Bool) (s t : ℕ) : Type 0 where

@@ -5,12 +5,14 @@ use Prim.Native.Nat.{ℕ, _+_, _-_, _≤_, _<_}
 use native.Mathlib.Omega.{arith}
 use lib.Dec.{eqb, ltb}
 use borrow.Author.Tests.{eqb-true, eqb-false, eq-eqb, ne-eqb, ltb-true, ltb-false}
-use Rattle.layout.specs.Range.{anyOf}
-use Rattle.layout.proofs.Any.{any-none, any-clear}
-use Rattle.layout.specs.Content.{Content, topOf}
-use Rattle.table.specs.Table.{Table, counts, sharedVersion}
-use Rattle.table.specs.Write.{Slot, Distinct, ApartByKey, upd}
-use Rattle.table.proofs.Content.{weight-counts, upd-other, weight-version, upd-same, true-false}
+use Rattle.prelude.specs.Range.{anyOf}
+use Rattle.prelude.proofs.Any.{any-none, any-clear}
+use Rattle.layout.specs.Content.{Content, topOf, Table}
+use Rattle.table.specs.Table.{isRecord, sharedVersion}
+use Rattle.prelude.specs.Members.{Slot}
+use Rattle.table.proofs.defs.Write.{Distinct, ApartByKey, upd}
+use Rattle.table.proofs.OneSlot.{weight-counts, upd-other, weight-version, upd-same}
+use Rattle.prelude.proofs.Choice.{true-false}
 
 -- where no version is shared the records of a key have different versions
 pub distinct-apart : (f : Table) (n : ℕ) → Distinct f n → ApartByKey f n
@@ -18,9 +20,9 @@ distinct-apart f n d k s t i j ne p e =
     d s t i j ne (weight-counts k (f s) p) (weight-counts k (f t) (omega arith))
     (omega (arith, weight-version k (f s) p, weight-version k (f t) (omega arith)))
 
--- a table that differs at one slot keeps Distinct if that slot, where it counts, shares no version with the others
+-- a table that differs at one slot keeps Distinct if that slot, where it is a record, shares no version with the others
 pub distinct-upd : (f : Table) (n s : ℕ) (c : Content) → Distinct f n
-    → ((t : ℕ) → Slot n t → (t ≡ s → ⊥) → counts c ≡ true → counts (f t) ≡ true → topOf c ≡ topOf (f t) → ⊥) → Distinct (upd f s c) n
+    → ((t : ℕ) → Slot n t → (t ≡ s → ⊥) → isRecord c ≡ true → isRecord (f t) ≡ true → topOf c ≡ topOf (f t) → ⊥) → Distinct (upd f s c) n
 distinct-upd f n s c d h t u i j ne p q e = go (eqb t s) refl (eqb u s) refl
   where
     is : (x : ℕ) → eqb x s ≡ true → upd f s c x ≡ c
@@ -32,23 +34,23 @@ distinct-upd f n s c d h t u i j ne p q e = go (eqb t s) refl (eqb u s) refl
     go : (x : Bool) → eqb t s ≡ x → (y : Bool) → eqb u s ≡ y → ⊥
     go true a true b = ne (eqb-true t s a ∙ sym (eqb-true u s b))
     go true a false b =
-        h u j (eqb-false u s b) (sym (ap counts (is t a)) ∙ p) (sym (ap counts (off u b)) ∙ q) (sym (ap topOf (is t a)) ∙ e ∙ ap topOf (off u b))
+        h u j (eqb-false u s b) (sym (ap isRecord (is t a)) ∙ p) (sym (ap isRecord (off u b)) ∙ q) (sym (ap topOf (is t a)) ∙ e ∙ ap topOf (off u b))
     go false a true b =
-        h t i (eqb-false t s a) (sym (ap counts (is u b)) ∙ q) (sym (ap counts (off t a)) ∙ p) (sym (ap topOf (is u b)) ∙ sym e ∙ ap topOf (off t a))
+        h t i (eqb-false t s a) (sym (ap isRecord (is u b)) ∙ q) (sym (ap isRecord (off t a)) ∙ p) (sym (ap topOf (is u b)) ∙ sym e ∙ ap topOf (off t a))
     go false a false b =
-        d t u i j ne (sym (ap counts (off t a)) ∙ p) (sym (ap counts (off u b)) ∙ q) (sym (ap topOf (off t a)) ∙ e ∙ ap topOf (off u b))
+        d t u i j ne (sym (ap isRecord (off t a)) ∙ p) (sym (ap isRecord (off u b)) ∙ q) (sym (ap topOf (off t a)) ∙ e ∙ ap topOf (off u b))
 
 module _ (f : Table) (n : ℕ) where
   abbrev tie : (s t : ℕ) → Bool
-  tie s t = counts (f s) && (counts (f t) && eqb (topOf (f s)) (topOf (f t)))
+  tie s t = isRecord (f s) && (isRecord (f t) && eqb (topOf (f s)) (topOf (f t)))
 
-  tied : (s t : ℕ) → counts (f s) ≡ true → counts (f t) ≡ true → topOf (f s) ≡ topOf (f t) → tie s t ≡ true
+  tied : (s t : ℕ) → isRecord (f s) ≡ true → isRecord (f t) ≡ true → topOf (f s) ≡ topOf (f t) → tie s t ≡ true
   tied s t p q e = rw (p, q) (eq-eqb (topOf (f s)) (topOf (f t)) e)
 
-  untied : (s t : ℕ) → (counts (f s) ≡ true → counts (f t) ≡ true → topOf (f s) ≡ topOf (f t) → ⊥) → tie s t ≡ false
-  untied s t h = go (counts (f s)) refl (counts (f t)) refl
+  untied : (s t : ℕ) → (isRecord (f s) ≡ true → isRecord (f t) ≡ true → topOf (f s) ≡ topOf (f t) → ⊥) → tie s t ≡ false
+  untied s t h = go (isRecord (f s)) refl (isRecord (f t)) refl
     where
-      go : (a : Bool) → counts (f s) ≡ a → (b : Bool) → counts (f t) ≡ b → a && (b && eqb (topOf (f s)) (topOf (f t))) ≡ false
+      go : (a : Bool) → isRecord (f s) ≡ a → (b : Bool) → isRecord (f t) ≡ b → a && (b && eqb (topOf (f s)) (topOf (f t))) ≡ false
       go true p true q = ne-eqb (topOf (f s)) (topOf (f t)) (h p q)
       go true p false q = refl
       go false p b q = refl

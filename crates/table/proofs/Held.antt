@@ -5,12 +5,12 @@ use mathlib.Core.Option.{Option, some, none}
 use mathlib.Core.List.{List}
 use Prim.Native.Nat.{ℕ}
 use native.Mathlib.Omega.{arith}
-use lib.Dec.{ltb}
-use borrow.Author.Tests.{lt-ltb, le-ltb}
-use Rattle.table.specs.Table.{Table, weight, decider, valueIn, valueAt, mapOf, live}
-use Rattle.table.specs.Write.{Slot, holder, isHeld}
-use Rattle.table.proofs.Content.{puts, Says, removes, value-at, says}
-use Rattle.table.proofs.Most.{nowhere, there, First}
+use Rattle.layout.specs.Content.{Table}
+use Rattle.table.specs.Table.{weight, decider, valueIn, valueAt, mapOf, live}
+use Rattle.prelude.specs.Members.{Slot}
+use Rattle.table.proofs.defs.Write.{holder}
+use Rattle.table.proofs.OneSlot.{puts, Says, removes, value-at, says}
+use Rattle.prelude.proofs.Most.{nowhere, there, First}
 use Rattle.table.proofs.Map.{is-live, live-remove, decider-is, lives}
 
 pub some-none : {v : List ℕ} {o : Option (List ℕ)} → o ≡ some v → o ≡ none → ⊥
@@ -57,11 +57,3 @@ holder-value f n k = go (held-or f n k)
     go : Held f n k → valueAt f (holder f n k) ≡ mapOf f n k
     go (held v i e m) = ap (valueAt f) (holder-held f n k e)
     go (unheld a m) = ap (valueAt f) (holder-none f n k a) ∙ sym m
-
-pub holder-test : (f : Table) (n k : ℕ) → ltb 0 (holder f n k) ≡ isHeld (mapOf f n k)
-unfolding isHeld
-holder-test f n k = go (held-or f n k)
-  where
-    go : Held f n k → ltb 0 (holder f n k) ≡ isHeld (mapOf f n k)
-    go (held v i e m) = lt-ltb 0 (holder f n k) (omega (arith, holder-held f n k e)) ∙ sym (ap isHeld m)
-    go (unheld a m) = le-ltb 0 (holder f n k) (omega (arith, holder-none f n k a)) ∙ sym (ap isHeld m)

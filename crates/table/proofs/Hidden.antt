@@ -3,12 +3,15 @@ use mathlib.Core.Path.{_≡_, refl}
 use mathlib.Core.Logic.{_⊎_, inl, inr, ⊎-elim}
 use mathlib.Core.List.{List, [], _∷_, _++_}
 use Prim.Native.Nat.{ℕ, _<_}
-use Rattle.sorting.specs.Members.{In}
-use Rattle.table.specs.Table.{Table, weight, decider}
-use Rattle.table.specs.Write.{Slot, only, Free}
-use Rattle.table.specs.Reuse.{Spares, Hides, hides, HiddenFirst}
-use Rattle.table.proofs.Content.{puts, Says, zero-or, removes, true-false, says}
-use Rattle.table.proofs.Lists.{in-append}
+use Rattle.prelude.specs.Members.{In, Slot}
+use Rattle.layout.specs.Content.{Table}
+use Rattle.table.specs.Table.{weight, decider}
+use Rattle.table.proofs.defs.Write.{only, Free}
+use Rattle.table.proofs.defs.Reuse.{Spares}
+use Rattle.table.specs.Reuse.{Hides, hides, HiddenFirst}
+use Rattle.table.proofs.OneSlot.{puts, Says, zero-or, removes, says}
+use Rattle.prelude.proofs.Choice.{true-false}
+use Rattle.prelude.proofs.Lists.{in-append}
 use Rattle.table.proofs.Map.{other-idle, is-live, decider-weight, lives}
 use Rattle.table.proofs.Write.{free-slot}
 

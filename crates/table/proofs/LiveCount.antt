@@ -7,10 +7,12 @@ use Prim.Native.Nat.{ℕ, suc, _≤_, _<_}
 use native.Mathlib.Omega.{arith}
 use lib.Dec.{eqb}
 use borrow.Author.Tests.{eqb-true, eqb-false, eq-eqb, ne-eqb}
-use Rattle.layout.specs.Content.{Content}
-use Rattle.table.specs.Table.{Table, count, decider, mapOf, live, liveCount, allLive}
-use Rattle.table.specs.Write.{Slot, Above, isPut, upd, only, Record, Free}
-use Rattle.table.proofs.Count.{count-more, count-gap, count-room, count-same, Gap, count-most}
+use Rattle.layout.specs.Content.{Content, Table}
+use Rattle.table.specs.Table.{decider, mapOf, live, liveCount, allLive}
+use Rattle.prelude.specs.Range.{count}
+use Rattle.prelude.specs.Members.{Slot}
+use Rattle.table.proofs.defs.Write.{Above, isPut, upd, only, Record, Free}
+use Rattle.prelude.proofs.Count.{count-more, count-gap, count-room, count-same, Gap, count-most}
 use Rattle.table.proofs.Held.{Held, held-or, some-none, unheld, held}
 use Rattle.table.proofs.Write.{write-live, write-live-own}
 
@@ -38,10 +40,6 @@ room-spare f n h = count-gap (live f n) n h
 pub room : (f : Table) (n s : ℕ) → Slot n s → live f n s ≡ false → liveCount f n < n
 unfolding liveCount
 room f n s i e = count-room (live f n) n s i e
-
--- 1 where a test holds
-abbrev pub bit : Bool → ℕ
-bit b = cond b 1 0
 
 module _ (f : Table) (n s w k : ℕ) (c : Content) (i : Slot n s) (free : Free f n (only s)) (r : Record c w k) (above : Above f n w) where
   -- at a key that is not held the other slots live as before

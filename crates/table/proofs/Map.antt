@@ -7,11 +7,13 @@ use Prim.Native.Nat.{ℕ, zero, suc, _≤_, _<_}
 use native.Mathlib.Omega.{arith}
 use lib.Dec.{eqb}
 use borrow.Author.Tests.{eqb-true, eqb-false, eq-eqb, ne-eqb}
-use Rattle.layout.specs.Content.{Content, broken, empty, put, remove}
-use Rattle.table.specs.Table.{Table, keyIn, weight, decider, valueIn, valueAt, mapOf, decidingPut, live}
-use Rattle.table.specs.Write.{Slot, Above, ApartByKey, Free, Outside, Quiet}
-use Rattle.table.proofs.Content.{puts, one-key, Says, weight-put, weight-top, removes, value-at, true-false, says}
-use Rattle.table.proofs.Most.{nowhere, first-is, there, first-eq, First}
+use Rattle.layout.specs.Content.{Content, broken, empty, put, remove, Table}
+use Rattle.table.specs.Table.{keyIn, weight, decider, valueIn, valueAt, mapOf, decidingPut, live}
+use Rattle.prelude.specs.Members.{Slot}
+use Rattle.table.proofs.defs.Write.{Above, ApartByKey, Free, Outside, NoRecord}
+use Rattle.table.proofs.OneSlot.{puts, one-key, Says, weight-put, weight-top, removes, value-at, says}
+use Rattle.prelude.proofs.Choice.{true-false}
+use Rattle.prelude.proofs.Most.{nowhere, first-is, there, first-eq, First}
 
 nearer : (x y : ℕ) → 0 < y → x ≤ y → (0 < x → x ≡ y → ⊥) → x < y
 nearer zero y p l a = p
@@ -114,7 +116,7 @@ pub data Turn (n : ℕ) (C : ℕ → Bool) (b b′ : ℕ) : Type 0 where
   lost : Slot n b → C b ≡ true → b′ ≡ 0 → Turn n C b b′
 
 module _ (f f′ : Table) (n : ℕ) (C : ℕ → Bool) (free : Free f n C) (out : Outside f f′ n C) (k : ℕ)
-    (quiet : Quiet f′ n C k) where
+    (quiet : NoRecord f′ n C k) where
   at-most : (t : ℕ) → Slot n t → weight k (f′ t) ≤ weight k (f t)
   at-most t i = go (C t) refl
     where
@@ -178,7 +180,7 @@ module _ (f f′ : Table) (n : ℕ) (C : ℕ → Bool) (free : Free f n C) (out 
 
 -- outside C a slot whose key gets no new record in C is live as before
 pub live-kept : (f f′ : Table) (n : ℕ) (C : ℕ → Bool) → Free f n C → Outside f f′ n C
-    → (t : ℕ) → Slot n t → C t ≡ false → ((w k : ℕ) (v : List ℕ) → f t ≡ put w k v → Quiet f′ n C k) → live f′ n t ≡ live f n t
+    → (t : ℕ) → Slot n t → C t ≡ false → ((w k : ℕ) (v : List ℕ) → f t ≡ put w k v → NoRecord f′ n C k) → live f′ n t ≡ live f n t
 unfolding live decidingPut
 live-kept f f′ n C free out t i c quiet = ap (decidingPut f′ n t) (out t i c) ∙ go (f t) refl
   where

@@ -1,51 +1,42 @@
 -- Recovery's reuse and chains. Assumes nothing.
 use mathlib.Core.Path.{_≡_, refl, ap}
-use mathlib.Core.Bool.{Bool, true, false, not, _&&_}
+use mathlib.Core.Bool.{Bool, not, _&&_}
 use mathlib.Core.Logic.{inl, inr}
 use mathlib.Core.List.{List, [], _∷_}
 use Prim.Native.Nat.{ℕ, suc, _<_}
 use native.Mathlib.Omega.{arith}
 use lib.Dec.{eqb}
 use borrow.Author.Tests.{eqb-true, eq-eqb, not-true}
-use Rattle.layout.specs.Content.{Content, broken, empty, put, remove}
-use Rattle.sorting.specs.Sorted.{keep}
-use Rattle.sorting.specs.Members.{In, Once, Rising, slots}
-use Rattle.sorting.proofs.Order.{sorted-in, in-sorted, rising-sorted, keep-in, in-keep, keep-holds, once-sorted, once-keep}
-use Rattle.table.specs.Table.{Table, counts, keyIn, weight, live, spare}
+use Rattle.layout.specs.Content.{Content, Table}
+use Rattle.prelude.specs.Filter.{filter}
+use Rattle.prelude.specs.Members.{In, Once, slots, Slot}
+use Rattle.prelude.proofs.defs.Members.{Rising}
+use Rattle.sorting.proofs.Order.{sorted-in, in-sorted, rising-sorted, filter-in, in-filter, filter-holds, once-sorted, once-filter}
+use Rattle.table.specs.Table.{keyIn, weight, live, spare}
 use Rattle.table.specs.Order.{rankOf, ordered, chainOf, reuseOf}
-use Rattle.table.specs.Write.{Slot, ApartByKey}
-use Rattle.table.specs.Reuse.{Spares, Hides, hides, HiddenFirst}
-use Rattle.table.specs.Chains.{Chains}
-use Rattle.table.proofs.Content.{puts, Says, weight-put, weight-remove, removes, true-false, says}
-use Rattle.table.proofs.Lists.{once-slots, in-at, in-slots, slots-in}
+use Rattle.table.proofs.defs.Write.{ApartByKey}
+use Rattle.table.proofs.defs.Reuse.{Spares}
+use Rattle.table.specs.Reuse.{Hides, hides, HiddenFirst}
+use Rattle.table.proofs.defs.Chains.{Chains}
+use Rattle.table.proofs.OneSlot.{puts, Says, weight-put, weight-remove, removes, says}
+use Rattle.prelude.proofs.Choice.{both-left, both-right, both}
+use Rattle.prelude.proofs.Lists.{once-slots, in-at, in-slots, slots-in}
 use Rattle.table.proofs.Map.{decider-newest}
-
--- broken slots rank before empty ones, and those before every record
-pub broken-before : (t : ℕ) → rankOf (broken t) < rankOf empty
-unfolding rankOf
-broken-before t = omega arith
-
-pub empty-before : (c : Content) → counts c ≡ true → rankOf empty < rankOf c
-unfolding rankOf counts
-empty-before (broken t) e = absurd (true-false e refl)
-empty-before empty e = absurd (true-false e refl)
-empty-before (put w k v) e = omega arith
-empty-before (remove w k) e = omega arith
 
 -- recovery's reuse holds the spare slots
 pub recovery-spares : (f : Table) (n : ℕ) → Spares f n (reuseOf f n)
 unfolding reuseOf ordered spare
 recovery-spares f n = record {
-  slot = λ t i. slots-in n t (keep-in (spare f n) t (slots n) (kept t i));
-  idle = λ t i. not-true (live f n t) (keep-holds (spare f n) t (slots n) (kept t i));
-  all = λ t i e. in-sorted (λ x. rankOf (f x)) t (keep (spare f n) (slots n)) (in-keep (spare f n) t (slots n) (in-slots n t i) (ap not e));
-  once = once-sorted (λ x. rankOf (f x)) (keep (spare f n) (slots n)) (once-keep (spare f n) (slots n) (once-slots n));
+  slot = λ t i. slots-in n t (filter-in (spare f n) t (slots n) (kept t i));
+  idle = λ t i. not-true (live f n t) (filter-holds (spare f n) t (slots n) (kept t i));
+  all = λ t i e. in-sorted (λ x. rankOf (f x)) t (filter (spare f n) (slots n)) (in-filter (spare f n) t (slots n) (in-slots n t i) (ap not e));
+  once = once-sorted (λ x. rankOf (f x)) (filter (spare f n) (slots n)) (once-filter (spare f n) (slots n) (once-slots n));
 }
   where
-    kept : (t : ℕ) → In t (reuseOf f n) → In t (keep (spare f n) (slots n))
-    kept t i = sorted-in (λ x. rankOf (f x)) t (keep (spare f n) (slots n)) i
+    kept : (t : ℕ) → In t (reuseOf f n) → In t (filter (spare f n) (slots n))
+    kept t i = sorted-in (λ x. rankOf (f x)) t (filter (spare f n) (slots n)) i
 
-rank-weight : (k : ℕ) (c : Content) → 0 < weight k c → rankOf c ≡ suc (weight k c)
+pub rank-weight : (k : ℕ) (c : Content) → 0 < weight k c → rankOf c ≡ suc (weight k c)
 unfolding rankOf
 rank-weight k c p = go (says k c p)
   where
@@ -66,24 +57,12 @@ rising-hidden f n (x ∷ l) d i o r = (first, rising-hidden f n l d (λ t j. i t
 -- recovery's reuse never falls in rank: broken slots, empty slots, then by version
 pub recovery-rising : (f : Table) (n : ℕ) → Rising (λ t. rankOf (f t)) (reuseOf f n)
 unfolding reuseOf ordered
-recovery-rising f n = rising-sorted (λ t. rankOf (f t)) (keep (spare f n) (slots n))
+recovery-rising f n = rising-sorted (λ t. rankOf (f t)) (filter (spare f n) (slots n))
 
 -- recovery's reuse has the hidden records first
 pub recovery-hidden : (f : Table) (n : ℕ) → ApartByKey f n → HiddenFirst f n (reuseOf f n)
 recovery-hidden f n d =
     rising-hidden f n (reuseOf f n) d (λ t i. recovery-spares f n .slot t i) (recovery-spares f n .once) (recovery-rising f n)
-
-both-left : (a b : Bool) → a && b ≡ true → a ≡ true
-both-left true b e = refl
-both-left false b e = e
-
-both-right : (a b : Bool) → a && b ≡ true → b ≡ true
-both-right true b e = e
-both-right false b e = absurd (true-false e refl)
-
-both : (a b : Bool) → a ≡ true → b ≡ true → a && b ≡ true
-both true b e d = d
-both false b e d = e
 
 -- slot t is live and its key belongs to head i
 abbrev chosen : Table → ℕ → (ℕ → ℕ) → ℕ → ℕ → Bool
@@ -93,14 +72,14 @@ chosen f n head i t = live f n t && eqb (head (keyIn (f t))) i
 pub recovery-chains : (f : Table) (n : ℕ) (head : ℕ → ℕ) → Chains f n head (chainOf f n head)
 unfolding chainOf ordered
 recovery-chains f n head = record {
-  slot = λ i t j. slots-in n t (keep-in (chosen f n head i) t (slots n) (kept i t j));
-  alive = λ i t j. both-left (live f n t) (eqb (head (keyIn (f t))) i) (keep-holds (chosen f n head i) t (slots n) (kept i t j));
-  homed = λ i t j. eqb-true (head (keyIn (f t))) i (both-right (live f n t) (eqb (head (keyIn (f t))) i) (keep-holds (chosen f n head i) t (slots n) (kept i t j)));
-  all = λ t j l. in-sorted (λ x. rankOf (f x)) t (keep (chosen f n head (head (keyIn (f t)))) (slots n))
-      (in-keep (chosen f n head (head (keyIn (f t)))) t (slots n) (in-slots n t j)
+  slot = λ i t j. slots-in n t (filter-in (chosen f n head i) t (slots n) (kept i t j));
+  alive = λ i t j. both-left (live f n t) (eqb (head (keyIn (f t))) i) (filter-holds (chosen f n head i) t (slots n) (kept i t j));
+  in-head = λ i t j. eqb-true (head (keyIn (f t))) i (both-right (live f n t) (eqb (head (keyIn (f t))) i) (filter-holds (chosen f n head i) t (slots n) (kept i t j)));
+  all = λ t j l. in-sorted (λ x. rankOf (f x)) t (filter (chosen f n head (head (keyIn (f t)))) (slots n))
+      (in-filter (chosen f n head (head (keyIn (f t)))) t (slots n) (in-slots n t j)
       (both (live f n t) (eqb (head (keyIn (f t))) (head (keyIn (f t)))) l (eq-eqb (head (keyIn (f t))) (head (keyIn (f t))) refl)));
-  once = λ i. once-sorted (λ t. rankOf (f t)) (keep (chosen f n head i) (slots n)) (once-keep (chosen f n head i) (slots n) (once-slots n));
+  once = λ i. once-sorted (λ t. rankOf (f t)) (filter (chosen f n head i) (slots n)) (once-filter (chosen f n head i) (slots n) (once-slots n));
 }
   where
-    kept : (i t : ℕ) → In t (chainOf f n head i) → In t (keep (chosen f n head i) (slots n))
-    kept i t j = sorted-in (λ x. rankOf (f x)) t (keep (chosen f n head i) (slots n)) j
+    kept : (i t : ℕ) → In t (chainOf f n head i) → In t (filter (chosen f n head i) (slots n))
+    kept i t j = sorted-in (λ x. rankOf (f x)) t (filter (chosen f n head i) (slots n)) j

@@ -7,13 +7,15 @@ use Prim.Native.Nat.{ℕ, _<_}
 use native.Mathlib.Omega.{arith}
 use lib.Dec.{eqb}
 use borrow.Author.Tests.{eqb-true, eqb-false}
-use Rattle.layout.specs.Content.{Content, put, remove}
-use Rattle.sorting.specs.Members.{In}
-use Rattle.table.specs.Table.{Table, weight, decider, live}
-use Rattle.table.specs.Write.{Slot, Above, isPut, holder, upd, only, Record, Free}
-use Rattle.table.specs.Reuse.{Spares, Hides, hides, HiddenFirst, joins}
-use Rattle.table.proofs.Content.{one-key, weight-put, upd-other, upd-same, true-false}
-use Rattle.table.proofs.Lists.{in-at}
+use Rattle.layout.specs.Content.{Content, put, remove, Table}
+use Rattle.prelude.specs.Members.{In, Slot}
+use Rattle.table.specs.Table.{weight, decider, live}
+use Rattle.table.proofs.defs.Write.{Above, isPut, holder, upd, only, Record, Free}
+use Rattle.table.proofs.defs.Reuse.{Spares, joins}
+use Rattle.table.specs.Reuse.{Hides, hides, HiddenFirst}
+use Rattle.table.proofs.OneSlot.{one-key, weight-put, upd-other, upd-same}
+use Rattle.prelude.proofs.Choice.{true-false}
+use Rattle.prelude.proofs.Lists.{in-at}
 use Rattle.table.proofs.Map.{Turn, decider-weight, nobody, lives, same, lost, live-is, turn, Live}
 use Rattle.table.proofs.Held.{Held, held-or, holder-held, unheld, held, holder-none}
 use Rattle.table.proofs.Write.{write-decider, outside, quiet}

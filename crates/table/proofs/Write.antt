@@ -6,21 +6,23 @@ use Prim.Native.Nat.{ℕ, suc, _≤_}
 use native.Mathlib.Omega.{arith}
 use lib.Dec.{eqb, ltb}
 use borrow.Author.Tests.{eqb-true, eqb-false, eq-eqb, ne-eqb, ltb-true, ltb-false}
-use Rattle.layout.specs.Content.{Content, broken, put, remove, topOf}
-use Rattle.table.specs.Table.{Table, counts, weight, nextVersion, decider, valueIn, valueAt, mapOf, live, liveCount}
-use Rattle.table.specs.Write.{Slot, Above, Distinct, isPut, upd, only, Record, Free, Outside, Quiet}
-use Rattle.table.proofs.Content.{weight-put-other, puts, Says, weight-put, weight-remove, upd-other, removes, weight-broken, value-at, upd-same, true-false, says, weight-remove-other}
-use Rattle.table.proofs.Most.{greatest-above, greatest-least}
-use Rattle.table.proofs.Count.{count-same}
+use Rattle.layout.specs.Content.{Content, broken, put, remove, topOf, Table}
+use Rattle.table.specs.Table.{isRecord, weight, nextVersion, decider, valueIn, valueAt, mapOf, live, liveCount}
+use Rattle.prelude.specs.Members.{Slot}
+use Rattle.table.proofs.defs.Write.{Above, Distinct, isPut, upd, only, Record, Free, Outside, NoRecord}
+use Rattle.table.proofs.OneSlot.{weight-put-other, puts, Says, weight-put, weight-remove, upd-other, removes, weight-broken, value-at, upd-same, says, weight-remove-other}
+use Rattle.prelude.proofs.Choice.{true-false}
+use Rattle.prelude.proofs.Most.{greatest-above, greatest-least}
+use Rattle.prelude.proofs.Count.{count-same}
 use Rattle.table.proofs.Map.{live-broken, newest, decider-weight, live-remove, live-kept, map-kept, live-put}
 use Rattle.table.proofs.Distinct.{distinct-upd}
 
 pub put-record : (w k : ℕ) (v : List ℕ) → Record (put w k v) w k
-unfolding topOf counts
+unfolding topOf isRecord
 put-record w k v = record { own = weight-put w k v; other = λ j h. weight-put-other w k v j h; tops = refl; counted = refl }
 
 pub remove-record : (w k : ℕ) → Record (remove w k) w k
-unfolding topOf counts
+unfolding topOf isRecord
 remove-record w k = record { own = weight-remove w k; other = λ j h. weight-remove-other w k j h; tops = refl; counted = refl }
 
 -- a slot may be lost that is not live and, where it decides its key, is that key's only record
@@ -34,7 +36,7 @@ free-slot f n s i e h = record {
 pub outside : (f : Table) (n s : ℕ) (c : Content) → Outside f (upd f s c) n (only s)
 outside f n s c t i e = upd-other f s c t (eqb-false t s e)
 
-pub quiet : (f : Table) (n s : ℕ) (c : Content) (k : ℕ) → weight k c ≡ 0 → Quiet (upd f s c) n (only s) k
+pub quiet : (f : Table) (n s : ℕ) (c : Content) (k : ℕ) → weight k c ≡ 0 → NoRecord (upd f s c) n (only s) k
 quiet f n s c k z t i e = ap (λ (x : ℕ). weight k (upd f s c x)) (eqb-true t s e) ∙ ap (weight k) (upd-same f s c) ∙ z
 
 pub above-next : (f : Table) (n : ℕ) → Above f n (nextVersion f n)
@@ -64,7 +66,7 @@ module _ (f : Table) (n s b : ℕ) (i : Slot n s) (free : Free f n (only s)) whe
   lose-count = count-same (live (upd f s (broken b)) n) (live f n) n lose-live
 
 pub lose-distinct : (f : Table) (n s b : ℕ) → Distinct f n → Distinct (upd f s (broken b)) n
-unfolding counts
+unfolding isRecord
 lose-distinct f n s b d = distinct-upd f n s (broken b) d (λ t i ne p q e. true-false p refl)
 
 -- the slot gets the newest record of key k

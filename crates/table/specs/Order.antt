@@ -3,10 +3,11 @@ use mathlib.Core.Bool.{_&&_}
 use mathlib.Core.List.{List}
 use Prim.Native.Nat.{ℕ, _+_}
 use lib.Dec.{eqb}
-use Rattle.layout.specs.Content.{Content, broken, empty, put, remove}
-use Rattle.sorting.specs.Sorted.{keep, sorted}
-use Rattle.sorting.specs.Members.{slots}
-use Rattle.table.specs.Table.{Table, keyIn, live, spare}
+use Rattle.layout.specs.Content.{Content, broken, empty, put, remove, Table}
+use Rattle.prelude.specs.Filter.{filter}
+use Rattle.sorting.specs.Sorted.{sorted}
+use Rattle.prelude.specs.Members.{slots}
+use Rattle.table.specs.Table.{keyIn, live, spare}
 
 -- "broken slots, then empty slots, .. then the rest by rising version"
 unfoldable pub rankOf : Content → ℕ
@@ -21,8 +22,8 @@ ordered f xs = sorted (λ s. rankOf (f s)) xs
 
 -- "Recovery orders each head's chain by rising version": the live slots whose key belongs to head h; `head` gives a key's head
 unfoldable pub chainOf : Table → (n : ℕ) → (head : ℕ → ℕ) → (h : ℕ) → List ℕ
-chainOf f n head h = ordered f (keep (λ s. live f n s && eqb (head (keyIn (f s))) h) (slots n))
+chainOf f n head h = ordered f (filter (λ s. live f n s && eqb (head (keyIn (f s))) h) (slots n))
 
 -- "It orders the reuse chain": the spare slots
 unfoldable pub reuseOf : Table → (n : ℕ) → List ℕ
-reuseOf f n = ordered f (keep (spare f n) (slots n))
+reuseOf f n = ordered f (filter (spare f n) (slots n))

@@ -2,20 +2,17 @@
 use mathlib.Core.Bool.{Bool, true, false, cond, not, _&&_}
 use mathlib.Core.Option.{Option, some, none}
 use mathlib.Core.List.{List}
-use Prim.Native.Nat.{ℕ, zero, suc, _-_, max}
-use lib.Dec.{eqb, ltb}
-use Rattle.layout.specs.Range.{anyOf}
-use Rattle.layout.specs.Content.{Content, broken, empty, put, remove, topOf}
-
-abbrev pub Table : Type 0
-Table = ℕ → Content
+use Prim.Native.Nat.{ℕ, zero, suc, _-_}
+use lib.Dec.{eqb}
+use Rattle.prelude.specs.Range.{anyOf, greatest, topmost, count}
+use Rattle.layout.specs.Content.{Content, broken, empty, put, remove, topOf, Table}
 
 -- does the slot's record count: is the slot valid?
-unfoldable pub counts : Content → Bool
-counts (broken top) = false
-counts empty = false
-counts (put version key value) = true
-counts (remove version key) = true
+unfoldable pub isRecord : Content → Bool
+isRecord (broken top) = false
+isRecord empty = false
+isRecord (put version key value) = true
+isRecord (remove version key) = true
 
 -- the key of a record
 unfoldable pub keyIn : Content → ℕ
@@ -24,27 +21,12 @@ keyIn empty = 0
 keyIn (put version key value) = key
 keyIn (remove version key) = key
 
--- one more than the version of a record of key k that counts; 0 for any other content
+-- one more than the version of a record of key k; 0 for any other content
 unfoldable pub weight : (k : ℕ) → Content → ℕ
 weight k (broken top) = 0
 weight k empty = 0
 weight k (put version key value) = cond (eqb key k) (suc version) 0
 weight k (remove version key) = cond (eqb key k) (suc version) 0
-
--- the greatest of g 1 to g n, 0 if n is 0
-unfoldable pub greatest : (g : ℕ → ℕ) → (n : ℕ) → ℕ
-greatest g zero = 0
-greatest g (suc n) = max (greatest g n) (g (suc n))
-
--- the first of 1 to n at which g is greatest, 0 where g is 0 at all of them
-unfoldable pub topmost : (g : ℕ → ℕ) → (n : ℕ) → ℕ
-topmost g zero = 0
-topmost g (suc n) = cond (ltb (greatest g n) (g (suc n))) (suc n) (topmost g n)
-
--- how many of 1 to n pass a test
-unfoldable pub count : (p : ℕ → Bool) → (n : ℕ) → ℕ
-count p zero = 0
-count p (suc n) = cond (p (suc n)) (suc (count p n)) (count p n)
 
 -- "The next version is one more than the highest version on any whole line of slots 1 to N, lines of broken slots included; with no line whole it is 1"
 unfoldable pub nextVersion : Table → (n : ℕ) → ℕ
@@ -87,7 +69,7 @@ liveCount f n = count (live f n) n
 
 -- "7 when two valid slots share a version"
 unfoldable pub sharedVersion : Table → (n : ℕ) → Bool
-sharedVersion f n = anyOf (λ s. anyOf (λ t. counts (f s) && (counts (f t) && eqb (topOf (f s)) (topOf (f t)))) 1 (s - 1)) 1 n
+sharedVersion f n = anyOf (λ s. anyOf (λ t. isRecord (f s) && (isRecord (f t) && eqb (topOf (f s)) (topOf (f t)))) 1 (s - 1)) 1 n
 
 -- "8 when all N slots are live"
 unfoldable pub allLive : Table → (n : ℕ) → Bool

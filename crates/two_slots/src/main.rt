@@ -2,10 +2,10 @@
 // every answer, state, store and index.
 use index::State;
 use orderset::Change;
-use orderset::get::get;
-use orderset::play::play;
-use orderset::put::put;
-use orderset::remove::remove;
+use orderset::get;
+use orderset::play;
+use orderset::put;
+use orderset::remove;
 
 // Slot 1: a put of key 0 with no bytes, version 1. Slot 2: empty.
 fn image() -> [u8; 384] {

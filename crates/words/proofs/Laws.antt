@@ -1,6 +1,6 @@
 -- Words and bytes: a word after a store (the same, another, length, range), and the bytes of a word. Assumes nothing.
 use mathlib.Core.Path.{_≡_, refl, ap, sym, _∙_}
-use mathlib.Core.List.{List, [], _∷_}
+use mathlib.Core.List.{List}
 use mathlib.Core.Logic.{_≢_, by-cases}
 use Prim.Native.Nat.{ℕ, zero, suc, _+_, _*_, _/_, _%_, _^_, _≤_, _<_}
 use native.Mathlib.Nat.{div-add-mod, pow-suc, pow-succ', div-one, div-lt-iff-lt-mul, div-div-eq-div-mul, mod-lt, zero-lt-suc}
@@ -8,7 +8,7 @@ use native.Mathlib.Decide.{decLt, ℕ-discrete}
 use native.Mathlib.Omega.{arith}
 use lib.ListN.{length, getD, set, length-set, List·getD-eq-default}
 use lib.Seq.{getD-set-same, getD-set-other, set-out}
-use Rattle.words.specs.Word.{AreBytes, joined, word, setWord}
+use Rattle.words.specs.Word.{AreBytes, word, setWord}
 
 -- the number of the n bytes from a on
 abbrev from : ℕ → List ℕ → ℕ → ℕ

@@ -19,17 +19,12 @@ run-spec =
     (tie.spec
     Inv-loop
     μ-loop
-    (λ c κs. search needs)
-    (λ c. search needs)
-    (λ c κs. search needs)
-    (λ c. search needs)
-    (λ c. search needs)
+    (λ c κs. search needs) (λ c. search needs) (λ c κs. search needs) (λ c. search needs) (λ c. search needs)
     (λ c. search (needs, c .before .before .before .before .before .before .before .before .before .before .read-once, c .before .before .before .before .before .before .before .before .before .before .before .before .before .before .before .before .before .before .loop))
     (λ c κs. search needs)
-    (λ c κs. search needs)
-    (λ c. search needs)
-    (λ c. search (needs, c .before .before .before .before .before .before .before .before .before .before .end-input, c .before .before .before .before .before .before .before .before .before .before .before .before .before .before .before .before .before .loop))
-    (λ c. search (needs, c .before .before .before .before .before .before .before .before .before .before .end-input, c .before .before .before .before .before .before .before .before .before .before .before .before .before .before .before .before .before .loop))
-    (λ c. search (needs, c .before .before .before .before .before .before .before .before .before .before .end-input, c .before .before .before .before .before .before .before .before .before .before .before .before .before .before .before .before .before .loop))
-    (λ c. search (needs, c .before .before .before .before .before .before .before .before .before .before .end-input, c .before .before .before .before .before .before .before .before .before .before .before .before .before .before .before .before .before .loop))
+    (λ c. search (needs, c .before .before .before .before .before .before .before .before .finish, c .before .before .before .before .before .before .before .before .before .before .before .before .before .before .loop))
+    (λ c. search (needs, c .before .before .before .before .before .before .before .before .finish, c .before .before .before .before .before .before .before .before .before .before .before .before .before .before .loop))
+    (λ c. search (needs, c .before .before .before .before .before .before .before .before .finish, c .before .before .before .before .before .before .before .before .before .before .before .before .before .before .loop))
+    (λ c. search (needs, c .before .before .before .before .before .before .before .before .finish, c .before .before .before .before .before .before .before .before .before .before .before .before .before .before .loop))
+    (λ c. search (needs, c .before .before .before .before .before .before .before .before .finish, c .before .before .before .before .before .before .before .before .before .before .before .before .before .before .loop))
     (λ c. search needs))

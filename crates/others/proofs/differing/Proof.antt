@@ -20,12 +20,9 @@ differing-spec =
     (tie.spec
     Inv-loop
     μ-loop
-    (λ c. search needs)
-    (λ c. search needs)
+    (λ c. search needs) (λ c. search needs)
     (λ c. omega (arith, ltb-true))
-    (λ c. search needs)
-    (λ c. search needs)
-    (λ c. search needs)
+    (λ c. search needs) (λ c. search needs) (λ c. search needs)
     (λ c. ⊎-elim (λ w. omega arith) (λ w. omega arith) (c .if2 .came))
     (λ c. search needs)
     (λ c. search needs))

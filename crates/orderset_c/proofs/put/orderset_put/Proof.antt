@@ -7,9 +7,5 @@ pub orderset-put-spec : {M : Type 1} → statement M
 orderset-put-spec =
     tie.close
     (tie.spec
-    (λ c κs. search needs)
-    (λ c κs. search needs)
-    (λ c κs. search needs)
-    (λ c. search needs)
-    (λ c. search needs)
+    (λ c κs. search needs) (λ c κs. search needs) (λ c κs. search needs) (λ c. search needs) (λ c. search needs)
     (λ c. rw (← (c .before .before .before .before .before .before .before .before .before .before .before .before .before .state-from .ensures), ← (c .before .before .before .before .before .before .before .before .before .before .put .ensures)) (c .hand-out .ensures _ _)))

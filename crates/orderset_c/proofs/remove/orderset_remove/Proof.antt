@@ -7,9 +7,5 @@ pub orderset-remove-spec : {M : Type 1} → statement M
 orderset-remove-spec =
     tie.close
     (tie.spec
-    (λ c κs. search needs)
-    (λ c κs. search needs)
-    (λ c κs. search needs)
-    (λ c. search needs)
-    (λ c. search needs)
+    (λ c κs. search needs) (λ c κs. search needs) (λ c κs. search needs) (λ c. search needs) (λ c. search needs)
     (λ c. rw (← (c .before .before .before .before .before .before .before .before .before .before .before .before .before .state-from .ensures), ← (c .before .before .before .before .before .before .before .before .before .before .remove .ensures)) (c .hand-out .ensures _ _)))

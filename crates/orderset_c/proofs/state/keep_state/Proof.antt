@@ -1,6 +1,6 @@
 -- `orderset_c::state::keep_state` meets its contract. Assumes nothing.
 use borrow.Author.Needs.{needs}
-use Rattle.orderset_c.specs.State.{stateFrom}
+use Rattle.exports.specs.State.{stateFrom}
 use Rattle.orderset_c.proofs.state.keep_state.Statement.{statement}
 use Rattle.orderset_c.proofs.state.keep_state.Tie as tie
 

@@ -1,6 +1,6 @@
 -- `orderset_c::state::state_from` meets its contract. Assumes nothing.
 use borrow.Author.Needs.{needs}
-use Rattle.orderset_c.specs.State.{stateFrom}
+use Rattle.exports.specs.State.{stateFrom}
 use Rattle.orderset_c.proofs.state.state_from.Statement.{statement}
 use Rattle.orderset_c.proofs.state.state_from.Tie as tie
 

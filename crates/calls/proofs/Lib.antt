@@ -1,0 +1,4 @@
+pub mod Lookups
+pub mod Changes
+pub mod Results
+pub mod Formats

@@ -1,0 +1,129 @@
+-- Put and remove. Document 01, "How a call writes", "The index" and "What each operation may say no to". Both leave the image unchanged.
+use mathlib.Core.List.{List, [], _∷_}
+use Prim.Native.Nat.{ℕ, _+_, _-_, _^_}
+use lib.Dec.{eqb, ltb}
+use lib.ListN.{length, replicate}
+use Rattle.words.specs.Word.{word}
+use Rattle.prelude.specs.Refusal.{say, orElse, unlessRefused}
+use Rattle.prelude.specs.Answer.{Answer, gives, absent, refused}
+use Rattle.layout.specs.Size.{slotsIn}
+use Rattle.layout.specs.Record.{limit}
+use Rattle.layout.specs.Header.{lentFault}
+use Rattle.stores.specs.Store.{Store, zipped}
+use Rattle.stores.specs.Written.{recordStores}
+use Rattle.index.specs.Index.{Index, indexOf, stateOf, headOf}
+use Rattle.index.specs.Walk.{search, chainFault}
+use Rattle.index.specs.Change.{putNew, putHeld, removeHeld, roomFault, reuseFault}
+use Rattle.layout.specs.Line.{versionFault}
+use Rattle.index.specs.declared.State.{State}
+use Rattle.index.specs.declared.Found.{Found}
+use Rattle.index.specs.declared.Found.the-variants.{At, Missing, BadChain}
+use Rattle.calls.specs.declared.Change.{Change}
+use Rattle.calls.specs.declared.Outcome.{Outcome}
+use Rattle.calls.specs.declared.Outcome.the-variants.{Stored, Absent, Refused}
+
+-- the answer, the state, the stores and the index at exit
+pub record ChangeResult : Type 0 where
+  pub answer : Answer
+  pub state : State
+  pub stores : List Store
+  pub heads : List ℕ
+  pub next : List ℕ
+
+-- "Both answer the slot taken and the version"
+unfoldable pub changeSays : Outcome → Answer
+changeSays (Stored slot version) = gives (slot ∷ version ∷ [])
+changeSays Absent = absent
+changeSays (Refused number) = refused number
+
+-- what a call of put or remove with this answer left
+abbrev pub changeEnd : Change → (heads next : List ℕ) → ChangeResult
+changeEnd r heads next =
+    record {
+      answer = changeSays (r .outcome);
+      state = r .state;
+      stores = zipped (r .stores .at) (r .stores .value);
+      heads = heads;
+      next = next;
+    }
+
+-- the stores of a call that stores nothing: all to a word that no image has, so that play refuses them
+unfoldable pub noStores : List Store
+noStores = replicate 16 (record { word = 2 ^ 32 - 1; value = 0 })
+
+-- "A refused call changes no lent byte, index number or state"; nor does a remove that answers absent
+unfoldable pub unchanged : Answer → State → (heads next : List ℕ) → ChangeResult
+unchanged answer s heads next = record { answer = answer; state = s; stores = noStores; heads = heads; next = next }
+
+-- a record of this kind is written into the first reuse slot: i is the index at exit. "each call that stores makes the next version one higher"
+unfoldable pub changed : (l : ℕ) → (image : List ℕ) → State → (key kind : ℕ) → List ℕ → Index → (live : ℕ) → ChangeResult
+changed l image s key kind value i live =
+    record {
+      answer = gives (s .first ∷ s .version ∷ []);
+      state = stateOf i live (s .version + 1);
+      stores = recordStores l (word image) (s .first) key kind value (s .version);
+      heads = i .heads;
+      next = i .next;
+    }
+
+-- ---- put
+
+-- "Put. 1, 2, 3, 4 as above; 10 when the value exceeds 80 bytes": by what is lent, before the key's chain is followed
+unfoldable pub putLentFault : (l : ℕ) → (image : List ℕ) → (heads next size : ℕ) → ℕ
+putLentFault l image heads next size = orElse (lentFault l image heads next) (say (ltb (limit l) size) 10 0)
+
+-- the refusals after these: 11 (chain), 12, 9, 11 (reuse)
+unfoldable pub putLaterFault : Found → (next : List ℕ) → (n : ℕ) → State → ℕ
+putLaterFault found next n s =
+    orElse (chainFault found)
+    (orElse (roomFault found n (s .live)) (orElse (versionFault (s .version)) (reuseFault next n (s .first) (s .last))))
+
+unfoldable pub putFault : (l : ℕ) → (image heads next : List ℕ) → State → (key : ℕ) → (size : ℕ) → ℕ
+putFault l image heads next s key size =
+    orElse (putLentFault l image (length heads) (length next) size)
+    (putLaterFault (search l image heads next key) next (slotsIn image) s)
+
+-- "A put of a new key raises the live count by one"
+unfoldable pub putDone : (l : ℕ) → (image heads next : List ℕ) → State → (key : ℕ) → List ℕ → Found → ChangeResult
+putDone l image heads next s key value (At old prev compared) =
+    changed l image s key 1 value (putHeld (indexOf heads next s) (headOf key (length heads)) prev old) (s .live)
+putDone l image heads next s key value (Missing prev compared) =
+    changed l image s key 1 value (putNew (indexOf heads next s) (headOf key (length heads)) prev) (s .live + 1)
+putDone l image heads next s key value BadChain = unchanged (refused 11) s heads next
+
+unfoldable pub putResult : (l : ℕ) → (image heads next : List ℕ) → State → (key : ℕ) → List ℕ → ChangeResult
+putResult l image heads next s key value =
+    unlessRefused (putFault l image heads next s key (length value))
+    (putDone l image heads next s key value (search l image heads next key))
+    (unchanged (refused (putFault l image heads next s key (length value))) s heads next)
+
+-- ---- remove
+
+-- "9, 11 (reuse, or a live count of zero)"
+unfoldable pub heldFault : (next : List ℕ) → (n : ℕ) → State → ℕ
+heldFault next n s =
+    orElse (versionFault (s .version)) (orElse (reuseFault next n (s .first) (s .last)) (say (eqb (s .live) 0) 11 0))
+
+-- the refusals after 1, 2, 3 and 4: 11 (chain); "then, if the key is not held, the plain answer absent"; then as above
+unfoldable pub removeLaterFault : Found → (next : List ℕ) → (n : ℕ) → State → ℕ
+removeLaterFault (At old prev compared) next n s = heldFault next n s
+removeLaterFault (Missing prev compared) next n s = 0
+removeLaterFault BadChain next n s = 11
+
+unfoldable pub removeFault : (l : ℕ) → (image heads next : List ℕ) → State → (key : ℕ) → ℕ
+removeFault l image heads next s key =
+    orElse (lentFault l image (length heads) (length next))
+    (removeLaterFault (search l image heads next key) next (slotsIn image) s)
+
+-- "a remove lowers it by one"; "the plain answer absent with no stores and no change"
+unfoldable pub removeDone : (l : ℕ) → (image heads next : List ℕ) → State → (key : ℕ) → Found → ChangeResult
+removeDone l image heads next s key (At old prev compared) =
+    changed l image s key 2 [] (removeHeld (indexOf heads next s) (headOf key (length heads)) prev old) (s .live - 1)
+removeDone l image heads next s key (Missing prev compared) = unchanged absent s heads next
+removeDone l image heads next s key BadChain = unchanged (refused 11) s heads next
+
+unfoldable pub removeResult : (l : ℕ) → (image heads next : List ℕ) → State → (key : ℕ) → ChangeResult
+removeResult l image heads next s key =
+    unlessRefused (removeFault l image heads next s key)
+    (removeDone l image heads next s key (search l image heads next key))
+    (unchanged (refused (removeFault l image heads next s key)) s heads next)

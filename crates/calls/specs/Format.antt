@@ -1,0 +1,39 @@
+-- Format. Document 01, "What each operation may say no to", Format.
+use mathlib.Core.List.{List, [], _∷_}
+use Prim.Native.Nat.{ℕ}
+use lib.Dec.{eqb}
+use lib.ListN.{length, replicate}
+use Rattle.words.specs.Word.{setWord}
+use Rattle.prelude.specs.Refusal.{say, unlessRefused}
+use Rattle.prelude.specs.Answer.{Answer, gives, refused}
+use Rattle.layout.specs.Size.{slotsOf, slotsIn}
+use Rattle.calls.specs.declared.Formatted.{Formatted}
+use Rattle.calls.specs.declared.Formatted.the-variants.{Slots, Refused}
+
+-- format's answer and the bytes that it leaves
+pub record FormatResult : Type 0 where
+  pub answer : Answer
+  pub bytes : List ℕ
+
+unfoldable pub formatSays : Formatted → Answer
+formatSays (Slots n) = gives (n ∷ [])
+formatSays (Refused number) = refused number
+
+-- what a call of format with this answer left
+abbrev pub formatEnd : Formatted → (bytes : List ℕ) → FormatResult
+formatEnd r bytes = record { answer = formatSays r; bytes = bytes }
+
+-- "1 when the length is not 128 × (N + 1) with N in range"
+unfoldable pub formatFault : (len : ℕ) → ℕ
+formatFault len = say (eqb (slotsOf len) 0) 1 0
+
+-- "Otherwise the header is written, every other byte is zero"
+unfoldable pub formatted : (l len : ℕ) → List ℕ
+formatted l len = setWord (setWord (replicate len 0) 0 (slotsOf len)) 1 l
+
+-- "and the answer is N"
+unfoldable pub formatResult : (l : ℕ) → (image : List ℕ) → FormatResult
+formatResult l image =
+    unlessRefused (formatFault (length image))
+    (record { answer = gives (slotsIn image ∷ []); bytes = formatted l (length image) })
+    (record { answer = refused (formatFault (length image)); bytes = image })

@@ -1,0 +1,4 @@
+pub mod Change
+pub mod Get
+pub mod Format
+pub mod inner

@@ -1,0 +1,20 @@
+-- `change_code::remove::held_fault` meets its contract. Assumes nothing.
+use borrow.Author.Needs.{needs}
+use Rattle.prelude.specs.Refusal.{say}
+use Rattle.prelude.proofs.Tests.{tests}
+use Rattle.calls.specs.Change.{heldFault}
+use Rattle.calls.proofs.Lookups.{said, passed}
+use Rattle.change_code.proofs.remove.held_fault.Statement.{statement}
+use Rattle.change_code.proofs.remove.held_fault.Tie as tie
+
+pub held-fault-spec : {M : Type 1} → statement M
+unfolding heldFault say
+held-fault-spec =
+    tie.close
+    (tie.spec
+    (λ c κs. search needs)
+    (λ c. search (said, passed))
+    (λ c κs. search needs)
+    (λ c. search (said, passed))
+    (λ c. search (said, passed, tests))
+    (λ c. search (said, passed, tests)))

@@ -1,0 +1,20 @@
+-- `change_code::remove::remove_lookup` meets its contract. Assumes nothing.
+use borrow.Author.Needs.{needs}
+use Rattle.layout.proofs.Lents.{lent-sized, lent-next}
+use Rattle.calls.specs.Change.{removeFault}
+use Rattle.calls.proofs.Lookups.{slots-fit, refused-early, remove-looks}
+use Rattle.change_code.proofs.remove.remove_lookup.Statement.{statement}
+use Rattle.change_code.proofs.remove.remove_lookup.Tie as tie
+
+pub remove-lookup-spec : {M : Type 1} → statement M
+unfolding removeFault
+remove-lookup-spec =
+    tie.close
+    (tie.spec
+    (λ c κs. search needs)
+    (λ c. search (refused-early))
+    (λ c κs. search needs)
+    (λ c κs. search (lent-sized))
+    (λ c. search (slots-fit))
+    (λ c κs. search (lent-next))
+    (λ c. search (remove-looks)))

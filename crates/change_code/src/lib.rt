@@ -1,0 +1,4 @@
+// The public calls that write: put and remove.
+mod answers;
+pub mod put;
+pub mod remove;

@@ -1,0 +1,104 @@
+-- What the exported functions return and leave in the lent numbers, by the results that the public calls promise. Document 01, "What each operation may say no to".
+use mathlib.Core.List.{List, _∷_}
+use Prim.Native.Nat.{ℕ}
+use lib.ListN.{replicate}
+use Rattle.prelude.specs.Answer.{Answer, gives, absent, refused, refusalIn}
+use Rattle.stores.specs.Store.{Store}
+use Rattle.index.specs.declared.State.{State}
+use Rattle.recovery.specs.Recover.{Result, stateValues}
+use Rattle.calls.specs.Format.{FormatResult}
+use Rattle.calls.specs.Change.{ChangeResult}
+use Rattle.calls.specs.Get.{GetResult}
+
+-- the lent answer of n words: 1 and the values that the call gives, or zeros for absent. "A refused call changes no lent byte, index number or state"
+unfoldable pub answered : (n : ℕ) → Answer → (lent : List ℕ) → List ℕ
+answered n (gives values) lent = 1 ∷ values
+answered n absent lent = replicate n 0
+answered n (refused number) lent = lent
+
+-- ---- format
+
+pub record FormatCall : Type 0 where
+  pub returns : ℕ
+  pub answer : List ℕ
+  pub bytes : List ℕ
+
+-- what a call of format with this code left
+abbrev pub formatLeft : (code : ℕ) → (answer bytes : List ℕ) → FormatCall
+formatLeft code answer bytes = record { returns = code; answer = answer; bytes = bytes }
+
+unfoldable pub formatCall : FormatResult → (answer : List ℕ) → FormatCall
+formatCall r answer = record { returns = refusalIn (r .answer); answer = answered 2 (r .answer) answer; bytes = r .bytes }
+
+-- ---- recover
+
+pub record RecoverCall : Type 0 where
+  pub returns : ℕ
+  pub state : List ℕ
+  pub heads : List ℕ
+  pub next : List ℕ
+
+-- what a call of recover with this code left
+abbrev pub recoverLeft : (code : ℕ) → State → (heads next : List ℕ) → RecoverCall
+recoverLeft code s heads next = record { returns = code; state = stateValues s; heads = heads; next = next }
+
+-- the state that recovery answers, or the one that was lent
+unfoldable pub recoveredValues : Answer → (lent : List ℕ) → List ℕ
+recoveredValues (gives values) lent = values
+recoveredValues absent lent = lent
+recoveredValues (refused number) lent = lent
+
+unfoldable pub recoverCall : Result → State → RecoverCall
+recoverCall r s =
+    record {
+      returns = refusalIn (r .answer);
+      state = recoveredValues (r .answer) (stateValues s);
+      heads = r .heads;
+      next = r .next;
+    }
+
+-- ---- put and remove
+
+pub record ChangeCall : Type 0 where
+  pub returns : ℕ
+  pub answer : List ℕ
+  pub state : State
+  pub stores : List Store
+  pub heads : List ℕ
+  pub next : List ℕ
+
+-- what a call of put or remove with this code left
+abbrev pub changeLeft : (code : ℕ) → (answer : List ℕ) → State → List Store → (heads next : List ℕ) → ChangeCall
+changeLeft code answer s stores heads next =
+    record { returns = code; answer = answer; state = s; stores = stores; heads = heads; next = next }
+
+-- stores are handed out by a call that stores; the lent ones stay as they were in any other
+unfoldable pub handedOut : Answer → (stores lent : List Store) → List Store
+handedOut (gives values) stores lent = stores
+handedOut absent stores lent = lent
+handedOut (refused number) stores lent = lent
+
+unfoldable pub changeCall : ChangeResult → (answer : List ℕ) → (stores : List Store) → ChangeCall
+changeCall r answer stores =
+    record {
+      returns = refusalIn (r .answer);
+      answer = answered 3 (r .answer) answer;
+      state = r .state;
+      stores = handedOut (r .answer) (r .stores) stores;
+      heads = r .heads;
+      next = r .next;
+    }
+
+-- ---- get
+
+pub record GetCall : Type 0 where
+  pub returns : ℕ
+  pub answer : List ℕ
+  pub out : List ℕ
+
+-- what a call of get with this code left
+abbrev pub getLeft : (code : ℕ) → (answer out : List ℕ) → GetCall
+getLeft code answer out = record { returns = code; answer = answer; out = out }
+
+unfoldable pub getCall : GetResult → (answer : List ℕ) → GetCall
+getCall r answer = record { returns = refusalIn (r .answer); answer = answered 2 (r .answer) answer; out = r .out }

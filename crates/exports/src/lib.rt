@@ -1,0 +1,1 @@
+// What the functions for C return and leave in lent numbers: definitions and laws.

@@ -1,0 +1,2 @@
+// The public call that reads: get.
+pub mod get;

@@ -1,0 +1,282 @@
+-- Each raw write, and each call's writes, keep a good index good, and what the chains are after. Assumes nothing.
+use mathlib.Core.Path.{_≡_, refl, sym, ap, _∙_}
+use mathlib.Core.Logic.{inl, inr}
+use mathlib.Core.List.{List, [], _∷_, _++_, append-nil, append-assoc}
+use mathlib.Core.Bool.{cond}
+use Prim.Native.Nat.{ℕ, _<_}
+use native.Mathlib.Omega.{arith}
+use lib.Dec.{eqb}
+use lib.ListN.{length, getD}
+use borrow.Author.Tests.{eq-eqb, ne-eqb}
+use Rattle.index.specs.Index.{Chain, reuse, head, Index, start, ahead, setNext, setStart, setLast, link}
+use Rattle.index.specs.Change.{takeFirst, append, linkNew, putNew, putHeld, removeHeld}
+use Rattle.prelude.specs.Members.{In}
+use Rattle.index.specs.Linked.{Run, endOf, Owner, free, of, Entry, Disjoint, WellFormed}
+use Rattle.index.proofs.defs.Linked.{give, withChain, Room}
+use Rattle.index.proofs.Paths.{end-snoc, mid-in, run-after}
+use Rattle.index.proofs.Owners.{free-of, of-of, reuse-apart, give-same, give-other, give-twice, give-swap, give-idle, with-same, with-other, with-twice, with-swap}
+use Rattle.index.proofs.Links.{set-here, set-else, set-heads, set-last, ahead-next, link-size, set-size, link-heads, link-last, slot-size, room-size}
+use Rattle.index.proofs.Relinks.{disjoint-set, disjoint-last, disjoint-unlink, disjoint-insert, disjoint-replace}
+
+-- the first slot of reuse
+pub first-is : (i : Index) (owner : ℕ → Owner) (chains : Chain → List ℕ) (f : ℕ) (rest : List ℕ) → Disjoint i owner chains
+    → chains reuse ≡ f ∷ rest → i .first ≡ f
+unfolding ahead start
+first-is i owner chains f rest w e =
+    let r : Run (ahead i reuse) (ahead i reuse 0) (f ∷ rest) 0 = rw e at (w .runs reuse) in
+    r .0
+
+-- a slot in a chain
+pub slot-of : (i : Index) (owner : ℕ → Owner) (chains : Chain → List ℕ) (c : Chain) (xs : List ℕ) (s : ℕ) (ys : List ℕ)
+    → Disjoint i owner chains
+    → chains c ≡ xs ++ s ∷ ys → Entry i s
+slot-of i owner chains c xs s ys w e = w .slot c s (w .owned .mine c s (rw e (mid-in s s xs ys (inl refl))))
+
+pub owner-of : (i : Index) (owner : ℕ → Owner) (chains : Chain → List ℕ) (c : Chain) (xs : List ℕ) (s : ℕ) (ys : List ℕ)
+    → Disjoint i owner chains
+    → chains c ≡ xs ++ s ∷ ys → owner s ≡ of c
+owner-of i owner chains c xs s ys w e = w .owned .mine c s (rw e (mid-in s s xs ys (inl refl)))
+
+take-ends : (a l f : ℕ) (g : ℕ → ℕ) (rest : List ℕ) → Run g a rest 0 → ((y : ℕ) → In y rest → 0 < y) → l ≡ endOf 0 (f ∷ rest)
+    → cond (eqb a 0) 0 l ≡ endOf 0 rest
+take-ends a l f g [] r p e = rw (eq-eqb a 0 r)
+take-ends a l f g (y ∷ ys) r p e = rw (ne-eqb a 0 (λ z. omega (arith, p y (inl refl), r .0))) e
+
+pub good-take : (i : Index) (owner : ℕ → Owner) (chains : Chain → List ℕ) (f : ℕ) (rest : List ℕ) → WellFormed i owner chains
+    → chains reuse ≡ f ∷ rest
+    → WellFormed (takeFirst i) (give owner f free) (withChain chains reuse rest)
+unfolding takeFirst setLast link
+good-take i owner chains f rest g e =
+    let w = g .disjoint in
+    let d : i .first ≡ f = first-is _ _ _ _ _ w e in
+    let s : Entry i f = slot-of _ _ _ reuse [] f rest w e in
+    let n : ahead i reuse f ≡ getD (i .next) (i .first) 0 = ahead-next i reuse f (s .low) ∙ ap (λ (x : ℕ). getD (i .next) x 0) (sym d) in
+    let r : Run (ahead i reuse) (ahead i reuse 0) (f ∷ rest) 0 = rw e at (w .runs reuse) in
+    record {
+      disjoint =
+          disjoint-last _ _ _ _
+          (rw n at (disjoint-unlink _ _ _ reuse [] f rest w e));
+      ends =
+          rw with-same (take-ends (getD (i .next) (i .first) 0) (i .last) f (ahead i reuse) rest (rw n at (r .1))
+          (λ y m. w .slot reuse y (w .owned .mine reuse y (rw e (inr m))) .low) (rw e at (g .ends)));
+    }
+
+-- a slot that nobody has, at the end of a chain
+disjoint-end : (i : Index) (owner : ℕ → Owner) (chains : Chain → List ℕ) (c : Chain) (s prev : ℕ) → Disjoint i owner chains → Room i c
+    → Entry i s → owner s ≡ free
+    → prev ≡ endOf 0 (chains c) → Disjoint (link (setNext i s 0) c prev s) (give owner s (of c)) (withChain chains c (chains c ++ s ∷ []))
+disjoint-end i owner chains c s prev w a t f p =
+    let v : Disjoint (setNext i s 0) owner chains = disjoint-set _ _ _ s 0 w (t .low) f in
+    let e : chains c ≡ chains c ++ [] = sym (append-nil (chains c)) in
+    let z : ahead (setNext i s 0) c (endOf 0 (chains c)) ≡ 0 =
+    run-after (ahead (setNext i s 0) c) 0 (chains c) [] 0 (rw e at (v .runs c)) in
+    rw p (disjoint-insert _ _ _ c (chains c) s [] v e (room-size _ _ c (set-heads i s 0) a)
+    (slot-size _ _ s (set-size i s 0) t) f (set-here i s 0 c t ∙ sym z))
+
+pub good-append : (i : Index) (owner : ℕ → Owner) (chains : Chain → List ℕ) (s : ℕ) → WellFormed i owner chains → Entry i s → owner s ≡ free
+    → WellFormed (append i s) (give owner s (of reuse)) (withChain chains reuse (chains reuse ++ s ∷ []))
+unfolding append setLast
+good-append i owner chains s g t f = record {
+  disjoint =
+      disjoint-last _ _ _ s
+      (disjoint-end _ _ _ reuse s (i .last) (g .disjoint) tt t f (g .ends));
+  ends = rw with-same (sym (end-snoc 0 (chains reuse) s));
+}
+
+pub good-link : (i : Index) (owner : ℕ → Owner) (chains : Chain → List ℕ) (h s prev : ℕ) → WellFormed i owner chains → h < length (i .heads)
+    → Entry i s → owner s ≡ free
+    → prev ≡ endOf 0 (chains (head h))
+    → WellFormed (linkNew i (head h) prev s 0) (give owner s (of (head h))) (withChain chains (head h) (chains (head h) ++ s ∷ []))
+unfolding linkNew
+good-link i owner chains h s prev g a t f p = record {
+  disjoint = disjoint-end _ _ _ (head h) s prev (g .disjoint) a t f p;
+  ends =
+      link-last _ _ _ _ ∙ set-last _ _ _ ∙ g .ends ∙ ap (endOf 0)
+      (sym (with-other chains (head h) _ reuse (reuse-apart h)));
+}
+
+pub good-replace : (i : Index) (owner : ℕ → Owner) (chains : Chain → List ℕ) (h : ℕ) (xs : List ℕ) (old s : ℕ) (ys : List ℕ) (prev : ℕ)
+    → WellFormed i owner chains
+    → chains (head h) ≡ xs ++ old ∷ ys → Entry i s → owner s ≡ free → prev ≡ endOf 0 xs
+    → WellFormed (linkNew i (head h) prev s (getD (i .next) old 0)) (give (give owner old free) s (of (head h)))
+    (withChain chains (head h) (xs ++ s ∷ ys))
+unfolding linkNew
+good-replace i owner chains h xs old s ys prev g e t f p =
+    let n = getD (i .next) old 0 in
+    let w = g .disjoint in
+    let v : Disjoint (setNext i s n) owner chains = disjoint-set _ _ _ s n w (t .low) f in
+    let o : Entry i old = slot-of _ _ _ (head h) xs old ys w e in
+    let d : old ≡ s → ⊥ = λ d. free-of (head h) (sym f ∙ ap owner (sym d) ∙ owner-of _ _ _ (head h) xs old ys w e) in
+    let q : ahead (setNext i s n) (head h) s ≡ ahead (setNext i s n) (head h) old =
+    set-here i s n (head h) t ∙ sym (set-else i s n (head h) old d ∙ ahead-next i (head h) old (o .low)) in
+    record {
+      disjoint =
+          rw p (disjoint-replace _ _ _ (head h) xs old s ys v e
+          (slot-size _ _ s (set-size i s n) t) f q);
+      ends =
+          link-last _ _ _ _ ∙ set-last _ _ _ ∙ g .ends ∙ ap (endOf 0)
+          (sym (with-other chains (head h) _ reuse (reuse-apart h)));
+    }
+
+pub good-unlink : (i : Index) (owner : ℕ → Owner) (chains : Chain → List ℕ) (h : ℕ) (xs : List ℕ) (old : ℕ) (ys : List ℕ) (prev : ℕ)
+    → WellFormed i owner chains
+    → chains (head h) ≡ xs ++ old ∷ ys → prev ≡ endOf 0 xs
+    → WellFormed (link i (head h) prev (getD (i .next) old 0)) (give owner old free) (withChain chains (head h) (xs ++ ys))
+good-unlink i owner chains h xs old ys prev g e p =
+    let w = g .disjoint in
+    let o : Entry i old = slot-of _ _ _ (head h) xs old ys w e in
+    record {
+      disjoint = rw (p, ← ahead-next i (head h) old (o .low)) (disjoint-unlink _ _ _ (head h) xs old ys w e);
+      ends =
+          link-last _ _ _ _ ∙ g .ends ∙ ap (endOf 0)
+          (sym (with-other chains (head h) _ reuse (reuse-apart h)));
+    }
+
+-- ---- what a call writes
+
+pub take-next : (i : Index) → length (takeFirst i .next) ≡ length (i .next)
+unfolding takeFirst setLast setStart
+take-next i = refl
+
+pub take-heads : (i : Index) → length (takeFirst i .heads) ≡ length (i .heads)
+unfolding takeFirst setLast setStart
+take-heads i = refl
+
+pub linkNew-next : (i : Index) (c : Chain) (prev s n : ℕ) → length (linkNew i c prev s n .next) ≡ length (i .next)
+unfolding linkNew
+linkNew-next i c prev s n = link-size _ _ _ _ ∙ set-size _ _ _
+
+pub append-next : (i : Index) (s : ℕ) → length (append i s .next) ≡ length (i .next)
+unfolding append setLast
+append-next i s = link-size _ _ _ _ ∙ set-size _ _ _
+
+pub linkNew-heads : (i : Index) (c : Chain) (prev s n : ℕ) → length (linkNew i c prev s n .heads) ≡ length (i .heads)
+unfolding linkNew
+linkNew-heads i c prev s n = link-heads _ _ _ _ ∙ set-heads _ _ _
+
+pub append-heads : (i : Index) (s : ℕ) → length (append i s .heads) ≡ length (i .heads)
+unfolding append setLast
+append-heads i s = link-heads _ _ _ _ ∙ set-heads _ _ _
+
+pub new-next : (i : Index) (h prev : ℕ) → length (putNew i h prev .next) ≡ length (i .next)
+unfolding putNew
+new-next i h prev = simp (linkNew-next, take-next)
+
+pub new-heads : (i : Index) (h prev : ℕ) → length (putNew i h prev .heads) ≡ length (i .heads)
+unfolding putNew
+new-heads i h prev = simp (linkNew-heads, take-heads)
+
+pub held-next : (i : Index) (h prev old : ℕ) → length (putHeld i h prev old .next) ≡ length (i .next)
+unfolding putHeld
+held-next i h prev old = simp (append-next, linkNew-next, take-next)
+
+pub held-heads : (i : Index) (h prev old : ℕ) → length (putHeld i h prev old .heads) ≡ length (i .heads)
+unfolding putHeld
+held-heads i h prev old = simp (append-heads, linkNew-heads, take-heads)
+
+pub remove-next : (i : Index) (h prev old : ℕ) → length (removeHeld i h prev old .next) ≡ length (i .next)
+unfolding removeHeld
+remove-next i h prev old = simp (append-next, link-size, take-next)
+
+pub remove-heads : (i : Index) (h prev old : ℕ) → length (removeHeld i h prev old .heads) ≡ length (i .heads)
+unfolding removeHeld
+remove-heads i h prev old = simp (append-heads, link-heads, take-heads)
+
+pub good-at : (i j : Index) (o : ℕ → Owner) (c : Chain → List ℕ) → i ≡ j → WellFormed i o c → WellFormed j o c
+good-at i j o c e g = rw (← e) g
+
+pub good-alike : (i : Index) (o p : ℕ → Owner) (c d : Chain → List ℕ) → o ≡ p → c ≡ d → WellFormed i o c → WellFormed i p d
+good-alike i o p c d e f g = rw (← e, ← f) g
+
+module _
+    (i : Index) (owner : ℕ → Owner) (chains : Chain → List ℕ) (h prev f : ℕ) (rest : List ℕ) (g : WellFormed i owner chains)
+    (e : chains reuse ≡ f ∷ rest) where
+  spare : Entry i f
+  spare = slot-of _ _ _ reuse [] f rest (g .disjoint) e
+
+  kept : withChain chains reuse rest (head h) ≡ chains (head h)
+  kept = with-other chains reuse rest (head h) (λ d. reuse-apart h (sym d))
+
+  -- a put of a new key
+  pub good-new : h < length (i .heads) → prev ≡ endOf 0 (chains (head h))
+      → WellFormed (putNew i h prev) (give owner f (of (head h))) (withChain (withChain chains reuse rest) (head h) (chains (head h) ++ f ∷ []))
+  unfolding putNew
+  good-new a p =
+      good-at _ _ _ _ (ap (λ (x : ℕ). linkNew (takeFirst i) (head h) prev x 0) (sym (first-is _ _ _ _ _ (g .disjoint) e)))
+      (good-alike (linkNew (takeFirst i) (head h) prev f 0) _ _ _ _ (give-twice owner f free (of (head h)))
+      (ap (λ (l : List ℕ). withChain (withChain chains reuse rest) (head h) (l ++ f ∷ [])) kept)
+      (good-link _ _ _ h f prev (good-take _ _ _ _ _ g e) (rw take-heads a)
+      (slot-size i (takeFirst i) f (take-next i) spare) (give-same owner f free f refl) (rw kept p)))
+
+  module _ (xs : List ℕ) (old : ℕ) (ys : List ℕ) (d : chains (head h) ≡ xs ++ old ∷ ys) (p : prev ≡ endOf 0 xs) where
+    held : Entry i old
+    held = slot-of _ _ _ (head h) xs old ys (g .disjoint) d
+
+    apart : old ≡ f → ⊥
+    apart n =
+        reuse-apart h (of-of reuse (head h)
+        (sym (owner-of _ _ _ reuse [] f rest (g .disjoint) e) ∙ ap owner (sym n) ∙ owner-of _ _ _ (head h) xs old ys
+        (g .disjoint) d))
+
+    -- a put of a held key
+    pub good-held : WellFormed (putHeld i h prev old) (give (give owner f (of (head h))) old (of reuse))
+        (withChain (withChain chains reuse (rest ++ old ∷ [])) (head h) (xs ++ f ∷ ys))
+    unfolding putHeld
+    good-held =
+        let j = takeFirst i in
+        let o = give (give (give owner f free) old free) f (of (head h)) in
+        let c = withChain (withChain chains reuse rest) (head h) (xs ++ f ∷ ys) in
+        let k = linkNew j (head h) prev f (getD (j .next) old 0) in
+        let g₂ : WellFormed k o c =
+        good-replace _ _ _ h xs old f ys prev (good-take _ _ _ _ _ g e) (kept ∙ d)
+        (slot-size i j f (take-next i) spare) (give-same owner f free f refl) p in
+        let b : o old ≡ free =
+        give-other (give (give owner f free) old free) f (of (head h)) old apart ∙ give-same (give owner f free) old free old refl in
+        let r : c reuse ≡ rest =
+        with-other (withChain chains reuse rest) (head h) (xs ++ f ∷ ys) reuse (reuse-apart h) ∙ with-same chains reuse rest in
+        good-at _ _ _ _ (ap (λ (x : ℕ). append (linkNew j (head h) prev x (getD (j .next) old 0)) old)
+        (sym (first-is _ _ _ _ _ (g .disjoint) e)))
+        (good-alike (append k old) _ _ _ _
+        (ap (λ (z : ℕ → Owner). give z old (of reuse))
+        (give-swap (give owner f free) old f free (of (head h)) apart ∙ ap (λ (z : ℕ → Owner). give z old free)
+        (give-twice owner f free (of (head h))))
+        ∙ give-twice (give owner f (of (head h))) old free (of reuse))
+        (ap (λ (l : List ℕ). withChain c reuse (l ++ old ∷ [])) r
+        ∙ with-swap (withChain chains reuse rest) (head h) reuse (xs ++ f ∷ ys) (rest ++ old ∷ []) (λ n. reuse-apart h (sym n))
+        ∙ ap (λ (z : Chain → List ℕ). withChain z (head h) (xs ++ f ∷ ys)) (with-twice chains reuse rest (rest ++ old ∷ [])))
+        (good-append _ _ _ old g₂ (slot-size i k old (linkNew-next j (head h) prev f (getD (j .next) old 0) ∙ take-next i) held) b))
+
+    -- a remove
+    pub good-remove : WellFormed (removeHeld i h prev old) (give owner old (of reuse))
+        (withChain (withChain chains reuse (rest ++ old ∷ f ∷ [])) (head h) (xs ++ ys))
+    unfolding removeHeld
+    good-remove =
+        let j = takeFirst i in
+        let o = give (give owner f free) old free in
+        let c = withChain (withChain chains reuse rest) (head h) (xs ++ ys) in
+        let k = link j (head h) prev (getD (j .next) old 0) in
+        let n : f ≡ old → ⊥ = λ q. apart (sym q) in
+        let s : length (k .next) ≡ length (i .next) = link-size j (head h) prev (getD (j .next) old 0) ∙ take-next i in
+        let g₂ : WellFormed k o c =
+        good-unlink _ _ _ h xs old ys prev (good-take _ _ _ _ _ g e)
+        (kept ∙ d) p in
+        let r : c reuse ≡ rest =
+        with-other (withChain chains reuse rest) (head h) (xs ++ ys) reuse (reuse-apart h) ∙ with-same chains reuse rest in
+        let g₃ : WellFormed (append k old) (give (give owner f free) old (of reuse)) (withChain c reuse (rest ++ old ∷ [])) =
+        good-alike (append k old) _ _ _ _ (give-twice (give owner f free) old free (of reuse))
+        (ap (λ (l : List ℕ). withChain c reuse (l ++ old ∷ [])) r)
+        (good-append _ _ _ old g₂ (slot-size i k old s held) (give-same (give owner f free) old free old refl)) in
+        let b : give (give owner f free) old (of reuse) f ≡ free =
+        give-other (give owner f free) old (of reuse) f n ∙ give-same owner f free f refl in
+        let m : give owner old (of reuse) f ≡ of reuse =
+        give-other owner old (of reuse) f n ∙ owner-of _ _ _ reuse [] f rest (g .disjoint) e in
+        good-at _ _ _ _ (ap (λ (x : ℕ). append (append k old) x) (sym (first-is _ _ _ _ _ (g .disjoint) e)))
+        (good-alike (append (append k old) f) _ _ _ _
+        (ap (λ (z : ℕ → Owner). give z f (of reuse)) (give-swap owner f old free (of reuse) n) ∙ give-twice
+        (give owner old (of reuse)) f free (of reuse) ∙ give-idle (give owner old (of reuse)) f (of reuse) m)
+        (ap (λ (l : List ℕ). withChain (withChain c reuse (rest ++ old ∷ [])) reuse (l ++ f ∷ [])) (with-same c reuse (rest ++ old ∷ []))
+        ∙ with-twice c reuse (rest ++ old ∷ []) ((rest ++ old ∷ []) ++ f ∷ [])
+        ∙ ap (λ (l : List ℕ). withChain c reuse l) (append-assoc rest (old ∷ []) (f ∷ []))
+        ∙ with-swap (withChain chains reuse rest) (head h) reuse (xs ++ ys) (rest ++ old ∷ f ∷ []) (λ q. reuse-apart h (sym q))
+        ∙ ap (λ (z : Chain → List ℕ). withChain z (head h) (xs ++ ys)) (with-twice chains reuse rest (rest ++ old ∷ f ∷ [])))
+        (good-append (append k old) _ _ f g₃ (slot-size i (append k old) f (append-next k old ∙ s) spare) b))

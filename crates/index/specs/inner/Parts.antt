@@ -1,0 +1,49 @@
+-- What the functions on the index ask of their callers, what they leave, and their writes on the parts that the code has: heads, next and a state.
+use mathlib.Core.Path.{_≡_}
+use mathlib.Core.Bool.{cond}
+use mathlib.Core.List.{List}
+use Prim.Native.Nat.{ℕ, _^_, _≤_, _<_}
+use lib.Dec.{eqb}
+use lib.ListN.{length, getD, set}
+use Rattle.index.specs.Index.{Index, indexOf}
+use Rattle.index.specs.declared.State.{State}
+
+-- the numbers by which a call's writes go lie inside the index, and the next version can be written
+pub record WritesInside (heads next : List ℕ) (s : State) (h prev old : ℕ) : Type 0 where
+  pub head-in : h < length heads
+  pub first-in : s .first < length next
+  pub last-in : s .last < length next
+  pub prev-in : prev < length next
+  pub old-in : old < length next
+  pub few : length next ≤ 65536
+  pub version-fits : s .version < 2 ^ 63
+
+-- heads, next and the state r are those of index i, with this live count and this next version
+pub record PartsOf (heads next : List ℕ) (r : State) (i : Index) (live version : ℕ) : Type 0 where
+  pub index : indexOf heads next r ≡ i
+  pub live-count : r .live ≡ live
+  pub next-version : r .version ≡ version
+
+-- ---- what link, takeFirst and append make of the parts
+
+unfoldable pub linkHeads : (heads : List ℕ) → (h prev slot : ℕ) → List ℕ
+linkHeads heads h prev slot = cond (eqb prev 0) (set heads h slot) heads
+
+unfoldable pub linkNext : (next : List ℕ) → (prev slot : ℕ) → List ℕ
+linkNext next prev slot = cond (eqb prev 0) next (set next prev slot)
+
+unfoldable pub takeState : (next : List ℕ) → State → State
+takeState next s =
+    record {
+      first = getD next (s .first) 0;
+      last = cond (eqb (getD next (s .first) 0) 0) 0 (s .last);
+      live = s .live;
+      version = s .version;
+    }
+
+unfoldable pub appendNext : (next : List ℕ) → State → ℕ → List ℕ
+appendNext next s slot = linkNext (set next slot 0) (s .last) slot
+
+unfoldable pub appendState : State → ℕ → State
+appendState s slot =
+    record { first = cond (eqb (s .last) 0) slot (s .first); last = slot; live = s .live; version = s .version }

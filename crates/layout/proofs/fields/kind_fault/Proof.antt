@@ -1,9 +1,0 @@
--- `layout::fields::kind_fault` meets its contract. Assumes nothing.
-use Rattle.words.proofs.Tests.{tests}
-use Rattle.layout.specs.Fault.{kindFault}
-use Rattle.layout.proofs.fields.kind_fault.Statement.{statement}
-use Rattle.layout.proofs.fields.kind_fault.Tie as tie
-
-pub kind-fault-spec : {M : Type 1} → statement M
-unfolding kindFault
-kind-fault-spec = tie.close (tie.spec (λ c. search tests) (λ c. search tests) (λ c. search tests))

@@ -1,0 +1,165 @@
+// The fields of the record in a slot, and refusal 6. `l` is the layout.
+ghost use mathlib.Core.Path.{_≡_};
+ghost use mathlib.Core.List.{List, _++_};
+ghost use Prim.Native.Nat.{ℕ, _+_, _*_, _<_, _≤_};
+ghost use lib.ListN.{length, drop};
+ghost use Rattle.words.specs.Word.{word};
+ghost use Rattle.layout.specs.Line.{lineA, lineB};
+ghost use Rattle.layout.specs.Record.{keyOf, kindOf, lengthOf, limit, valueWord, valueByte, valueFront};
+ghost use Rattle.layout.specs.Fault.{kindFault, wordFault, tailFault, faultOf};
+ghost use Rattle.layout.specs.inner.Inside.{SlotInside};
+use words_code::read_word;
+use words_code::write_word;
+
+// The key in slot s of layout 1.
+pub fn slot_key(image: &[u8], s: usize) -> u64
+    requires { ⌜ 128 * (s + 1) ≤ length (now image) ⌝ }
+    ensures { λ r. ⌜ r ≡ keyOf 1 (lineA (word (now (image .entry))) s) ⌝ }
+{
+    read_word(image, 16 * s + 1)
+}
+
+// The kind word of slot s.
+fn kind_word(image: &[u8], l: usize, s: usize) -> u64
+    requires { ⌜ SlotInside (now image) l s ⌝ }
+    ensures { λ r. ⌜ r ≡ lineA (word (now (image .entry))) s (l + 1) ⌝ }
+{
+    read_word(image, 16 * s + l + 1)
+}
+
+// The kind in slot s: 1 put, 2 remove.
+pub fn slot_kind(image: &[u8], l: usize, s: usize) -> u64
+    requires { ⌜ SlotInside (now image) l s ⌝ }
+    ensures { λ r. ⌜ r ≡ kindOf (lineA (word (now (image .entry))) s (l + 1)) ⌝ }
+{
+    kind_word(image, l, s) % 256
+}
+
+// The length of the value in slot s.
+pub fn slot_length(image: &[u8], l: usize, s: usize) -> usize
+    requires { ⌜ SlotInside (now image) l s ⌝ }
+    ensures { λ r. ⌜ r ≡ lengthOf (lineA (word (now (image .entry))) s (l + 1)) ⌝ }
+{
+    (kind_word(image, l, s) / 256 % 256) as usize
+}
+
+// Byte k of the value in slot s.
+pub fn value_byte(image: &[u8], l: usize, s: usize, k: usize) -> u8
+    requires { ⌜ SlotInside (now image) l s × (k < limit l) ⌝ }
+    ensures { λ r. ⌜ r ≡ valueByte l (lineA (word (now (image .entry))) s) (lineB (word (now (image .entry))) s) k ⌝ }
+{
+    if k < 40 - 8 * l {
+        return image[128 * s + 8 * l + 16 + k];
+    }
+    image[128 * s + 8 * l + 32 + k]
+}
+
+// Is it another kind than put and remove?
+fn kind_fault(kind: u64) -> bool
+    ensures { λ r. ⌜ r ≡ kindFault kind ⌝ }
+{
+    if kind == 1 {
+        return false;
+    }
+    if kind == 2 {
+        return false;
+    }
+    true
+}
+
+// Is the kind word wrong by itself?
+fn word_fault(l: u64, w: u64) -> bool
+    requires { ⌜ l ≤ 2 ⌝ }
+    ensures { λ r. ⌜ r ≡ wordFault l w ⌝ }
+{
+    if kind_fault(w % 256) {
+        return true;
+    }
+    if 65536 <= w {
+        return true;
+    }
+    if 88 - 8 * l < w / 256 % 256 {
+        return true;
+    }
+    if w % 256 == 2 {
+        return 0 < w / 256 % 256;
+    }
+    false
+}
+
+// Word i of the value in slot s.
+fn value_word(image: &[u8], l: usize, s: usize, i: usize) -> u64
+    requires { ⌜ SlotInside (now image) l s × (l + i < 11) ⌝ }
+    ensures { λ r. ⌜ r ≡ valueWord l (lineA (word (now (image .entry))) s) (lineB (word (now (image .entry))) s) i ⌝ }
+{
+    if l + 2 + i < 7 {
+        return read_word(image, 16 * s + l + 2 + i);
+    }
+    read_word(image, 16 * s + 4 + l + i)
+}
+
+// The first words of the value in slot s fill the front of out.
+fn copy_words(image: &[u8], l: usize, s: usize, out: &mut [u8], words: usize)
+    requires { ⌜ SlotInside (now image) l s × (8 * words ≤ limit l) × (8 * words ≤ length (now out)) ⌝ }
+    ensures { λ _. ⌜ now (out .exit) ≡ valueFront l (lineA (word (now (image .entry))) s) (lineB (word (now (image .entry))) s) (8 * words) ++ drop (8 * words) (now (out .entry)) ⌝ }
+{
+    let mut i = 0;
+    while i < words {
+        let w = value_word(image, l, s, i);
+        write_word(out, i, w);
+        i += 1;
+    }
+}
+
+// The bytes from place start up to n of the value in slot s follow those before them in out.
+fn copy_bytes(image: &[u8], l: usize, s: usize, out: &mut [u8], start: usize, n: usize)
+    requires { ⌜ SlotInside (now image) l s × (start ≤ n) × (n ≤ limit l) × (n ≤ length (now out)) ⌝ }
+    ensures { λ _. ⌜ ((old : List ℕ) → length old ≡ length (now (out .entry)) → now (out .entry) ≡ valueFront l (lineA (word (now (image .entry))) s) (lineB (word (now (image .entry))) s) start ++ drop start old → now (out .exit) ≡ valueFront l (lineA (word (now (image .entry))) s) (lineB (word (now (image .entry))) s) n ++ drop n old) ⌝ }
+{
+    let mut k = start;
+    while k < n {
+        out[k] = value_byte(image, l, s, k);
+        k += 1;
+    }
+}
+
+// The first n bytes of the value in slot s fill the front of out, a word at a time and then the bytes of the last one.
+pub fn copy_value(image: &[u8], l: usize, s: usize, out: &mut [u8], n: usize)
+    requires { ⌜ SlotInside (now image) l s × (n ≤ limit l) × (n ≤ length (now out)) ⌝ }
+    ensures { λ _. ⌜ now (out .exit) ≡ valueFront l (lineA (word (now (image .entry))) s) (lineB (word (now (image .entry))) s) n ++ drop n (now (out .entry)) ⌝ }
+{
+    let words = n / 8;
+    copy_words(image, l, s, out, words);
+    copy_bytes(image, l, s, out, 8 * words, n);
+}
+
+// Is a byte of the value from place size on not zero? Word by word, the first one from place size % 8 on.
+fn tail_fault(image: &[u8], l: usize, s: usize, size: usize) -> bool
+    requires { ⌜ SlotInside (now image) l s × (size ≤ limit l) ⌝ }
+    ensures { λ r. ⌜ r ≡ tailFault l (lineA (word (now (image .entry))) s) (lineB (word (now (image .entry))) s) size ⌝ }
+{
+    let words = 11 - l;
+    let mut i = size / 8;
+    let mut bits: u64 = 8 * ((size % 8) as u64);
+    while i < words {
+        let w = value_word(image, l, s, i);
+        if w >> bits != 0 {
+            return true;
+        }
+        bits = 0;
+        i += 1;
+    }
+    false
+}
+
+// Has the record in slot s a fault (6)? Asked of valid slots.
+pub fn record_fault(image: &[u8], l: usize, s: usize) -> bool
+    requires { ⌜ SlotInside (now image) l s ⌝ }
+    ensures { λ r. ⌜ r ≡ faultOf l (lineA (word (now (image .entry))) s) (lineB (word (now (image .entry))) s) ⌝ }
+{
+    let w = kind_word(image, l, s);
+    if word_fault(l as u64, w) {
+        return true;
+    }
+    tail_fault(image, l, s, (w / 256 % 256) as usize)
+}

@@ -1,0 +1,49 @@
+// Rules on a line's mark and stamp, as functions of numbers.
+ghost use mathlib.Core.Path.{_≡_};
+ghost use Prim.Native.Nat.{_<_, _^_, max};
+ghost use Rattle.layout.specs.Line.{whole, firstWord, lastWord, lineTop, versionFault};
+
+// The first word to store over a line that carries this stamp.
+pub fn first_word(stamp: u64) -> u64
+    ensures { λ r. ⌜ r ≡ firstWord stamp ⌝ }
+{
+    1 - stamp % 2
+}
+
+// The last word to store over a line that carries this stamp.
+pub fn last_word(stamp: u64, version: u64) -> u64
+    requires { ⌜ version < 2 ^ 63 ⌝ }
+    ensures { λ r. ⌜ r ≡ lastWord stamp version ⌝ }
+{
+    version * 2 + (1 - stamp % 2)
+}
+
+// The version on a whole line, 0 on an open one.
+pub fn line_top(mark: u64, stamp: u64) -> u64
+    ensures { λ r. ⌜ r ≡ lineTop mark stamp ⌝ }
+{
+    if mark == stamp % 2 {
+        return stamp / 2;
+    }
+    0
+}
+
+// The greater number.
+pub fn greater(a: u64, b: u64) -> u64
+    ensures { λ r. ⌜ r ≡ max a b ⌝ }
+{
+    if a < b {
+        return b;
+    }
+    a
+}
+
+// 9 for a next version that cannot be written, else 0.
+pub fn version_fault(version: u64) -> u32
+    ensures { λ r. ⌜ r ≡ versionFault version ⌝ }
+{
+    if 9223372036854775808 <= version {
+        return 9;
+    }
+    0
+}

@@ -1,4 +1,0 @@
-pub mod Formats
-pub mod Plans
-pub mod Changes
-pub mod Gets

@@ -1,4 +1,0 @@
-pub mod Format
-pub mod Change
-pub mod Get
-pub mod Plan

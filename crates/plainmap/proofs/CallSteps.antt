@@ -1,0 +1,106 @@
+-- One call in a sound world, and then its stores, all of them or what a cut left: the image stays accepted and its map makes the plain map's step. Assumes nothing.
+use mathlib.Core.Path.{_≡_, refl, sym, ap, _∙_, subst}
+use mathlib.Core.Bool.{Bool, true, false, cond}
+use mathlib.Core.Option.{none}
+use mathlib.Core.List.{List, []}
+use Prim.Native.Nat.{ℕ}
+use native.Mathlib.Omega.{arith}
+use lib.Dec.{eqb}
+use borrow.Author.Tests.{eqb-true}
+use Rattle.layout.specs.Content.{made}
+use Rattle.table.specs.Table.{valueIn}
+use Rattle.index.specs.Index.{Index, Chain}
+use Rattle.calls.specs.Change.{ChangeResult, changed, unchanged}
+use Rattle.plainmap.specs.World.{World, Call, put, remove, get, Called, toPlay, calledChange, calledGet, called}
+use Rattle.plainmap.specs.Plain.{PlainMap, operation, plainNext, plainStep}
+use Rattle.prelude.proofs.defs.Answer.{isRefusal}
+use Rattle.plainmap.specs.Sound.{Sound}
+use Rattle.layout.specs.Record.{Layout}
+use Rattle.plainmap.specs.Claims.{Typed, put-typed, remove-typed, slotsMap}
+use Rattle.plainmap.proofs.Struck.{nextRecord}
+use Rattle.plainmap.proofs.Outcomes.{worldWith, SomeSound, some-sound, Wrote, Ran, ran-refused, ran-absent, ran-wrote, put-runs, remove-runs}
+
+-- ---- what a call does: it stores nothing and the plain map stays, or it writes a record, which is the plain map's step
+
+pub data Stepped (l : ℕ) (w : World) (call : Call) : Type 0 where
+  stored-none : called l w call .stores ≡ [] → SomeSound l (worldWith (w .image) (called l w call))
+      → ((k : ℕ) → slotsMap l (w .image) k ≡ plainStep (operation call) (isRefusal (called l w call .answer)) (slotsMap l (w .image)) k)
+      → Stepped l w call
+  stored-record : (key kind : ℕ) (value : List ℕ) (i : Index) (alive : ℕ)
+      → called l w call ≡ calledChange (changed l (w .image) (w .state) key kind value i alive) → Wrote l w key kind value i alive
+      → ((k : ℕ) → cond (eqb k key) (valueIn (nextRecord l (w .image) key kind value)) (slotsMap l (w .image) k) ≡
+      plainStep (operation call) (isRefusal (called l w call .answer)) (slotsMap l (w .image)) k)
+      → Stepped l w call
+
+unchanged-by : (l : ℕ) (w : World) (call : Call) (r : Called) → called l w call ≡ r → r .heads ≡ w .heads → r .next ≡ w .next → r .state ≡ w .state
+    → SomeSound l w → SomeSound l (worldWith (w .image) (called l w call))
+unchanged-by l w call r e h x s q =
+    subst (λ (c : Called). SomeSound l (worldWith (w .image) c)) (sym e) (rw (h, x, s) q)
+
+-- a key that is not held is not dropped
+not-dropped : (m : PlainMap) (key k : ℕ) → m key ≡ none → m k ≡ cond (eqb k key) none (m k)
+not-dropped m key k e = go (eqb k key) refl
+  where
+    go : (x : Bool) → eqb k key ≡ x → m k ≡ cond x none (m k)
+    go true q = ap m (eqb-true k key q) ∙ e
+    go false q = refl
+
+record-stored : (m : PlainMap) (version key k : ℕ) (value : List ℕ)
+    → cond (eqb k key) (valueIn (made 1 version key value)) (m k) ≡ plainNext (operation (put key value)) m k
+unfolding made valueIn plainNext operation
+record-stored m version key k value = refl
+
+record-dropped : (m : PlainMap) (version key k : ℕ)
+    → cond (eqb k key) (valueIn (made 2 version key [])) (m k) ≡ plainNext (operation (remove key)) m k
+unfolding made valueIn plainNext operation
+record-dropped m version key k = refl
+
+-- a put or a remove, by the ways it goes
+module _
+    (l : ℕ) (w : World) (call : Call) (key kind : ℕ) (value : List ℕ) (sound : SomeSound l w)
+    (stores : (k : ℕ) → cond (eqb k key) (valueIn (nextRecord l (w .image) key kind value)) (slotsMap l (w .image) k) ≡
+    plainNext (operation call) (slotsMap l (w .image)) k)
+    (idles : kind ≡ 2 → slotsMap l (w .image) key ≡ none → (k : ℕ) → slotsMap l (w .image) k ≡ plainNext (operation call) (slotsMap l (w .image)) k) where
+  -- where the answer is no refusal the plain map makes its step
+  taken : (r : Called) → called l w call ≡ r → isRefusal (r .answer) ≡ false → (k : ℕ)
+      → plainNext (operation call) (slotsMap l (w .image)) k ≡
+      plainStep (operation call) (isRefusal (called l w call .answer)) (slotsMap l (w .image)) k
+  unfolding plainStep
+  taken r e z k =
+      ap (λ (x : Bool). (cond x (slotsMap l (w .image)) (plainNext (operation call) (slotsMap l (w .image)))) k)
+      (sym (ap (λ (c : Called). isRefusal (c .answer)) e ∙ z))
+
+  left : (r : Called) → called l w call ≡ r → isRefusal (r .answer) ≡ true → (k : ℕ)
+      → slotsMap l (w .image) k ≡ plainStep (operation call) (isRefusal (called l w call .answer)) (slotsMap l (w .image)) k
+  unfolding plainStep
+  left r e z k =
+      ap (λ (x : Bool). (cond x (slotsMap l (w .image)) (plainNext (operation call) (slotsMap l (w .image)))) k)
+      (sym (ap (λ (c : Called). isRefusal (c .answer)) e ∙ z))
+
+  pub ran-stepped : (fault : ℕ) (r : ChangeResult) → called l w call ≡ calledChange r → Ran l w key kind value fault r → Stepped l w call
+  unfolding calledChange unchanged changed toPlay isRefusal
+  ran-stepped fault r e (ran-refused nz q) =
+      let d = e ∙ ap calledChange q in
+      stored-none (ap (λ (c : Called). c .stores) d) (unchanged-by l w call _ d refl refl refl sound) (left _ d refl)
+  ran-stepped fault r e (ran-absent z kd q m) =
+      let d = e ∙ ap calledChange q in
+      stored-none (ap (λ (c : Called). c .stores) d) (unchanged-by l w call _ d refl refl refl sound) (λ k. idles kd m k ∙ taken _ d refl k)
+  ran-stepped fault r e (ran-wrote z i alive q wr) =
+      let d = e ∙ ap calledChange q in
+      stored-record key kind value i alive d wr (λ k. stores k ∙ taken _ d refl k)
+
+module _ (l : ℕ) (lay : Layout l) (w : World) (chains : Chain → List ℕ) (g : Sound l w chains) where
+  -- ONE CALL
+  pub call-stepped : (call : Call) → Typed l call → Stepped l w call
+  unfolding called calledGet plainStep plainNext operation
+  call-stepped (put key value) (put-typed k b) =
+      ran-stepped l w (put key value) key 1 value (some-sound chains g) (λ j. record-stored (slotsMap l (w .image)) _ key j value)
+      (λ z m j. absurd (omega arith)) _ _ refl (put-runs l lay w chains g key value k b)
+  call-stepped (remove key) (remove-typed k) =
+      ran-stepped l w (remove key) key 2 [] (some-sound chains g) (λ j. record-dropped (slotsMap l (w .image)) _ key j)
+      (λ z m j. not-dropped (slotsMap l (w .image)) key j m) _ _ refl (remove-runs l lay w chains g key k)
+  call-stepped (get key out) s = stored-none refl (some-sound chains g) (λ k. same (isRefusal (called l w (get key out) .answer)) k)
+    where
+      same : (x : Bool) (k : ℕ) → slotsMap l (w .image) k ≡ plainStep (operation (get key out)) x (slotsMap l (w .image)) k
+      same true k = refl
+      same false k = refl

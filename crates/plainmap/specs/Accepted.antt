@@ -1,0 +1,18 @@
+-- Accepted images, and an index of the right size. Document 01, "The plain map and the cut rule".
+use mathlib.Core.Path.{_≡_}
+use mathlib.Core.List.{List}
+use Prim.Native.Nat.{ℕ}
+use lib.ListN.{length}
+use Rattle.words.specs.Word.{word}
+use Rattle.layout.specs.Header.{imageFault, indexFault}
+use Rattle.recovery.specs.Recover.{slotsFault}
+use Rattle.layout.specs.Size.{slotsIn}
+
+-- "an accepted image, one that recovery does not refuse": 1, 2, 3 and 5 to 8 are not due. 4 is about the lent index
+pub record Accepted (l : ℕ) (image : List ℕ) : Type 0 where
+  pub header : imageFault l image ≡ 0
+  pub slots : slotsFault l (word image) (slotsIn image) ≡ 0
+
+-- "That index has the right size when 4 is not due"
+abbrev pub RightSize : (image heads next : List ℕ) → Type 0
+RightSize image heads next = indexFault (slotsIn image) (length heads) (length next) ≡ 0

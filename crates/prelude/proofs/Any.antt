@@ -1,0 +1,75 @@
+-- A test over a range: a search for it turn by turn, and a test that holds nowhere. Assumes nothing.
+use mathlib.Core.Path.{_≡_, refl, sym, ap, ap₂, _∙_}
+use mathlib.Core.Bool.{Bool, true, false, cond, true≢false}
+use Prim.Native.Nat.{ℕ, zero, suc, _+_, _-_, _≤_, _<_}
+use native.Mathlib.Omega.{arith}
+use Rattle.prelude.proofs.Choice.{pick-true, pick-false}
+use Rattle.prelude.specs.Range.{anyOf}
+
+-- the search from start to end has come to k: what is left of it answers for the whole
+pub record Going (p : ℕ → Bool) (end start k : ℕ) : Type 0 where
+  pub place : k ≤ end
+  pub rest : anyOf p k (end - k) ≡ anyOf p start (end - start)
+
+pub any-start : (p : ℕ → Bool) (end start : ℕ) → start ≤ end → Going p end start start
+any-start p end start h = record { place = h; rest = refl }
+
+any-step : (p : ℕ → Bool) (k n : ℕ) → 0 < n → anyOf p k n ≡ cond (p k) true (anyOf p (suc k) (n - 1))
+unfolding anyOf
+any-step p k zero h = absurd (omega arith)
+any-step p k (suc n) h =
+    let e : n ≡ suc n - 1 = omega arith in ap (λ (x : ℕ). cond (p k) true (anyOf p (suc k) x)) e
+
+module _ (p : ℕ → Bool) (end start k : ℕ) (g : Going p end start k) where
+  pub any-hit : k < end → p k ≡ true → true ≡ anyOf p start (end - start)
+  any-hit h e = sym (any-step p k (end - k) (omega arith) ∙ pick-true (p k) _ _ e) ∙ g .rest
+
+  pub any-next : k < end → p k ≡ false → Going p end start (k + 1)
+  any-next h e =
+      record {
+        place = omega arith;
+        rest =
+            ap₂ (anyOf p) (omega arith) (omega arith)
+            ∙ sym (any-step p k (end - k) (omega arith) ∙ pick-false (p k) _ _ e) ∙ g .rest;
+      }
+
+  pub any-end : end ≤ k → false ≡ anyOf p start (end - start)
+  unfolding anyOf
+  any-end h = ap (anyOf p k) nothing-left ∙ g .rest
+    where
+      nothing-left : 0 ≡ end - k
+      nothing-left = omega arith
+
+-- a search from 0 on
+pub any-whole : (p : ℕ → Bool) (n : ℕ) → anyOf p 0 (n - 0) ≡ anyOf p 0 n
+any-whole p n = let e : n - 0 ≡ n = omega arith in ap (anyOf p 0) e
+
+-- neither of two tests
+pub or-none : (p q : Bool) → cond p true q ≡ false → (p ≡ false) × (q ≡ false)
+or-none true q e = absurd (true≢false e)
+or-none false q e = (refl, e)
+
+pub any-none : (p : ℕ → Bool) (k n : ℕ) → anyOf p k n ≡ false → (i : ℕ) → i < n → p (k + i) ≡ false
+unfolding anyOf
+any-none p k zero e i h = absurd (omega arith)
+any-none p k (suc n) e zero h = ap p (omega arith) ∙ or-none (p k) (anyOf p (suc k) n) e .0
+any-none p k (suc n) e (suc i) h =
+    ap p (omega arith) ∙ any-none p (suc k) n (or-none (p k) (anyOf p (suc k) n) e .1) i (omega arith)
+
+pub any-clear : (p : ℕ → Bool) (k n : ℕ) → ((i : ℕ) → i < n → p (k + i) ≡ false) → anyOf p k n ≡ false
+unfolding anyOf
+any-clear p k zero h = refl
+any-clear p k (suc n) h =
+    pick-false (p k) _ _ (ap p (omega arith) ∙ h 0 (omega arith))
+    ∙ any-clear p (suc k) n (λ i l. ap p (omega arith) ∙ h (suc i) (omega arith))
+
+-- a test that holds somewhere
+pub any-some : (p : ℕ → Bool) (k n i : ℕ) → i < n → p (k + i) ≡ true → anyOf p k n ≡ true
+unfolding anyOf
+any-some p k zero i h e = absurd (omega arith)
+any-some p k (suc n) zero h e = pick-true (p k) _ _ (ap p (omega arith) ∙ e)
+any-some p k (suc n) (suc i) h e = either (p k) _ (any-some p (suc k) n i (omega arith) (ap p (omega arith) ∙ e))
+  where
+    either : (a b : Bool) → b ≡ true → cond a true b ≡ true
+    either true b q = refl
+    either false b q = q

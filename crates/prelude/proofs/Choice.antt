@@ -1,0 +1,29 @@
+-- A choice by a test whose value is known, and the two values of a test. Assumes nothing.
+use mathlib.Core.Path.{_≡_, refl, ap, sym, _∙_}
+use mathlib.Core.Bool.{Bool, true, false, cond, true≢false, _&&_}
+use mathlib.Core.Logic.{_⊎_, inl, inr}
+
+pub pick-true {ℓ} : {A : Type ℓ} (b : Bool) (x y : A) → b ≡ true → cond b x y ≡ x
+pick-true b x y e = ap (λ (t : Bool). cond t x y) e
+
+pub pick-false {ℓ} : {A : Type ℓ} (b : Bool) (x y : A) → b ≡ false → cond b x y ≡ y
+pick-false b x y e = ap (λ (t : Bool). cond t x y) e
+
+pub split : (b : Bool) → (b ≡ true) ⊎ (b ≡ false)
+split true = inl refl
+split false = inr refl
+
+pub true-false : {b : Bool} → b ≡ true → b ≡ false → ⊥
+true-false {b} p q = true≢false (sym p ∙ q)
+
+pub both-left : (a b : Bool) → a && b ≡ true → a ≡ true
+both-left true b e = refl
+both-left false b e = e
+
+pub both-right : (a b : Bool) → a && b ≡ true → b ≡ true
+both-right true b e = e
+both-right false b e = absurd (true-false e refl)
+
+pub both : (a b : Bool) → a ≡ true → b ≡ true → a && b ≡ true
+both true b e d = d
+both false b e d = e

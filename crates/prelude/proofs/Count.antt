@@ -1,0 +1,83 @@
+-- How many slots pass a test. Assumes nothing.
+use mathlib.Core.Path.{_≡_, refl, sym, ap, ap₂, _∙_}
+use mathlib.Core.Bool.{Bool, true, false, cond}
+use Prim.Native.Nat.{ℕ, zero, suc, _≤_, _<_}
+use native.Mathlib.Omega.{arith}
+use lib.Dec.{eqb}
+use borrow.Author.Tests.{eqb-true, eqb-false}
+use Rattle.prelude.specs.Range.{count}
+use Rattle.prelude.specs.Members.{Slot}
+
+abbrev step : Bool → ℕ → ℕ
+step b m = cond b (suc m) m
+
+pub count-same : (p q : ℕ → Bool) (n : ℕ) → ((t : ℕ) → Slot n t → p t ≡ q t) → count p n ≡ count q n
+unfolding count
+count-same p q zero h = refl
+count-same p q (suc n) h = ap₂ step (h (suc n) (omega arith)) (count-same p q n (λ t i. h t (omega arith)))
+
+pub count-none : (p : ℕ → Bool) (n : ℕ) → ((t : ℕ) → Slot n t → p t ≡ false) → count p n ≡ 0
+unfolding count
+count-none p zero h = refl
+count-none p (suc n) h = ap₂ step (h (suc n) (omega arith)) (count-none p n (λ t i. h t (omega arith)))
+
+pub count-most : (p : ℕ → Bool) (n : ℕ) → count p n ≤ n
+unfolding count
+count-most p zero = omega arith
+count-most p (suc n) = go (p (suc n)) (count-most p n)
+  where
+    go : (b : Bool) → count p n ≤ n → step b (count p n) ≤ suc n
+    go true h = omega arith
+    go false h = omega arith
+
+-- where one slot fails the test not all pass it
+pub count-room : (p : ℕ → Bool) (n s : ℕ) → Slot n s → p s ≡ false → count p n < n
+unfolding count
+count-room p zero s i e = absurd (omega arith)
+count-room p (suc n) s i e = go (eqb s (suc n)) refl (count-room p n s)
+  where
+    go : (b : Bool) → eqb s (suc n) ≡ b → (Slot n s → p s ≡ false → count p n < n) → step (p (suc n)) (count p n) < suc n
+    go true d ih = rw (sym (ap p (eqb-true s (suc n) d)) ∙ e) (omega (arith, count-most p n))
+    go false d ih = last (p (suc n)) (ih (omega (arith, eqb-false s (suc n) d)) e)
+      where
+        last : (b : Bool) → count p n < n → step b (count p n) < suc n
+        last true h = omega arith
+        last false h = omega arith
+
+-- one slot more passes it
+pub count-more : (p q : ℕ → Bool) (n s : ℕ) → Slot n s → p s ≡ false → q s ≡ true → ((t : ℕ) → Slot n t → (t ≡ s → ⊥) → q t ≡ p t) → count q n ≡ suc (count p n)
+unfolding count
+count-more p q zero s i e d h = absurd (omega arith)
+count-more p q (suc n) s i e d h = go (eqb s (suc n)) refl (count-more p q n s)
+  where
+    go : (b : Bool) → eqb s (suc n) ≡ b
+        → (Slot n s → p s ≡ false → q s ≡ true → ((t : ℕ) → Slot n t → (t ≡ s → ⊥) → q t ≡ p t) → count q n ≡ suc (count p n))
+        → step (q (suc n)) (count q n) ≡ suc (step (p (suc n)) (count p n))
+    go true l ih =
+        let r = eqb-true s (suc n) l in
+        ap₂ step (sym (ap q r) ∙ d) (count-same q p n (λ t j. h t (omega arith) (λ x. omega arith)))
+        ∙ ap suc (sym (ap (λ (b : Bool). step b (count p n)) (sym (ap p r) ∙ e)))
+    go false l ih =
+        let r = eqb-false s (suc n) l in
+        ap₂ step (h (suc n) (omega arith) (λ x. r (sym x))) (ih (omega (arith, r)) e d (λ t j. h t (omega arith))) ∙ last (p (suc n))
+      where
+        last : (b : Bool) → step b (suc (count p n)) ≡ suc (step b (count p n))
+        last true = refl
+        last false = refl
+
+-- a slot that fails the test
+pub data Gap (p : ℕ → Bool) (n : ℕ) : Type 0 where
+  gap : (s : ℕ) → Slot n s → p s ≡ false → Gap p n
+
+-- where not all pass it some slot fails
+pub count-gap : (p : ℕ → Bool) (n : ℕ) → count p n < n → Gap p n
+unfolding count
+count-gap p zero h = absurd (omega arith)
+count-gap p (suc n) h = go (p (suc n)) refl (count-gap p n) h
+  where
+    wider : Gap p n → Gap p (suc n)
+    wider (gap s i e) = gap s (omega arith) e
+
+    go : (b : Bool) → p (suc n) ≡ b → (count p n < n → Gap p n) → step b (count p n) < suc n → Gap p (suc n)
+    go true e ih l = wider (ih (omega arith))
+    go false e ih l = gap (suc n) (omega arith) e

@@ -1,0 +1,10 @@
+pub mod Choice
+pub mod Tests
+pub mod Refusals
+pub mod Any
+pub mod Tabulate
+pub mod Fills
+pub mod Count
+pub mod Most
+pub mod Lists
+pub mod defs

@@ -1,0 +1,111 @@
+-- Membership in lists put together, and the list of all slots. Assumes nothing.
+use mathlib.Core.Path.{_≡_, refl, sym, ap, _∙_}
+use mathlib.Core.Bool.{Bool, true, false, cond}
+use mathlib.Core.Logic.{_⊎_, inl, inr, ⊎-elim}
+use mathlib.Core.List.{List, [], _∷_, _++_}
+use Prim.Native.Nat.{ℕ, zero, suc, _≤_}
+use native.Mathlib.Omega.{arith}
+use lib.Dec.{eqb}
+use borrow.Author.Tests.{eqb-true, eqb-false}
+use lib.ListN.{length}
+use Rattle.prelude.specs.Members.{In, Once, slots, Slot}
+use Rattle.prelude.proofs.Fills.{length-slots}
+
+pub in-append : (t : ℕ) (l m : List ℕ) → In t (l ++ m) → In t l ⊎ In t m
+in-append t [] m i = inr i
+in-append t (x ∷ l) m (inl e) = inl (inl e)
+in-append t (x ∷ l) m (inr i) = ⊎-elim (λ a. inl (inr a)) (λ b. inr b) (in-append t l m i)
+
+pub in-left : (t : ℕ) (l m : List ℕ) → In t l → In t (l ++ m)
+in-left t [] m i = absurd i
+in-left t (x ∷ l) m (inl e) = inl e
+in-left t (x ∷ l) m (inr i) = inr (in-left t l m i)
+
+pub in-right : (t : ℕ) (l m : List ℕ) → In t m → In t (l ++ m)
+in-right t [] m i = i
+in-right t (x ∷ l) m i = inr (in-right t l m i)
+
+pub in-at : (x y : ℕ) (l : List ℕ) → x ≡ y → In x l → In y l
+in-at x y l e i = rw e at i
+
+pub once-append : (l m : List ℕ) → Once l → Once m → ((t : ℕ) → In t l → In t m → ⊥) → Once (l ++ m)
+once-append [] m a b h = b
+once-append (x ∷ l) m a b h = (
+  (λ i. ⊎-elim (λ p. a .0 p) (λ q. h x (inl refl) q) (in-append x l m i)),
+  once-append l m (a .1) b (λ t i j. h t (inr i) j),
+)
+
+pub slots-in : (n t : ℕ) → In t (slots n) → Slot n t
+unfolding slots
+slots-in zero t i = absurd i
+slots-in (suc n) t i = go (in-append t (slots n) (suc n ∷ []) i) (slots-in n t)
+  where
+    go : In t (slots n) ⊎ In t (suc n ∷ []) → (In t (slots n) → Slot n t) → Slot (suc n) t
+    go (inl j) ih = omega (arith, ih j)
+    go (inr (inl e)) ih = omega arith
+    go (inr (inr b)) ih = absurd b
+
+pub in-slots : (n t : ℕ) → Slot n t → In t (slots n)
+unfolding slots
+in-slots zero t i = absurd (omega arith)
+in-slots (suc n) t i = go (eqb t (suc n)) refl (in-slots n t)
+  where
+    go : (b : Bool) → eqb t (suc n) ≡ b → (Slot n t → In t (slots n)) → In t (slots n ++ (suc n ∷ []))
+    go true e ih = in-right t (slots n) (suc n ∷ []) (inl (eqb-true t (suc n) e))
+    go false e ih = in-left t (slots n) (suc n ∷ []) (ih (omega (arith, eqb-false t (suc n) e)))
+
+pub once-slots : (n : ℕ) → Once (slots n)
+unfolding slots
+once-slots zero = tt
+once-slots (suc n) = once-append (slots n) (suc n ∷ []) (once-slots n) ((λ b. b), tt) apart
+  where
+    apart : (t : ℕ) → In t (slots n) → In t (suc n ∷ []) → ⊥
+    apart t i (inl e) = omega (arith, slots-in n t i)
+    apart t i (inr b) = b
+
+-- l has each slot 1 to n once
+pub record Whole (n : ℕ) (l : List ℕ) : Type 0 where
+  pub size : length l ≡ n
+  pub once : Once l
+  pub within : (t : ℕ) → In t l → Slot n t
+  pub all : (t : ℕ) → Slot n t → In t l
+
+pub whole-slots : (n : ℕ) → Whole n (slots n)
+whole-slots n = record { size = length-slots n; once = once-slots n; within = slots-in n; all = in-slots n }
+
+-- a list without the first x in it
+unfoldable without : (x : ℕ) → List ℕ → List ℕ
+without x [] = []
+without x (y ∷ l) = cond (eqb x y) l (y ∷ without x l)
+
+in-without : (x t : ℕ) (l : List ℕ) → In t l → (t ≡ x → ⊥) → In t (without x l)
+unfolding without
+in-without x t [] i ne = absurd i
+in-without x t (y ∷ l) i ne = go (eqb x y) refl i (in-without x t l)
+  where
+    go : (b : Bool) → eqb x y ≡ b → In t (y ∷ l) → (In t l → (t ≡ x → ⊥) → In t (without x l)) → In t (cond b l (y ∷ without x l))
+    go true e (inl q) ih = absurd (ne (q ∙ sym (eqb-true x y e)))
+    go true e (inr j) ih = j
+    go false e (inl q) ih = inl q
+    go false e (inr j) ih = inr (ih j ne)
+
+without-length : (x : ℕ) (l : List ℕ) → In x l → length l ≡ suc (length (without x l))
+unfolding without
+without-length x [] i = absurd i
+without-length x (y ∷ l) i = go (eqb x y) refl i (without-length x l)
+  where
+    go : (b : Bool) → eqb x y ≡ b → In x (y ∷ l) → (In x l → length l ≡ suc (length (without x l)))
+        → suc (length l) ≡ suc (length (cond b l (y ∷ without x l)))
+    go true e i ih = refl
+    go false e (inl q) ih = absurd (eqb-false x y e q)
+    go false e (inr i) ih = ap suc (ih i)
+
+-- a list without doubles is no longer than one that holds its elements
+pub no-longer : (l m : List ℕ) → Once l → ((t : ℕ) → In t l → In t m) → length l ≤ length m
+no-longer [] m o h = omega arith
+no-longer (x ∷ l) m o h =
+    omega (
+      arith,
+      without-length x m (h x (inl refl)),
+      no-longer l (without x m) (o .1) (λ t i. in-without x t m (h t (inr i)) (λ e. o .0 (rw e at i))),
+    )

@@ -1,0 +1,9 @@
+-- The part of a list that passes a test.
+use mathlib.Core.Bool.{Bool, cond}
+use mathlib.Core.List.{List, [], _∷_}
+use Prim.Native.Nat.{ℕ}
+
+-- the elements that pass the test, in their order
+unfoldable pub filter : (ℕ → Bool) → List ℕ → List ℕ
+filter p [] = []
+filter p (x ∷ xs) = cond (p x) (x ∷ filter p xs) (filter p xs)

@@ -1,0 +1,6 @@
+pub mod Refusal
+pub mod Answer
+pub mod Range
+pub mod Members
+pub mod Filter
+pub mod inner

@@ -1,0 +1,1 @@
+// Lists, choices, ranges and refusals in general: definitions and laws.

@@ -1,0 +1,41 @@
+// Recover: the index of an image is rebuilt.
+mod scratch;
+
+ghost use mathlib.Core.Path.{_≡_};
+ghost use Rattle.recovery.specs.Recover.{recoverResult, recoverEnd};
+use crate::scratch::recover_64;
+use crate::scratch::recover_256;
+use crate::scratch::recover_1024;
+use crate::scratch::recover_4096;
+use crate::scratch::recover_16384;
+use crate::scratch::recover_65536;
+use layout_code::header::lent_fault;
+use layout_code::header::slots;
+use recovery::Recovered;
+
+// The index of the image: the state beside the rebuilt heads and next, or a refusal, which changes neither.
+pub fn recover(image: &[u8], heads: &mut [u32], next: &mut [u32]) -> Recovered
+    ensures { λ r. ⌜ recoverEnd r (now (heads .exit)) (now (next .exit)) ≡ recoverResult 1 (now (image .entry)) (now (heads .entry)) (now (next .entry)) ⌝ }
+{
+    let fault = lent_fault(image, 1, heads.len(), next.len());
+    if fault != 0 {
+        return Recovered::Refused(fault);
+    }
+    let n = slots(image.len());
+    if n < 64 {
+        return recover_64(image, heads, next, n);
+    }
+    if n < 256 {
+        return recover_256(image, heads, next, n);
+    }
+    if n < 1024 {
+        return recover_1024(image, heads, next, n);
+    }
+    if n < 4096 {
+        return recover_4096(image, heads, next, n);
+    }
+    if n < 16384 {
+        return recover_16384(image, heads, next, n);
+    }
+    recover_65536(image, heads, next, n)
+}

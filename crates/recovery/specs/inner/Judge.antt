@@ -1,0 +1,77 @@
+-- What recovery finds before it writes anything, and what it leaves.
+use mathlib.Core.Path.{_≡_}
+use mathlib.Core.Bool.{Bool, cond}
+use mathlib.Core.List.{List}
+use Prim.Native.Nat.{ℕ, suc, _+_, _*_, _^_, _≤_, _<_}
+use lib.Dec.{eqb}
+use lib.ListN.{length, getD, replicate}
+use Rattle.prelude.specs.Refusal.{say}
+use Rattle.layout.specs.Content.{content, Table}
+use Rattle.layout.specs.Header.{lentFault}
+use Rattle.layout.specs.inner.Sized.{Sized}
+use Rattle.index.specs.inner.Parts.{PartsOf}
+use Rattle.index.specs.inner.Build.{build, placeIn, unbuilt}
+use Rattle.index.specs.declared.State.{State}
+use Rattle.prelude.specs.Members.{slots}
+use Rattle.table.specs.Table.{liveCount, nextVersion}
+use Rattle.table.specs.Order.{ordered}
+use Rattle.recovery.specs.Recover.{slotsFault}
+use Rattle.recovery.specs.inner.Decide.{livePlace}
+use Rattle.recovery.specs.declared.Judged.{Judged}
+use Rattle.recovery.specs.declared.Recovered.{Recovered}
+use Rattle.recovery.specs.declared.Recovered.the-variants.{Rebuilt, Refused}
+
+-- the image has n slots, there are b heads, and the scratch lists have their sizes
+pub record Judgeable (image ranks keys places order by-key scratch : List ℕ) (n b : ℕ) : Type 0 where
+  pub image-size : length image ≡ 128 * (n + 1)
+  pub ranks-size : length ranks ≡ n + 1
+  pub keys-size : length keys ≡ n + 1
+  pub places-size : length places ≡ n + 1
+  pub order-size : length order ≡ n
+  pub by-key-size : length by-key ≡ n
+  pub scratch-size : length scratch ≡ n
+  pub some-slots : 1 ≤ n
+  pub few : n ≤ 65535
+  pub heads-low : 1 ≤ b
+  pub heads-high : b ≤ 65536
+
+-- what is lent has no fault of 1 to 4, and the image has n slots
+pub record Ready (image heads next : List ℕ) (n : ℕ) : Type 0 where
+  pub lent : lentFault 1 image (length heads) (length next) ≡ 0
+  pub sized : Sized image heads next n
+  pub heads-high : length heads ≤ 65536
+  pub some-slots : 1 ≤ n
+
+-- each scratch list has more than n entries
+pub record Roomy (ranks keys places order by-key scratch : List ℕ) (n : ℕ) : Type 0 where
+  pub ranks-room : n < length ranks
+  pub keys-room : n < length keys
+  pub places-room : n < length places
+  pub order-room : n < length order
+  pub by-key-room : n < length by-key
+  pub scratch-room : n < length scratch
+
+-- 5, 6, 7, 8 from what was found
+unfoldable pub foundFault : (mark fault shared : Bool) → (live n : ℕ) → ℕ
+foundFault mark fault shared live n = say mark 5 (say fault 6 (say shared 7 (say (eqb live n) 8 0)))
+
+-- of an accepted table f: the order of all slots, the chain of each as a number, the live count and the highest version
+pub record Arranged (f : Table) (n b : ℕ) (order places : List ℕ) (live top : ℕ) : Type 0 where
+  pub order-is : order ≡ ordered f (slots n)
+  pub place-is : (s : ℕ) → 0 < s → s ≤ n → getD places s 0 ≡ livePlace f n b s
+  pub live-is : live ≡ liveCount f n
+  pub top-is : suc top ≡ nextVersion f n
+  pub top-fits : top < 2 ^ 63
+
+pub record Judgement (m : ℕ → ℕ) (n b : ℕ) (order places : List ℕ) (r : Judged) : Type 0 where
+  pub fault-is : r .fault ≡ slotsFault 1 m n
+  pub arranged : r .fault ≡ 0 → Arranged (content 1 m) n b order places (r .live) (r .top)
+
+-- what is left of the lent heads and next: the chains of the order and the state r beside them, or with a refusal what was lent
+pub record Left (fault : ℕ) (heads next order places : List ℕ) (live top : ℕ) (heads′ next′ : List ℕ) (r : State) : Type 0 where
+  pub rebuilt : fault ≡ 0
+      → PartsOf heads′ next′ r (build (placeIn places) (unbuilt (replicate (length heads) 0) (replicate (length next) 0)) order) live (top + 1)
+  pub kept : (fault ≡ 0 → ⊥) → (heads′ ≡ heads) × (next′ ≡ next)
+
+unfoldable pub answerBy : ℕ → State → Recovered
+answerBy fault state = cond (eqb fault 0) (Rebuilt state) (Refused fault)

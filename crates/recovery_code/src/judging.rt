@@ -1,0 +1,59 @@
+// The refusals 5 to 8, and the order and the chain of each slot. Nothing lent but scratch lists is written.
+ghost use mathlib.Core.Path.{_≡_};
+ghost use Rattle.words.specs.Word.{word};
+ghost use Rattle.recovery.specs.inner.Judge.{Judgeable, foundFault, Judgement};
+use crate::ordering::any_equal_neighbours;
+use crate::ordering::count_placed;
+use crate::ordering::decide;
+use crate::ordering::order_by_key;
+use crate::ordering::order_by_rank;
+use crate::scanning::scan;
+use recovery::Judged;
+
+// 5, 6, 7 or 8 by what was found, else 0.
+fn found_fault(mark: bool, fault: bool, shared: bool, live: u32, n: u32) -> u32
+    ensures { λ r. ⌜ r ≡ foundFault mark fault shared live n ⌝ }
+{
+    if mark {
+        return 5;
+    }
+    if fault {
+        return 6;
+    }
+    if shared {
+        return 7;
+    }
+    if live == n {
+        return 8;
+    }
+    0
+}
+
+// Judges the slots of the image with the lent scratch lists.
+pub fn judge(
+    image: &[u8],
+    n: usize,
+    b: usize,
+    ranks: &mut [u64],
+    keys: &mut [u64],
+    places: &mut [u32],
+    order: &mut [u32],
+    by_key: &mut [u32],
+    scratch: &mut [u32],
+) -> Judged
+    requires { ⌜ Judgeable (now image) (now ranks) (now keys) (now places) (now order) (now «by_key») (now scratch) n b ⌝ }
+    ensures { λ r. ⌜ Judgement (word (now (image .entry))) n b (now (order .exit)) (now (places .exit)) r ⌝ }
+{
+    let all = scan(image, n, b, ranks, keys, places);
+    order_by_rank(ranks, order, scratch);
+    let shared = any_equal_neighbours(ranks, order, n);
+    order_by_key(keys, order, by_key, scratch);
+    decide(keys, by_key, places, n);
+    let live = count_placed(places, n);
+    let fault = found_fault(all.mark, all.fault, shared, live, n as u32);
+    Judged {
+        fault,
+        live,
+        top: all.top,
+    }
+}

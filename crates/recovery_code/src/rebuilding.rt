@@ -1,0 +1,102 @@
+// The slots are judged, and the index of an accepted image is written.
+ghost use mathlib.Core.Path.{_≡_};
+ghost use Prim.Native.Nat.{_+_, _<_, _^_};
+ghost use lib.ListN.{length, replicate};
+ghost use Rattle.index.specs.inner.Parts.{PartsOf};
+ghost use Rattle.index.specs.inner.Build.{build, placeIn, unbuilt, Ordered};
+ghost use Rattle.recovery.specs.Recover.{recoverResult, recoverEnd};
+ghost use Rattle.recovery.specs.inner.Judge.{Ready, Judgeable, Left, answerBy};
+use crate::judging::judge;
+use index::State;
+use index_code::build::chain_up;
+use index_code::build::clear;
+use recovery::Recovered;
+
+// Heads and next become the chains of the order, each slot in the chain that places has for it; the state beside them is returned.
+fn rebuild(
+    heads: &mut [u32],
+    next: &mut [u32],
+    order: &[u32],
+    places: &[u32],
+    live: u32,
+    top: u64,
+) -> State
+    requires { ⌜ Ordered (now heads) (now next) (now order) (now places) × (top < 2 ^ 63) ⌝ }
+    ensures { λ r. ⌜ PartsOf (now (heads .exit)) (now (next .exit)) r (build (placeIn (now (places .entry))) (unbuilt (replicate (length (now (heads .entry))) 0) (replicate (length (now (next .entry))) 0)) (now (order .entry))) live (top + 1) ⌝ }
+{
+    clear(heads);
+    clear(next);
+    let built = chain_up(heads, next, order, places);
+    State {
+        first: built.first,
+        last: built.last,
+        live,
+        version: top + 1,
+    }
+}
+
+// The index is written unless a refusal was found. The state is that of the index, or of no use.
+fn rebuild_accepted(
+    heads: &mut [u32],
+    next: &mut [u32],
+    order: &[u32],
+    places: &[u32],
+    fault: u32,
+    live: u32,
+    top: u64,
+) -> State
+    requires { ⌜ (fault ≡ 0 → Ordered (now heads) (now next) (now order) (now places) × (top < 2 ^ 63)) ⌝ }
+    ensures { λ r. ⌜ Left fault (now (heads .entry)) (now (next .entry)) (now (order .entry)) (now (places .entry)) live top (now (heads .exit)) (now (next .exit)) r ⌝ }
+{
+    if fault != 0 {
+        return State {
+            first: 0,
+            last: 0,
+            live: 0,
+            version: 0,
+        };
+    }
+    rebuild(heads, next, order, places, live, top)
+}
+
+// The refusal, or the state.
+fn answer(fault: u32, state: State) -> Recovered
+    ensures { λ r. ⌜ r ≡ answerBy fault state ⌝ }
+{
+    if fault == 0 {
+        return Recovered::Rebuilt(state);
+    }
+    Recovered::Refused(fault)
+}
+
+// Recovers with the lent scratch lists.
+pub fn recover_with(
+    image: &[u8],
+    heads: &mut [u32],
+    next: &mut [u32],
+    n: usize,
+    ranks: &mut [u64],
+    keys: &mut [u64],
+    places: &mut [u32],
+    order: &mut [u32],
+    by_key: &mut [u32],
+    scratch: &mut [u32],
+) -> Recovered
+    requires { ⌜ Ready (now image) (now heads) (now next) n × Judgeable (now image) (now ranks) (now keys) (now places) (now order) (now «by_key») (now scratch) n (length (now heads)) ⌝ }
+    ensures { λ r. ⌜ recoverEnd r (now (heads .exit)) (now (next .exit)) ≡ recoverResult 1 (now (image .entry)) (now (heads .entry)) (now (next .entry)) ⌝ }
+{
+    let judged = judge(
+        image,
+        n,
+        heads.len(),
+        ranks,
+        keys,
+        places,
+        order,
+        by_key,
+        scratch,
+    );
+    let fault = judged.fault;
+    let state = rebuild_accepted(heads, next, order, places, fault, judged.live, judged.top);
+    answer(fault, state)
+}

@@ -1,0 +1,92 @@
+-- No line of a session prints more than two numbers. Assumes nothing.
+use mathlib.Core.List.{List}
+use Prim.Native.Nat.{ℕ, _≤_}
+use native.Mathlib.Omega.{arith}
+use lib.ListN.{length}
+use Rattle.prelude.specs.Answer.{Answer, gives, absent, refused}
+use Rattle.stores.specs.Store.{Store}
+use Rattle.index.specs.declared.State.{State}
+use Rattle.index.specs.declared.Found.{Found}
+use Rattle.index.specs.declared.Found.the-variants.{At, Missing, BadChain}
+use Rattle.calls.specs.Format.{FormatResult, formatResult}
+use Rattle.calls.specs.Change.{ChangeResult, changed, unchanged, putDone, putResult, removeDone, removeResult}
+use Rattle.text.specs.Output.{Printed}
+use Rattle.text.proofs.Storing.{FewNumbers}
+use Rattle.session.specs.Step.{StepResult, recoveredAs, recoveredBy, recoverStep, madeAs, madeBy, makeStep, storedWith, changedAs, changeStep, gotAs, gotBy, wordFound, lineStep, followedBy, frontStep, stepResult}
+use Rattle.text.specs.declared.Line.{Line}
+use Rattle.text.specs.declared.Line.the-variants.{New, Put, Remove, Get, Cut, Bad}
+use Rattle.session.specs.declared.Waiting.{Waiting}
+use Rattle.session.specs.declared.Waiting.the-variants.{Nothing, Counts}
+use Rattle.session.specs.declared.Session.{Session}
+use Rattle.session.proofs.Sizes.{either}
+
+-- ---- the calls
+
+abbrev Few : Answer → Type 0
+Few (gives values) = length values ≤ 2
+Few absent = Unit
+Few (refused number) = Unit
+
+module _ (image heads next : List ℕ) (s : State) (key : ℕ) where
+  put-few : (value : List ℕ) (found : Found) → Few (putDone 1 image heads next s key value found .answer)
+  unfolding putDone changed unchanged
+  put-few value (At old prev compared) = omega arith
+  put-few value (Missing prev compared) = omega arith
+  put-few value BadChain = tt
+
+  remove-few : (found : Found) → Few (removeDone 1 image heads next s key found .answer)
+  unfolding removeDone changed unchanged
+  remove-few (At old prev compared) = omega arith
+  remove-few (Missing prev compared) = tt
+  remove-few BadChain = tt
+
+-- ---- the steps
+
+recovered-few : (p : Printed) (n : ℕ) (image heads next : List ℕ) (state : State) (answer : Answer) → FewNumbers p
+    → FewNumbers (recoveredAs p n image heads next state answer .answer)
+unfolding recoveredAs
+recovered-few p n image heads next state (gives values) few = few
+recovered-few p n image heads next state absent few = tt
+recovered-few p n image heads next state (refused number) few = tt
+
+made-few : (n : ℕ) (s : Session) (image heads next : List ℕ) (answer : Answer) → Few answer
+    → FewNumbers (madeAs n s image heads next answer .answer)
+unfolding madeAs recoverStep recoveredBy
+made-few n s image heads next (gives values) few = recovered-few _ n image _ _ _ _ few
+made-few n s image heads next absent few = tt
+made-few n s image heads next (refused number) few = tt
+
+stored-few : (n : ℕ) (values : List ℕ) (state : State) (stores : List Store) (image heads next : List ℕ) (waiting : Waiting)
+    → length values ≤ 2 → FewNumbers (storedWith n values state stores image heads next waiting .answer)
+unfolding storedWith recoverStep recoveredBy
+stored-few n values state stores image heads next Nothing few = few
+stored-few n values state stores image heads next (Counts a b) few = recovered-few _ n _ _ _ _ _ few
+
+changed-few : (s : Session) (state : State) (stores : List Store) (image heads next : List ℕ) (answer : Answer) → Few answer
+    → FewNumbers (changedAs s state stores image heads next answer .answer)
+unfolding changedAs
+changed-few s state stores image heads next (gives values) few = stored-few (s .n) values state stores image heads next (s .waiting) few
+changed-few s state stores image heads next absent few = tt
+changed-few s state stores image heads next (refused number) few = tt
+
+got-few : (out : List ℕ) (answer : Answer) → FewNumbers (gotAs out answer)
+unfolding gotAs
+got-few out (gives values) = tt
+got-few out absent = tt
+got-few out (refused number) = tt
+
+line-few : (line : Line) (s : Session) (image heads next : List ℕ) → FewNumbers (lineStep line s image heads next .answer)
+unfolding lineStep makeStep madeBy formatResult changeStep putResult removeResult unchanged wordFound gotBy
+line-few (New n) s image heads next =
+    made-few n s _ heads next _ (either (λ (r : FormatResult). Few (r .answer)) _ _ _ (omega arith) tt)
+line-few (Put key w) s image heads next =
+    changed-few s _ _ image _ _ _ (either (λ (r : ChangeResult). Few (r .answer)) _ _ _ (put-few image heads next (s .state) key _ _) tt)
+line-few (Remove key) s image heads next =
+    changed-few s _ _ image _ _ _ (either (λ (r : ChangeResult). Few (r .answer)) _ _ _ (remove-few image heads next (s .state) key _) tt)
+line-few (Get key) s image heads next = got-few _ _
+line-few (Cut a b) s image heads next = tt
+line-few Bad s image heads next = tt
+
+pub step-few : (line : Line) (s : Session) (image heads next : List ℕ) → FewNumbers (stepResult line s image heads next .answer)
+unfolding stepResult frontStep followedBy
+step-few line s image heads next = either (λ (r : StepResult). FewNumbers (r .answer)) _ _ _ (line-few line s _ _ _) tt

@@ -1,0 +1,88 @@
+-- One line of a session: it answers right, and the set stays the plain map's. Assumes nothing.
+use mathlib.Core.Path.{_≡_, refl, sym, ap, subst}
+use mathlib.Core.Logic.{by-cases}
+use mathlib.Core.Option.{some}
+use Prim.Native.Nat.{ℕ}
+use native.Mathlib.Decide.{ℕ-discrete}
+use native.Mathlib.Omega.{arith}
+use lib.ListN.{replicate}
+use Rattle.prelude.proofs.Refusals.{orElse-zero, refused-keeps}
+use Rattle.plainmap.specs.World.{put, remove, get}
+use Rattle.plainmap.specs.Plain.{PlainMap}
+use Rattle.plainmap.specs.Claims.{put-typed, remove-typed, get-typed}
+use Rattle.text.specs.Output.{Printed, no}
+use Rattle.session.specs.Step.{StepResult, leaves, noSet, formFault, slotsFor, lineFault, wordBytes, stepResult}
+use Rattle.session.specs.Stream.{stepAfter}
+use Rattle.text.specs.declared.Line.{Line}
+use Rattle.text.specs.declared.Line.the-variants.{New, Put, Remove, Get, Cut, Bad}
+use Rattle.session.specs.declared.Session.{Session}
+use Rattle.session.proofs.Steps.{roomy}
+use Rattle.session.specs.Lines.{worldOf, callIn}
+use Rattle.session.specs.Rule.{faultAt, mapByCall, mapByLine, mapAfter, SetKeeps, Keeps, no-set, a-set, LineRight, refused-line, SizedLine, sized-put, sized-remove}
+use Rattle.session.proofs.CallEvents.{word-bytes, put-carried, remove-carried, get-carried}
+use Rattle.session.proofs.NewLine.{new-goes}
+use Rattle.session.proofs.CutLine.{cut-goes}
+use Rattle.session.proofs.CallLine.{call-goes}
+
+-- a line answers right, and the plain map stays the set's
+abbrev pub Goes : StepResult → PlainMap → Line → Type 0
+Goes r m line = LineRight r m line × Keeps (stepAfter r line) (mapAfter r m line)
+
+-- ---- a refused line
+
+step-refused : (r : StepResult) (line : Line) → (faultAt r line ≡ 0 → ⊥)
+    → stepAfter r line ≡ leaves (no (faultAt r line)) (r .session) (r .image) (r .heads) (r .next)
+unfolding stepAfter stepResult
+step-refused r line ne = refused-keeps _ _ (faultAt r line) ne
+
+still-keeps : (r : StepResult) (m : PlainMap) (p : Printed) → Keeps r m → Keeps (leaves p (r .session) (r .image) (r .heads) (r .next)) m
+unfolding worldOf
+still-keeps r m p (no-set e) = no-set e
+still-keeps r m p (a-set k) = a-set (record { size = k .size; waits = k .waits; agrees = k .agrees })
+
+refused-goes : (r : StepResult) (m : PlainMap) (line : Line) → Keeps r m → (faultAt r line ≡ 0 → ⊥) → Goes r m line
+unfolding mapAfter
+refused-goes r m line k ne =
+    let e = step-refused r line ne in (
+      refused-line ne e,
+      subst (λ (x : StepResult). Keeps x (mapAfter r m line)) (sym e)
+          (subst (Keeps (leaves _ (r .session) (r .image) (r .heads) (r .next))) (sym (refused-keeps _ _ (faultAt r line) ne)) (still-keeps r m _ k)),
+    )
+
+-- a line of no form is always refused
+bad-refused : (r : StepResult) → faultAt r Bad ≡ 0 → ⊥
+unfolding lineFault formFault
+bad-refused r z = let f : _≡_ {A = ℕ} 16 0 = orElse-zero 16 _ z .0 in omega arith
+
+-- ---- every line
+
+-- a line that is carried out on a set has one
+has-set : (r : StepResult) (m : PlainMap) (line : Line) → slotsFor line (r .session) ≡ r .session .n → faultAt r line ≡ 0 → Keeps r m → SetKeeps r m
+unfolding noSet
+has-set r m line e z (a-set k) = k
+has-set r m line e z (no-set q) =
+    absurd
+    (let none-there : r .session .n ≡ 0 = ap (λ (s : Session). s .n) q in
+    omega (arith, e, none-there, roomy line (r .session) _ _ _ _ _ refl z refl .some))
+
+taken-goes : (r : StepResult) (m : PlainMap) (line : Line) → SizedLine line → Keeps r m → faultAt r line ≡ 0 → Goes r m line
+unfolding slotsFor callIn mapByLine mapByCall worldOf
+taken-goes r m (New n) s k z = new-goes r m n z
+taken-goes r m (Put key x) (sized-put p q) k z =
+    let t = has-set r m (Put key x) refl z k in
+    call-goes r m t (put key (wordBytes x)) (put-typed p (word-bytes x)) (Put key x) z refl refl refl
+    (put-carried (r .session) _ _ _ m (t .agrees) (t .waits) key x p)
+taken-goes r m (Remove key) (sized-remove p) k z =
+    let t = has-set r m (Remove key) refl z k in
+    call-goes r m t (remove key) (remove-typed p) (Remove key) z refl refl refl
+    (remove-carried (r .session) _ _ _ m (t .agrees) (t .waits) key p)
+taken-goes r m (Get key) s k z =
+    let t = has-set r m (Get key) refl z k in
+    call-goes r m t (get key (replicate 80 0)) get-typed (Get key) z refl refl refl
+    (get-carried (r .session) _ _ _ m (t .agrees) (t .waits) key)
+taken-goes r m (Cut a b) s k z = cut-goes r m (has-set r m (Cut a b) refl z k) a b z
+taken-goes r m Bad s k z = absurd (bad-refused r z)
+
+-- ONE LINE
+pub line-goes : (r : StepResult) (m : PlainMap) (line : Line) → SizedLine line → Keeps r m → Goes r m line
+line-goes r m line s k = by-cases (ℕ-discrete (faultAt r line) 0) (taken-goes r m line s k) (refused-goes r m line k)

@@ -1,0 +1,46 @@
+-- What a call's line prints is what the plain map answers. Assumes nothing.
+use mathlib.Core.Path.{_≡_, refl, sym, ap, ap₂, _∙_}
+use mathlib.Core.Logic.{by-cases}
+use mathlib.Core.List.{List}
+use Prim.Native.Nat.{ℕ, zero, suc}
+use native.Mathlib.Decide.{ℕ-discrete}
+use lib.ListN.{getD, replicate}
+use Rattle.prelude.specs.Answer.{Answer, gives, absent, refused, refusalIn}
+use Rattle.prelude.proofs.Refusals.{taken-leaves, refused-keeps}
+use Rattle.plainmap.specs.World.{World, Call, put, remove, get, called}
+use Rattle.plainmap.specs.Plain.{PlainMap}
+use Rattle.plainmap.specs.Claims.{dueFault, Right}
+use Rattle.text.specs.Output.{no}
+use Rattle.session.specs.Step.{gotAs}
+use Rattle.session.specs.Lines.{changePrints, printedFor}
+use Rattle.session.specs.Rule.{plainPrints}
+
+-- ---- a call that is right
+
+prints-number : (call : Call) (number : ℕ) (out : List ℕ) → printedFor call (refused number) out ≡ no number
+unfolding printedFor changePrints gotAs
+prints-number (put key value) number out = refl
+prints-number (remove key) number out = refl
+prints-number (get key lent) number out = refl
+
+prints-refusal : (call : Call) (answer : Answer) (out : List ℕ) (k : ℕ) → refusalIn answer ≡ k → (k ≡ 0 → ⊥) → printedFor call answer out ≡ no k
+unfolding refusalIn
+prints-refusal call (gives values) out k e ne = absurd (ne (sym e))
+prints-refusal call absent out k e ne = absurd (ne (sym e))
+prints-refusal call (refused number) out k e ne = prints-number call number out ∙ ap no e
+
+pub right-prints : (w : World) (m : PlainMap) (call : Call) → Right 1 w m call
+    → printedFor call (called 1 w call .answer) (called 1 w call .out) ≡ plainPrints w m call
+unfolding plainPrints
+right-prints w m call right =
+    by-cases (ℕ-discrete (dueFault 1 w m call) 0)
+    (λ z. ap₂ (printedFor call) (right .answer z) (right .out z) ∙ sym (taken-leaves _ _ (dueFault 1 w m call) z))
+    (λ nz. prints-refusal call (called 1 w call .answer) (called 1 w call .out) (dueFault 1 w m call) (right .refusal) nz
+    ∙ sym (refused-keeps _ _ (dueFault 1 w m call) nz))
+
+-- ---- a get
+
+pub zeros : (n k : ℕ) → _≡_ {A = ℕ} (getD (replicate n 0) k 0) 0
+zeros zero k = refl
+zeros (suc n) zero = refl
+zeros (suc n) (suc k) = zeros n k

@@ -1,9 +1,0 @@
--- `session::input::with_one` meets its contract. Assumes nothing.
-use Rattle.words.proofs.Tests.{tests}
-use Rattle.session.specs.Forms.{withOne}
-use Rattle.session.proofs.input.with_one.Statement.{statement}
-use Rattle.session.proofs.input.with_one.Tie as tie
-
-pub with-one-spec : {M : Type 1} → statement M
-unfolding withOne
-with-one-spec = tie.close (tie.spec (λ c. search tests) (λ c. search tests) (λ c. search tests) (λ c. search tests))

@@ -1,0 +1,125 @@
+-- THE SESSION RULE: a trial session answers as the plain map does, whichever of its calls a waiting cut strikes. Document 01, "The trial session" and "The plain map and the cut rule".
+use mathlib.Core.Path.{_≡_}
+use mathlib.Core.Option.{Option, some, none}
+use mathlib.Core.List.{List, [], _∷_}
+use Prim.Native.Nat.{ℕ, _+_, _*_, _^_, _≤_, _<_}
+use lib.ListN.{length, take}
+use Rattle.prelude.specs.Refusal.{unlessRefused}
+use Rattle.table.specs.Table.{nextVersion}
+use Rattle.calls.specs.Format.{formatted}
+use Rattle.plainmap.specs.World.{World, Call, called, recoveredWorld}
+use Rattle.layout.specs.Size.{slotsIn}
+use Rattle.layout.specs.Content.{tableOf}
+use Rattle.plainmap.specs.Plain.{PlainMap, plainAnswer, plainOut}
+use Rattle.plainmap.specs.Claims.{dueFault, Right}
+use Rattle.plainmap.specs.Sound.{Agrees}
+use Rattle.cutrule.specs.Event.{step, mapAfterEvent}
+use Rattle.text.specs.Output.{Printed, ok, cut, no}
+use Rattle.session.specs.Step.{StepResult, leaves, noSet, sizeFault, lineFault}
+use Rattle.session.specs.Stream.{stepAfter}
+use Rattle.text.specs.declared.Line.{Line}
+use Rattle.text.specs.declared.Line.the-variants.{New, Put, Remove, Get, Cut, Bad}
+use Rattle.session.specs.declared.Waiting.{Waiting}
+use Rattle.session.specs.declared.Waiting.the-variants.{Nothing, Counts}
+use Rattle.session.specs.declared.Session.{Session}
+use Rattle.session.specs.Lines.{worldOf, sessionOf, callIn, eventIn, waitsOn, printedFor}
+use Rattle.prelude.specs.Members.{All}
+
+-- the refusal of a line before it is carried out, 0 for none
+abbrev pub faultAt : StepResult → Line → ℕ
+faultAt r line = lineFault line (r .session) (length (r .image)) (length (r .heads)) (length (r .next))
+
+-- ---- what a line prints, by the plain map m before it
+
+-- a call: the rules' refusal, or the plain map's answer with the slot taken and the next version
+unfoldable pub plainPrints : World → PlainMap → Call → Printed
+plainPrints w m call =
+    unlessRefused (dueFault 1 w m call)
+    (printedFor call (plainAnswer (w .state .first) (nextVersion (tableOf 1 (w .image)) (slotsIn (w .image))) m call) (plainOut m call))
+    (no (dueFault 1 w m call))
+
+-- ---- the plain map beside a session
+
+-- a call's event makes the cut rule's step of the plain map
+unfoldable pub mapByCall : World → Waiting → PlainMap → Option Call → PlainMap
+mapByCall w waiting m none = m
+mapByCall w waiting m (some call) = mapAfterEvent 1 w m (eventIn w waiting call)
+
+-- "`n N` formats": the map is empty
+unfoldable pub mapByLine : World → Waiting → PlainMap → Line → PlainMap
+mapByLine w waiting m (New n) = λ k. none
+mapByLine w waiting m (Put key word) = mapByCall w waiting m (callIn (Put key word))
+mapByLine w waiting m (Remove key) = mapByCall w waiting m (callIn (Remove key))
+mapByLine w waiting m (Get key) = mapByCall w waiting m (callIn (Get key))
+mapByLine w waiting m (Cut a b) = m
+mapByLine w waiting m Bad = m
+
+-- a refused line "changes nothing"
+unfoldable pub mapAfter : StepResult → PlainMap → Line → PlainMap
+mapAfter r m line = unlessRefused (faultAt r line) (mapByLine (worldOf r) (r .session .waiting) m line) m
+
+-- ---- between lines
+
+-- "`no 14` for a count above 8"
+pub data FewWait : Waiting → Type 0 where
+  none-waits : FewWait Nothing
+  few-wait : {a b : ℕ} → a ≤ 8 → b ≤ 8 → FewWait (Counts a b)
+
+-- the set fits into the lent image and index, its index is its own, and its slots have the plain map m
+pub record SetKeeps (r : StepResult) (m : PlainMap) : Type 0 where
+  pub size : sizeFault (r .session .n) (length (r .image)) (length (r .heads)) (length (r .next)) ≡ 0
+  pub waits : FewWait (r .session .waiting)
+  pub agrees : Agrees 1 (worldOf r) m
+
+-- before an accepted n there is no set
+pub data Keeps (r : StepResult) (m : PlainMap) : Type 0 where
+  no-set : r .session ≡ noSet → Keeps r m
+  a-set : SetKeeps r m → Keeps r m
+
+-- ---- one line
+
+-- the step of a line: what it prints, the session after it, and its set
+pub record Leaves (r : StepResult) (line : Line) (p : Printed) (s : Session) (w : World) : Type 0 where
+  pub answer : stepAfter r line .answer ≡ p
+  pub session : stepAfter r line .session ≡ s
+  pub world : worldOf (stepAfter r line) ≡ w
+
+-- the set of a new n, and the set after a call
+abbrev pub newWorld : StepResult → (n : ℕ) → World
+newWorld r n = recoveredWorld 1 (formatted 1 (128 * (n + 1))) (take 1 (r .heads)) (take (n + 1) (r .next))
+
+abbrev pub worldAfterCall : StepResult → Call → World
+worldAfterCall r call = step 1 (worldOf r) (eventIn (worldOf r) (r .session .waiting) call)
+
+-- a refused line changes nothing, n formats and recovers, c waits, and a call is an event of the cut rule, whose answer is right by the plain map m
+pub data LineRight (r : StepResult) (m : PlainMap) : Line → Type 0 where
+  refused-line : {line : Line} → (faultAt r line ≡ 0 → ⊥)
+      → stepAfter r line ≡ leaves (no (faultAt r line)) (r .session) (r .image) (r .heads) (r .next) → LineRight r m line
+  new-line : {n : ℕ} → faultAt r (New n) ≡ 0
+      → Leaves r (New n) (ok (n ∷ [])) (sessionOf n (newWorld r n) Nothing) (newWorld r n) → LineRight r m (New n)
+  cut-line : {a b : ℕ} → faultAt r (Cut a b) ≡ 0
+      → Leaves r (Cut a b) (cut a b) (sessionOf (r .session .n) (worldOf r) (Counts a b)) (worldOf r) → LineRight r m (Cut a b)
+  call-line : {line : Line} {call : Call} → faultAt r line ≡ 0 → callIn line ≡ some call
+      → Leaves r line (plainPrints (worldOf r) m call)
+      (sessionOf (r .session .n) (worldAfterCall r call) (waitsOn (r .session .waiting) (called 1 (worldOf r) call .stores)))
+      (worldAfterCall r call)
+      → Right 1 (worldOf r) m call → LineRight r m line
+
+-- ---- every list of lines
+
+-- "16 is a line .. with a number past 64 bits": every other line's numbers are below 2^64
+pub data SizedLine : Line → Type 0 where
+  sized-new : {n : ℕ} → SizedLine (New n)
+  sized-put : {key word : ℕ} → key < 2 ^ 64 → word < 2 ^ 64 → SizedLine (Put key word)
+  sized-remove : {key : ℕ} → key < 2 ^ 64 → SizedLine (Remove key)
+  sized-get : {key : ℕ} → key < 2 ^ 64 → SizedLine (Get key)
+  sized-cut : {a b : ℕ} → SizedLine (Cut a b)
+  sized-bad : SizedLine Bad
+
+-- before each line and after the last the set is the plain map's, and each line answers right
+abbrev pub SessionHolds : StepResult → PlainMap → List Line → Type 0
+SessionHolds r m [] = Keeps r m
+SessionHolds r m (line ∷ lines) = Keeps r m × LineRight r m line × SessionHolds (stepAfter r line) (mapAfter r m line) lines
+
+abbrev pub SessionRule : Type 0
+SessionRule = (r : StepResult) (m : PlainMap) → Keeps r m → (lines : List Line) → All SizedLine lines → SessionHolds r m lines

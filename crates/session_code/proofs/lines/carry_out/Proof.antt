@@ -1,0 +1,18 @@
+-- `session_code::lines::carry_out` meets its contract. Assumes nothing.
+use Rattle.text.specs.inner.Output.{replySays}
+use Rattle.session.specs.Step.{storedWith}
+use Rattle.session.proofs.Steps.{played-on}
+use borrow.Author.Needs.{needs}
+use Rattle.session_code.proofs.lines.carry_out.Statement.{statement}
+use Rattle.session_code.proofs.lines.carry_out.Tie as tie
+
+pub carry-out-spec : {M : Type 1} → statement M
+unfolding storedWith replySays
+carry-out-spec =
+    tie.close
+    (tie.spec
+    (λ c. search needs) (λ c κs. search needs) (λ c. search needs) (λ c κs. search needs) (λ c κs. search needs)
+    (λ c. search needs)
+    (λ c. rw (c .before .before .before .before .before .enum-told .given .1, ← (played-on _ _ _ (search (needs, c .before .before .before .before .before .before .before .before .before .before .before .good .1 .1 .0)) (search (needs, c .before .before .before .before .before .before .before .before .before .before .before .good .1 .1 .0)) _ _ _ _ (c .before .before .before .play .ensures))))
+    (λ c. search needs) (λ c. search needs) (λ c. search needs)
+    (λ c. rw (c .before .before .before .before .before .before .before .before .before .before .before .before .before .waiting .given .1, ← (played-on _ _ _ (search (needs, c .before .before .before .before .before .before .before .before .before .before .before .before .before .before .before .before .before .before .before .good .1 .1 .0)) (search (needs, c .before .before .before .before .before .before .before .before .before .before .before .before .before .before .before .before .before .before .before .good .1 .1 .0)) _ _ _ _ (c .before .before .before .before .before .before .before .before .before .before .play2 .ensures))) (c .before .before .before .before .recovered .ensures)))

@@ -1,0 +1,18 @@
+-- `session_code::lines::make` meets its contract. Assumes nothing.
+use Rattle.calls.specs.Format.{formatSays}
+use Rattle.text.specs.inner.Output.{replySays}
+use Rattle.session.specs.Step.{makeStep, madeBy, madeAs}
+use borrow.Author.Needs.{needs}
+use Rattle.session_code.proofs.lines.make.Statement.{statement}
+use Rattle.session_code.proofs.lines.make.Tie as tie
+
+pub make-spec : {M : Type 1} → statement M
+unfolding makeStep madeBy madeAs formatSays replySays
+make-spec =
+    tie.close
+    (tie.spec
+    (λ c κs. search needs) (λ c. search needs) (λ c. search needs) (λ c κs. search needs) (λ c. search needs)
+    (λ c. search needs) (λ c. search needs) (λ c. search needs)
+    (λ c. search (needs, ← (c .before .before .before .before .before .before .before .before .before .before .before .before .before .format .ensures), c .before .before .before .before .before .before .before .before .before .formatted .given .1))
+    (λ c. search needs)
+    (λ c. search (needs, ← (c .before .before .before .before .before .format .ensures), c .before .formatted2 .given .1)))

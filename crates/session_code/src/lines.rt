@@ -1,0 +1,202 @@
+// The calls of the set as a session makes them: a new set, put, remove, get, and recovery after a cut.
+ghost use mathlib.Core.Path.{_≡_};
+ghost use mathlib.Core.List.{[], _∷_};
+ghost use Rattle.stores.specs.Store.{zipped};
+ghost use Rattle.calls.specs.Change.{changeEnd, putResult, removeResult};
+ghost use Rattle.calls.specs.Get.{getResult};
+ghost use Rattle.text.specs.inner.Output.{replySays};
+ghost use Rattle.session.specs.inner.Step.{stepEnd};
+ghost use Rattle.session.specs.Step.{recoverStep, makeStep, storedWith, changeStep, wordBytes, gotBy, wordFound};
+use crate::start::start;
+use index::State;
+use orderset::Change;
+use orderset::Formatted;
+use orderset::Got;
+use orderset::Outcome;
+use orderset::Recovered;
+use orderset::format;
+use orderset::get;
+use orderset::play;
+use orderset::put;
+use orderset::recover;
+use orderset::remove;
+use session::Session;
+use session::Stepped;
+use session::Waiting;
+use text::Reply;
+use words_code::padded_word;
+use words_code::write_word;
+
+// Recovery, after which the session goes on with this answer.
+fn recovered(reply: Reply, n: u64, image: &[u8], heads: &mut [u32], next: &mut [u32]) -> Stepped
+    ensures { λ r. ⌜ stepEnd r (now (image .entry)) (now (heads .exit)) (now (next .exit)) ≡ recoverStep (replySays reply) n (now (image .entry)) (now (heads .entry)) (now (next .entry)) ⌝ }
+{
+    let index = recover(image, heads, next);
+    match index {
+        Recovered::Rebuilt(state) => Stepped {
+            reply,
+            session: Session {
+                n,
+                state,
+                waiting: Waiting::Nothing,
+            },
+        },
+        Recovered::Refused(number) => Stepped {
+            reply: Reply::Refused(number),
+            session: start(),
+        },
+    }
+}
+
+// `n N`: a new set of n slots.
+pub fn make(
+    n: u64,
+    session: Session,
+    image: &mut [u8],
+    heads: &mut [u32],
+    next: &mut [u32],
+) -> Stepped
+    ensures { λ r. ⌜ stepEnd r (now (image .exit)) (now (heads .exit)) (now (next .exit)) ≡ makeStep n session (now (image .entry)) (now (heads .entry)) (now (next .entry)) ⌝ }
+{
+    let formatted = format(image);
+    match formatted {
+        Formatted::Slots(slots) => recovered(Reply::Made(slots as u64), n, image, heads, next),
+        Formatted::Refused(number) => Stepped {
+            reply: Reply::Refused(number),
+            session,
+        },
+    }
+}
+
+// The stores of an accepted call are played: all of them, or those that the waiting cut leaves, after which recovery runs.
+fn carry_out(
+    slot: u32,
+    version: u64,
+    change: Change,
+    session: Session,
+    image: &mut [u8],
+    heads: &mut [u32],
+    next: &mut [u32],
+) -> Stepped
+    ensures { λ r. ⌜ stepEnd r (now (image .exit)) (now (heads .exit)) (now (next .exit)) ≡ storedWith (session .n) (slot ∷ version ∷ []) (change .state) (zipped (change .stores .at) (change .stores .value)) (now (image .entry)) (now (heads .entry)) (now (next .entry)) (session .waiting) ⌝ }
+{
+    let stores = change.stores;
+    let waiting = session.waiting;
+    match waiting {
+        Waiting::Nothing => {
+            play(image, stores, 8, 8);
+            let state = change.state;
+            Stepped {
+                reply: Reply::Stored { slot, version },
+                session: Session {
+                    n: session.n,
+                    state,
+                    waiting: Waiting::Nothing,
+                },
+            }
+        }
+        Waiting::Counts { a, b } => {
+            play(image, stores, a, b);
+            recovered(
+                Reply::Stored { slot, version },
+                session.n,
+                image,
+                heads,
+                next,
+            )
+        }
+    }
+}
+
+// What a put or a remove answers; its stores are played.
+fn carry_change(
+    change: Change,
+    session: Session,
+    image: &mut [u8],
+    heads: &mut [u32],
+    next: &mut [u32],
+) -> Stepped
+    ensures { λ r. ⌜ stepEnd r (now (image .exit)) (now (heads .exit)) (now (next .exit)) ≡ changeStep session (now (image .entry)) (changeEnd change (now (heads .entry)) (now (next .entry))) ⌝ }
+{
+    let outcome = change.outcome;
+    match outcome {
+        Outcome::Stored { slot, version } => {
+            carry_out(slot, version, change, session, image, heads, next)
+        }
+        Outcome::Absent => Stepped {
+            reply: Reply::Absent,
+            session,
+        },
+        Outcome::Refused(number) => Stepped {
+            reply: Reply::Refused(number),
+            session,
+        },
+    }
+}
+
+// The key gets the 8 bytes of the word.
+fn put_word(
+    image: &[u8],
+    heads: &mut [u32],
+    next: &mut [u32],
+    state: State,
+    key: u64,
+    word: u64,
+) -> Change
+    ensures { λ r. ⌜ changeEnd r (now (heads .exit)) (now (next .exit)) ≡ putResult 1 (now (image .entry)) (now (heads .entry)) (now (next .entry)) state key (wordBytes word) ⌝ }
+{
+    let mut value = [0u8; 8];
+    write_word(&mut value, 0, word);
+    put(image, heads, next, state, key, &value)
+}
+
+// `p K W`.
+pub fn put_line(
+    session: Session,
+    key: u64,
+    word: u64,
+    image: &mut [u8],
+    heads: &mut [u32],
+    next: &mut [u32],
+) -> Stepped
+    ensures { λ r. ⌜ stepEnd r (now (image .exit)) (now (heads .exit)) (now (next .exit)) ≡ changeStep session (now (image .entry)) (putResult 1 (now (image .entry)) (now (heads .entry)) (now (next .entry)) (session .state) key (wordBytes word)) ⌝ }
+{
+    let state = session.state;
+    let change = put_word(image, heads, next, state, key, word);
+    carry_change(change, session, image, heads, next)
+}
+
+// `r K`.
+pub fn remove_line(
+    session: Session,
+    key: u64,
+    image: &mut [u8],
+    heads: &mut [u32],
+    next: &mut [u32],
+) -> Stepped
+    ensures { λ r. ⌜ stepEnd r (now (image .exit)) (now (heads .exit)) (now (next .exit)) ≡ changeStep session (now (image .entry)) (removeResult 1 (now (image .entry)) (now (heads .entry)) (now (next .entry)) (session .state) key) ⌝ }
+{
+    let state = session.state;
+    let change = remove(image, heads, next, state, key);
+    carry_change(change, session, image, heads, next)
+}
+
+// The word of the key's value, read by way of the lent bytes.
+fn get_by(image: &[u8], heads: &[u32], next: &[u32], key: u64, out: &mut [u8]) -> Reply
+    ensures { λ r. ⌜ replySays r ≡ gotBy (getResult 1 (now (image .entry)) (now (heads .entry)) (now (next .entry)) key (now (out .entry))) ⌝ }
+{
+    let got = get(image, heads, next, key, out);
+    match got {
+        Got::Length(_) => Reply::Found(padded_word(out, 0)),
+        Got::Absent => Reply::Absent,
+        Got::Refused(number) => Reply::Refused(number),
+    }
+}
+
+// `g K`.
+pub fn get_word(image: &[u8], heads: &[u32], next: &[u32], key: u64) -> Reply
+    ensures { λ r. ⌜ replySays r ≡ wordFound (now (image .entry)) (now (heads .entry)) (now (next .entry)) key ⌝ }
+{
+    let mut out = [0u8; 80];
+    get_by(image, heads, next, key, &mut out)
+}

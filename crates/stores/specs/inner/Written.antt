@@ -1,0 +1,14 @@
+-- The word numbers and the values of a record's stores, as lists.
+use mathlib.Core.List.{List, _++_}
+use Prim.Native.Nat.{ℕ, _+_, _*_}
+use Rattle.prelude.specs.Range.{tabulate}
+use Rattle.stores.specs.Written.{newA, newB}
+
+-- the word numbers of the 16 stores of slot s
+unfoldable pub recordPlaces : (s : ℕ) → List ℕ
+recordPlaces s = tabulate (λ i. 8 * (2 * s) + i) 0 8 ++ tabulate (λ i. 8 * (2 * s + 1) + i) 0 8
+
+-- and their values, over lines with stamps a and b
+unfoldable pub recordWords : (l a b key kind : ℕ) → List ℕ → (version : ℕ) → List ℕ
+recordWords l a b key kind value version =
+    tabulate (newA l a key kind value version) 0 8 ++ tabulate (newB l b value version) 0 8

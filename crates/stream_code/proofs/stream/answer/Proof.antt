@@ -1,0 +1,14 @@
+-- `stream_code::stream::answer` meets its contract. Assumes nothing.
+use Rattle.session.specs.Stream.{answerResult, answeredBy, printedBy}
+use borrow.Author.Needs.{needs}
+use Rattle.stream_code.proofs.stream.answer.Statement.{statement}
+use Rattle.stream_code.proofs.stream.answer.Tie as tie
+
+pub answer-spec : {M : Type 1} → statement M
+unfolding answerResult answeredBy printedBy
+answer-spec =
+    tie.close
+    (tie.spec
+    (λ c κs. search needs) (λ c κs. search needs) (λ c κs. search needs) (λ c. search needs) (λ c. search needs)
+    (λ c. search needs) (λ c. search needs)
+    (λ c. rw (← (c .before .before .before .before .before .before .before .before .before .before .before .before .before .before .before .finish .ensures), ← (c .before .before .before .before .before .before .before .before .before .before .before .step .ensures), ← (c .before .before .before .render .ensures))))

@@ -1,0 +1,2 @@
+// The input of the trial session byte by byte.
+pub mod stream;

@@ -1,0 +1,86 @@
+// The input byte by byte, and the output in a lent slice.
+ghost use mathlib.Core.Path.{_≡_};
+ghost use Rattle.session.specs.Stream.{streamEnd, atStart, answerResult, byteResult, endResult};
+use session::Progress;
+use session_code::start::start;
+use session_code::step::step;
+use text::Parse;
+use text_code::input::feed;
+use text_code::input::finish;
+use text_code::output::render;
+
+// Before the first byte.
+pub fn open_stream() -> Progress
+    ensures { λ r. ⌜ r ≡ atStart ⌝ }
+{
+    Progress {
+        parse: Parse::Start,
+        begun: false,
+        session: start(),
+        at: 0,
+    }
+}
+
+// A line ends: it is carried out, and its answer is stored.
+fn answer(
+    s: Progress,
+    image: &mut [u8],
+    heads: &mut [u32],
+    next: &mut [u32],
+    out: &mut [u8],
+) -> Progress
+    ensures { λ r. ⌜ streamEnd r (now (image .exit)) (now (heads .exit)) (now (next .exit)) (now (out .exit)) ≡ answerResult s (now (image .entry)) (now (heads .entry)) (now (next .entry)) (now (out .entry)) ⌝ }
+{
+    let parse = s.parse;
+    let session = s.session;
+    let stepped = step(finish(parse), session, image, heads, next);
+    let reply = stepped.reply;
+    let at = render(reply, out, s.at);
+    let after = stepped.session;
+    Progress {
+        parse: Parse::Start,
+        begun: false,
+        session: after,
+        at,
+    }
+}
+
+// One more byte of the input. An answer is stored where at least 64 bytes of out are left.
+pub fn take_byte(
+    s: Progress,
+    byte: u8,
+    image: &mut [u8],
+    heads: &mut [u32],
+    next: &mut [u32],
+    out: &mut [u8],
+) -> Progress
+    ensures { λ r. ⌜ streamEnd r (now (image .exit)) (now (heads .exit)) (now (next .exit)) (now (out .exit)) ≡ byteResult s byte (now (image .entry)) (now (heads .entry)) (now (next .entry)) (now (out .entry)) ⌝ }
+{
+    if byte == 10 {
+        return answer(s, image, heads, next, out);
+    }
+    let parse = s.parse;
+    let session = s.session;
+    Progress {
+        parse: feed(parse, byte),
+        begun: true,
+        session,
+        at: s.at,
+    }
+}
+
+// The end of the input: a last line may lack its end.
+pub fn end_input(
+    s: Progress,
+    image: &mut [u8],
+    heads: &mut [u32],
+    next: &mut [u32],
+    out: &mut [u8],
+) -> Progress
+    ensures { λ r. ⌜ streamEnd r (now (image .exit)) (now (heads .exit)) (now (next .exit)) (now (out .exit)) ≡ endResult s (now (image .entry)) (now (heads .entry)) (now (next .entry)) (now (out .entry)) ⌝ }
+{
+    if s.begun {
+        return answer(s, image, heads, next, out);
+    }
+    s
+}

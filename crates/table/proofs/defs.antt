@@ -1,0 +1,4 @@
+pub mod Chains
+pub mod Keys
+pub mod Reuse
+pub mod Write

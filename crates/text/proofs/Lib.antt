@@ -1,0 +1,4 @@
+pub mod Parsed
+pub mod Storing
+pub mod Decimals
+pub mod defs

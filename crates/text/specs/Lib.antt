@@ -1,0 +1,4 @@
+pub mod Forms
+pub mod Parsing
+pub mod Output
+pub mod inner

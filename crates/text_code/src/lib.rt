@@ -1,0 +1,3 @@
+// Lines of input read byte by byte, and lines of output.
+pub mod input;
+pub mod output;
