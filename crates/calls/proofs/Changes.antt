@@ -15,7 +15,7 @@ use Rattle.layout.specs.Size.{slotsOf}
 use Rattle.layout.proofs.Size.{long}
 use Rattle.stores.specs.Store.{Store, zipped}
 use Rattle.stores.specs.Written.{recordStores}
-use Rattle.stores.specs.Play.{places, values, playFault, listFault}
+use Rattle.stores.specs.Play.{wordNumbers, values, playFault, listFault}
 use Rattle.stores.proofs.Plays.{half-start, halves-first, play-halves, list-outside}
 use Rattle.stores.specs.declared.Stores.{Stores}
 use Rattle.index.specs.Index.{Index, indexOf, stateOf, headOf}
@@ -95,20 +95,20 @@ put-linked l image heads next s key value found stores after heads′ next′ lo
 -- ---- the stores of a call that stores nothing
 
 -- play of a list refuses them, on any bytes that have not their word
-pub no-stores-list : (len : ℕ) → len < 8 * 2 ^ 32 → listFault len (places noStores) (length (values noStores)) ≡ 15
-unfolding noStores places values
+pub no-stores-list : (len : ℕ) → len < 8 * 2 ^ 32 → listFault len (wordNumbers noStores) (length (values noStores)) ≡ 15
+unfolding noStores wordNumbers values
 no-stores-list len h =
     sym
-    (list-outside len (places noStores) 16 refl true
-    (sym (any-some (λ i. ltb len (8 * getD (places noStores) i 0 + 8)) 0 16 0 (omega arith) (lt-ltb len (8 * 2 ^ 32) h))) refl)
+    (list-outside len (wordNumbers noStores) 16 refl true
+    (sym (any-some (λ i. ltb len (8 * getD (wordNumbers noStores) i 0 + 8)) 0 16 0 (omega arith) (lt-ltb len (8 * 2 ^ 32) h))) refl)
 
 -- both plays refuse them on any image: with counts, and as a list
 pub no-stores-image : (len a b : ℕ) → (slotsOf len ≡ 0 → ⊥) → a ≤ 8 → b ≤ 8
-    → (playFault len (places noStores) a b ≡ 15) × (listFault len (places noStores) (length (values noStores)) ≡ 15)
-unfolding noStores places
+    → (playFault len (wordNumbers noStores) a b ≡ 15) × (listFault len (wordNumbers noStores) (length (values noStores)) ≡ 15)
+unfolding noStores wordNumbers
 no-stores-image len a b ne p q = (
   sym
-      (play-halves len (places noStores) a b (slotsOf len) refl ne p q 15
-      (halves-first len (places noStores) true (half-start len (places noStores) 0 (2 ^ 32 - 1) refl (λ e. omega arith)) refl)),
+      (play-halves len (wordNumbers noStores) a b (slotsOf len) refl ne p q 15
+      (halves-first len (wordNumbers noStores) true (half-start len (wordNumbers noStores) 0 (2 ^ 32 - 1) refl (λ e. omega arith)) refl)),
   no-stores-list len (omega (arith, long len ne .size, long len ne .high)),
 )

@@ -1,11 +1,11 @@
 -- The bytes that format leaves: format's result, and a formatted image: its words, its header and its table. Assumes nothing.
-use mathlib.Core.Path.{_≡_, refl, sym, ap, ap₂, _∙_}
+use mathlib.Core.Path.{_≡_, sym, ap, ap₂, _∙_}
 use mathlib.Core.Bool.{not}
 use mathlib.Core.List.{List, [], _∷_}
 use Prim.Native.Nat.{ℕ, zero, suc, _+_, _^_, _≤_, _<_}
 use native.Mathlib.Omega.{arith}
 use lib.Dec.{eqb}
-use lib.ListN.{length, getD, replicate, length-replicate}
+use lib.ListN.{length, replicate, length-replicate}
 use borrow.Author.Tests.{eq-eqb, ne-eqb}
 use Rattle.words.specs.Word.{word, setWord}
 use Rattle.prelude.proofs.Choice.{pick-false}
@@ -20,6 +20,7 @@ use Rattle.layout.proofs.Content.{blank-table}
 use Rattle.layout.proofs.Size.{long}
 use Rattle.prelude.proofs.Any.{any-clear}
 use Rattle.calls.specs.Format.{FormatResult, formatFault, formatted, formatResult}
+use Rattle.prelude.proofs.Fills.{zeros}
 
 -- ---- format_as: n is the slots of the image
 
@@ -63,14 +64,9 @@ pub formatted-length : (l len : ℕ) → length (formatted l len) ≡ len
 unfolding formatted
 formatted-length l len = setWord-length _ _ _ ∙ setWord-length _ _ _ ∙ length-replicate len 0
 
-zero-byte : (len k : ℕ) → _≡_ {A = ℕ} (getD (replicate len 0) k 0) 0
-zero-byte zero k = refl
-zero-byte (suc len) zero = refl
-zero-byte (suc len) (suc k) = zero-byte len k
-
 zero-word : (len i : ℕ) → word (replicate len 0) i ≡ 0
 unfolding word
-zero-word len i = simp (zero-byte len)
+zero-word len i = simp (zeros len)
 
 header-zero : (l n i : ℕ) → 2 ≤ i → headerWord l n i ≡ 0
 unfolding headerWord

@@ -1,4 +1,4 @@
--- The lookups of put, remove and get: the refusals in order, and what the writes lean on. Assumes nothing.
+-- The lookups of put, remove and get: the refusals in order, and what the writes need. Assumes nothing.
 use mathlib.Core.Path.{_≡_, refl, sym, ap, ap₂, _∙_}
 use mathlib.Core.Bool.{Bool, true, false}
 use mathlib.Core.List.{List}
@@ -70,7 +70,7 @@ put-after l image heads next s key size z =
     long true later = refl
     long false later = refl
 
--- ---- what the writes lean on
+-- ---- what the writes need
 
 module _ (l : ℕ) (image heads next : List ℕ) (key n : ℕ) (sized : Sized image heads next n) where
   found-inside : (found : Found) → found ≡ search l image heads next key → FoundInside image found

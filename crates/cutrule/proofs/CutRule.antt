@@ -48,7 +48,7 @@ accepted-gives l image m a h =
           subst (λ (x : PlainMap). Reads l (recoveredWorld l image heads next) x) (fun-ext h) (recovered-reads l image heads next a s);
       keys = keysTo (tableOf l image) (slotsIn image) (slotsIn image);
       held = map-keys (tableOf l image) (slotsIn image) m h;
-      count = live-keys (tableOf l image) (slotsIn image);
+      count = live-keys (tableOf l image) (slotsIn image) m h;
       again = λ heads next heads′ next′ s p q.
           same-recovery l image heads next heads′ next′ p q (accepted-recovers l image (length heads) (length next) a s);
     }

@@ -1,8 +1,8 @@
--- Document 01's trial session: computed, and an instance of the cut rule whose hypotheses are met by computation. Assumes nothing.
+-- Document 01's trial session: computed, and an instance of the cutAt rule whose hypotheses are met by computation. Assumes nothing.
 use mathlib.Core.Path.{_≡_, refl}
 use Prim.Native.Nat.{ℕ, zero, suc, _^_, _≤_, _<_}
 use native.Mathlib.Omega.{arith}
-use lib.ListN.{length, getD, replicate}
+use lib.ListN.{length}
 use Rattle.words.specs.Word.{AreBytes, word, setWord}
 use Rattle.plainmap.specs.World.{put, toPlay, calledChange, calledGet, called, playing, finished, worldAfter, recoveredWorld}
 use Rattle.plainmap.specs.Claims.{Typed, put-typed, remove-typed, get-typed, slotsMap}
@@ -21,7 +21,7 @@ use Rattle.layout.specs.Header.{headerWord, headerFault, imageFault, indexFault
 use Rattle.layout.specs.Fault.{markFault, kindFault, wordFault, tailFault, faultOf, recordFault}
 use Rattle.stores.specs.Store.{zipped, played}
 use Rattle.stores.specs.Written.{marked, bodyA, bodyB, run, lineStores, recordStores}
-use Rattle.stores.specs.Play.{halfFault, halvesFault, playFault, counted, playResult, places, values}
+use Rattle.stores.specs.Play.{halfFault, halvesFault, playFault, counted, playResult, wordNumbers, values}
 use Rattle.prelude.specs.Filter.{filter}
 use Rattle.sorting.specs.Sorted.{insert, sorted}
 use Rattle.table.specs.Table.{isRecord, keyIn, weight, nextVersion, decider, valueIn, valueAt, mapOf, decidingPut, live, spare, liveCount, sharedVersion, allLive}
@@ -34,12 +34,13 @@ use Rattle.recovery.specs.Recover.{slotsFault, recoverFault, chainsOf, placeOf,
 use Rattle.calls.specs.Format.{formatted}
 use Rattle.calls.specs.Change.{noStores, unchanged, changed, putLentFault, putLaterFault, putFault, putDone, putResult, heldFault, removeLaterFault, removeFault, removeDone, removeResult}
 use Rattle.calls.specs.Get.{lengthFault, getLaterFault, getFault, getDone, getResult}
-use Rattle.cutrule.specs.Trial.{answers, outputs, small, oneHead, twoSlots, cut, fresh, session, expected, expectedOutputs}
+use Rattle.cutrule.specs.Trial.{answers, outputs, small, oneHead, twoSlots, cutAt, fresh, session, expected, expectedOutputs}
+use Rattle.prelude.proofs.Fills.{zeros}
 
 -- THE SESSION answers as document 01 says, with the outputs of its gets; recovery accepts its formatted image, which has two slots
 session-computed : (answers 1 fresh session ≡ expected) × (outputs 1 fresh session ≡ expectedOutputs)
     × (recoverFault 1 (formatted 1 384) (length oneHead) (length twoSlots) ≡ 0) × (slotsIn (formatted 1 384) ≡ 2)
-unfolding word setWord say orElse unlessRefused anyOf tabulate slotsOf lineTop paired slotTop verdictOf lineVerdict isValid keyFrom keyOf valueWord valueByte valueFront valueOf made contentBy contentOf content topOf headerWord headerFault imageFault indexFault lentFault markFault kindFault wordFault tailFault faultOf recordFault zipped played marked bodyA bodyB run lineStores recordStores halfFault halvesFault playFault counted playResult filter insert sorted isRecord keyIn weight greatest topmost count nextVersion decider valueIn valueAt mapOf decidingPut live spare liveCount sharedVersion allLive rankOf slots ordered chainOf reuseOf start ahead setNext setStart setLast link firstOf lastOf after nextIn chained takeFirst linkNew append putNew putHeld removeHeld roomFault versionFault reuseFault walk search chainFault slotsFault recoverFault chainsOf placeOf recoveredIndex recoveredState recovered recoverResult formatted noStores unchanged changed putLentFault putLaterFault putFault putDone putResult heldFault removeLaterFault removeFault removeDone removeResult lengthFault getLaterFault getFault getDone getResult toPlay calledChange calledGet called places values playing finished noState worldAfter recoveredWorld cutImage step answers outputs small oneHead twoSlots cut fresh session expected expectedOutputs
+unfolding word setWord say orElse unlessRefused anyOf tabulate slotsOf lineTop paired slotTop verdictOf lineVerdict isValid keyFrom keyOf valueWord valueByte valueFront valueOf made contentBy contentOf content topOf headerWord headerFault imageFault indexFault lentFault markFault kindFault wordFault tailFault faultOf recordFault zipped played marked bodyA bodyB run lineStores recordStores halfFault halvesFault playFault counted playResult filter insert sorted isRecord keyIn weight greatest topmost count nextVersion decider valueIn valueAt mapOf decidingPut live spare liveCount sharedVersion allLive rankOf slots ordered chainOf reuseOf start ahead setNext setStart setLast link firstOf lastOf after nextIn chained takeFirst linkNew append putNew putHeld removeHeld roomFault versionFault reuseFault walk search chainFault slotsFault recoverFault chainsOf placeOf recoveredIndex recoveredState recovered recoverResult formatted noStores unchanged changed putLentFault putLaterFault putFault putDone putResult heldFault removeLaterFault removeFault removeDone removeResult lengthFault getLaterFault getFault getDone getResult toPlay calledChange calledGet called wordNumbers values playing finished noState worldAfter recoveredWorld cutImage step answers outputs small oneHead twoSlots cutAt fresh session expected expectedOutputs
 session-computed = (refl, refl, refl, refl)
 
 pub session-answers : answers 1 fresh session ≡ expected
@@ -48,21 +49,16 @@ session-answers = session-computed .0
 pub session-outputs : outputs 1 fresh session ≡ expectedOutputs
 session-outputs = session-computed .1
 
--- ---- the hypotheses of the cut rule
+-- ---- the hypotheses of the cutAt rule
 
 right-size : indexFault 2 (length oneHead) (length twoSlots) ≡ 0
 unfolding indexFault say oneHead twoSlots
 right-size = refl
 
-nought-bytes : (n k : ℕ) → getD (replicate n 0) k 0 < 256
-nought-bytes zero k = omega arith
-nought-bytes (suc n) zero = omega arith
-nought-bytes (suc n) (suc k) = nought-bytes n k
-
 small-bytes : (n : ℕ) → n < 256 → AreBytes (small n)
 unfolding small
 small-bytes n h zero = h
-small-bytes n h (suc k) = nought-bytes 7 k
+small-bytes n h (suc k) = omega (arith, zeros 7 k)
 
 key-sized : (key : ℕ) → key < 256 → key < (2 ^ 64) ^ 1
 key-sized key h = omega arith
@@ -70,8 +66,8 @@ key-sized key h = omega arith
 sized : (key value : ℕ) → key < 256 → value < 256 → Typed 1 (put key (small value))
 sized key value k v = put-typed (key-sized key k) (small-bytes value v)
 
-cut-fits : (a b : ℕ) → a ≤ 8 → b ≤ 8 → CutFits 2 (cut a b)
-unfolding cut
+cut-fits : (a b : ℕ) → a ≤ 8 → b ≤ 8 → CutFits 2 (cutAt a b)
+unfolding cutAt
 cut-fits a b p q = record { few-a = p; few-b = q; size = right-size }
 
 session-fits : All (Fits 1 2) session
@@ -83,7 +79,7 @@ session-fits =
     (one-more (done-fits get-typed) (one-more (done-fits (remove-typed (key-sized 7 (omega arith)))) (one-more (done-fits get-typed)
     (one-more (done-fits (sized 8 5 (omega arith) (omega arith))) none-left)))))))
 
--- AN INSTANCE of the cut rule
+-- AN INSTANCE of the cutAt rule
 pub session-holds : AllRight 1 fresh (slotsMap 1 (formatted 1 384)) session
 unfolding fresh
 session-holds = cut-rule (formatted 1 384) oneHead twoSlots (session-computed .2) session (rw (session-computed .3) session-fits)

@@ -62,6 +62,7 @@ pub record CutFits (n : ℕ) (cut : Cut) : Type 0 where
   pub few-b : cut .b ≤ 8
   pub size : indexFault n (length (cut .heads)) (length (cut .next)) ≡ 0
 
+-- an event in an image of n slots: its call's fields are numbers of their size, and its cut fits
 pub data Fits (l n : ℕ) : Event → Type 0 where
   done-fits : {call : Call} → Typed l call → Fits l n (done call)
   struck-fits : {call : Call} {cut : Cut} → Typed l call → CutFits n cut → Fits l n (struck call cut)

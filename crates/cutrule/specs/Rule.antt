@@ -22,10 +22,10 @@ pub record Recovers (l : ℕ) (image : List ℕ) (m : PlainMap) : Type 0 where
   pub slots : (key : ℕ) → slotsMap l image key ≡ m key
   pub accepts : (heads next : List ℕ) → RightSize image heads next → refusalIn (recoverResult l image heads next .answer) ≡ 0
   pub reads : (heads next : List ℕ) → RightSize image heads next → Reads l (recoveredWorld l image heads next) m
-  -- the keys that the plain map holds, each once: as many as slots are live
+  -- there is a list of the keys that the plain map holds, and every such list is as long as slots are live
   pub keys : List ℕ
   pub held : Keys m keys
-  pub count : liveCount (tableOf l image) (slotsIn image) ≡ length keys
+  pub count : (ks : List ℕ) → Keys m ks → liveCount (tableOf l image) (slotsIn image) ≡ length ks
   pub again :
       (heads next heads′ next′ : List ℕ) → RightSize image heads next → length heads ≡ length heads′ → length next ≡ length next′
       → recoverResult l image heads next ≡ recoverResult l image heads′ next′

@@ -28,8 +28,8 @@ oneHead = 9 ∷ []
 unfoldable pub twoSlots : List ℕ
 twoSlots = 9 ∷ 9 ∷ 9 ∷ []
 
-unfoldable pub cut : (a b : ℕ) → Cut
-cut a b = record { a = a; b = b; heads = oneHead; next = twoSlots }
+unfoldable pub cutAt : (a b : ℕ) → Cut
+cutAt a b = record { a = a; b = b; heads = oneHead; next = twoSlots }
 
 -- "n 2": format and recover
 unfoldable pub fresh : World
@@ -38,10 +38,10 @@ fresh = recoveredWorld 1 (formatted 1 384) oneHead twoSlots
 -- "p 7 100 / p 8 5 / p 7 101 / c 8 3 / p 7 102 / g 7 / r 7 / g 7 / p 8 5"
 unfoldable pub session : List Event
 session =
-    done (put 7 (small 100)) ∷ done (put 8 (small 5)) ∷ done (put 7 (small 101)) ∷ struck (put 7 (small 102)) (cut 8 3)
+    done (put 7 (small 100)) ∷ done (put 8 (small 5)) ∷ done (put 7 (small 101)) ∷ struck (put 7 (small 102)) (cutAt 8 3)
     ∷ done (get 7 (replicate 8 0)) ∷ done (remove 7) ∷ done (get 7 (replicate 8 0)) ∷ done (put 8 (small 5)) ∷ []
 
--- "ok 1 1 / no 12 / ok 2 2 / cut 8 3 / ok 1 3 / found 101 / ok 1 4 / absent / ok 2 5"
+-- "ok 1 1 / no 12 / ok 2 2 / cutAt 8 3 / ok 1 3 / found 101 / ok 1 4 / absent / ok 2 5"
 unfoldable pub expected : List Answer
 expected =
     gives (1 ∷ 1 ∷ []) ∷ refused 12 ∷ gives (2 ∷ 2 ∷ []) ∷ gives (1 ∷ 3 ∷ []) ∷ gives (8 ∷ []) ∷ gives (1 ∷ 4 ∷ []) ∷ absent

@@ -1,1 +1,1 @@
-// The cut rule: definitions and one theorem over the public calls. Definitions alone.
+// The cut rule: definitions and one theorem over the public calls.

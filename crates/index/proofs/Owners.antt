@@ -33,13 +33,13 @@ pub data Which (c k : Chain) : Type 0 where
 pub apart-heads : (h k : ℕ) → head h ≡ head k → h ≡ k
 apart-heads h k e = cc
 
-reuse-head : (h : ℕ) → reuse ≡ head h → ⊥
-reuse-head h e = let z : _≡_ {A = ℕ} 0 1 = cc in omega arith
+pub reuse-apart : (h : ℕ) → reuse ≡ head h → ⊥
+reuse-apart h e = let z : _≡_ {A = ℕ} 0 1 = cc in omega arith
 
 pub which : (c k : Chain) → Which c k
 which reuse reuse = that refl refl
-which reuse (head k) = other refl (reuse-head k)
-which (head h) reuse = other refl (λ e. reuse-head h (sym e))
+which reuse (head k) = other refl (reuse-apart k)
+which (head h) reuse = other refl (λ e. reuse-apart h (sym e))
 which (head h) (head k) = go (told h k)
   where
     go : Told h k → Which (head h) (head k)
@@ -203,9 +203,6 @@ give-swap owner s t o p n = fun-ext (λ x. go x (told x s) (told x t))
     go x (isnt a m) (isnt b g) =
         give-other (give owner s o) t p x g ∙ give-other owner s o x m ∙ sym
         (give-other (give owner t p) s o x m ∙ give-other owner t p x g)
-
-pub reuse-apart : (h : ℕ) → reuse ≡ head h → ⊥
-reuse-apart h e = reuse-head h e
 
 pub give-idle : (owner : ℕ → Owner) (s : ℕ) (o : Owner) → owner s ≡ o → give owner s o ≡ owner
 give-idle owner s o e = fun-ext (λ x. go x (told x s))

@@ -50,21 +50,21 @@ good-search l image i owner chains key f w z m =
 
 -- ---- the search of a list
 
-pub sought-at : (key : ℕ → ℕ) (k : ℕ) (xs : List ℕ) (x : ℕ) (ys : List ℕ) (seen prev : ℕ) → key x ≡ k → ((y : ℕ) → In y xs → key y ≡ k → ⊥)
+pub search-in-at : (key : ℕ → ℕ) (k : ℕ) (xs : List ℕ) (x : ℕ) (ys : List ℕ) (seen prev : ℕ) → key x ≡ k → ((y : ℕ) → In y xs → key y ≡ k → ⊥)
     → searchIn key k seen prev (xs ++ x ∷ ys) ≡ At x (endOf prev xs) (seen + length xs + 1)
 unfolding searchIn
-sought-at key k [] x ys seen prev e n = rw (eq-eqb (key x) k e) (ap (λ (c : ℕ). At x prev c) (omega arith))
-sought-at key k (y ∷ xs) x ys seen prev e n =
+search-in-at key k [] x ys seen prev e n = rw (eq-eqb (key x) k e) (ap (λ (c : ℕ). At x prev c) (omega arith))
+search-in-at key k (y ∷ xs) x ys seen prev e n =
     rw (ne-eqb (key y) k (n y (inl refl)))
-    (sought-at key k xs x ys (seen + 1) y e (λ z m. n z (inr m)) ∙ ap (λ (c : ℕ). At x (endOf y xs) c) (omega arith))
+    (search-in-at key k xs x ys (seen + 1) y e (λ z m. n z (inr m)) ∙ ap (λ (c : ℕ). At x (endOf y xs) c) (omega arith))
 
-pub sought-absent : (key : ℕ → ℕ) (k : ℕ) (xs : List ℕ) (seen prev : ℕ) → ((y : ℕ) → In y xs → key y ≡ k → ⊥)
+pub search-in-absent : (key : ℕ → ℕ) (k : ℕ) (xs : List ℕ) (seen prev : ℕ) → ((y : ℕ) → In y xs → key y ≡ k → ⊥)
     → searchIn key k seen prev xs ≡ Missing (endOf prev xs) (seen + length xs)
 unfolding searchIn
-sought-absent key k [] seen prev n = ap (λ (c : ℕ). Missing prev c) (omega arith)
-sought-absent key k (y ∷ xs) seen prev n =
+search-in-absent key k [] seen prev n = ap (λ (c : ℕ). Missing prev c) (omega arith)
+search-in-absent key k (y ∷ xs) seen prev n =
     rw (ne-eqb (key y) k (n y (inl refl)))
-    (sought-absent key k xs (seen + 1) y (λ z m. n z (inr m)) ∙ ap (λ (c : ℕ). Missing (endOf y xs) c) (omega arith))
+    (search-in-absent key k xs (seen + 1) y (λ z m. n z (inr m)) ∙ ap (λ (c : ℕ). Missing (endOf y xs) c) (omega arith))
 
 -- a list has the key at a first place, or nowhere
 pub data Seen (key : ℕ → ℕ) (k : ℕ) (l : List ℕ) : Type 0 where
@@ -93,18 +93,18 @@ pub record Hit (key : ℕ → ℕ) (k : ℕ) (l : List ℕ) (s prev count : ℕ)
   pub count-is : count ≡ length before + 1
   pub key-is : key s ≡ k
 
-pub sought-hit : (key : ℕ → ℕ) (k : ℕ) (l : List ℕ) (s prev count : ℕ) → searchIn key k 0 0 l ≡ At s prev count → Hit key k l s prev count
-sought-hit key k l s prev count q = go (seen key k l)
+pub search-in-hit : (key : ℕ → ℕ) (k : ℕ) (l : List ℕ) (s prev count : ℕ) → searchIn key k 0 0 l ≡ At s prev count → Hit key k l s prev count
+search-in-hit key k l s prev count q = go (seen key k l)
   where
     go : Seen key k l → Hit key k l s prev count
     go (hit xs x ys d e n) =
-        let a : searchIn key k 0 0 l ≡ At x (endOf 0 xs) (0 + length xs + 1) = rw d (sought-at key k xs x ys 0 0 e n) in
+        let a : searchIn key k 0 0 l ≡ At x (endOf 0 xs) (0 + length xs + 1) = rw d (search-in-at key k xs x ys 0 0 e n) in
         let es : s ≡ x = cc in
         let ep : prev ≡ endOf 0 xs = cc in
         let ec : count ≡ 0 + length xs + 1 = cc in
         record { before = xs; behind = ys; parts = rw es d; prev-is = ep; count-is = omega arith; key-is = rw es e }
     go (miss n) =
-        let a : searchIn key k 0 0 l ≡ Missing (endOf 0 l) (0 + length l) = sought-absent key k l 0 0 n in
+        let a : searchIn key k 0 0 l ≡ Missing (endOf 0 l) (0 + length l) = search-in-absent key k l 0 0 n in
         let z : _≡_ {A = ℕ} 0 1 = cc in
         absurd (omega arith)
 
@@ -113,30 +113,30 @@ pub record Missed (key : ℕ → ℕ) (k : ℕ) (l : List ℕ) (prev count : ℕ
   pub count-is : count ≡ length l
   pub none : (y : ℕ) → In y l → key y ≡ k → ⊥
 
-pub sought-missed : (key : ℕ → ℕ) (k : ℕ) (l : List ℕ) (prev count : ℕ) → searchIn key k 0 0 l ≡ Missing prev count → Missed key k l prev count
-sought-missed key k l prev count q = go (seen key k l)
+pub search-in-missed : (key : ℕ → ℕ) (k : ℕ) (l : List ℕ) (prev count : ℕ) → searchIn key k 0 0 l ≡ Missing prev count → Missed key k l prev count
+search-in-missed key k l prev count q = go (seen key k l)
   where
     go : Seen key k l → Missed key k l prev count
     go (hit xs x ys d e n) =
-        let a : searchIn key k 0 0 l ≡ At x (endOf 0 xs) (0 + length xs + 1) = rw d (sought-at key k xs x ys 0 0 e n) in
+        let a : searchIn key k 0 0 l ≡ At x (endOf 0 xs) (0 + length xs + 1) = rw d (search-in-at key k xs x ys 0 0 e n) in
         let z : _≡_ {A = ℕ} 0 1 = cc in
         absurd (omega arith)
     go (miss n) =
-        let a : searchIn key k 0 0 l ≡ Missing (endOf 0 l) (0 + length l) = sought-absent key k l 0 0 n in
+        let a : searchIn key k 0 0 l ≡ Missing (endOf 0 l) (0 + length l) = search-in-absent key k l 0 0 n in
         let ep : prev ≡ endOf 0 l = cc in
         let ec : count ≡ 0 + length l = cc in
         record { prev-is = ep; count-is = omega arith; none = n }
 
 -- a search of a list never breaks off
-pub never-broken : (key : ℕ → ℕ) (k : ℕ) (l : List ℕ) → searchIn key k 0 0 l ≡ BadChain → ⊥
-never-broken key k l q = go (seen key k l)
+pub never-bad : (key : ℕ → ℕ) (k : ℕ) (l : List ℕ) → searchIn key k 0 0 l ≡ BadChain → ⊥
+never-bad key k l q = go (seen key k l)
   where
     go : Seen key k l → ⊥
     go (hit xs x ys d e n) =
-        let a : searchIn key k 0 0 l ≡ At x (endOf 0 xs) (0 + length xs + 1) = rw d (sought-at key k xs x ys 0 0 e n) in
+        let a : searchIn key k 0 0 l ≡ At x (endOf 0 xs) (0 + length xs + 1) = rw d (search-in-at key k xs x ys 0 0 e n) in
         let z : _≡_ {A = ℕ} 0 1 = cc in
         omega arith
     go (miss n) =
-        let a : searchIn key k 0 0 l ≡ Missing (endOf 0 l) (0 + length l) = sought-absent key k l 0 0 n in
+        let a : searchIn key k 0 0 l ≡ Missing (endOf 0 l) (0 + length l) = search-in-absent key k l 0 0 n in
         let z : _≡_ {A = ℕ} 0 1 = cc in
         omega arith

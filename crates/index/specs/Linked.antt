@@ -53,7 +53,7 @@ pub record WellFormed (i : Index) (owner : ℕ → Owner) (chains : Chain → Li
   pub disjoint : Disjoint i owner chains
   pub ends : i .last ≡ endOf 0 (chains reuse)
 
--- ---- the slots of a list, each in its place
+-- ---- the slots 1 to n, each in its place
 
 -- the slots 1 to n, each in the chain that `place` names
 unfoldable pub placed : (n : ℕ) → (place : ℕ → Chain) → ℕ → Owner

@@ -15,7 +15,7 @@ use Rattle.words.proofs.Laws.{word-digit}
 use Rattle.layout.specs.Line.{lineA, lineB}
 use Rattle.layout.specs.Record.{keyFrom, keyOf, kindOf, lengthOf, limit, valueWord, valueByte}
 use Rattle.layout.specs.inner.Inside.{SlotInside}
-use Rattle.layout.proofs.defs.Inside.{valueByteAt}
+use Rattle.layout.proofs.defs.ValueBytes.{valueByteAt}
 use Rattle.layout.specs.Fault.{kindFault, wordFault, tailFault, faultOf}
 use Rattle.prelude.proofs.Choice.{pick-true, pick-false}
 use Rattle.prelude.proofs.Any.{or-none}

@@ -16,10 +16,10 @@ unfoldable pub kindFault : ℕ → Bool
 kindFault kind = cond (eqb kind 1) false (cond (eqb kind 2) false true)
 
 -- "6 when a valid slot has another kind, bits above the length byte, a length over 80 .. or a remove with a length": by the kind word
-unfoldable pub wordFault : (l word : ℕ) → Bool
-wordFault l word =
-    cond (kindFault (kindOf word)) true
-    (cond (leb 65536 word) true (cond (ltb (limit l) (lengthOf word)) true (cond (eqb (kindOf word) 2) (ltb 0 (lengthOf word)) false)))
+unfoldable pub wordFault : (l w : ℕ) → Bool
+wordFault l w =
+    cond (kindFault (kindOf w)) true
+    (cond (leb 65536 w) true (cond (ltb (limit l) (lengthOf w)) true (cond (eqb (kindOf w) 2) (ltb 0 (lengthOf w)) false)))
 
 -- a byte of the value from place `size` on is not zero
 unfoldable pub tailFault : (l : ℕ) → (A B : ℕ → ℕ) → (size : ℕ) → Bool

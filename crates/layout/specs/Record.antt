@@ -29,10 +29,10 @@ abbrev pub kindWord : (kind size : ℕ) → ℕ
 kindWord kind size = kind + 256 * size
 
 abbrev pub kindOf : ℕ → ℕ
-kindOf word = word % 256
+kindOf w = w % 256
 
 abbrev pub lengthOf : ℕ → ℕ
-lengthOf word = word / 256 % 256
+lengthOf w = w / 256 % 256
 
 -- the greatest length of a value: 80 in layout 1
 abbrev pub limit : ℕ → ℕ

@@ -28,7 +28,7 @@ use Rattle.plainmap.specs.Claims.{slotsMap}
 use Rattle.plainmap.proofs.Struck.{made-record, TableCut, kept, done, lost, nextRecord, nextStores, struckImage, struck-length, struck-table, struck-accepted}
 use Rattle.plainmap.proofs.Outcomes.{worldWith, SomeSound, Wrote}
 use Rattle.plainmap.proofs.CallSteps.{Stepped, stored-none, stored-record}
-use Rattle.stores.specs.Play.{playEnd, playListResult, listFault, places, values}
+use Rattle.stores.specs.Play.{playEnd, playListResult, listFault, wordNumbers, values}
 use Rattle.prelude.specs.Range.{anyOf}
 use Rattle.prelude.specs.Refusal.{say, unlessRefused}
 use Rattle.plainmap.proofs.Playing.{list-record, playing-none}
@@ -67,8 +67,8 @@ module _ (f f′ : Table) (n s key : ℕ) (c : Content) (a b : ℕ) (slot : Slot
 abbrev pub playedImage : (l : ℕ) → World → Call → (a b : ℕ) → List ℕ
 playedImage l w call a b = playing (w .image) (called l w call .stores) a b
 
-nothing-listed : (image : List ℕ) → playListResult image (places []) (values []) ≡ playEnd 0 (playing image [] 8 8)
-unfolding playListResult listFault places values played zipped anyOf say unlessRefused
+nothing-listed : (image : List ℕ) → playListResult image (wordNumbers []) (values []) ≡ playEnd 0 (playing image [] 8 8)
+unfolding playListResult listFault wordNumbers values played zipped anyOf say unlessRefused
 nothing-listed image = ap (playEnd 0) (sym (playing-none image 8 8))
 
 -- it is accepted, as long as before, and its map made the plain map's step where all stores stand
@@ -164,10 +164,10 @@ module _ (l : ℕ) (w : World) (call : Call) (accepted : Accepted l (w .image)) 
 
   -- THE PLAY OF A LIST of a call's stores leaves the image that play with 8 and 8 leaves
   pub after-list : Stepped l w call
-      → playListResult (w .image) (places (called l w call .stores)) (values (called l w call .stores)) ≡ playEnd 0 (finished l w call .image)
+      → playListResult (w .image) (wordNumbers (called l w call .stores)) (values (called l w call .stores)) ≡ playEnd 0 (finished l w call .image)
   unfolding finished
   after-list (stored-none none sound same) =
-      ap (λ (ss : List Store). playListResult (w .image) (places ss) (values ss)) none
+      ap (λ (ss : List Store). playListResult (w .image) (wordNumbers ss) (values ss)) none
       ∙ nothing-listed (w .image) ∙ ap (λ (ss : List Store). playEnd 0 (playing (w .image) ss 8 8)) (sym none)
   after-list (stored-record key kind value i alive d wr step) =
       list-record l (w .image) _ (w .state .first) key kind value _ (accepted-slots l (w .image) accepted)

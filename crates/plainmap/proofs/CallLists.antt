@@ -9,15 +9,14 @@ use Rattle.words.specs.Word.{word}
 use Rattle.prelude.specs.Answer.{gives, absent}
 use Rattle.layout.specs.Size.{slotsOf, slotsIn}
 use Rattle.layout.specs.Content.{empty, Table, tableOf}
-use Rattle.table.specs.Table.{weight, valueAt, mapOf}
+use Rattle.table.specs.Table.{weight, valueAt, mapOf, isHeld}
 use Rattle.prelude.specs.Members.{Slot, All, none-left, one-more}
-use Rattle.table.specs.Write.{isHeld}
 use Rattle.table.proofs.Map.{decider-none}
 use Rattle.index.specs.Index.{Chain}
 use Rattle.recovery.specs.Recover.{slotsFault}
 use Rattle.calls.specs.Format.{formatted}
 use Rattle.calls.proofs.Formats.{formatted-length, formatted-fault, formatted-content}
-use Rattle.plainmap.proofs.Formats.{formatted-slots}
+use Rattle.plainmap.proofs.FormattedImages.{formatted-slots}
 use Rattle.plainmap.specs.World.{World, Call, put, remove, get, outOf, called, finished, worldAfter, recoveredWorld}
 use Rattle.plainmap.specs.Plain.{PlainMap, operation, plainStep, plainAnswer, plainOut}
 use Rattle.plainmap.specs.Accepted.{Accepted, RightSize}

@@ -6,7 +6,6 @@ pub mod Refuses
 pub mod Sounds
 pub mod Rights
 pub mod Afters
-pub mod Formats
 pub mod SoundWrites
 pub mod Outcomes
 pub mod GetAnswers
@@ -14,3 +13,4 @@ pub mod CallSteps
 pub mod AcceptedImages
 pub mod CallLists
 pub mod IsMap
+pub mod FormattedImages

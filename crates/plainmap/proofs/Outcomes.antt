@@ -18,10 +18,9 @@ use Rattle.layout.specs.Content.{Content, made, Table, tableOf}
 use Rattle.layout.specs.Header.{lentFault}
 use Rattle.prelude.proofs.Refusals.{say-zero, orElse-zero, taken-leaves, refused-keeps}
 use Rattle.stores.specs.Cut.{Fields, Lawful, a-put, a-remove}
-use Rattle.table.specs.Table.{mapOf, live, liveCount, nextVersion}
+use Rattle.table.specs.Table.{mapOf, live, liveCount, nextVersion, isHeld}
 use Rattle.prelude.specs.Members.{Slot}
 use Rattle.table.proofs.defs.Write.{Free, only, isPut, upd}
-use Rattle.table.specs.Write.{isHeld}
 use Rattle.table.proofs.defs.Reuse.{Spares}
 use Rattle.table.specs.Reuse.{HiddenFirst}
 use Rattle.table.proofs.Hidden.{head-free}

@@ -16,40 +16,40 @@ use Rattle.prelude.proofs.Refusals.{taken-leaves, alike, refused-keeps}
 use Rattle.prelude.proofs.Tabulate.{tabulate-length, tabulate-get}
 use Rattle.stores.specs.Store.{Store, zipped, played, standing}
 use Rattle.stores.specs.Written.{run, lineStores, recordStores}
-use Rattle.stores.specs.inner.Written.{recordPlaces}
-use Rattle.stores.specs.Play.{halfFault, playFault, counted, playResult, places, values, playEnd, playListResult}
+use Rattle.stores.specs.inner.Written.{recordNumbers}
+use Rattle.stores.specs.Play.{halfFault, playFault, counted, playResult, wordNumbers, values, playEnd, playListResult}
 use Rattle.stores.proofs.Plays.{half-order, halves-fine, play-halves}
 use Rattle.stores.proofs.Halves.{play-stands, list-plays, playable}
 use Rattle.plainmap.specs.World.{playing}
 
 -- the stores are their word numbers and values
-pub zipped-stores : (ss : List Store) → zipped (places ss) (values ss) ≡ ss
-unfolding zipped places values
+pub zipped-stores : (ss : List Store) → zipped (wordNumbers ss) (values ss) ≡ ss
+unfolding zipped wordNumbers values
 zipped-stores [] = refl
 zipped-stores (s ∷ ss) = ap (λ (t : List Store). s ∷ t) (zipped-stores ss)
 
 -- ---- a record's stores pass play's tests
 
 record-places : (l : ℕ) (m : ℕ → ℕ) (s key kind : ℕ) (value : List ℕ) (version : ℕ)
-    → places (recordStores l m s key kind value version) ≡ recordPlaces s
-unfolding places recordStores lineStores run recordPlaces tabulate
+    → wordNumbers (recordStores l m s key kind value version) ≡ recordNumbers s
+unfolding wordNumbers recordStores lineStores run recordNumbers tabulate
 record-places l m s key kind value version = refl
 
-first-line : (s i : ℕ) → i < 8 → getD (recordPlaces s) i 0 ≡ 8 * (2 * s) + i
-unfolding recordPlaces
+first-line : (s i : ℕ) → i < 8 → getD (recordNumbers s) i 0 ≡ 8 * (2 * s) + i
+unfolding recordNumbers
 first-line s i h =
     List·getD-append (tabulate (λ j. 8 * (2 * s) + j) 0 8) _ 0 i (omega (arith, tabulate-length (λ j. 8 * (2 * s) + j) 0 8))
     ∙ tabulate-get (λ j. 8 * (2 * s) + j) 0 8 i h ∙ omega arith
 
-second-line : (s i : ℕ) → i < 8 → getD (recordPlaces s) (8 + i) 0 ≡ 8 * (2 * s + 1) + i
-unfolding recordPlaces
+second-line : (s i : ℕ) → i < 8 → getD (recordNumbers s) (8 + i) 0 ≡ 8 * (2 * s + 1) + i
+unfolding recordNumbers
 second-line s i h =
-    ap (λ (x : ℕ). getD (recordPlaces s) (x + i) 0) (sym (tabulate-length (λ j. 8 * (2 * s) + j) 0 8))
+    ap (λ (x : ℕ). getD (recordNumbers s) (x + i) 0) (sym (tabulate-length (λ j. 8 * (2 * s) + j) 0 8))
     ∙ getD-append-add (tabulate (λ j. 8 * (2 * s) + j) 0 8) _ i 0
     ∙ tabulate-get (λ j. 8 * (2 * s + 1) + j) 0 8 i h ∙ omega arith
 
-places-length : (s : ℕ) → length (recordPlaces s) ≡ 16
-unfolding recordPlaces tabulate
+places-length : (s : ℕ) → length (recordNumbers s) ≡ 16
+unfolding recordNumbers tabulate
 places-length s = refl
 
 -- words 0 to 7 of line n inside the image, in order
@@ -65,29 +65,29 @@ half-passes len at k n h order =
 
 pub record-passes : (l len : ℕ) (m : ℕ → ℕ) (s key kind : ℕ) (value : List ℕ) (version a b : ℕ)
     → (slotsOf len ≡ 0 → ⊥) → 128 * (s + 1) ≤ len → a ≤ 8 → b ≤ 8
-    → playFault len (places (recordStores l m s key kind value version)) a b ≡ 0
+    → playFault len (wordNumbers (recordStores l m s key kind value version)) a b ≡ 0
 record-passes l len m s key kind value version a b ne h p q =
     ap (λ (at : List ℕ). playFault len at a b) (record-places l m s key kind value version)
     ∙ sym
-    (play-halves len (recordPlaces s) a b (slotsOf len) refl ne p q 0
-    (halves-fine len (recordPlaces s) false
-    (sym (half-passes len (recordPlaces s) 0 (2 * s) (omega arith) (λ i k. first-line s (0 + i) (omega arith) ∙ omega arith))) refl false
-    (sym (half-passes len (recordPlaces s) 8 (2 * s + 1) (omega arith) (second-line s))) refl
-    (λ (e : getD (recordPlaces s) 0 0 ≡ getD (recordPlaces s) 8 0).
+    (play-halves len (recordNumbers s) a b (slotsOf len) refl ne p q 0
+    (halves-fine len (recordNumbers s) false
+    (sym (half-passes len (recordNumbers s) 0 (2 * s) (omega arith) (λ i k. first-line s (0 + i) (omega arith) ∙ omega arith))) refl false
+    (sym (half-passes len (recordNumbers s) 8 (2 * s + 1) (omega arith) (second-line s))) refl
+    (λ (e : getD (recordNumbers s) 0 0 ≡ getD (recordNumbers s) 8 0).
     omega (arith, first-line s 0 (omega arith), second-line s 0 (omega arith)))))
 
 -- ---- play is what a cut leaves
 
 -- the counted stores, where play does not refuse them
-playing-counted : (image : List ℕ) (ss : List Store) (a b : ℕ) → playFault (length image) (places ss) a b ≡ 0
+playing-counted : (image : List ℕ) (ss : List Store) (a b : ℕ) → playFault (length image) (wordNumbers ss) a b ≡ 0
     → playing image ss a b ≡ played (counted a b ss) image
 unfolding playing playResult
 playing-counted image ss a b e =
-    taken-leaves _ image (playFault (length image) (places ss) a b) e ∙ ap (λ (t : List Store). played (counted a b t) image) (zipped-stores ss)
+    taken-leaves _ image (playFault (length image) (wordNumbers ss) a b) e ∙ ap (λ (t : List Store). played (counted a b t) image) (zipped-stores ss)
 
 -- no stores: play refuses them, since they are not two lines
 pub playing-none : (image : List ℕ) (a b : ℕ) → playing image [] a b ≡ image
-unfolding playing playResult places
+unfolding playing playResult wordNumbers
 playing-none image a b =
     refused-keeps _ image (playFault (length image) [] a b)
     (λ z. let h = playable (length image) [] a b z .first .order 1 (omega arith) in omega (arith, h))
@@ -101,28 +101,28 @@ playing-record l image m s key kind value version a b counts ne h p q e f =
     playing-counted image ss a b passes
     ∙ ap (λ (t : List Store). played t image)
     (ap (counted a b) (sym (zipped-stores ss))
-    ∙ play-stands (length image) (places ss) (values ss) a b counts (ap length (record-places l m s key kind value version) ∙ places-length s) passes
+    ∙ play-stands (length image) (wordNumbers ss) (values ss) a b counts (ap length (record-places l m s key kind value version) ∙ places-length s) passes
     (ap counts (line-of 0 (2 * s) (first-line s 0 (omega arith))) ∙ e) (ap counts (line-of 8 (2 * s + 1) (second-line s 0 (omega arith))) ∙ f)
     ∙ ap (standing counts) (zipped-stores ss))
   where
     ss : List Store
     ss = recordStores l m s key kind value version
 
-    passes : playFault (length image) (places ss) a b ≡ 0
+    passes : playFault (length image) (wordNumbers ss) a b ≡ 0
     passes = record-passes l (length image) m s key kind value version a b ne h p q
 
-    line-of : (k n : ℕ) → getD (recordPlaces s) k 0 ≡ 8 * n + 0 → getD (places ss) k 0 / 8 ≡ n
+    line-of : (k n : ℕ) → getD (recordNumbers s) k 0 ≡ 8 * n + 0 → getD (wordNumbers ss) k 0 / 8 ≡ n
     line-of k n d = omega (arith, ap (λ (at : List ℕ). getD at k 0) (record-places l m s key kind value version), d)
 
 -- THE PLAY OF A LIST of a record's stores leaves what play with 8 and 8 leaves
 pub list-record : (l : ℕ) (image : List ℕ) (m : ℕ → ℕ) (s key kind : ℕ) (value : List ℕ) (version : ℕ)
     → (slotsIn image ≡ 0 → ⊥) → 128 * (s + 1) ≤ length image → (ss : List Store) → ss ≡ recordStores l m s key kind value version
-    → playListResult image (places ss) (values ss) ≡ playEnd 0 (playing image ss 8 8)
-unfolding playResult playing recordStores lineStores run places values
+    → playListResult image (wordNumbers ss) (values ss) ≡ playEnd 0 (playing image ss 8 8)
+unfolding playResult playing recordStores lineStores run wordNumbers values
 list-record l image m s key kind value version ne h ss e =
     let z = record-passes l (length image) m s key kind value version 8 8 ne h (omega arith) (omega arith) in
-    ap (λ (t : List Store). playListResult image (places t) (values t)) e
-    ∙ list-plays image (places (recordStores l m s key kind value version)) (values (recordStores l m s key kind value version)) refl refl z
+    ap (λ (t : List Store). playListResult image (wordNumbers t) (values t)) e
+    ∙ list-plays image (wordNumbers (recordStores l m s key kind value version)) (values (recordStores l m s key kind value version)) refl refl z
     ∙ ap (λ (k : ℕ). playEnd k (playing image (recordStores l m s key kind value version) 8 8)) z
     ∙ ap (λ (t : List Store). playEnd 0 (playing image t 8 8)) (sym e)
 

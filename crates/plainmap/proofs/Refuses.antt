@@ -15,9 +15,8 @@ use Rattle.layout.specs.Record.{limit}
 use Rattle.layout.specs.Header.{lentFault}
 use Rattle.prelude.proofs.Refusals.{say-false, orElse-later}
 use Rattle.layout.specs.Content.{Table, tableOf}
-use Rattle.table.specs.Table.{decider, valueIn, mapOf, live, liveCount}
+use Rattle.table.specs.Table.{decider, valueIn, mapOf, live, liveCount, isHeld}
 use Rattle.prelude.specs.Members.{Slot}
-use Rattle.table.specs.Write.{isHeld}
 use Rattle.prelude.proofs.Count.{count-more}
 use Rattle.table.proofs.Held.{Held, held, unheld, held-or, some-none}
 use Rattle.index.specs.Index.{Index, Chain, reuse}

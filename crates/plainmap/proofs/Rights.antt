@@ -8,8 +8,7 @@ use native.Mathlib.Omega.{arith}
 use Rattle.prelude.specs.Answer.{Answer, gives, absent, refused, refusalIn, refuses}
 use Rattle.prelude.proofs.defs.Answer.{isRefusal}
 use Rattle.stores.specs.Store.{Store}
-use Rattle.table.specs.Table.{nextVersion}
-use Rattle.table.specs.Write.{isHeld}
+use Rattle.table.specs.Table.{nextVersion, isHeld}
 use Rattle.calls.specs.Change.{ChangeResult, changed, unchanged}
 use Rattle.plainmap.specs.World.{World, Call, outOf, Called, toPlay, calledChange, called, put, remove, get}
 use Rattle.layout.specs.Size.{slotsIn}

@@ -23,10 +23,10 @@ use Rattle.index.specs.declared.Found.{Found}
 use Rattle.index.specs.declared.Found.the-variants.{At, Missing, BadChain}
 use Rattle.index.proofs.Owners.{apart-heads, reuse-apart}
 use Rattle.index.proofs.Sits.{sits-in, sits-has, sits-once}
-use Rattle.index.proofs.Searches.{good-search, sought-hit, sought-missed, never-broken}
+use Rattle.index.proofs.Searches.{good-search, search-in-hit, search-in-missed, never-bad}
 use Rattle.recovery.specs.Recover.{placeOf}
 use Rattle.recovery.specs.Represents.{Answers}
-use Rattle.recovery.proofs.Answers.{live-slot-key, chain-at, chain-absent, sought-answers}
+use Rattle.recovery.proofs.Answers.{live-slot-key, chain-at, chain-absent, search-in-answers}
 use Rattle.plainmap.specs.World.{World}
 use Rattle.layout.specs.Size.{slotsIn}
 use Rattle.plainmap.specs.Sound.{Starts, starts, Sound}
@@ -102,18 +102,18 @@ live-some f n s (lives w k v e d) = (v, ap valueIn e)
 module _
     (l : ℕ) (image : List ℕ) (f : Table) (n b key : ℕ) (keys : (s : ℕ) → live f n s ≡ true → keyIn (f s) ≡ slotKey l image s)
     (ch : ℕ → List ℕ) (cs : Chains f n (λ k. headOf k b) ch) where
-  pub sought-sees : (found : Found) → found ≡ searchIn (slotKey l image) key 0 0 (ch (headOf key b)) → Sees f n key (ch (headOf key b)) found
+  pub search-in-sees : (found : Found) → found ≡ searchIn (slotKey l image) key 0 0 (ch (headOf key b)) → Sees f n key (ch (headOf key b)) found
   unfolding mapOf
-  sought-sees (At old prev compared) e =
-      let h = sought-hit _ _ _ _ _ _ (sym e) in
+  search-in-sees (At old prev compared) e =
+      let h = search-in-hit _ _ _ _ _ _ (sym e) in
       let a = chain-at l image f n b key keys ch cs old prev compared h in
       let v = live-some f n old (live-is f n old (a .1)) in
       sees-held (h .before) (h .behind) (v .0) (h .parts) (h .prev-is) (a .2) (a .0) (a .1)
       (ap (valueAt f) (a .0) ∙ value-at f n old (a .2) ∙ v .1) (v .1)
-  sought-sees (Missing prev compared) e =
-      let h = sought-missed _ _ _ _ _ (sym e) in
+  search-in-sees (Missing prev compared) e =
+      let h = search-in-missed _ _ _ _ _ (sym e) in
       sees-absent (h .prev-is) (chain-absent l image f n b key keys ch cs prev compared h)
-  sought-sees BadChain e = absurd (never-broken _ _ _ (sym e))
+  search-in-sees BadChain e = absurd (never-bad _ _ _ (sym e))
 
 -- ---- in a sound world
 
@@ -140,11 +140,11 @@ module _ (l : ℕ) (w : World) (chains : Chain → List ℕ) (s : Sound l w chai
       → Sees (tableOf l (w .image)) (slotsIn (w .image)) key (chains (head (headOf key (length (w .heads)))))
       (search l (w .image) (w .heads) (w .next) key)
   sound-sees key =
-      sought-sees l (w .image) (tableOf l (w .image)) (slotsIn (w .image)) (length (w .heads)) key
+      search-in-sees l (w .image) (tableOf l (w .image)) (slotsIn (w .image)) (length (w .heads)) key
       (live-slot-key l (w .image) (slotsIn (w .image))) (λ h. chains (head h)) sound-chains _ (sound-search key)
 
   pub sound-answers : (key : ℕ)
       → Answers (tableOf l (w .image)) (slotsIn (w .image)) key (search l (w .image) (w .heads) (w .next) key)
   sound-answers key =
-      sought-answers l (w .image) (tableOf l (w .image)) (slotsIn (w .image)) (length (w .heads)) key
+      search-in-answers l (w .image) (tableOf l (w .image)) (slotsIn (w .image)) (length (w .heads)) key
       (live-slot-key l (w .image) (slotsIn (w .image))) (λ h. chains (head h)) sound-chains _ (sound-search key)

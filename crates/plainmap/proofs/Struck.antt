@@ -15,7 +15,7 @@ use Rattle.layout.specs.Header.{headerWord}
 use Rattle.layout.proofs.Content.{top-is}
 use Rattle.stores.specs.Store.{Store, played, standing}
 use Rattle.stores.specs.Written.{recordStores}
-use Rattle.stores.specs.Cut.{SlotCut, kept as slot-kept, done as slot-done, lost as slot-lost, Fields, Lawful, Written}
+use Rattle.stores.specs.Cut.{SlotCut, now-old as slot-kept, now-new as slot-done, now-broken as slot-lost, Fields, Lawful, Written}
 use Rattle.stores.proofs.Bytes.{played-length, image-law}
 use Rattle.table.specs.Table.{nextVersion, liveCount}
 use Rattle.prelude.specs.Members.{Slot}

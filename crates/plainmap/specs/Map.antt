@@ -21,7 +21,7 @@ use Rattle.plainmap.specs.Accepted.{Accepted, RightSize}
 use Rattle.plainmap.specs.Sound.{Sound, Agrees}
 use Rattle.plainmap.specs.Claims.{Typed, slotsMap, Right, Reads, mapAfterCall}
 use Rattle.prelude.specs.Members.{All}
-use Rattle.stores.specs.Play.{playEnd, playListResult, places, values}
+use Rattle.stores.specs.Play.{playEnd, playListResult, wordNumbers, values}
 
 -- at each call the set is the plain map, by its slots and by get, and the call answers right; so it is at the end
 abbrev pub PlainRule : (l : ℕ) → World → PlainMap → List Call → Type 0
@@ -29,6 +29,7 @@ PlainRule l w m [] = Agrees l w m × Reads l w m
 PlainRule l w m (call ∷ calls) =
     Agrees l w m × Reads l w m × Right l w m call × PlainRule l (finished l w call) (mapAfterCall l w m call) calls
 
+-- together the calls are a plain map, for layout l
 pub record IsMap (l : ℕ) : Type 0 where
   -- recovery of an accepted image leaves an index that is its own
   pub recovers : (image heads next : List ℕ) → Accepted l image → RightSize image heads next
@@ -42,7 +43,7 @@ pub record IsMap (l : ℕ) : Type 0 where
   pub keeps : (w : World) (m : PlainMap) → Agrees l w m → (call : Call) → Typed l call → Agrees l (finished l w call) (mapAfterCall l w m call)
   -- the play of a list of its stores leaves that image too
   pub list-plays : (w : World) (m : PlainMap) → Agrees l w m → (call : Call) → Typed l call
-      → playListResult (w .image) (places (called l w call .stores)) (values (called l w call .stores)) ≡ playEnd 0 (finished l w call .image)
+      → playListResult (w .image) (wordNumbers (called l w call .stores)) (values (called l w call .stores)) ≡ playEnd 0 (finished l w call .image)
   -- "A put is refused for room only when one slot is left that holds no open key": exactly then, for a key that is not held
   pub room : (w : World) (chains : Chain → List ℕ) → Accepted l (w .image) → Sound l w chains → (key : ℕ) (value : List ℕ)
       → (putFault l (w .image) (w .heads) (w .next) (w .state) key (length value) ≡ 12)

@@ -8,7 +8,7 @@ use lib.ListN.{length, drop}
 use Rattle.prelude.specs.Refusal.{say}
 use Rattle.prelude.specs.Answer.{Answer, gives, absent}
 use Rattle.layout.specs.Record.{limit}
-use Rattle.table.specs.Write.{isHeld}
+use Rattle.table.specs.Table.{isHeld}
 use Rattle.layout.specs.Line.{versionFault}
 use Rattle.plainmap.specs.World.{Call, put, remove, get}
 

@@ -19,6 +19,7 @@ use Rattle.plainmap.specs.Claims.{slotsMap}
 pub data Starts (xs : List ℕ) : Type 0 where
   starts : (s : ℕ) → (rest : List ℕ) → xs ≡ s ∷ rest → Starts xs
 
+-- w's index, with these chains, is its image's own
 pub record Sound (l : ℕ) (w : World) (chains : Chain → List ℕ) : Type 0 where
   pub size : RightSize (w .image) (w .heads) (w .next)
   -- along the links go `chains`; each slot stands in just one of them and once: a live slot in that of its key's head, any other in reuse

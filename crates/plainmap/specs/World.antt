@@ -3,7 +3,7 @@ use mathlib.Core.List.{List, []}
 use Prim.Native.Nat.{ℕ}
 use Rattle.prelude.specs.Answer.{Answer, gives, absent, refused}
 use Rattle.stores.specs.Store.{Store}
-use Rattle.stores.specs.Play.{places, values, playResult}
+use Rattle.stores.specs.Play.{wordNumbers, values, playResult}
 use Rattle.index.specs.declared.State.{State}
 use Rattle.recovery.specs.Recover.{Result, recoverResult}
 use Rattle.calls.specs.Change.{ChangeResult, putResult, removeResult}
@@ -71,7 +71,7 @@ called l w (get key out) = calledGet w (getResult l (w .image) (w .heads) (w .ne
 
 -- "play makes the counted stores, if there are any"; where there are none it is refused and changes nothing
 unfoldable pub playing : (image : List ℕ) → List Store → (a b : ℕ) → List ℕ
-playing image ss a b = playResult image (places ss) (values ss) a b .bytes
+playing image ss a b = playResult image (wordNumbers ss) (values ss) a b .bytes
 
 -- a call and then all its stores
 unfoldable pub finished : (l : ℕ) → World → Call → World

@@ -1,1 +1,1 @@
-// The set as a plain map: definitions and laws over the public calls. Definitions alone.
+// The set as a plain map: definitions and laws over the public calls.

@@ -64,13 +64,13 @@ once-slots (suc n) = once-append (slots n) (suc n ∷ []) (once-slots n) ((λ b.
     apart t i (inr b) = b
 
 -- l has each slot 1 to n once
-pub record Whole (n : ℕ) (l : List ℕ) : Type 0 where
+pub record AllSlots (n : ℕ) (l : List ℕ) : Type 0 where
   pub size : length l ≡ n
   pub once : Once l
   pub within : (t : ℕ) → In t l → Slot n t
   pub all : (t : ℕ) → Slot n t → In t l
 
-pub whole-slots : (n : ℕ) → Whole n (slots n)
+pub whole-slots : (n : ℕ) → AllSlots n (slots n)
 whole-slots n = record { size = length-slots n; once = once-slots n; within = slots-in n; all = in-slots n }
 
 -- a list without the first x in it

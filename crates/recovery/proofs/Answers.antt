@@ -15,9 +15,8 @@ use Rattle.prelude.proofs.Refusals.{orElse-zero}
 use Rattle.layout.proofs.Content.{put-at}
 use Rattle.prelude.specs.Members.{In, Slot}
 use Rattle.table.specs.Table.{keyIn, decider, valueIn, valueAt, mapOf, live, allLive}
-use Rattle.table.specs.Order.{chainOf, reuseOf}
+use Rattle.table.specs.Order.{chainOf, reuseOf, firstWith}
 use Rattle.table.proofs.defs.Chains.{Chains}
-use Rattle.table.specs.Chains.{firstWith}
 use Rattle.table.proofs.OneSlot.{value-at, weight-key}
 use Rattle.prelude.proofs.Count.{Gap, gap}
 use Rattle.table.proofs.Held.{Held, held, unheld, held-or, holder-value}
@@ -25,13 +24,13 @@ use Rattle.prelude.proofs.Lists.{in-right}
 use Rattle.table.proofs.LiveCount.{all-room, room-spare}
 use Rattle.table.proofs.Map.{Live, lives, live-is, decider-weight}
 use Rattle.table.proofs.Recovery.{recovery-chains, recovery-spares}
-use Rattle.table.proofs.Search.{chain-decider, chain-has, seek-holder}
+use Rattle.table.proofs.Search.{chain-decider, chain-has, first-with-holder}
 use Rattle.index.specs.Index.{Index, reuse, head, headOf}
 use Rattle.index.specs.Linked.{Sits}
 use Rattle.index.specs.Walk.{slotKey, search}
 use Rattle.index.proofs.defs.SearchIn.{searchIn}
 use Rattle.index.specs.declared.Found.{Found}
-use Rattle.index.proofs.Searches.{good-search, Hit, Missed, sought-hit, sought-missed, never-broken}
+use Rattle.index.proofs.Searches.{good-search, Hit, Missed, search-in-hit, search-in-missed, never-bad}
 use Rattle.recovery.specs.Recover.{recoverFault, chainsOf, placeOf, recoveredIndex}
 use Rattle.recovery.specs.Represents.{Answers}
 use Rattle.recovery.proofs.Clear.{slots-clear}
@@ -39,10 +38,10 @@ use Rattle.recovery.proofs.Represents.{recovered-sits}
 use Rattle.layout.proofs.Lents.{index-sized}
 
 -- the map by the key's chain
-pub recovered-seek : (f : Table) (n b key : ℕ) → valueAt f (firstWith f key (chainsOf f n b (head (headOf key b)))) ≡ mapOf f n key
+pub recovered-first-with : (f : Table) (n b key : ℕ) → valueAt f (firstWith f key (chainsOf f n b (head (headOf key b)))) ≡ mapOf f n key
 unfolding chainsOf
-recovered-seek f n b key =
-    ap (valueAt f) (seek-holder f n (λ k. headOf k b) (chainOf f n (λ k. headOf k b)) (recovery-chains f n (λ k. headOf k b)) key)
+recovered-first-with f n b key =
+    ap (valueAt f) (first-with-holder f n (λ k. headOf k b) (chainOf f n (λ k. headOf k b)) (recovery-chains f n (λ k. headOf k b)) key)
     ∙ holder-value f n key
 
 -- ---- what a recovery that is not refused has passed
@@ -106,12 +105,12 @@ module _
           (sym (keys (decider f n key) e) ∙ weight-key key (f (decider f n key)) (decider-weight f n key (decider f n key) i refl)))
       go (unheld a m) = m
 
-  pub sought-answers : (found : Found) → found ≡ searchIn (slotKey l image) key 0 0 (ch (headOf key b)) → Answers f n key found
-  sought-answers found e =
+  pub search-in-answers : (found : Found) → found ≡ searchIn (slotKey l image) key 0 0 (ch (headOf key b)) → Answers f n key found
+  search-in-answers found e =
       record {
-        holds = λ slot prev compared q. chain-holds slot prev compared (sought-hit _ _ _ _ _ _ (sym e ∙ q));
-        absent = λ prev compared q. chain-absent prev compared (sought-missed _ _ _ _ _ (sym e ∙ q));
-        unbroken = λ q. never-broken _ _ _ (sym e ∙ q);
+        holds = λ slot prev compared q. chain-holds slot prev compared (search-in-hit _ _ _ _ _ _ (sym e ∙ q));
+        absent = λ prev compared q. chain-absent prev compared (search-in-missed _ _ _ _ _ (sym e ∙ q));
+        no-bad-chain = λ q. never-bad _ _ _ (sym e ∙ q);
       }
 
 -- recovery's chains hold the live slots
@@ -133,7 +132,7 @@ pub recovered-search : (l : ℕ) (image heads next : List ℕ) → recoverFault 
     (search l image (recoveredIndex (tableOf l image) (slotsIn image) (length heads) .heads)
     (recoveredIndex (tableOf l image) (slotsIn image) (length heads) .next) key)
 recovered-search l image heads next z key =
-    sought-answers l image (tableOf l image) (slotsIn image) (length heads) key
+    search-in-answers l image (tableOf l image) (slotsIn image) (length heads) key
     (live-slot-key l image (slotsIn image)) (λ h. chainsOf (tableOf l image) (slotsIn image) (length heads) (head h))
     (chains-hold (tableOf l image) (slotsIn image) (length heads)) _
     (searched l image (tableOf l image) (slotsIn image) (length heads) key

@@ -19,7 +19,7 @@ use Rattle.table.proofs.defs.Write.{Distinct, ApartByKey}
 use Rattle.table.proofs.OneSlot.{weight-put, weight-key}
 use Rattle.prelude.proofs.Count.{count-same}
 use Rattle.table.proofs.Distinct.{distinct-apart}
-use Rattle.prelude.proofs.Lists.{Whole, whole-slots}
+use Rattle.prelude.proofs.Lists.{AllSlots, whole-slots}
 use Rattle.sorting.proofs.Whole.{whole-sorted}
 use Rattle.table.proofs.Map.{decider-newest, decider-unique}
 use Rattle.index.specs.Index.{headOf}
@@ -116,7 +116,7 @@ weight-rank k (remove w j) h e = ap (λ (b : Bool). suc (cond b (suc w) 0)) (eq-
 
 -- l has each slot 1 to n once, by key, and those of one key by rank
 pub record ByKey (f : Table) (n : ℕ) (keys l : List ℕ) : Type 0 where
-  pub whole : Whole n l
+  pub whole : AllSlots n l
   pub key-is : (t : ℕ) → Slot n t → getD keys t 0 ≡ keyIn (f t)
   pub rising : Rising (λ x. getD keys x 0) l
   pub by-rank : RisingByKey (λ x. getD keys x 0) (λ x. rankOf (f x)) l

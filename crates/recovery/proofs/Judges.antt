@@ -1,4 +1,4 @@
--- What judging leans on: the refusals 5 to 8, and the arranged slots of an accepted image. Assumes nothing.
+-- What judging needs: the refusals 5 to 8, and the arranged slots of an accepted image. Assumes nothing.
 use mathlib.Core.Path.{_≡_, sym, ap, ap₂, _∙_}
 use mathlib.Core.Bool.{Bool, true, false, cond}
 use mathlib.Core.Logic.{_⊎_, inl, inr}
@@ -24,7 +24,7 @@ use Rattle.sorting.proofs.Order.{sorted-alike}
 use Rattle.table.specs.Table.{liveCount, nextVersion, sharedVersion, allLive}
 use Rattle.table.specs.Order.{rankOf, ordered}
 use Rattle.table.proofs.defs.Write.{Distinct}
-use Rattle.prelude.proofs.Lists.{slots-in, Whole}
+use Rattle.prelude.proofs.Lists.{slots-in, AllSlots}
 use Rattle.sorting.proofs.Whole.{whole-sorted}
 use Rattle.prelude.proofs.Most.{greatest-least}
 use Rattle.table.proofs.Distinct.{shared-distinct}
@@ -148,7 +148,7 @@ module _ (order₀ order ranks₀ ranks : List ℕ) (n : ℕ) (e : order ≡ sor
   pub in-rank : order ≡ sorted (λ x. getD ranks x 0) (slots n)
   in-rank = rw size at e
 
-  all-slots : Whole n order
+  all-slots : AllSlots n order
   all-slots = whole-order (λ x. getD ranks x 0) n order in-rank
 
   pub neighbours-ready : 1 ≤ n → length ranks ≡ length ranks₀ → length ranks₀ ≡ n + 1
@@ -159,5 +159,5 @@ module _ (order₀ order ranks₀ ranks : List ℕ) (n : ℕ) (e : order ≡ sor
       → length keys ≡ length keys₀ → length keys₀ ≡ n + 1 → length places ≡ length places₀ → length places₀ ≡ n + 1
       → (length by-key ≡ n) × (n ≤ 65535) × (length keys ≡ n + 1) × (length places ≡ n + 1) × Within by-key n
   decide-ready keys₀ keys places₀ places by-key k few p q r t =
-      let w : Whole n by-key = rw k (whole-sorted (λ x. getD keys x 0) n order all-slots) in
+      let w : AllSlots n by-key = rw k (whole-sorted (λ x. getD keys x 0) n order all-slots) in
       (w .size, few, p ∙ q, r ∙ t, whole-within by-key n w)

@@ -18,7 +18,7 @@ use Rattle.sorting.proofs.Order.{rising-sorted}
 use Rattle.table.specs.Table.{isRecord, sharedVersion}
 use Rattle.table.specs.Order.{rankOf}
 use Rattle.table.proofs.defs.Write.{Distinct}
-use Rattle.prelude.proofs.Lists.{Whole}
+use Rattle.prelude.proofs.Lists.{AllSlots}
 use Rattle.table.proofs.Distinct.{shared-distinct, distinct-shared}
 use Rattle.recovery.specs.inner.Decide.{equalNeighbours}
 use Rattle.recovery.proofs.Orders.{whole-order, whole-within, neighbours-test}
@@ -90,7 +90,7 @@ module _ (f : Table) (n : ℕ) (ranks order : List ℕ) (rank : (s : ℕ) → 0 
   abbrev g : ℕ → ℕ
   g x = getD ranks x 0
 
-  whole : Whole n order
+  whole : AllSlots n order
   whole = whole-order g n order o
 
   -- two neighbours of one rank share a version

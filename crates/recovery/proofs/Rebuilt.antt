@@ -8,7 +8,7 @@ use native.Mathlib.Nat.{mod-lt}
 use native.Mathlib.Decide.{ℕ-discrete}
 use native.Mathlib.Omega.{arith}
 use lib.Dec.{eqb}
-use lib.ListN.{length, getD, replicate, length-replicate}
+use lib.ListN.{length, replicate, length-replicate}
 use borrow.Author.Tests.{eq-eqb, ne-eqb}
 use Rattle.prelude.proofs.Choice.{pick-true, pick-false, split}
 use Rattle.prelude.specs.Range.{tabulate}
@@ -18,7 +18,7 @@ use Rattle.sorting.proofs.Order.{filter-sorted}
 use Rattle.layout.specs.Content.{Table}
 use Rattle.table.specs.Table.{keyIn, live, spare}
 use Rattle.table.specs.Order.{rankOf, ordered, chainOf, reuseOf}
-use Rattle.prelude.proofs.Lists.{slots-in, Whole}
+use Rattle.prelude.proofs.Lists.{slots-in, AllSlots}
 use Rattle.index.specs.Index.{Chain, reuse, head, headOf}
 use Rattle.index.specs.Chained.{firstOf, lastOf, after, nextIn, chained}
 use Rattle.index.specs.inner.Parts.{PartsOf}
@@ -31,6 +31,7 @@ use Rattle.recovery.specs.Recover.{chainsOf, placeOf, recoveredIndex}
 use Rattle.recovery.specs.inner.Decide.{livePlace}
 use Rattle.recovery.specs.inner.Judge.{Arranged}
 use Rattle.recovery.proofs.Orders.{whole-order}
+use Rattle.prelude.proofs.Fills.{zeros}
 
 -- ---- lists and tables that agree where it counts
 
@@ -66,11 +67,6 @@ chained-alike n b chains p q h =
       last = lastOf (chains reuse);
     })
     (tabulate-alike (nextIn chains p) (nextIn chains q) 0 (n + 1) (λ i low high. next-alike n chains p q h i (omega arith)))
-
-zeros : (n i : ℕ) → _≡_ {A = ℕ} (getD (replicate n 0) i 0) 0
-zeros zero i = refl
-zeros (suc n) zero = refl
-zeros (suc n) (suc i) = zeros n i
 
 -- ---- the chains
 
@@ -131,7 +127,7 @@ head-in f n b s h few e = go (split (live f n s))
         )
     go (inr t) = absurd (other (sym (pick-false (live f n s) (head (headOf (keyIn (f s)) b)) reuse t) ∙ e))
 
-pub ordered-whole : (f : Table) (n : ℕ) (order : List ℕ) → order ≡ ordered f (slots n) → Whole n order
+pub ordered-whole : (f : Table) (n : ℕ) (order : List ℕ) → order ≡ ordered f (slots n) → AllSlots n order
 unfolding ordered
 ordered-whole f n order e = whole-order (λ s. rankOf (f s)) n order e
 
@@ -143,7 +139,7 @@ arranged-place f n b order places live-count top a s low high = ap chainFrom (a 
 -- all slots by rising rank, pushed into an index of zeros
 module _ (f : Table) (n b : ℕ) (order : List ℕ) (place : ℕ → Chain) (few : 1 ≤ b) (order-is : order ≡ ordered f (slots n))
     (at-place : (s : ℕ) → 0 < s → s ≤ n → place s ≡ placeOf f n b s) where
-  whole : Whole n order
+  whole : AllSlots n order
   whole = ordered-whole f n order order-is
 
   kept : (p q : ℕ → Bool) → ((s : ℕ) → 0 < s → s ≤ n → p s ≡ q s) → filter p order ≡ ordered f (filter q (slots n))

@@ -1,4 +1,4 @@
--- What recover leans on: its result from what was judged and rebuilt. Assumes nothing.
+-- What recover needs: its result from what was judged and rebuilt. Assumes nothing.
 use mathlib.Core.Path.{_≡_, refl, sym, ap, ap₂, _∙_}
 use mathlib.Core.Bool.{true, false, cond}
 use mathlib.Core.Logic.{_⊎_, inl, inr}

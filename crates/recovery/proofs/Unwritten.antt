@@ -23,7 +23,7 @@ use Rattle.prelude.proofs.Lists.{slots-in}
 use Rattle.prelude.proofs.Count.{count-none}
 use Rattle.table.proofs.LiveCount.{room-all}
 use Rattle.prelude.proofs.Most.{greatest-least}
-use Rattle.recovery.proofs.defs.Represents.{Fresh}
+use Rattle.recovery.proofs.defs.Fresh.{Fresh}
 
 -- ---- filters by a test that holds everywhere or nowhere
 

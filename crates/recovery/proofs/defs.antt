@@ -1,1 +1,1 @@
-pub mod Represents
+pub mod Fresh

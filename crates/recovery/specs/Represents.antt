@@ -31,4 +31,4 @@ pub record Represents (f : Table) (n b : ℕ) (i : Index) : Type 0 where
 pub record Answers (f : Table) (n key : ℕ) (found : Found) : Type 0 where
   pub holds : (slot prev compared : ℕ) → found ≡ At slot prev compared → (mapOf f n key ≡ valueIn (f slot)) × (live f n slot ≡ true) × Slot n slot
   pub absent : (prev compared : ℕ) → found ≡ Missing prev compared → mapOf f n key ≡ none
-  pub unbroken : found ≡ BadChain → ⊥
+  pub no-bad-chain : found ≡ BadChain → ⊥

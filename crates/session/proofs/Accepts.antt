@@ -5,7 +5,7 @@ use Prim.Native.Nat.{ℕ, _≤_}
 use native.Mathlib.Omega.{arith}
 use lib.ListN.{length}
 use Rattle.words.specs.Word.{word}
-use Rattle.stores.specs.Play.{places, playFault}
+use Rattle.stores.specs.Play.{wordNumbers, playFault}
 use Rattle.calls.specs.Change.{changed}
 use Rattle.plainmap.specs.World.{World, Call, Called, toPlay, calledChange, called}
 use Rattle.plainmap.specs.Plain.{PlainMap}
@@ -27,13 +27,13 @@ set-recovers r m k = accepted-gives 1 (worldOf r .image) m (k .agrees .accepted)
 
 -- PLAY of a call's stores, if it has any, refuses no counts up to 8
 pub stores-play : (w : World) (m : PlainMap) → Agrees 1 w m → (call : Call) → Typed 1 call → (a b : ℕ) → a ≤ 8 → b ≤ 8
-    → (called 1 w call .stores ≡ [] → ⊥) → playFault (length (w .image)) (places (called 1 w call .stores)) a b ≡ 0
+    → (called 1 w call .stores ≡ [] → ⊥) → playFault (length (w .image)) (wordNumbers (called 1 w call .stores)) a b ≡ 0
 unfolding calledChange changed toPlay
 stores-play w m g call fine a b p q some = go (call-stepped 1 layout-one w (g .chains) (g .sound) call fine)
   where
-    go : Stepped 1 w call → playFault (length (w .image)) (places (called 1 w call .stores)) a b ≡ 0
+    go : Stepped 1 w call → playFault (length (w .image)) (wordNumbers (called 1 w call .stores)) a b ≡ 0
     go (stored-none e sound same) = absurd (some e)
     go (stored-record key kind value i alive d wr same) =
-        ap (λ (c : Called). playFault (length (w .image)) (places (c .stores)) a b) d
+        ap (λ (c : Called). playFault (length (w .image)) (wordNumbers (c .stores)) a b) d
         ∙ record-passes 1 (length (w .image)) (word (w .image)) (w .state .first) key kind value (w .state .version) a b
         (accepted-slots 1 (w .image) (g .accepted)) (omega (arith, wr .slot, accepted-long 1 (w .image) (g .accepted) .size)) p q

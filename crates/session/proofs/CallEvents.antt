@@ -31,7 +31,7 @@ use Rattle.session.specs.Lines.{sessionOf, struckWith, eventIn, waitsOn,
 use Rattle.session.specs.Rule.{FewWait, none-waits, few-wait}
 use Rattle.session.proofs.Events.{layout-one, left-size, event-fits}
 use Rattle.session.proofs.Fronts.{leftBy, Left}
-use Rattle.session.proofs.Prints.{zeros}
+use Rattle.prelude.proofs.Fills.{zeros}
 use Rattle.session.proofs.Recovered.{goesOn, recover-step}
 use Rattle.plainmap.proofs.Playing.{playing-none}
 

@@ -12,9 +12,9 @@ pub mod OneLine
 pub mod SessionRule
 pub mod Accepts
 pub mod Numbers
-pub mod Answers
-pub mod Results
 pub mod Outputs
 pub mod CallEvents
 pub mod NewAccepted
 pub mod defs
+pub mod FewNumbers
+pub mod StreamResults

@@ -16,7 +16,7 @@ use Rattle.prelude.proofs.Refusals.{say-false, orElse-later, taken-leaves}
 use Rattle.layout.proofs.Size.{sized}
 use Rattle.recovery.specs.Recover.{recovered, recoverResult}
 use Rattle.calls.specs.Format.{FormatResult, formatFault, formatted, formatResult}
-use Rattle.plainmap.proofs.Formats.{formatted-accepted}
+use Rattle.plainmap.proofs.FormattedImages.{formatted-accepted}
 use Rattle.text.specs.Output.{ok}
 use Rattle.session.specs.Step.{StepResult, formFault, slotsFor, sizeFault, cutFault, lineFault, recoveredAs, recoveredBy, recoverStep, madeAs, madeBy, makeStep, lineStep, followedBy, frontStep, stepResult}
 use Rattle.text.specs.declared.Line.the-variants.{New}

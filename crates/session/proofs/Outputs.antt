@@ -18,7 +18,7 @@ use Rattle.text.specs.declared.Line.{Line}
 use Rattle.text.specs.declared.Line.the-variants.{New, Put, Remove, Get, Cut, Bad}
 use Rattle.text.specs.declared.Parse.the-variants.{Start}
 use Rattle.session.proofs.Streams.{output-of-lines}
-use Rattle.session.proofs.Results.{output-of-results}
+use Rattle.session.proofs.StreamResults.{output-of-results}
 use Rattle.session.specs.Lines.{worldOf, callIn}
 use Rattle.session.specs.Rule.{faultAt, plainPrints, mapAfter, Keeps, no-set, LineRight, refused-line, new-line, cut-line, call-line}
 use Rattle.session.specs.Printed.{callPrints, linePrints, duePrints, dueOutput}
@@ -50,8 +50,6 @@ module _ (r : StepResult) (m : PlainMap) where
   right-due (New n) (new-line z l) = l .answer ∙ prints-taken (New n) z
   right-due (Cut a b) (cut-line z l) = l .answer ∙ prints-taken (Cut a b) z
   right-due line (call-line z e l right) = l .answer ∙ call-prints (worldOf r) m line _ e ∙ prints-taken line z
-
--- ---- a get
 
 -- ---- every input
 

@@ -8,7 +8,7 @@ use lib.ListN.{length, take, drop}
 use borrow.Author.Tests.{ltb-false}
 use Rattle.prelude.proofs.Refusals.{say-zero, orElse-zero, taken-leaves}
 use Rattle.stores.specs.Store.{zipped}
-use Rattle.stores.specs.Play.{places, values, Played, playEnd, playResult}
+use Rattle.stores.specs.Play.{wordNumbers, values, Played, playEnd, playResult}
 use Rattle.text.specs.Output.{Printed}
 use Rattle.session.specs.Step.{leaves, slotsFor, sizeFault, lineFault, lineStep, followedBy, frontStep, stepResult}
 use Rattle.plainmap.specs.World.{playing}
@@ -18,8 +18,8 @@ use Rattle.session.specs.declared.Session.{Session}
 -- ---- the stores of a call
 
 parts-zipped : (at value : List ℕ) → length at ≡ length value
-    → (places (zipped at value) ≡ at) × (values (zipped at value) ≡ value)
-unfolding places values zipped
+    → (wordNumbers (zipped at value) ≡ at) × (values (zipped at value) ≡ value)
+unfolding wordNumbers values zipped
 parts-zipped [] [] e = (refl, refl)
 parts-zipped [] (v ∷ value) e = absurd (let z : ⊥ = omega arith in z)
 parts-zipped (w ∷ at) [] e = absurd (let z : ⊥ = omega arith in z)

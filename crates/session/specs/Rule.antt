@@ -121,5 +121,6 @@ abbrev pub SessionHolds : StepResult → PlainMap → List Line → Type 0
 SessionHolds r m [] = Keeps r m
 SessionHolds r m (line ∷ lines) = Keeps r m × LineRight r m line × SessionHolds (stepAfter r line) (mapAfter r m line) lines
 
+-- from any session whose set is the plain map's, every list of lines answers right
 abbrev pub SessionRule : Type 0
 SessionRule = (r : StepResult) (m : PlainMap) → Keeps r m → (lines : List Line) → All SizedLine lines → SessionHolds r m lines

@@ -28,8 +28,6 @@ linesOf (byte ∷ bytes) = cond (eqb byte 10) ([] ∷ linesOf bytes) (inFront by
 unfoldable pub stepAfter : StepResult → Line → StepResult
 stepAfter r line = stepResult line (r .session) (r .image) (r .heads) (r .next)
 
--- ---- byte by byte: the part of a line that was read, and whether there is one
-
 -- ---- with the output in a lent slice
 
 pub record StreamResult : Type 0 where

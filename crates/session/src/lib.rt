@@ -1,4 +1,4 @@
-// The trial session and the cut rule: definitions and theorems over the steps of a session. Definitions alone.
+// The trial session, and that it answers as the plain map does: types, definitions and laws.
 use index::State;
 use text::Parse;
 use text::Reply;

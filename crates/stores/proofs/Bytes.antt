@@ -16,7 +16,7 @@ use Rattle.words.proofs.Laws.{setWord-length, word-same, word-other, word-range
 use Rattle.layout.specs.Content.{top}
 use Rattle.stores.specs.Store.{Store, played, stored, playedWords, less, standing}
 use Rattle.stores.specs.Written.{marked, bodyA, bodyB, run, lineStores, recordStores}
-use Rattle.stores.specs.Cut.{struck, Fields, Lawful, Written}
+use Rattle.stores.specs.Cut.{afterCut, Fields, Lawful, Written}
 use Rattle.stores.proofs.defs.Cut.{nil-in, cons-in, StoresInside}
 use Rattle.stores.proofs.Table.{table-law}
 
@@ -60,7 +60,7 @@ standing-inside {n = n} counts (cons-in {s = s} {ss = ss} h b r) =
 
 -- a cut on the bytes is the cut on the words
 pub struck-words : {ss : List Store} (counts : ℕ → ℕ) (img : List ℕ) → StoresInside (length img) ss
-    → word (played (standing counts ss) img) ≡ struck counts ss (word img)
+    → word (played (standing counts ss) img) ≡ afterCut counts ss (word img)
 struck-words counts img r = played-words img (standing-inside counts r)
 
 -- ---- a record's stores

@@ -58,8 +58,6 @@ pub two-halves : {x y : List Store} (n o : ℕ) (counts : ℕ → ℕ) → (o �
 two-halves {x} {y} n o counts ne p q =
     first-half n y (λ k. take (k o) y) (λ k. only-half o k q) (λ k. ap (λ (j : ℕ). take j y) (less-other n k o ne)) counts p
 
--- ---- the stores of a line
-
 -- ---- what play asks
 
 -- eight stores from k on, words 0 to 7 of one line inside an image of len bytes, in order

@@ -15,7 +15,7 @@ use Rattle.prelude.proofs.Choice.{pick-true, pick-false, split}
 use Rattle.layout.specs.Line.{line, whole, versionOf, firstWord, lastWord}
 use Rattle.stores.specs.Store.{Store, stored, playedWords, onLine}
 use Rattle.stores.specs.Written.{marked, run, lineStores}
-use Rattle.stores.specs.Cut.{struck, LineCut, untouched, torn, full}
+use Rattle.stores.specs.Cut.{afterCut, LineCut, untouched, torn, full}
 use Rattle.stores.proofs.StandingStores.{on-hit, on-miss, cut-at}
 
 -- ---- the stores of a line among others
@@ -98,7 +98,7 @@ module _ (base : ℕ) (words : ℕ → ℕ) where
 -- ---- a line after a cut, where its stores among ss are those of `new`
 
 pub word-cut : (counts m : ℕ → ℕ) (ss : List Store) (n : ℕ) (new : ℕ → ℕ) → onLine n ss ≡ lineStores n new → (i : ℕ) → i < 8
-    → struck counts ss m (8 * n + i) ≡ cond (ltb i (counts n)) (new i) (m (8 * n + i))
+    → afterCut counts ss m (8 * n + i) ≡ cond (ltb i (counts n)) (new i) (m (8 * n + i))
 unfolding lineStores
 word-cut counts m ss n new own i h =
     cut-at ss counts m n i h
@@ -107,13 +107,13 @@ word-cut counts m ss n new own i h =
     ∙ ap (λ (x : ℕ). cond (ltb i x) (new i) (m (8 * n + i))) (omega arith)
 
 module _ (counts m : ℕ → ℕ) (ss : List Store) (n : ℕ) (new : ℕ → ℕ) (own : onLine n ss ≡ lineStores n new) where
-  pub line-cut : (i : ℕ) → line (struck counts ss m) n i ≡ cond (ltb (i % 8) (counts n)) (new (i % 8)) (line m n i)
+  pub line-cut : (i : ℕ) → line (afterCut counts ss m) n i ≡ cond (ltb (i % 8) (counts n)) (new (i % 8)) (line m n i)
   line-cut i = word-cut counts m ss n new own (i % 8) (mod-lt i (zero-lt-suc 7))
 
-  pub line-same : counts n ≡ 0 → line (struck counts ss m) n ≡ line m n
+  pub line-same : counts n ≡ 0 → line (afterCut counts ss m) n ≡ line m n
   line-same e = fun-ext (λ i. line-cut i ∙ pick-false (ltb (i % 8) (counts n)) _ _ (le-ltb (i % 8) (counts n) (omega arith)))
 
-  pub line-full : 8 ≤ counts n → (i : ℕ) → i < 8 → line (struck counts ss m) n i ≡ new i
+  pub line-full : 8 ≤ counts n → (i : ℕ) → i < 8 → line (afterCut counts ss m) n i ≡ new i
   line-full h i l =
       line-cut i ∙ pick-true (ltb (i % 8) (counts n)) _ _ (lt-ltb (i % 8) (counts n) (omega arith)) ∙ ap new (mod-eq-of-lt l)
 
@@ -141,7 +141,7 @@ module _ (stamp version : ℕ) (body : ℕ → ℕ) where
 -- THE LINE LAW
 pub line-law : (counts m : ℕ → ℕ) (ss : List Store) (n version : ℕ) (body : ℕ → ℕ)
     → onLine n ss ≡ lineStores n (marked (line m n 7) version body)
-    → LineCut (line m n) (marked (line m n 7) version body) (line (struck counts ss m) n) (counts n)
+    → LineCut (line m n) (marked (line m n 7) version body) (line (afterCut counts ss m) n) (counts n)
 line-law counts m ss n version body own =
     by-cases (decLt 0 (counts n))
     (λ p. by-cases (decLt (counts n) 8) (λ q. torn p q (opened p q)) (λ q. full (omega arith) (line-full counts m ss n new own (omega arith))))
@@ -150,7 +150,7 @@ line-law counts m ss n version body own =
     new : ℕ → ℕ
     new = marked (line m n 7) version body
 
-    opened : 0 < counts n → counts n < 8 → whole (line (struck counts ss m) n 0) (line (struck counts ss m) n 7) ≡ false
+    opened : 0 < counts n → counts n < 8 → whole (line (afterCut counts ss m) n 0) (line (afterCut counts ss m) n 7) ≡ false
     opened p q =
         ap₂ whole
         (line-cut counts m ss n new own 0 ∙ pick-true (ltb 0 (counts n)) _ _ (lt-ltb 0 (counts n) p) ∙ marked-first (line m n 7) version body)

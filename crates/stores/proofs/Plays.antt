@@ -1,4 +1,4 @@
--- What the functions that give play's refusals lean on: each refusal from the tests that led to it. Assumes nothing.
+-- What the functions that give play's refusals need: each refusal from the tests that led to it. Assumes nothing.
 use mathlib.Core.Path.{_≡_, refl, sym, ap, ap₂, _∙_}
 use mathlib.Core.Bool.{Bool, true, false, not}
 use mathlib.Core.List.{List, [], _∷_, _++_}

@@ -1,4 +1,4 @@
--- What the functions that make a record's stores lean on: the words of a key, of line A, and the stores as two lists. Assumes nothing.
+-- What the functions that make a record's stores need: the words of a key, of line A, and the stores as two lists. Assumes nothing.
 use mathlib.Core.Path.{_≡_, refl, sym, ap, ap₂, _∙_}
 use mathlib.Core.List.{List, _∷_, _++_}
 use Prim.Native.Nat.{ℕ, zero, suc, _+_, _-_, _*_, _/_, _%_, _^_, _≤_, _<_}
@@ -13,7 +13,7 @@ use Rattle.prelude.specs.Range.{tabulate}
 use Rattle.layout.specs.Record.{keyWord, kindWord}
 use Rattle.stores.specs.Store.{Store, zipped}
 use Rattle.stores.specs.Written.{newA, newB, bodyA, run, lineStores, recordStores}
-use Rattle.stores.specs.inner.Written.{recordPlaces, recordWords}
+use Rattle.stores.specs.inner.Written.{recordNumbers, recordWords}
 
 high-part : (low high : ℕ) → low < 2 ^ 64 → (low + 2 ^ 64 * high) / 2 ^ 64 ≡ high
 high-part low high h = omega arith
@@ -64,9 +64,9 @@ unfolding zipped tabulate run lineStores
 zipped-line n words = refl
 
 pub zipped-record : (l : ℕ) (m : ℕ → ℕ) (s key kind : ℕ) (value : List ℕ) (version a b : ℕ) → a ≡ m (16 * s + 7) → b ≡ m (16 * s + 15)
-    → (at words : List ℕ) → at ≡ recordPlaces s → words ≡ recordWords l a b key kind value version
+    → (at words : List ℕ) → at ≡ recordNumbers s → words ≡ recordWords l a b key kind value version
     → zipped at words ≡ recordStores l m s key kind value version
-unfolding recordPlaces recordWords recordStores lineStores
+unfolding recordNumbers recordWords recordStores lineStores
 zipped-record l m s key kind value version a b p q at words e f =
     ap₂ zipped e f
     ∙ zipped-run (8 * (2 * s)) (newA l a key kind value version) 0 8 (tabulate (λ i. 8 * (2 * s + 1) + i) 0 8) (tabulate (newB l b value version) 0 8)

@@ -12,7 +12,7 @@ use Rattle.layout.specs.Content.{made, contentOf}
 use Rattle.layout.specs.Fault.{faultOf}
 use Rattle.layout.proofs.Content.{top-whole, top-open, unpaired, verdict-broken, broken-content}
 use Rattle.stores.specs.Written.{marked, bodyA, bodyB, newA, newB}
-use Rattle.stores.specs.Cut.{LineCut, untouched, torn, full, SlotCut, kept, done, lost, Fields, Lawful}
+use Rattle.stores.specs.Cut.{LineCut, untouched, torn, full, SlotCut, now-old, now-new, now-broken, Fields, Lawful}
 use Rattle.stores.proofs.Line.{marked-whole, marked-version}
 use Rattle.stores.proofs.Fields.{the-content, the-fault}
 
@@ -107,9 +107,9 @@ module _ (l key kind : ℕ) (value : List ℕ) (version : ℕ) (fine : Fields l 
   slot-cut = go way
     where
       go : Way → SlotCut (contentOf l A B) (made kind version key value) (contentOf l A′ B′) version a b
-      go (as-was x y e f) = kept x y (ap₂ (contentOf l) e f)
-      go (all-new x y u w) = done x y (the-content l stampA stampB key kind value version fine A′ B′ u w (omega (arith, above)))
-      go (no-pair x y e) = lost x y (slotTop A′ B′) slot-top (broken-content l A′ B′ e)
+      go (as-was x y e f) = now-old x y (ap₂ (contentOf l) e f)
+      go (all-new x y u w) = now-new x y (the-content l stampA stampB key kind value version fine A′ B′ u w (omega (arith, above)))
+      go (no-pair x y e) = now-broken x y (slotTop A′ B′) slot-top (broken-content l A′ B′ e)
 
   -- a slot without a fault stays so
   pub slot-fault : Lawful kind value → cond (isValid (lineVerdict A B)) (faultOf l A B) false ≡ false

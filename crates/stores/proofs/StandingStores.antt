@@ -14,7 +14,7 @@ use borrow.Author.Tests.{eqb-true, eqb-false, eq-eqb, ne-eqb}
 use Rattle.prelude.proofs.Choice.{pick-true, pick-false, split}
 use Rattle.layout.specs.Line.{line}
 use Rattle.stores.specs.Store.{Store, stored, playedWords, less, standing, onLine}
-use Rattle.stores.specs.Cut.{struck}
+use Rattle.stores.specs.Cut.{afterCut}
 
 -- ---- a word after play depends on the stores of its own line alone
 
@@ -120,22 +120,22 @@ first-stores (s ∷ ss) counts n =
 
 -- THE CUT LAW: a word after a cut is what the first stores of its line make of it
 pub cut-word : (ss : List Store) (counts m : ℕ → ℕ) (i : ℕ)
-    → struck counts ss m i ≡ playedWords (take (counts (i / 8)) (onLine (i / 8) ss)) m i
+    → afterCut counts ss m i ≡ playedWords (take (counts (i / 8)) (onLine (i / 8) ss)) m i
 cut-word ss counts m i =
     own-line (standing counts ss) m i ∙ ap (λ (t : List Store). playedWords t m i) (first-stores ss counts (i / 8))
 
 -- the same of word i of line n
 pub cut-at : (ss : List Store) (counts m : ℕ → ℕ) (n i : ℕ) → i < 8
-    → struck counts ss m (8 * n + i) ≡ playedWords (take (counts n) (onLine n ss)) m (8 * n + i)
+    → afterCut counts ss m (8 * n + i) ≡ playedWords (take (counts n) (onLine n ss)) m (8 * n + i)
 cut-at ss counts m n i h =
     cut-word ss counts m (8 * n + i) ∙ ap (λ (x : ℕ). playedWords (take (counts x) (onLine x ss)) m (8 * n + i)) (omega arith)
 
 -- a line without stores stays
-pub line-out : (counts m : ℕ → ℕ) (ss : List Store) (n : ℕ) → onLine n ss ≡ [] → line (struck counts ss m) n ≡ line m n
+pub line-out : (counts m : ℕ → ℕ) (ss : List Store) (n : ℕ) → onLine n ss ≡ [] → line (afterCut counts ss m) n ≡ line m n
 unfolding playedWords
 line-out counts m ss n none = fun-ext (λ i. at (i % 8) (mod-lt i (zero-lt-suc 7)))
   where
-    at : (i : ℕ) → i < 8 → struck counts ss m (8 * n + i) ≡ m (8 * n + i)
+    at : (i : ℕ) → i < 8 → afterCut counts ss m (8 * n + i) ≡ m (8 * n + i)
     at i h =
         cut-at ss counts m n i h
         ∙ ap (λ (t : List Store). playedWords t m (8 * n + i)) (ap (take (counts n)) none ∙ take-nil (counts n))

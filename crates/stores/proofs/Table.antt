@@ -16,7 +16,7 @@ use Rattle.layout.specs.Content.{made, contentOf, content, top}
 use Rattle.layout.specs.Fault.{faultOf, recordFault}
 use Rattle.stores.specs.Store.{Store, onLine}
 use Rattle.stores.specs.Written.{marked, bodyA, bodyB, newA, newB, lineStores, recordStores}
-use Rattle.stores.specs.Cut.{struck, LineCut, SlotCut, Fields, Lawful, Written}
+use Rattle.stores.specs.Cut.{afterCut, LineCut, SlotCut, Fields, Lawful, Written}
 use Rattle.stores.proofs.defs.Cut.{Carries, Avoids}
 use Rattle.stores.proofs.StandingStores.{line-out}
 use Rattle.stores.proofs.Line.{on-append, own-stores, other-stores, line-cut, marked-first, line-law}
@@ -25,17 +25,17 @@ use Rattle.stores.proofs.Slot.{slot-top, slot-top-full, slot-cut, slot-
 -- ---- any stores that write nothing into slot t
 
 module _ (l : ℕ) (counts m : ℕ → ℕ) (ss : List Store) (t : ℕ) (none : Avoids ss t) where
-  spare-A : line (struck counts ss m) (2 * t) ≡ line m (2 * t)
+  spare-A : line (afterCut counts ss m) (2 * t) ≡ line m (2 * t)
   spare-A = line-out counts m ss (2 * t) (none .line-A)
 
-  spare-B : line (struck counts ss m) (2 * t + 1) ≡ line m (2 * t + 1)
+  spare-B : line (afterCut counts ss m) (2 * t + 1) ≡ line m (2 * t + 1)
   spare-B = line-out counts m ss (2 * t + 1) (none .line-B)
 
-  pub spare-content : content l (struck counts ss m) t ≡ content l m t
+  pub spare-content : content l (afterCut counts ss m) t ≡ content l m t
   unfolding content
   spare-content = ap₂ (contentOf l) spare-A spare-B
 
-  pub spare-fault : recordFault l (struck counts ss m) t ≡ recordFault l m t
+  pub spare-fault : recordFault l (afterCut counts ss m) t ≡ recordFault l m t
   unfolding recordFault
   spare-fault = ap₂ (λ (A B : ℕ → ℕ). cond (isValid (lineVerdict A B)) (faultOf l A B) false) spare-A spare-B
 
@@ -43,29 +43,29 @@ module _ (l : ℕ) (counts m : ℕ → ℕ) (ss : List Store) (t : ℕ) (none : 
 
 module _ (l : ℕ) (counts m : ℕ → ℕ) (ss : List Store) (s key kind : ℕ) (value : List ℕ) (version : ℕ)
     (has : Carries l m ss s key kind value version) (fine : Fields l key kind value) (above : top m s < version) where
-  cut-A : LineCut (line m (2 * s)) (newA l (line m (2 * s) 7) key kind value version) (line (struck counts ss m) (2 * s)) (counts (2 * s))
+  cut-A : LineCut (line m (2 * s)) (newA l (line m (2 * s) 7) key kind value version) (line (afterCut counts ss m) (2 * s)) (counts (2 * s))
   cut-A = line-law counts m ss (2 * s) version (bodyA l key kind value) (has .line-A)
 
-  cut-B : LineCut (line m (2 * s + 1)) (newB l (line m (2 * s + 1) 7) value version) (line (struck counts ss m) (2 * s + 1)) (counts (2 * s + 1))
+  cut-B : LineCut (line m (2 * s + 1)) (newB l (line m (2 * s + 1) 7) value version) (line (afterCut counts ss m) (2 * s + 1)) (counts (2 * s + 1))
   cut-B = line-law counts m ss (2 * s + 1) version (bodyB l value) (has .line-B)
 
   over : slotTop (line m (2 * s)) (line m (2 * s + 1)) < version
   unfolding top
   over = above
 
-  pub carried-content : SlotCut (content l m s) (made kind version key value) (content l (struck counts ss m) s) version (counts (2 * s)) (counts (2 * s + 1))
+  pub carried-content : SlotCut (content l m s) (made kind version key value) (content l (afterCut counts ss m) s) version (counts (2 * s)) (counts (2 * s + 1))
   unfolding content
   carried-content = slot-cut l key kind value version fine _ _ _ _ _ _ (counts (2 * s)) (counts (2 * s + 1)) over cut-A cut-B
 
-  pub carried-fault : Lawful kind value → recordFault l m s ≡ false → recordFault l (struck counts ss m) s ≡ false
+  pub carried-fault : Lawful kind value → recordFault l m s ≡ false → recordFault l (afterCut counts ss m) s ≡ false
   unfolding recordFault
   carried-fault = slot-fault l key kind value version fine _ _ _ _ _ _ (counts (2 * s)) (counts (2 * s + 1)) over cut-A cut-B
 
-  pub carried-top : top (struck counts ss m) s ≤ version
+  pub carried-top : top (afterCut counts ss m) s ≤ version
   unfolding top
   carried-top = slot-top l key kind value version fine _ _ _ _ _ _ (counts (2 * s)) (counts (2 * s + 1)) over cut-A cut-B
 
-  pub carried-top-full : (8 ≤ counts (2 * s)) ⊎ (8 ≤ counts (2 * s + 1)) → top (struck counts ss m) s ≡ version
+  pub carried-top-full : (8 ≤ counts (2 * s)) ⊎ (8 ≤ counts (2 * s + 1)) → top (afterCut counts ss m) s ≡ version
   unfolding top
   carried-top-full = slot-top-full l key kind value version fine _ _ _ _ _ _ (counts (2 * s)) (counts (2 * s + 1)) over cut-A cut-B
 
@@ -101,26 +101,26 @@ module _ (l : ℕ) (m : ℕ → ℕ) (s key kind : ℕ) (value : List ℕ) (vers
 -- ---- marks and words
 
 mark-own : (counts m : ℕ → ℕ) (ss : List Store) (n version : ℕ) (body : ℕ → ℕ) → onLine n ss ≡ lineStores n (marked (line m n 7) version body)
-    → line m n 0 ≤ 1 → line (struck counts ss m) n 0 ≤ 1
+    → line m n 0 ≤ 1 → line (afterCut counts ss m) n 0 ≤ 1
 mark-own counts m ss n version body own h =
     by-cases (decLt 0 (counts n))
     (λ p. omega (arith, now ∙ pick-true (ltb 0 (counts n)) _ _ (lt-ltb 0 (counts n) p) ∙ marked-first (line m n 7) version body))
     (λ p. omega (arith, now ∙ pick-false (ltb 0 (counts n)) _ _ (le-ltb 0 (counts n) (omega arith))))
   where
-    now : line (struck counts ss m) n 0 ≡ cond (ltb 0 (counts n)) (marked (line m n 7) version body 0) (line m n 0)
+    now : line (afterCut counts ss m) n 0 ≡ cond (ltb 0 (counts n)) (marked (line m n 7) version body 0) (line m n 0)
     now = line-cut counts m ss n (marked (line m n 7) version body) own 0
 
-mark-off : (counts m : ℕ → ℕ) (ss : List Store) (n : ℕ) → onLine n ss ≡ [] → line m n 0 ≤ 1 → line (struck counts ss m) n 0 ≤ 1
+mark-off : (counts m : ℕ → ℕ) (ss : List Store) (n : ℕ) → onLine n ss ≡ [] → line m n 0 ≤ 1 → line (afterCut counts ss m) n 0 ≤ 1
 mark-off counts m ss n none h = omega (arith, ap (λ (A : ℕ → ℕ). A 0) (line-out counts m ss n none))
 
-word-off : (counts m : ℕ → ℕ) (ss : List Store) (i : ℕ) → onLine (i / 8) ss ≡ [] → struck counts ss m i ≡ m i
+word-off : (counts m : ℕ → ℕ) (ss : List Store) (i : ℕ) → onLine (i / 8) ss ≡ [] → afterCut counts ss m i ≡ m i
 word-off counts m ss i none =
-    ap (struck counts ss m) (sym (div-add-mod i 8)) ∙ ap (λ (A : ℕ → ℕ). A i) (line-out counts m ss (i / 8) none) ∙ ap m (div-add-mod i 8)
+    ap (afterCut counts ss m) (sym (div-add-mod i 8)) ∙ ap (λ (A : ℕ → ℕ). A i) (line-out counts m ss (i / 8) none) ∙ ap m (div-add-mod i 8)
 
 -- THE TABLE LAW
 pub table-law : (l : ℕ) (counts m : ℕ → ℕ) (s key kind : ℕ) (value : List ℕ) (version : ℕ)
     → Fields l key kind value → Lawful kind value → top m s < version
-    → Written l m (struck counts (recordStores l m s key kind value version) m) s key kind value version (counts (2 * s)) (counts (2 * s + 1))
+    → Written l m (afterCut counts (recordStores l m s key kind value version) m) s key kind value version (counts (2 * s)) (counts (2 * s + 1))
 table-law l counts m s key kind value version fine good above =
     record {
       others = λ t ne. spare-content l counts m ss t (record-spares l m s key kind value version t ne);
@@ -140,7 +140,7 @@ table-law l counts m s key kind value version fine good above =
     has : Carries l m ss s key kind value version
     has = record-carries l m s key kind value version
 
-    marks-kept : (n : ℕ) → line m n 0 ≤ 1 → line (struck counts ss m) n 0 ≤ 1
+    marks-kept : (n : ℕ) → line m n 0 ≤ 1 → line (afterCut counts ss m) n 0 ≤ 1
     marks-kept n h =
         by-cases (ℕ-discrete n (2 * s))
         (λ e. rw e (mark-own counts m ss (2 * s) version (bodyA l key kind value) (has .line-A) (rw e at h)))
@@ -149,7 +149,7 @@ table-law l counts m s key kind value version fine good above =
         (λ e. rw e (mark-own counts m ss (2 * s + 1) version (bodyB l value) (has .line-B) (rw e at h)))
         (λ ne2. mark-off counts m ss n (record-off l m s key kind value version n (λ (e : n / 2 ≡ s). omega arith)) h))
 
-    faults-kept : (t : ℕ) → recordFault l m t ≡ false → recordFault l (struck counts ss m) t ≡ false
+    faults-kept : (t : ℕ) → recordFault l m t ≡ false → recordFault l (afterCut counts ss m) t ≡ false
     faults-kept t h =
         by-cases (ℕ-discrete t s)
         (λ e. rw e (carried-fault l counts m ss s key kind value version has fine above good (rw e at h)))

@@ -14,8 +14,8 @@ use Rattle.layout.specs.Fault.{recordFault}
 use Rattle.stores.specs.Store.{Store, standing, playedWords}
 
 -- the words after a cut that leaves `counts n` stores of line n
-abbrev pub struck : (counts : ℕ → ℕ) → List Store → (ℕ → ℕ) → ℕ → ℕ
-struck counts ss m = playedWords (standing counts ss) m
+abbrev pub afterCut : (counts : ℕ → ℕ) → List Store → (ℕ → ℕ) → ℕ → ℕ
+afterCut counts ss m = playedWords (standing counts ss) m
 
 -- do all eight stores of both lines stand?
 abbrev pub bothStand : (a b : ℕ) → Bool
@@ -29,9 +29,9 @@ pub data LineCut (old new now : ℕ → ℕ) (k : ℕ) : Type 0 where
 
 -- what a and b stores on its two lines make of a slot's content
 pub data SlotCut (old new now : Content) (version a b : ℕ) : Type 0 where
-  kept : a ≡ 0 → b ≡ 0 → now ≡ old → SlotCut old new now version a b
-  done : 8 ≤ a → 8 ≤ b → now ≡ new → SlotCut old new now version a b
-  lost : (a ≡ 0 → b ≡ 0 → ⊥) → (8 ≤ a → 8 ≤ b → ⊥) → (t : ℕ) → t ≤ version → now ≡ broken t → SlotCut old new now version a b
+  now-old : a ≡ 0 → b ≡ 0 → now ≡ old → SlotCut old new now version a b
+  now-new : 8 ≤ a → 8 ≤ b → now ≡ new → SlotCut old new now version a b
+  now-broken : (a ≡ 0 → b ≡ 0 → ⊥) → (8 ≤ a → 8 ≤ b → ⊥) → (t : ℕ) → t ≤ version → now ≡ broken t → SlotCut old new now version a b
 
 -- the fields of a record fit layout l
 pub record Fields (l key kind : ℕ) (value : List ℕ) : Type 0 where

@@ -19,9 +19,9 @@ abbrev pub playEnd : (answer : ℕ) → (bytes : List ℕ) → Played
 playEnd answer bytes = record { answer = answer; bytes = bytes }
 
 -- the stores as play is given them: their word numbers and their values
-unfoldable pub places : List Store → List ℕ
-places [] = []
-places (s ∷ ss) = s .word ∷ places ss
+unfoldable pub wordNumbers : List Store → List ℕ
+wordNumbers [] = []
+wordNumbers (s ∷ ss) = s .word ∷ wordNumbers ss
 
 unfoldable pub values : List Store → List ℕ
 values [] = []

@@ -7,7 +7,7 @@ ghost use Rattle.words.specs.Word.{word};
 ghost use Rattle.layout.specs.Record.{keyWord, kindWord};
 ghost use Rattle.stores.specs.Store.{zipped};
 ghost use Rattle.stores.specs.Written.{bodyA, bodyB, recordStores};
-ghost use Rattle.stores.specs.inner.Written.{recordPlaces, recordWords};
+ghost use Rattle.stores.specs.inner.Written.{recordNumbers, recordWords};
 ghost use Rattle.stores.specs.inner.Needs.{Recordable};
 use layout_code::line::first_word;
 use layout_code::line::last_word;
@@ -59,7 +59,7 @@ fn word_b(l: usize, value: &[u8], i: usize) -> u64
 // The word numbers of the stores for slot s.
 fn record_places(s: u32) -> [u32; 16]
     requires { ⌜ s < 65536 ⌝ }
-    ensures { λ r. ⌜ r ≡ recordPlaces s ⌝ }
+    ensures { λ r. ⌜ r ≡ recordNumbers s ⌝ }
 {
     let a = 8 * (2 * s);
     let b = 8 * (2 * s + 1);

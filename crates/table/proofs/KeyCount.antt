@@ -19,6 +19,7 @@ use Rattle.table.proofs.OneSlot.{one-key, weight-put}
 use Rattle.prelude.proofs.Choice.{true-false}
 use Rattle.table.proofs.Map.{decider-weight, lives, live-is, Live, live-key}
 use Rattle.table.proofs.Held.{Held, held-or, some-none, unheld, held}
+use Rattle.prelude.proofs.Lists.{no-longer}
 
 keys-count : (f : Table) (n i : ℕ) → length (keysTo f n i) ≡ count (live f n) i
 unfolding keysTo count
@@ -98,7 +99,16 @@ map-keys f n m h =
     back : (k : ℕ) → Holds m k → Holds (mapOf f n) k
     back k (holds v e) = holds v (h k ∙ e)
 
+-- two lists of a map's keys are equally long
+keys-length : (m : ℕ → Option (List ℕ)) (ks js : List ℕ) → Keys m ks → Keys m js → length ks ≡ length js
+keys-length m ks js a b =
+    omega (
+      arith,
+      no-longer ks js (a .once) (λ k i. b .all k (a .held k i)),
+      no-longer js ks (b .once) (λ k i. a .all k (b .held k i)),
+    )
+
 -- as many slots are live as keys are held
-pub live-keys : (f : Table) (n : ℕ) → liveCount f n ≡ length (keysTo f n n)
+pub live-keys : (f : Table) (n : ℕ) (m : ℕ → Option (List ℕ)) → ((k : ℕ) → mapOf f n k ≡ m k) → (ks : List ℕ) → Keys m ks → liveCount f n ≡ length ks
 unfolding liveCount
-live-keys f n = sym (keys-count f n n)
+live-keys f n m h ks a = sym (keys-count f n n) ∙ keys-length m (keysTo f n n) ks (map-keys f n m h) a

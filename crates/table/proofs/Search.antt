@@ -11,7 +11,7 @@ use Rattle.layout.specs.Content.{Table}
 use Rattle.table.specs.Table.{keyIn, decider, live}
 use Rattle.table.proofs.defs.Write.{holder}
 use Rattle.table.proofs.defs.Chains.{Chains}
-use Rattle.table.specs.Chains.{firstWith}
+use Rattle.table.specs.Order.{firstWith}
 use Rattle.prelude.proofs.Choice.{true-false}
 use Rattle.table.proofs.OneSlot.{weight-key}
 use Rattle.table.proofs.Map.{decider-weight, live-key}
@@ -41,8 +41,8 @@ sought f k (t ∷ l) = go (eqb (keyIn (f t)) k) refl (sought f k l)
     go false e (hit i q) = hit (inr i) q
 
 -- THE SEARCH: in the key's chain it finds the holder
-pub seek-holder : (f : Table) (n : ℕ) (head : ℕ → ℕ) (ch : ℕ → List ℕ) → Chains f n head ch → (k : ℕ) → firstWith f k (ch (head k)) ≡ holder f n k
-seek-holder f n head ch cs k = go (sought f k (ch (head k))) (held-or f n k)
+pub first-with-holder : (f : Table) (n : ℕ) (head : ℕ → ℕ) (ch : ℕ → List ℕ) → Chains f n head ch → (k : ℕ) → firstWith f k (ch (head k)) ≡ holder f n k
+first-with-holder f n head ch cs k = go (sought f k (ch (head k))) (held-or f n k)
   where
     go : Sought f k (ch (head k)) (firstWith f k (ch (head k))) → Held f n k → firstWith f k (ch (head k)) ≡ holder f n k
     go (miss z h) (held v i e m) =

@@ -1,4 +1,4 @@
--- The keys that a map holds, as a list of which only the length counts, and a list as a set.
+-- The keys that a map holds, as a list of which only the length counts.
 use mathlib.Core.Path.{_≡_}
 use mathlib.Core.Option.{Option, some}
 use mathlib.Core.List.{List}

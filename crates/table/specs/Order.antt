@@ -1,6 +1,6 @@
 -- The orders in which recovery chains the slots. Document 01, "The index".
-use mathlib.Core.Bool.{_&&_}
-use mathlib.Core.List.{List}
+use mathlib.Core.Bool.{_&&_, cond}
+use mathlib.Core.List.{List, [], _∷_}
 use Prim.Native.Nat.{ℕ, _+_}
 use lib.Dec.{eqb}
 use Rattle.layout.specs.Content.{Content, broken, empty, put, remove, Table}
@@ -27,3 +27,8 @@ chainOf f n head h = ordered f (filter (λ s. live f n s && eqb (head (keyIn (f 
 -- "It orders the reuse chain": the spare slots
 unfoldable pub reuseOf : Table → (n : ℕ) → List ℕ
 reuseOf f n = ordered f (filter (spare f n) (slots n))
+
+-- the first slot of a chain that holds key k, 0 if none
+unfoldable pub firstWith : Table → (k : ℕ) → List ℕ → ℕ
+firstWith f k [] = 0
+firstWith f k (t ∷ l) = cond (eqb (keyIn (f t)) k) t (firstWith f k l)

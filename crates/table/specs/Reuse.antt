@@ -1,4 +1,4 @@
--- The reuse chain as a list: which slots it holds, that hidden records stand first, and what a write appends. Document 01, "How a call writes".
+-- The reuse chain as a list: hidden records stand first. Document 01, "How a call writes".
 use mathlib.Core.Path.{_≡_}
 use mathlib.Core.List.{List, [], _∷_}
 use Prim.Native.Nat.{ℕ, _<_}

@@ -74,3 +74,8 @@ sharedVersion f n = anyOf (λ s. anyOf (λ t. isRecord (f s) && (isRecord (f t) 
 -- "8 when all N slots are live"
 unfoldable pub allLive : Table → (n : ℕ) → Bool
 allLive f n = eqb (liveCount f n) n
+
+-- is there a value?
+unfoldable pub isHeld : Option (List ℕ) → Bool
+isHeld none = false
+isHeld (some value) = true

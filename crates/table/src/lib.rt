@@ -1,1 +1,1 @@
-// The table of an image: one content for each slot. Definitions alone.
+// The table of an image: one content for each slot. Definitions and laws.

@@ -1,4 +1,4 @@
--- What a call reads before it writes: its refusal and what following the key's chain found; and what its writes lean on.
+-- What a call reads before it writes: its refusal and what following the key's chain found; and what its writes need.
 use mathlib.Core.Path.{_≡_}
 use mathlib.Core.List.{List}
 use Prim.Native.Nat.{ℕ, _+_, _*_, _^_, _≤_, _<_}
@@ -22,7 +22,7 @@ unfoldable pub foundAfter : (lent : ℕ) → Found → Found
 foundAfter lent found = unlessRefused lent found BadChain
 
 -- r is the lookup of a call that is refused with `fault`, 0 for none: with `lent` before its chain is followed, or after the search found `found`.
--- Where nothing refuses the call, its writes have what they lean on
+-- Where nothing refuses the call, its writes have what they need
 pub record LooksUp (fault lent : ℕ) (found : Found) (Ready : Found → Type 0) (r : Lookup) : Type 0 where
   pub fault-is : r .fault ≡ fault
   pub found-is : r .found ≡ foundAfter lent found
@@ -42,7 +42,7 @@ Linkable heads next s h (At old prev compared) = WritesInside heads next s h pre
 Linkable heads next s h (Missing prev compared) = WritesInside heads next s h prev prev × (s .live < 65535)
 Linkable heads next s h BadChain = Unit
 
--- heads′, next′ and r are the index with these links; a broken chain leaves it as it is
+-- heads′, next′ and r are the index with these links; a bad chain leaves it as it is
 abbrev pub PutLinked : (heads next : List ℕ) → State → (h : ℕ) → Found → (heads′ next′ : List ℕ) → State → Type 0
 PutLinked heads next s h (At old prev compared) heads′ next′ r =
     PartsOf heads′ next′ r (putHeld (indexOf heads next s) h prev old) (s .live) (s .version + 1)

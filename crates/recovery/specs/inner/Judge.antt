@@ -63,6 +63,7 @@ pub record Arranged (f : Table) (n b : ℕ) (order places : List ℕ) (live top 
   pub top-is : suc top ≡ nextVersion f n
   pub top-fits : top < 2 ^ 63
 
+-- what judging answers: the refusal, and of an accepted image the arranged slots
 pub record Judgement (m : ℕ → ℕ) (n b : ℕ) (order places : List ℕ) (r : Judged) : Type 0 where
   pub fault-is : r .fault ≡ slotsFault 1 m n
   pub arranged : r .fault ≡ 0 → Arranged (content 1 m) n b order places (r .live) (r .top)

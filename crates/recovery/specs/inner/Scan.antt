@@ -60,6 +60,7 @@ pub record Listed (f : Table) (n b : ℕ) (ranks keys places : List ℕ) : Type 
   pub key-at : (s : ℕ) → 0 < s → s ≤ n → getD keys s 0 ≡ keyIn (f s)
   pub place-at : (s : ℕ) → 0 < s → s ≤ n → getD places s 0 ≡ putPlace b (f s)
 
+-- what the scan of slots 1 to n leaves and answers
 pub record Scanned (m : ℕ → ℕ) (n b : ℕ) (ranks keys places : List ℕ) (r : Scan) : Type 0 where
   pub listed : Listed (content 1 m) n b ranks keys places
   pub marks-are : r .mark ≡ anyOf (markFault m) 1 n

@@ -5,8 +5,8 @@ use Rattle.prelude.specs.Range.{tabulate}
 use Rattle.stores.specs.Written.{newA, newB}
 
 -- the word numbers of the 16 stores of slot s
-unfoldable pub recordPlaces : (s : ℕ) → List ℕ
-recordPlaces s = tabulate (λ i. 8 * (2 * s) + i) 0 8 ++ tabulate (λ i. 8 * (2 * s + 1) + i) 0 8
+unfoldable pub recordNumbers : (s : ℕ) → List ℕ
+recordNumbers s = tabulate (λ i. 8 * (2 * s) + i) 0 8 ++ tabulate (λ i. 8 * (2 * s + 1) + i) 0 8
 
 -- and their values, over lines with stamps a and b
 unfoldable pub recordWords : (l a b key kind : ℕ) → List ℕ → (version : ℕ) → List ℕ

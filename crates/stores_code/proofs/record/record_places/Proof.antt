@@ -2,12 +2,12 @@
 use native.Mathlib.Nat.{add-zero}
 use borrow.Author.Needs.{needs}
 use Rattle.prelude.specs.Range.{tabulate}
-use Rattle.stores.specs.inner.Written.{recordPlaces}
+use Rattle.stores.specs.inner.Written.{recordNumbers}
 use Rattle.stores_code.proofs.record.record_places.Statement.{statement}
 use Rattle.stores_code.proofs.record.record_places.Tie as tie
 
 pub record-places-spec : {M : Type 1} → statement M
-unfolding tabulate recordPlaces
+unfolding tabulate recordNumbers
 record-places-spec =
     tie.close
     (tie.spec

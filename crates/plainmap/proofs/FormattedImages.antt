@@ -20,7 +20,7 @@ use Rattle.layout.proofs.Content.{verdict-empty, paired-by}
 use Rattle.layout.proofs.Size.{long}
 use Rattle.prelude.proofs.Any.{any-clear}
 use Rattle.recovery.specs.Recover.{slotsFault, recoverFault}
-use Rattle.recovery.proofs.defs.Represents.{Fresh}
+use Rattle.recovery.proofs.defs.Fresh.{Fresh}
 use Rattle.recovery.proofs.Unwritten.{unwritten-fine, formatted-recovery}
 use Rattle.calls.specs.Format.{formatted}
 use Rattle.calls.proofs.Formats.{formatted-later, formatted-length, formatted-fault, formatted-content}

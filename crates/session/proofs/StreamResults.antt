@@ -14,7 +14,7 @@ use Rattle.session.specs.Step.{StepResult, leaves, noSet}
 use Rattle.session.specs.Stream.{stepAfter, StreamResult, streamEnd, atStart, printedBy, answeredBy, answerResult, byteResult, endResult, afterByte, storedPart, isFull, flushed, resultOutput, FlushesFull}
 use Rattle.session.proofs.defs.Stream.{byteOutput}
 use Rattle.text.specs.declared.Parse.the-variants.{Start}
-use Rattle.session.proofs.Answers.{step-few}
+use Rattle.session.proofs.FewNumbers.{step-few}
 
 -- a further line has room
 abbrev Room : StreamResult → Type 0
