@@ -22,7 +22,7 @@ use Rattle.prelude.proofs.Any.{any-clear}
 use Rattle.calls.specs.Format.{FormatResult, formatFault, formatted, formatResult}
 use Rattle.prelude.proofs.Fills.{zeros}
 
--- ---- format_as: n is the slots of the image
+-- ---- format_in: n is the slots of the image
 
 module _ (n len : ℕ) (e : n ≡ slotsOf len) (ne : n ≡ 0 → ⊥) where
   pub format-room : 384 ≤ len

@@ -1,114 +1,163 @@
--- The results of put, remove and get, by what the lookup answers: refused, or done by what the key's chain has. Assumes nothing.
-use mathlib.Core.Path.{_≡_, refl, sym, ap, _∙_}
+-- The results of put, remove and get, by what the lookup answers: refused, held or not held. Assumes nothing.
+use mathlib.Core.Path.{_≡_, refl, sym, ap, _∙_, subst}
 use mathlib.Core.List.{List, [], _∷_, _++_}
-use Prim.Native.Nat.{ℕ, _-_}
+use Prim.Native.Nat.{ℕ, zero, suc, _+_, _-_}
+use native.Mathlib.Omega.{arith}
 use lib.ListN.{length, drop}
 use Rattle.words.specs.Word.{word}
 use Rattle.prelude.specs.Refusal.{unlessRefused}
 use Rattle.prelude.specs.Answer.{gives, absent, refused}
 use Rattle.prelude.proofs.Refusals.{orElse-zero, taken-leaves, refused-keeps}
+use Rattle.layout.specs.Size.{slotsIn}
 use Rattle.layout.specs.Line.{lineA, lineB}
 use Rattle.layout.specs.Record.{valueFront, valueOf}
 use Rattle.index.specs.Index.{indexOf, headOf}
-use Rattle.index.specs.Change.{removeHeld}
+use Rattle.index.specs.Walk.{search, chainFault}
+use Rattle.index.specs.Change.{putNew, putHeld, removeHeld}
 use Rattle.index.specs.declared.State.{State}
 use Rattle.index.specs.declared.Found.{Found}
 use Rattle.index.specs.declared.Found.the-variants.{At, Missing, BadChain}
-use Rattle.calls.specs.Change.{ChangeResult, unchanged, changed, putFault, putDone, putResult, removeFault, removeDone, removeResult}
-use Rattle.calls.specs.Get.{GetResult, slotLength, getFault, getDone, getResult}
-use Rattle.calls.specs.inner.Lookup.{foundAfter, LooksUp, PutLookup, RemoveLookup, GetLookup}
+use Rattle.calls.specs.Change.{ChangeResult, unchanged, changed, putLaterFault, putFault, putDone, putResult, removeLaterFault, removeFault, removeDone, removeResult}
+use Rattle.calls.specs.Get.{GetResult, slotLength, getLaterFault, getFault, getDone, getResult}
+use Rattle.calls.specs.inner.Lookup.{lookupBy, lookupOf, LooksUp, PutLookup, RemoveLookup, GetLookup}
 use Rattle.calls.specs.declared.Lookup.{Lookup}
+use Rattle.calls.specs.declared.Lookup.the-variants.{Refused, Held, NotHeld}
 
--- `done` is what a call that nothing refuses leaves, by what it found, and `keep` what a refused one leaves, by its number
+-- what a lookup says of the call's refusal and of what was found
+abbrev Says : (fault : ℕ) → Found → Lookup → Type 0
+Says fault found (Refused number compared) = (fault ≡ number) × (fault ≡ 0 → ⊥)
+Says fault found (Held slot prev compared) = (fault ≡ 0) × (found ≡ At slot prev compared)
+Says fault found (NotHeld prev compared) = (fault ≡ 0) × (found ≡ Missing prev compared)
+
+says : (fault lent : ℕ) (found : Found) → (fault ≡ 0 → lent ≡ 0) → (fault ≡ 0 → found ≡ BadChain → ⊥)
+    → Says fault found (lookupOf fault lent found)
+unfolding lookupOf lookupBy unlessRefused
+says zero zero (At slot prev compared) first bad = (refl, refl)
+says zero zero (Missing prev compared) first bad = (refl, refl)
+says zero zero BadChain first bad = absurd (bad refl refl)
+says zero (suc lent) found first bad = absurd (omega (arith, first refl))
+says (suc k) zero (At slot prev compared) first bad = (refl, λ e. omega arith)
+says (suc k) zero (Missing prev compared) first bad = (refl, λ e. omega arith)
+says (suc k) zero BadChain first bad = (refl, λ e. omega arith)
+says (suc k) (suc lent) found first bad = (refl, λ e. omega arith)
+
+-- `done` is what a call that nothing refuses leaves, by what it found, and `keep` what a refused one leaves, by its number.
+-- A refusal before the chain is followed refuses the call, and so does a bad chain
 module _
-    {A : Type 0} (done : Found → A) (keep : ℕ → A) {fault lent : ℕ} {found : Found} {Ready : Found → Type 0} {r : Lookup}
-    (u : LooksUp fault lent found Ready r) (left : A) where
-  result-refused : (r .fault ≡ 0 → ⊥) → left ≡ keep (r .fault) → left ≡ unlessRefused fault (done found) (keep fault)
-  result-refused ne h = h ∙ ap keep (u .fault-is) ∙ sym (refused-keeps _ _ fault (λ z. ne (u .fault-is ∙ z)))
+    {A : Type 0} (done : Found → A) (keep : ℕ → A) {fault lent : ℕ} {found : Found} {Ready : Lookup → Type 0} {r : Lookup}
+    (first : fault ≡ 0 → lent ≡ 0) (bad : fault ≡ 0 → found ≡ BadChain → ⊥) (u : LooksUp fault lent found Ready r) (left : A) where
+  told : (known : Lookup) → r ≡ known → Says fault found known
+  told known e = subst (Says fault found) (sym (u .is) ∙ e) (says fault lent found first bad)
 
-  result-done : (fault ≡ 0 → lent ≡ 0) → r .fault ≡ 0 → (known : Found) → r .found ≡ known → left ≡ done known
+  result-refused : (number compared : ℕ) → r ≡ Refused number compared → left ≡ keep number
       → left ≡ unlessRefused fault (done found) (keep fault)
-  unfolding foundAfter
-  result-done first z known e h =
-      let none : fault ≡ 0 = sym (u .fault-is) ∙ z in
-      h ∙ ap done (sym e ∙ u .found-is ∙ taken-leaves found BadChain lent (first none)) ∙ sym (taken-leaves _ _ fault none)
+  result-refused number compared e h =
+      let t = told (Refused number compared) e in h ∙ ap keep (sym (t .0)) ∙ sym (refused-keeps _ _ fault (t .1))
 
-module _
-    (l : ℕ) (image heads next : List ℕ) (s : State) (key : ℕ) (value : List ℕ) (r : Lookup)
-    (u : PutLookup l image heads next s key (length value) r) (left : ChangeResult) where
-  pub put-refused : (r .fault ≡ 0 → ⊥) → left ≡ unchanged (refused (r .fault)) s heads next
-      → left ≡ putResult l image heads next s key value
-  unfolding putResult
-  put-refused = result-refused (putDone l image heads next s key value) (λ k. unchanged (refused k) s heads next) u left
+  result-held : (slot prev compared : ℕ) → r ≡ Held slot prev compared → left ≡ done (At slot prev compared)
+      → left ≡ unlessRefused fault (done found) (keep fault)
+  result-held slot prev compared e h =
+      let t = told (Held slot prev compared) e in h ∙ ap done (sym (t .1)) ∙ sym (taken-leaves _ _ fault (t .0))
 
-  pub put-done : r .fault ≡ 0 → left ≡ putDone l image heads next s key value (r .found)
-      → left ≡ putResult l image heads next s key value
-  unfolding putResult putFault
-  put-done z =
-      result-done (putDone l image heads next s key value) (λ k. unchanged (refused k) s heads next) u left
-      (λ none. orElse-zero _ _ none .0) z _ refl
+  result-not-held : (prev compared : ℕ) → r ≡ NotHeld prev compared → left ≡ done (Missing prev compared)
+      → left ≡ unlessRefused fault (done found) (keep fault)
+  result-not-held prev compared e h =
+      let t = told (NotHeld prev compared) e in h ∙ ap done (sym (t .1)) ∙ sym (taken-leaves _ _ fault (t .0))
 
-module _
-    (l : ℕ) (image heads next : List ℕ) (s : State) (key : ℕ) (r : Lookup)
-    (u : RemoveLookup l image heads next s key r) (left : ChangeResult) where
-  pub remove-refused : (r .fault ≡ 0 → ⊥) → left ≡ unchanged (refused (r .fault)) s heads next
-      → left ≡ removeResult l image heads next s key
-  unfolding removeResult
-  remove-refused = result-refused (removeDone l image heads next s key) (λ k. unchanged (refused k) s heads next) u left
+-- ---- put: h is the key's head as the code finds it
 
-  module _ (z : r .fault ≡ 0) where
-    remove-known : (known : Found) → r .found ≡ known → left ≡ removeDone l image heads next s key known
+module _ (l : ℕ) (image heads next : List ℕ) (s : State) (key : ℕ) (value : List ℕ) where
+  put-bad : putFault l image heads next s key (length value) ≡ 0 → search l image heads next key ≡ BadChain → ⊥
+  unfolding putFault putLaterFault chainFault
+  put-bad z e = omega (arith, sym (ap chainFault e) ∙ orElse-zero _ _ (orElse-zero _ _ z .1) .0)
+
+  module _ (r : Lookup) (u : PutLookup l image heads next s key (length value) r) (left : ChangeResult) where
+    pub put-refused : (number compared : ℕ) → r ≡ Refused number compared → left ≡ unchanged (refused number) s heads next
+        → left ≡ putResult l image heads next s key value
+    unfolding putResult putFault
+    put-refused =
+        result-refused (putDone l image heads next s key value) (λ k. unchanged (refused k) s heads next)
+        (λ none. orElse-zero _ _ none .0) put-bad u left
+
+    pub put-held : (old prev compared h : ℕ) → r ≡ Held old prev compared → h ≡ headOf key (length heads)
+        → left ≡ changed l image s key 1 value (putHeld (indexOf heads next s) h prev old) (s .live)
+        → left ≡ putResult l image heads next s key value
+    unfolding putResult putFault putDone
+    put-held old prev compared h e eh q =
+        result-held (putDone l image heads next s key value) (λ k. unchanged (refused k) s heads next)
+        (λ none. orElse-zero _ _ none .0) put-bad u left old prev compared e
+        (q ∙ ap (λ (x : ℕ). changed l image s key 1 value (putHeld (indexOf heads next s) x prev old) (s .live)) eh)
+
+    pub put-not-held : (prev compared h : ℕ) → r ≡ NotHeld prev compared → h ≡ headOf key (length heads)
+        → left ≡ changed l image s key 1 value (putNew (indexOf heads next s) h prev) (s .live + 1)
+        → left ≡ putResult l image heads next s key value
+    unfolding putResult putFault putDone
+    put-not-held prev compared h e eh q =
+        result-not-held (putDone l image heads next s key value) (λ k. unchanged (refused k) s heads next)
+        (λ none. orElse-zero _ _ none .0) put-bad u left prev compared e
+        (q ∙ ap (λ (x : ℕ). changed l image s key 1 value (putNew (indexOf heads next s) x prev) (s .live + 1)) eh)
+
+-- ---- remove
+
+module _ (l : ℕ) (image heads next : List ℕ) (s : State) (key : ℕ) where
+  remove-bad : removeFault l image heads next s key ≡ 0 → search l image heads next key ≡ BadChain → ⊥
+  unfolding removeFault removeLaterFault
+  remove-bad z e = omega (arith, sym (ap (λ (d : Found). removeLaterFault d next (slotsIn image) s) e) ∙ orElse-zero _ _ z .1)
+
+  module _ (r : Lookup) (u : RemoveLookup l image heads next s key r) (left : ChangeResult) where
+    pub remove-refused : (number compared : ℕ) → r ≡ Refused number compared → left ≡ unchanged (refused number) s heads next
         → left ≡ removeResult l image heads next s key
     unfolding removeResult removeFault
-    remove-known =
-        result-done (removeDone l image heads next s key) (λ k. unchanged (refused k) s heads next) u left
-        (λ none. orElse-zero _ _ none .0) z
+    remove-refused =
+        result-refused (removeDone l image heads next s key) (λ k. unchanged (refused k) s heads next)
+        (λ none. orElse-zero _ _ none .0) remove-bad u left
 
-    pub remove-at : (old prev compared : ℕ) → r .found ≡ At old prev compared
-        → left ≡ changed l image s key 2 [] (removeHeld (indexOf heads next s) (headOf key (length heads)) prev old) (s .live - 1)
+    pub remove-held : (old prev compared h : ℕ) → r ≡ Held old prev compared → h ≡ headOf key (length heads)
+        → left ≡ changed l image s key 2 [] (removeHeld (indexOf heads next s) h prev old) (s .live - 1)
         → left ≡ removeResult l image heads next s key
-    unfolding removeDone
-    remove-at old prev compared = remove-known (At old prev compared)
+    unfolding removeResult removeFault removeDone
+    remove-held old prev compared h e eh q =
+        result-held (removeDone l image heads next s key) (λ k. unchanged (refused k) s heads next)
+        (λ none. orElse-zero _ _ none .0) remove-bad u left old prev compared e
+        (q ∙ ap (λ (x : ℕ). changed l image s key 2 [] (removeHeld (indexOf heads next s) x prev old) (s .live - 1)) eh)
 
-    pub remove-absent : (prev compared : ℕ) → r .found ≡ Missing prev compared → left ≡ unchanged absent s heads next
+    pub remove-not-held : (prev compared : ℕ) → r ≡ NotHeld prev compared → left ≡ unchanged absent s heads next
         → left ≡ removeResult l image heads next s key
-    unfolding removeDone
-    remove-absent prev compared = remove-known (Missing prev compared)
+    unfolding removeResult removeFault removeDone
+    remove-not-held =
+        result-not-held (removeDone l image heads next s key) (λ k. unchanged (refused k) s heads next)
+        (λ none. orElse-zero _ _ none .0) remove-bad u left
 
-    pub remove-broken : r .found ≡ BadChain → left ≡ unchanged (refused 11) s heads next → left ≡ removeResult l image heads next s key
-    unfolding removeDone
-    remove-broken = remove-known BadChain
+-- ---- get: what the answer and the output come to
 
--- get: what the answer and the output come to
-module _
-    (l : ℕ) (image heads next : List ℕ) (key : ℕ) (out : List ℕ) (r : Lookup)
-    (u : GetLookup l image heads next key (length out) r) where
-  pub get-refused : (r .fault ≡ 0 → ⊥) → record { answer = refused (r .fault); out = out } ≡ getResult l image heads next key out
-  unfolding getResult
-  get-refused ne = result-refused (getDone l image out) (λ k. record { answer = refused k; out = out }) u _ ne refl
+module _ (l : ℕ) (image heads next : List ℕ) (key : ℕ) (out : List ℕ) where
+  get-bad : getFault l image heads next key (length out) ≡ 0 → search l image heads next key ≡ BadChain → ⊥
+  unfolding getFault getLaterFault
+  get-bad z e = omega (arith, sym (ap (getLaterFault l image (length out)) e) ∙ orElse-zero _ _ z .1)
 
-  module _ (z : r .fault ≡ 0) where
-    get-known : (known : Found) → r .found ≡ known → getDone l image out known ≡ getResult l image heads next key out
+  module _ (r : Lookup) (u : GetLookup l image heads next key (length out) r) where
+    pub get-refused : (number compared : ℕ) → r ≡ Refused number compared
+        → record { answer = refused number; out = out } ≡ getResult l image heads next key out
     unfolding getResult getFault
-    get-known known e =
-        result-done (getDone l image out) (λ k. record { answer = refused k; out = out }) u _ (λ none. orElse-zero _ _ none .0) z known e refl
+    get-refused number compared e =
+        result-refused (getDone l image out) (λ k. record { answer = refused k; out = out })
+        (λ none. orElse-zero _ _ none .0) get-bad u _ number compared e refl
 
-    pub get-at : (slot prev compared : ℕ) → r .found ≡ At slot prev compared → (n : ℕ) → n ≡ slotLength l image slot → (bytes : List ℕ)
+    pub get-held : (slot prev compared : ℕ) → r ≡ Held slot prev compared → (n : ℕ) → n ≡ slotLength l image slot → (bytes : List ℕ)
         → bytes ≡ valueFront l (lineA (word image) slot) (lineB (word image) slot) n ++ drop n out
         → record { answer = gives (n ∷ []); out = bytes } ≡ getResult l image heads next key out
-    unfolding getDone valueOf
-    get-at slot prev compared e n q bytes h =
-        ap (ended n) h ∙ ap (λ (x : ℕ). ended x (valueFront l (lineA (word image) slot) (lineB (word image) slot) x ++ drop x out)) q
-        ∙ get-known (At slot prev compared) e
+    unfolding getResult getFault getDone valueOf
+    get-held slot prev compared e n q bytes h =
+        result-held (getDone l image out) (λ k. record { answer = refused k; out = out })
+        (λ none. orElse-zero _ _ none .0) get-bad u _ slot prev compared e
+        (ap (ended n) h ∙ ap (λ (x : ℕ). ended x (valueFront l (lineA (word image) slot) (lineB (word image) slot) x ++ drop x out)) q)
       where
         ended : ℕ → List ℕ → GetResult
         ended x bytes = record { answer = gives (x ∷ []); out = bytes }
 
-    pub get-absent : (prev compared : ℕ) → r .found ≡ Missing prev compared
+    pub get-not-held : (prev compared : ℕ) → r ≡ NotHeld prev compared
         → record { answer = absent; out = out } ≡ getResult l image heads next key out
-    unfolding getDone
-    get-absent prev compared = get-known (Missing prev compared)
-
-    pub get-broken : r .found ≡ BadChain → record { answer = refused 11; out = out } ≡ getResult l image heads next key out
-    unfolding getDone
-    get-broken = get-known BadChain
+    unfolding getResult getFault getDone
+    get-not-held prev compared e =
+        result-not-held (getDone l image out) (λ k. record { answer = refused k; out = out })
+        (λ none. orElse-zero _ _ none .0) get-bad u _ prev compared e refl

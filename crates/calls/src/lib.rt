@@ -1,5 +1,4 @@
 // The types of the public calls; what the calls answer and change is defined in specs.
-use index::Found;
 use index::State;
 use stores::Stores;
 
@@ -24,11 +23,12 @@ pub enum Got {
     Refused(u32),
 }
 
-// What a call reads before it writes: the number of its refusal, 0 for none, and what following the key's chain found.
-// A call that is refused before its chain is followed has BadChain there.
-pub struct Lookup {
-    pub fault: u32,
-    pub found: Found,
+// What a call reads before it writes: its refusal; the key's slot, with the slot before it (0 for the head); or that no slot has the key, with
+// the chain's last slot (0 for the head). Each has the count of slots compared, 0 for a call refused before or by its chain.
+pub enum Lookup {
+    Refused { number: u32, compared: u32 },
+    Held { slot: u32, prev: u32, compared: u32 },
+    NotHeld { prev: u32, compared: u32 },
 }
 
 // Format's answer: the number of slots, or a refusal.

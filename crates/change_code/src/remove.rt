@@ -1,12 +1,12 @@
-// Remove: a key is no longer held.
+// Remove: a key is no longer held. `l` is the layout; a key is two words, the high one 0 in layout 1.
 ghost use mathlib.Core.Path.{_≡_};
 ghost use mathlib.Core.List.{[]};
-ghost use Prim.Native.Nat.{_+_, _-_, _<_};
+ghost use Prim.Native.Nat.{_+_, _*_, _^_, _≤_, _<_};
 ghost use lib.ListN.{length};
-ghost use Rattle.index.specs.Index.{indexOf, headOf};
-ghost use Rattle.index.specs.Change.{removeHeld};
-ghost use Rattle.calls.specs.Change.{changeEnd, changed, heldFault, removeLaterFault, removeResult};
-ghost use Rattle.calls.specs.inner.Lookup.{Writable, RemoveLookup};
+ghost use Rattle.layout.specs.Record.{Layout};
+ghost use Rattle.layout.specs.inner.Key.{keyWith};
+ghost use Rattle.calls.specs.Change.{changeEnd, heldFault, removeLaterFault, removeResult};
+ghost use Rattle.calls.specs.inner.Lookup.{lookupBy, RemoveLookup, StoredBy};
 use crate::answers::not_held;
 use crate::answers::refusal;
 use calls::Change;
@@ -16,9 +16,10 @@ use index::Found;
 use index::State;
 use index_code::change::remove_held;
 use index_code::fault::reuse_fault;
+use index_code::head::head_of;
 use index_code::search::find;
 use layout_code::header::lent_fault;
-use layout_code::header::slots;
+use layout_code::header::slot_count;
 use layout_code::line::version_fault;
 use stores_code::record::remove_stores;
 
@@ -41,58 +42,69 @@ fn held_fault(next: &[u32], n: u32, state: State) -> u32
     0
 }
 
-// 11 (chain), 9 or 11 by what the key's chain has, else 0.
-fn remove_later_fault(found: Found, next: &[u32], n: u32, state: State) -> u32
+// The lookup of a remove by what the key's chain has: 11 (chain), 9 or 11, the key's slot, or that no slot has the key.
+fn remove_found(found: Found, next: &[u32], n: u32, state: State) -> Lookup
     requires { ⌜ length (now next) ≡ n + 1 ⌝ }
-    ensures { λ r. ⌜ r ≡ removeLaterFault found (now (next .entry)) n state ⌝ }
+    ensures { λ r. ⌜ r ≡ lookupBy (removeLaterFault found (now (next .entry)) n state) found ⌝ }
 {
     match found {
         Found::At {
-            slot: _,
-            prev: _,
-            compared: _,
-        } => held_fault(next, n, state),
-        Found::Missing {
-            prev: _,
-            compared: _,
-        } => 0,
-        Found::BadChain => 11,
+            slot,
+            prev,
+            compared,
+        } => {
+            let fault = held_fault(next, n, state);
+            if fault != 0 {
+                return Lookup::Refused {
+                    number: fault,
+                    compared,
+                };
+            }
+            Lookup::Held {
+                slot,
+                prev,
+                compared,
+            }
+        }
+        Found::Missing { prev, compared } => Lookup::NotHeld { prev, compared },
+        Found::BadChain => Lookup::Refused {
+            number: 11,
+            compared: 0,
+        },
     }
 }
 
-// The refusal of a remove and what the key's chain has. Nothing is written.
-fn remove_lookup(image: &[u8], heads: &[u32], next: &[u32], state: State, key: u64) -> Lookup
-    ensures { λ r. ⌜ RemoveLookup 1 (now (image .entry)) (now (heads .entry)) (now (next .entry)) state key r ⌝ }
+// What a remove reads before it writes.
+fn remove_lookup(
+    image: &[u8],
+    l: usize,
+    heads: &[u32],
+    next: &[u32],
+    state: State,
+    low: u64,
+    high: u64,
+) -> Lookup
+    requires { ⌜ Layout l ⌝ }
+    ensures { λ r. ⌜ RemoveLookup l (now (image .entry)) (now (heads .entry)) (now (next .entry)) state (keyWith low high) r ⌝ }
 {
-    let lent = lent_fault(image, 1, heads.len(), next.len());
+    let lent = lent_fault(image, l, heads.len(), next.len());
     if lent != 0 {
-        return Lookup {
-            fault: lent,
-            found: Found::BadChain,
+        return Lookup::Refused {
+            number: lent,
+            compared: 0,
         };
     }
-    let n = slots(image.len());
-    let found = find(image, heads, next, n, key);
-    let fault = remove_later_fault(found, next, n as u32, state);
-    Lookup { fault, found }
+    let n = slot_count(image.len());
+    let found = find(image, l, heads, next, n, low, high);
+    remove_found(found, next, n as u32, state)
 }
 
-// A remove record is written into the first reuse slot, and old is unlinked.
-fn remove_at(
-    image: &[u8],
-    heads: &mut [u32],
-    next: &mut [u32],
-    state: State,
-    key: u64,
-    prev: u32,
-    old: u32,
-) -> Change
-    requires { ⌜ Writable (now image) (now heads) (now next) state key prev old × (0 < state .live) ⌝ }
-    ensures { λ r. ⌜ changeEnd r (now (heads .exit)) (now (next .exit)) ≡ changed 1 (now (image .entry)) state key 2 [] (removeHeld (indexOf (now (heads .entry)) (now (next .entry)) state) (headOf key (length (now (heads .entry)))) prev old) (state .live - 1) ⌝ }
+// The answer of a remove whose record goes into the first reuse slot; after is the state that it leaves.
+fn remove_stored(image: &[u8], l: usize, state: State, low: u64, high: u64, after: State) -> Change
+    requires { ⌜ Layout l × (state .version < 2 ^ 63) × (state .first < 65536) × (128 * (state .first + 1) ≤ length (now image)) ⌝ }
+    ensures { λ r. ⌜ StoredBy l (now (image .entry)) state (keyWith low high) 2 [] after r ⌝ }
 {
-    let h = (key % heads.len() as u64) as usize;
-    let stores = remove_stores(image, state.first, key, state.version);
-    let after = remove_held(heads, next, state, h, prev, old);
+    let stores = remove_stores(image, l, state.first, low, high, state.version);
     Change {
         outcome: Outcome::Stored {
             slot: state.first,
@@ -103,25 +115,44 @@ fn remove_at(
     }
 }
 
+// Remove, in layout l.
+fn remove_in(
+    image: &[u8],
+    l: usize,
+    heads: &mut [u32],
+    next: &mut [u32],
+    state: State,
+    low: u64,
+    high: u64,
+) -> Change
+    requires { ⌜ Layout l ⌝ }
+    ensures { λ r. ⌜ changeEnd r (now (heads .exit)) (now (next .exit)) ≡ removeResult l (now (image .entry)) (now (heads .entry)) (now (next .entry)) state (keyWith low high) ⌝ }
+{
+    let lookup = remove_lookup(image, l, heads, next, state, low, high);
+    match lookup {
+        Lookup::Refused {
+            number,
+            compared: _,
+        } => refusal(number, state),
+        Lookup::Held {
+            slot,
+            prev,
+            compared: _,
+        } => {
+            let h = head_of(low, heads.len());
+            let after = remove_held(heads, next, state, h, prev, slot);
+            remove_stored(image, l, state, low, high, after)
+        }
+        Lookup::NotHeld {
+            prev: _,
+            compared: _,
+        } => not_held(state),
+    }
+}
+
 // The key is dropped: the slot taken and the version, the new state and the stores to be played; absent where it is not held; or a refusal. Neither of the last two changes anything.
 pub fn remove(image: &[u8], heads: &mut [u32], next: &mut [u32], state: State, key: u64) -> Change
     ensures { λ r. ⌜ changeEnd r (now (heads .exit)) (now (next .exit)) ≡ removeResult 1 (now (image .entry)) (now (heads .entry)) (now (next .entry)) state key ⌝ }
 {
-    let lookup = remove_lookup(image, heads, next, state, key);
-    if lookup.fault != 0 {
-        return refusal(lookup.fault, state);
-    }
-    let found = lookup.found;
-    match found {
-        Found::At {
-            slot,
-            prev,
-            compared: _,
-        } => remove_at(image, heads, next, state, key, prev, slot),
-        Found::Missing {
-            prev: _,
-            compared: _,
-        } => not_held(state),
-        Found::BadChain => refusal(11, state),
-    }
+    remove_in(image, 1, heads, next, state, key, 0)
 }

@@ -1,2 +1,1 @@
 pub mod CutRule
-pub mod Trial

@@ -1,3 +1,1 @@
-pub mod Event
 pub mod Rule
-pub mod Trial

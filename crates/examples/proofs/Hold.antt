@@ -4,7 +4,7 @@ use mathlib.Core.Bool.{true}
 use Rattle.words.specs.Word.{word, setWord}
 use Rattle.prelude.specs.Refusal.{say, orElse, unlessRefused}
 use Rattle.prelude.specs.Range.{anyOf, tabulate, greatest, topmost, count}
-use Rattle.prelude.specs.Members.{slots}
+use Rattle.prelude.specs.Members.{slotNumbers}
 use Rattle.prelude.specs.Filter.{filter}
 use Rattle.layout.specs.Size.{slotsOf}
 use Rattle.layout.specs.Line.{lineTop, versionFault}
@@ -31,5 +31,5 @@ use Rattle.plainmap.specs.World.{toPlay, calledChange, calledGet, called, playi
 use Rattle.examples.specs.Examples.{bit, answer, verdict, held, formatNumbers, ends, words, over, leftover, recoveredSet, afterCalls, callAnswers, liveCounts, blank, emptySet, lateSet, removal, removedSet, get7, examples, equal, agree}
 
 pub examples-hold : agree examples ≡ true
-unfolding word setWord say orElse unlessRefused anyOf tabulate greatest topmost count slots filter slotsOf lineTop paired slotTop verdictOf lineVerdict slotVerdict isValid keyFrom keyOf valueWord valueByte valueFront valueOf made contentBy contentOf content top topOf headerWord headerFault imageFault indexFault lentFault markFault kindFault wordFault tailFault faultOf recordFault zipped played wordNumbers values halfFault halvesFault playFault counted playResult marked bodyA bodyB run lineStores recordStores insert sorted isRecord keyIn weight nextVersion decider valueIn valueAt mapOf decidingPut live spare liveCount sharedVersion allLive rankOf ordered chainOf reuseOf setNext setStart setLast link firstOf lastOf after nextIn chained walk search chainFault takeFirst linkNew append putNew putHeld removeHeld roomFault versionFault reuseFault noState slotsFault recoverFault chainsOf placeOf recoveredIndex recoveredState recovered recoverResult formatFault formatted formatResult noStores unchanged changed putLentFault putLaterFault putFault putDone putResult heldFault removeLaterFault removeFault removeDone removeResult lengthFault getLaterFault getFault getDone getResult toPlay calledChange calledGet called playing finished worldAfter recoveredWorld bit answer verdict held formatNumbers ends words over leftover recoveredSet afterCalls callAnswers liveCounts blank emptySet lateSet removal removedSet get7 examples equal agree
+unfolding word setWord say orElse unlessRefused anyOf tabulate greatest topmost count slotNumbers filter slotsOf lineTop paired slotTop verdictOf lineVerdict slotVerdict isValid keyFrom keyOf valueWord valueByte valueFront valueOf made contentBy contentOf content top topOf headerWord headerFault imageFault indexFault lentFault markFault kindFault wordFault tailFault faultOf recordFault zipped played wordNumbers values halfFault halvesFault playFault counted playResult marked bodyA bodyB run lineStores recordStores insert sorted isRecord keyIn weight nextVersion decider valueIn valueAt mapOf decidingPut live spare liveCount sharedVersion allLive rankOf ordered chainOf reuseOf setNext setStart setLast link firstOf lastOf after nextIn chained walk search chainFault takeFirst linkNew append putNew putHeld removeHeld roomFault versionFault reuseFault noState slotsFault recoverFault chainsOf placeOf recoveredIndex recoveredState recovered recoverResult formatFault formatted formatResult noStores unchanged changed putLentFault putLaterFault putFault putDone putResult heldFault removeLaterFault removeFault removeDone removeResult lengthFault getLaterFault getFault getDone getResult toPlay calledChange calledGet called playing finished worldAfter recoveredWorld bit answer verdict held formatNumbers ends words over leftover recoveredSet afterCalls callAnswers liveCounts blank emptySet lateSet removal removedSet get7 examples equal agree
 examples-hold = refl

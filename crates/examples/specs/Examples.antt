@@ -1,4 +1,4 @@
--- Examples E1 to E12 of document 01: a row for each, with what the definitions give and what the paper says, as lists of numbers.
+-- Examples E1 to E12 of document 01: one or more rows for each, with what the definitions give and what document 01 says, as lists of numbers.
 use mathlib.Core.Bool.{Bool, true, false, cond, _&&_}
 use mathlib.Core.Option.{Option, some, none}
 use mathlib.Core.List.{List, [], _∷_, _++_}
@@ -22,6 +22,7 @@ use Rattle.layout.specs.Size.{slotsIn}
 
 -- ---- results as numbers
 
+-- 1 for true, 0 for false
 unfoldable pub bit : Bool → List ℕ
 bit true = 1 ∷ []
 bit false = 0 ∷ []
@@ -59,7 +60,7 @@ words [] i = 0
 words (w ∷ []) i = 0
 words (w ∷ v ∷ rest) i = cond (eqb i w) v (words rest i)
 
--- line A of slot 1 with this mark and stamp, and the stores of version 4 over it
+-- the stores of a put of key 7 with version 4 into slot 1, whose line A has this mark and stamp
 unfoldable pub over : (mark stamp : ℕ) → List Store
 over mark stamp = recordStores 1 (words (16 ∷ mark ∷ 23 ∷ stamp ∷ [])) 1 7 1 [] 4
 
@@ -73,11 +74,12 @@ leftover = words (18 ∷ 1 ∷ 23 ∷ 4 ∷ 31 ∷ 4 ∷ 39 ∷ 6 ∷ 47 ∷ 1 �
 unfoldable pub recoveredSet : (image : List ℕ) → World
 recoveredSet image = recoveredWorld 1 image (0 ∷ []) (replicate 4 0)
 
--- the set after these calls, all their stores played, and what they answer
+-- the set after these calls, all their stores played
 unfoldable pub afterCalls : World → List Call → World
 afterCalls w [] = w
 afterCalls w (call ∷ calls) = afterCalls (finished 1 w call) calls
 
+-- and what they answer, one after the other
 unfoldable pub callAnswers : World → List Call → List ℕ
 callAnswers w [] = []
 callAnswers w (call ∷ calls) = answer (called 1 w call .answer) ++ callAnswers (finished 1 w call) calls
@@ -86,10 +88,11 @@ callAnswers w (call ∷ calls) = answer (called 1 w call .answer) ++ callAnswers
 unfoldable pub liveCounts : World → List ℕ
 liveCounts w = w .state .live ∷ liveCount (tableOf 1 (w .image)) (slotsIn (w .image)) ∷ []
 
--- a formatted image, and its set
+-- a formatted image of three slots
 unfoldable pub blank : List ℕ
 blank = formatResult 1 (replicate 512 9) .bytes
 
+-- the set that recovery makes of it
 unfoldable pub emptySet : World
 emptySet = recoveredSet blank
 
@@ -97,25 +100,30 @@ emptySet = recoveredSet blank
 unfoldable pub lateSet : World
 lateSet = recoveredSet (playing blank (recordStores 1 (word blank) 1 7 1 [] (2 ^ 63 - 2)) 8 8)
 
--- key 7 is put at version 2 and removed at 4
+-- in an empty set, these calls put key 7 at version 2 and remove it at 4
 unfoldable pub removal : List Call
 removal = put 8 [] ∷ put 7 [] ∷ put 8 [] ∷ remove 7 ∷ []
 
+-- the set after them
 unfoldable pub removedSet : World
 removedSet = afterCalls emptySet removal
 
+-- a get of key 7 with 80 bytes of output
 unfoldable pub get7 : List Call
 get7 = get 7 (replicate 80 0) ∷ []
 
 -- ---- the table
 
+-- a row: what the definitions give, and what document 01 says
 pub record Example : Type 0 where
   pub got : List ℕ
   pub want : List ℕ
 
+-- the row with these two
 abbrev pub row : (got want : List ℕ) → Example
 row got want = record { got = got; want = want }
 
+-- "Examples E1 to E12 are shown of the definitions by a single check over a table"
 unfoldable pub examples : List Example
 examples =
     -- E1: 384 bytes format as N = 2; 383 bytes give 1
@@ -153,12 +161,14 @@ examples =
 
 -- ---- the test
 
+-- are the lists the same?
 unfoldable pub equal : (xs ys : List ℕ) → Bool
 equal [] [] = true
 equal [] (y ∷ ys) = false
 equal (x ∷ xs) [] = false
 equal (x ∷ xs) (y ∷ ys) = eqb x y && equal xs ys
 
+-- are the two lists of each row the same?
 unfoldable pub agree : List Example → Bool
 agree [] = true
 agree (e ∷ es) = equal (e .got) (e .want) && agree es

@@ -3,12 +3,7 @@ use mathlib.Core.List.{List, _∷_}
 use Prim.Native.Nat.{ℕ}
 use lib.ListN.{replicate}
 use Rattle.prelude.specs.Answer.{Answer, gives, absent, refused, refusalIn}
-use Rattle.stores.specs.Store.{Store}
-use Rattle.index.specs.declared.State.{State}
-use Rattle.recovery.specs.Recover.{Result, stateValues}
-use Rattle.calls.specs.Format.{FormatResult}
-use Rattle.calls.specs.Change.{ChangeResult}
-use Rattle.calls.specs.Get.{GetResult}
+use Rattle.face.specs.Set.{Store, State, Result, stateValues, FormatResult, ChangeResult, GetResult}
 
 -- the lent answer of n words: 1 and the values that the call gives, or zeros for absent. "A refused call changes no lent byte, index number or state"
 unfoldable pub answered : (n : ℕ) → Answer → (lent : List ℕ) → List ℕ
@@ -18,6 +13,7 @@ answered n (refused number) lent = lent
 
 -- ---- format
 
+-- what a call of format returns, 0 or a refusal's number, and the lent answer and bytes after it
 pub record FormatCall : Type 0 where
   pub returns : ℕ
   pub answer : List ℕ
@@ -27,11 +23,13 @@ pub record FormatCall : Type 0 where
 abbrev pub formatLeft : (code : ℕ) → (answer bytes : List ℕ) → FormatCall
 formatLeft code answer bytes = record { returns = code; answer = answer; bytes = bytes }
 
+-- the same, by the result of format and the lent answer
 unfoldable pub formatCall : FormatResult → (answer : List ℕ) → FormatCall
 formatCall r answer = record { returns = refusalIn (r .answer); answer = answered 2 (r .answer) answer; bytes = r .bytes }
 
 -- ---- recover
 
+-- what a call of recover returns, 0 or a refusal's number, and the lent state and index after it
 pub record RecoverCall : Type 0 where
   pub returns : ℕ
   pub state : List ℕ
@@ -48,6 +46,7 @@ recoveredValues (gives values) lent = values
 recoveredValues absent lent = lent
 recoveredValues (refused number) lent = lent
 
+-- the same, by the result of recover and the lent state
 unfoldable pub recoverCall : Result → State → RecoverCall
 recoverCall r s =
     record {
@@ -59,6 +58,7 @@ recoverCall r s =
 
 -- ---- put and remove
 
+-- what a call of put or remove returns, 0 or a refusal's number, and the lent answer, state, stores and index after it
 pub record ChangeCall : Type 0 where
   pub returns : ℕ
   pub answer : List ℕ
@@ -78,6 +78,7 @@ handedOut (gives values) stores lent = stores
 handedOut absent stores lent = lent
 handedOut (refused number) stores lent = lent
 
+-- the same, by the result of put or remove and the lent answer and stores
 unfoldable pub changeCall : ChangeResult → (answer : List ℕ) → (stores : List Store) → ChangeCall
 changeCall r answer stores =
     record {
@@ -91,6 +92,7 @@ changeCall r answer stores =
 
 -- ---- get
 
+-- what a call of get returns, 0 or a refusal's number, and the lent answer and output after it
 pub record GetCall : Type 0 where
   pub returns : ℕ
   pub answer : List ℕ
@@ -100,5 +102,6 @@ pub record GetCall : Type 0 where
 abbrev pub getLeft : (code : ℕ) → (answer out : List ℕ) → GetCall
 getLeft code answer out = record { returns = code; answer = answer; out = out }
 
+-- the same, by the result of get and the lent answer
 unfoldable pub getCall : GetResult → (answer : List ℕ) → GetCall
 getCall r answer = record { returns = refusalIn (r .answer); answer = answered 2 (r .answer) answer; out = r .out }

@@ -2,7 +2,7 @@
 use mathlib.Core.List.{List}
 use Prim.Native.Nat.{ℕ}
 use lib.ListN.{getD}
-use Rattle.index.specs.declared.State.{State}
+use Rattle.face.specs.Set.{State}
 
 -- first, last and live count stand in one lent slice, the next version in another
 unfoldable pub stateFrom : (state version : List ℕ) → State

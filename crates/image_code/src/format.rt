@@ -4,7 +4,7 @@ ghost use Prim.Native.Nat.{_<_};
 ghost use lib.ListN.{length, replicate};
 ghost use Rattle.calls.specs.Format.{formatEnd, formatResult};
 use calls::Formatted;
-use layout_code::header::slots;
+use layout_code::header::slot_count;
 use words_code::write_word;
 
 // Every byte becomes zero.
@@ -18,17 +18,17 @@ fn clear(image: &mut [u8])
     }
 }
 
-// The bytes become an empty image of layout l.
-fn format_as(image: &mut [u8], l: u64) -> Formatted
+// Format, in layout l.
+fn format_in(image: &mut [u8], l: usize) -> Formatted
     ensures { λ r. ⌜ formatEnd r (now (image .exit)) ≡ formatResult l (now (image .entry)) ⌝ }
 {
-    let n = slots(image.len());
+    let n = slot_count(image.len());
     if n == 0 {
         return Formatted::Refused(1);
     }
     clear(image);
     write_word(image, 0, n as u64);
-    write_word(image, 1, l);
+    write_word(image, 1, l as u64);
     Formatted::Slots(n as u32)
 }
 
@@ -36,5 +36,5 @@ fn format_as(image: &mut [u8], l: u64) -> Formatted
 pub fn format(image: &mut [u8]) -> Formatted
     ensures { λ r. ⌜ formatEnd r (now (image .exit)) ≡ formatResult 1 (now (image .entry)) ⌝ }
 {
-    format_as(image, 1)
+    format_in(image, 1)
 }

@@ -1,9 +1,9 @@
 // Formats lent bytes and plays stores that are written out by hand, and prints each answer and some of the bytes that are left.
 use orderset::Formatted;
+use orderset::Stores;
 use orderset::format;
 use orderset::play;
 use orderset::play_list;
-use stores::Stores;
 
 fn line(label: &[u8], n: u64) {
     show::text(label);

@@ -1,4 +1,4 @@
--- Pushing the slots of a list from its end makes a good index whose chains are filters of the list. Assumes nothing.
+-- Pushing the slots of a list from its end makes a well-formed index whose chains are filters of the list. Assumes nothing.
 use mathlib.Core.Path.{_≡_, refl, sym, ap, _∙_, fun-ext}
 use mathlib.Core.Bool.{true, false, cond}
 use mathlib.Core.Logic.{inl, inr}
@@ -27,8 +27,8 @@ starts i h f reuse = f
 starts i h f (head k) = h k
 
 -- an index of empty chains
-pub good-empty : (i : Index) → ((h : ℕ) → getD (i .heads) h 0 ≡ 0) → i .first ≡ 0 → i .last ≡ 0 → WellFormed i (λ _. free) (λ _. [])
-good-empty i h f l = record {
+pub formed-empty : (i : Index) → ((h : ℕ) → getD (i .heads) h 0 ≡ 0) → i .first ≡ 0 → i .last ≡ 0 → WellFormed i (λ _. free) (λ _. [])
+formed-empty i h f l = record {
   disjoint =
       record {
         runs = starts i h f;
@@ -53,17 +53,17 @@ front-ends : (l s : ℕ) (xs : List ℕ) → ((x : ℕ) → In x xs → 0 < x) �
 front-ends l s [] p e = rw (eq-eqb l 0 e)
 front-ends l s (y ∷ ys) p e = rw (ne-eqb l 0 (λ z. omega (arith, p (endOf y ys) (end-in y ys)))) e
 
-pub good-push : (i : Index) (owner : ℕ → Owner) (chains : Chain → List ℕ) (c : Chain) (s : ℕ) → WellFormed i owner chains → Room i c
+pub formed-push : (i : Index) (owner : ℕ → Owner) (chains : Chain → List ℕ) (c : Chain) (s : ℕ) → WellFormed i owner chains → Room i c
     → Entry i s → owner s ≡ free
     → WellFormed (push i c s) (give owner s (of c)) (withChain chains c (s ∷ chains c))
 unfolding push setLast ahead start
-good-push i owner chains reuse s g a t f = record {
+formed-push i owner chains reuse s g a t f = record {
   disjoint = disjoint-last _ _ _ _ (disjoint-front _ _ _ reuse s (i .first) (g .disjoint) a t f refl);
   ends =
       rw with-same (front-ends (i .last) s (chains reuse) (λ x m. g .disjoint .slot reuse x (g .disjoint .owned .mine reuse x m) .low)
       (g .ends));
 }
-good-push i owner chains (head h) s g a t f = record {
+formed-push i owner chains (head h) s g a t f = record {
   disjoint = disjoint-front _ _ _ (head h) s (getD (i .heads) h 0) (g .disjoint) a t f refl;
   ends =
       unfold linkNew in link-last _ _ _ _ ∙ set-last _ _ _ ∙ g .ends ∙ ap (endOf 0)
@@ -96,8 +96,8 @@ chains-other : (place : ℕ → Chain) (s : ℕ) (l : List ℕ) (c : Chain) → 
 unfolding chainsBy filter
 chains-other place s l c t = rw t
 
-good-chains : (i : Index) (o : ℕ → Owner) (c d : Chain → List ℕ) → c ≡ d → WellFormed i o c → WellFormed i o d
-good-chains i o c d e g = rw (← e) g
+formed-chains : (i : Index) (o : ℕ → Owner) (c d : Chain → List ℕ) → c ≡ d → WellFormed i o c → WellFormed i o d
+formed-chains i o c d e g = rw (← e) g
 
 -- one more slot in front of its chain
 chains-more : (place : ℕ → Chain) (s : ℕ) (l : List ℕ)
@@ -134,13 +134,13 @@ build-heads place i [] = refl
 build-heads place i (s ∷ l) = push-heads (build place i l) (place s) s ∙ build-heads place i l
 
 -- recovery's last step
-pub good-build : (place : ℕ → Chain) (i : Index) (l : List ℕ) → WellFormed i (λ _. free) (λ _. []) → Once l → ((x : ℕ) → In x l → Entry i x)
+pub formed-build : (place : ℕ → Chain) (i : Index) (l : List ℕ) → WellFormed i (λ _. free) (λ _. []) → Once l → ((x : ℕ) → In x l → Entry i x)
     → ((x : ℕ) → In x l → Room i (place x)) → WellFormed (build place i l) (ownerOf place l) (chainsBy place l)
 unfolding build ownerOf chainsBy filter
-good-build place i [] g a h m = g
-good-build place i (s ∷ l) g a h m =
+formed-build place i [] g a h m = g
+formed-build place i (s ∷ l) g a h m =
     let j = build place i l in
-    good-chains (push j (place s) s) _ _ _ (chains-more place s l)
-    (good-push _ _ _ (place s) s (good-build place i l g (a .1) (λ x k. h x (inr k)) (λ x k. m x (inr k)))
+    formed-chains (push j (place s) s) _ _ _ (chains-more place s l)
+    (formed-push _ _ _ (place s) s (formed-build place i l g (a .1) (λ x k. h x (inr k)) (λ x k. m x (inr k)))
     (room-size i j (place s) (build-heads place i l) (m s (inl refl))) (slot-size i j s (build-next place i l) (h s (inl refl)))
     (owner-out place l s (a .0)))

@@ -1,4 +1,4 @@
--- Each raw write, and each call's writes, keep a good index good, and what the chains are after. Assumes nothing.
+-- Each raw write, and each call's writes, keep a well-formed index well-formed, and what the chains are after. Assumes nothing.
 use mathlib.Core.Path.{_≡_, refl, sym, ap, _∙_}
 use mathlib.Core.Logic.{inl, inr}
 use mathlib.Core.List.{List, [], _∷_, _++_, append-nil, append-assoc}
@@ -42,11 +42,11 @@ take-ends : (a l f : ℕ) (g : ℕ → ℕ) (rest : List ℕ) → Run g a rest 0
 take-ends a l f g [] r p e = rw (eq-eqb a 0 r)
 take-ends a l f g (y ∷ ys) r p e = rw (ne-eqb a 0 (λ z. omega (arith, p y (inl refl), r .0))) e
 
-pub good-take : (i : Index) (owner : ℕ → Owner) (chains : Chain → List ℕ) (f : ℕ) (rest : List ℕ) → WellFormed i owner chains
+pub formed-take : (i : Index) (owner : ℕ → Owner) (chains : Chain → List ℕ) (f : ℕ) (rest : List ℕ) → WellFormed i owner chains
     → chains reuse ≡ f ∷ rest
     → WellFormed (takeFirst i) (give owner f free) (withChain chains reuse rest)
 unfolding takeFirst setLast link
-good-take i owner chains f rest g e =
+formed-take i owner chains f rest g e =
     let w = g .disjoint in
     let d : i .first ≡ f = first-is _ _ _ _ _ w e in
     let s : Entry i f = slot-of _ _ _ reuse [] f rest w e in
@@ -73,35 +73,35 @@ disjoint-end i owner chains c s prev w a t f p =
     rw p (disjoint-insert _ _ _ c (chains c) s [] v e (room-size _ _ c (set-heads i s 0) a)
     (slot-size _ _ s (set-size i s 0) t) f (set-here i s 0 c t ∙ sym z))
 
-pub good-append : (i : Index) (owner : ℕ → Owner) (chains : Chain → List ℕ) (s : ℕ) → WellFormed i owner chains → Entry i s → owner s ≡ free
+pub formed-append : (i : Index) (owner : ℕ → Owner) (chains : Chain → List ℕ) (s : ℕ) → WellFormed i owner chains → Entry i s → owner s ≡ free
     → WellFormed (append i s) (give owner s (of reuse)) (withChain chains reuse (chains reuse ++ s ∷ []))
 unfolding append setLast
-good-append i owner chains s g t f = record {
+formed-append i owner chains s g t f = record {
   disjoint =
       disjoint-last _ _ _ s
       (disjoint-end _ _ _ reuse s (i .last) (g .disjoint) tt t f (g .ends));
   ends = rw with-same (sym (end-snoc 0 (chains reuse) s));
 }
 
-pub good-link : (i : Index) (owner : ℕ → Owner) (chains : Chain → List ℕ) (h s prev : ℕ) → WellFormed i owner chains → h < length (i .heads)
+pub formed-link : (i : Index) (owner : ℕ → Owner) (chains : Chain → List ℕ) (h s prev : ℕ) → WellFormed i owner chains → h < length (i .heads)
     → Entry i s → owner s ≡ free
     → prev ≡ endOf 0 (chains (head h))
     → WellFormed (linkNew i (head h) prev s 0) (give owner s (of (head h))) (withChain chains (head h) (chains (head h) ++ s ∷ []))
 unfolding linkNew
-good-link i owner chains h s prev g a t f p = record {
+formed-link i owner chains h s prev g a t f p = record {
   disjoint = disjoint-end _ _ _ (head h) s prev (g .disjoint) a t f p;
   ends =
       link-last _ _ _ _ ∙ set-last _ _ _ ∙ g .ends ∙ ap (endOf 0)
       (sym (with-other chains (head h) _ reuse (reuse-apart h)));
 }
 
-pub good-replace : (i : Index) (owner : ℕ → Owner) (chains : Chain → List ℕ) (h : ℕ) (xs : List ℕ) (old s : ℕ) (ys : List ℕ) (prev : ℕ)
+pub formed-replace : (i : Index) (owner : ℕ → Owner) (chains : Chain → List ℕ) (h : ℕ) (xs : List ℕ) (old s : ℕ) (ys : List ℕ) (prev : ℕ)
     → WellFormed i owner chains
     → chains (head h) ≡ xs ++ old ∷ ys → Entry i s → owner s ≡ free → prev ≡ endOf 0 xs
     → WellFormed (linkNew i (head h) prev s (getD (i .next) old 0)) (give (give owner old free) s (of (head h)))
     (withChain chains (head h) (xs ++ s ∷ ys))
 unfolding linkNew
-good-replace i owner chains h xs old s ys prev g e t f p =
+formed-replace i owner chains h xs old s ys prev g e t f p =
     let n = getD (i .next) old 0 in
     let w = g .disjoint in
     let v : Disjoint (setNext i s n) owner chains = disjoint-set _ _ _ s n w (t .low) f in
@@ -118,11 +118,11 @@ good-replace i owner chains h xs old s ys prev g e t f p =
           (sym (with-other chains (head h) _ reuse (reuse-apart h)));
     }
 
-pub good-unlink : (i : Index) (owner : ℕ → Owner) (chains : Chain → List ℕ) (h : ℕ) (xs : List ℕ) (old : ℕ) (ys : List ℕ) (prev : ℕ)
+pub formed-unlink : (i : Index) (owner : ℕ → Owner) (chains : Chain → List ℕ) (h : ℕ) (xs : List ℕ) (old : ℕ) (ys : List ℕ) (prev : ℕ)
     → WellFormed i owner chains
     → chains (head h) ≡ xs ++ old ∷ ys → prev ≡ endOf 0 xs
     → WellFormed (link i (head h) prev (getD (i .next) old 0)) (give owner old free) (withChain chains (head h) (xs ++ ys))
-good-unlink i owner chains h xs old ys prev g e p =
+formed-unlink i owner chains h xs old ys prev g e p =
     let w = g .disjoint in
     let o : Entry i old = slot-of _ _ _ (head h) xs old ys w e in
     record {
@@ -167,12 +167,12 @@ unfolding putNew
 new-heads i h prev = simp (linkNew-heads, take-heads)
 
 pub held-next : (i : Index) (h prev old : ℕ) → length (putHeld i h prev old .next) ≡ length (i .next)
-unfolding putHeld
-held-next i h prev old = simp (append-next, linkNew-next, take-next)
+unfolding putHeld linkNew
+held-next i h prev old = simp (append-next, link-size, set-size, take-next)
 
 pub held-heads : (i : Index) (h prev old : ℕ) → length (putHeld i h prev old .heads) ≡ length (i .heads)
-unfolding putHeld
-held-heads i h prev old = simp (append-heads, linkNew-heads, take-heads)
+unfolding putHeld linkNew
+held-heads i h prev old = simp (append-heads, link-heads, set-heads, take-heads)
 
 pub remove-next : (i : Index) (h prev old : ℕ) → length (removeHeld i h prev old .next) ≡ length (i .next)
 unfolding removeHeld
@@ -182,11 +182,11 @@ pub remove-heads : (i : Index) (h prev old : ℕ) → length (removeHeld i h pre
 unfolding removeHeld
 remove-heads i h prev old = simp (append-heads, link-heads, take-heads)
 
-pub good-at : (i j : Index) (o : ℕ → Owner) (c : Chain → List ℕ) → i ≡ j → WellFormed i o c → WellFormed j o c
-good-at i j o c e g = rw (← e) g
+pub formed-at : (i j : Index) (o : ℕ → Owner) (c : Chain → List ℕ) → i ≡ j → WellFormed i o c → WellFormed j o c
+formed-at i j o c e g = rw (← e) g
 
-pub good-alike : (i : Index) (o p : ℕ → Owner) (c d : Chain → List ℕ) → o ≡ p → c ≡ d → WellFormed i o c → WellFormed i p d
-good-alike i o p c d e f g = rw (← e, ← f) g
+pub formed-alike : (i : Index) (o p : ℕ → Owner) (c d : Chain → List ℕ) → o ≡ p → c ≡ d → WellFormed i o c → WellFormed i p d
+formed-alike i o p c d e f g = rw (← e, ← f) g
 
 module _
     (i : Index) (owner : ℕ → Owner) (chains : Chain → List ℕ) (h prev f : ℕ) (rest : List ℕ) (g : WellFormed i owner chains)
@@ -198,14 +198,14 @@ module _
   kept = with-other chains reuse rest (head h) (λ d. reuse-apart h (sym d))
 
   -- a put of a new key
-  pub good-new : h < length (i .heads) → prev ≡ endOf 0 (chains (head h))
+  pub formed-new : h < length (i .heads) → prev ≡ endOf 0 (chains (head h))
       → WellFormed (putNew i h prev) (give owner f (of (head h))) (withChain (withChain chains reuse rest) (head h) (chains (head h) ++ f ∷ []))
   unfolding putNew
-  good-new a p =
-      good-at _ _ _ _ (ap (λ (x : ℕ). linkNew (takeFirst i) (head h) prev x 0) (sym (first-is _ _ _ _ _ (g .disjoint) e)))
-      (good-alike (linkNew (takeFirst i) (head h) prev f 0) _ _ _ _ (give-twice owner f free (of (head h)))
+  formed-new a p =
+      formed-at _ _ _ _ (ap (λ (x : ℕ). linkNew (takeFirst i) (head h) prev x 0) (sym (first-is _ _ _ _ _ (g .disjoint) e)))
+      (formed-alike (linkNew (takeFirst i) (head h) prev f 0) _ _ _ _ (give-twice owner f free (of (head h)))
       (ap (λ (l : List ℕ). withChain (withChain chains reuse rest) (head h) (l ++ f ∷ [])) kept)
-      (good-link _ _ _ h f prev (good-take _ _ _ _ _ g e) (rw take-heads a)
+      (formed-link _ _ _ h f prev (formed-take _ _ _ _ _ g e) (rw take-heads a)
       (slot-size i (takeFirst i) f (take-next i) spare) (give-same owner f free f refl) (rw kept p)))
 
   module _ (xs : List ℕ) (old : ℕ) (ys : List ℕ) (d : chains (head h) ≡ xs ++ old ∷ ys) (p : prev ≡ endOf 0 xs) where
@@ -219,24 +219,24 @@ module _
         (g .disjoint) d))
 
     -- a put of a held key
-    pub good-held : WellFormed (putHeld i h prev old) (give (give owner f (of (head h))) old (of reuse))
+    pub formed-held : WellFormed (putHeld i h prev old) (give (give owner f (of (head h))) old (of reuse))
         (withChain (withChain chains reuse (rest ++ old ∷ [])) (head h) (xs ++ f ∷ ys))
     unfolding putHeld
-    good-held =
+    formed-held =
         let j = takeFirst i in
         let o = give (give (give owner f free) old free) f (of (head h)) in
         let c = withChain (withChain chains reuse rest) (head h) (xs ++ f ∷ ys) in
         let k = linkNew j (head h) prev f (getD (j .next) old 0) in
         let g₂ : WellFormed k o c =
-        good-replace _ _ _ h xs old f ys prev (good-take _ _ _ _ _ g e) (kept ∙ d)
+        formed-replace _ _ _ h xs old f ys prev (formed-take _ _ _ _ _ g e) (kept ∙ d)
         (slot-size i j f (take-next i) spare) (give-same owner f free f refl) p in
         let b : o old ≡ free =
         give-other (give (give owner f free) old free) f (of (head h)) old apart ∙ give-same (give owner f free) old free old refl in
         let r : c reuse ≡ rest =
         with-other (withChain chains reuse rest) (head h) (xs ++ f ∷ ys) reuse (reuse-apart h) ∙ with-same chains reuse rest in
-        good-at _ _ _ _ (ap (λ (x : ℕ). append (linkNew j (head h) prev x (getD (j .next) old 0)) old)
+        formed-at _ _ _ _ (ap (λ (x : ℕ). append (linkNew j (head h) prev x (getD (j .next) old 0)) old)
         (sym (first-is _ _ _ _ _ (g .disjoint) e)))
-        (good-alike (append k old) _ _ _ _
+        (formed-alike (append k old) _ _ _ _
         (ap (λ (z : ℕ → Owner). give z old (of reuse))
         (give-swap (give owner f free) old f free (of (head h)) apart ∙ ap (λ (z : ℕ → Owner). give z old free)
         (give-twice owner f free (of (head h))))
@@ -244,13 +244,13 @@ module _
         (ap (λ (l : List ℕ). withChain c reuse (l ++ old ∷ [])) r
         ∙ with-swap (withChain chains reuse rest) (head h) reuse (xs ++ f ∷ ys) (rest ++ old ∷ []) (λ n. reuse-apart h (sym n))
         ∙ ap (λ (z : Chain → List ℕ). withChain z (head h) (xs ++ f ∷ ys)) (with-twice chains reuse rest (rest ++ old ∷ [])))
-        (good-append _ _ _ old g₂ (slot-size i k old (linkNew-next j (head h) prev f (getD (j .next) old 0) ∙ take-next i) held) b))
+        (formed-append _ _ _ old g₂ (slot-size i k old (linkNew-next j (head h) prev f (getD (j .next) old 0) ∙ take-next i) held) b))
 
     -- a remove
-    pub good-remove : WellFormed (removeHeld i h prev old) (give owner old (of reuse))
+    pub formed-remove : WellFormed (removeHeld i h prev old) (give owner old (of reuse))
         (withChain (withChain chains reuse (rest ++ old ∷ f ∷ [])) (head h) (xs ++ ys))
     unfolding removeHeld
-    good-remove =
+    formed-remove =
         let j = takeFirst i in
         let o = give (give owner f free) old free in
         let c = withChain (withChain chains reuse rest) (head h) (xs ++ ys) in
@@ -258,20 +258,20 @@ module _
         let n : f ≡ old → ⊥ = λ q. apart (sym q) in
         let s : length (k .next) ≡ length (i .next) = link-size j (head h) prev (getD (j .next) old 0) ∙ take-next i in
         let g₂ : WellFormed k o c =
-        good-unlink _ _ _ h xs old ys prev (good-take _ _ _ _ _ g e)
+        formed-unlink _ _ _ h xs old ys prev (formed-take _ _ _ _ _ g e)
         (kept ∙ d) p in
         let r : c reuse ≡ rest =
         with-other (withChain chains reuse rest) (head h) (xs ++ ys) reuse (reuse-apart h) ∙ with-same chains reuse rest in
         let g₃ : WellFormed (append k old) (give (give owner f free) old (of reuse)) (withChain c reuse (rest ++ old ∷ [])) =
-        good-alike (append k old) _ _ _ _ (give-twice (give owner f free) old free (of reuse))
+        formed-alike (append k old) _ _ _ _ (give-twice (give owner f free) old free (of reuse))
         (ap (λ (l : List ℕ). withChain c reuse (l ++ old ∷ [])) r)
-        (good-append _ _ _ old g₂ (slot-size i k old s held) (give-same (give owner f free) old free old refl)) in
+        (formed-append _ _ _ old g₂ (slot-size i k old s held) (give-same (give owner f free) old free old refl)) in
         let b : give (give owner f free) old (of reuse) f ≡ free =
         give-other (give owner f free) old (of reuse) f n ∙ give-same owner f free f refl in
         let m : give owner old (of reuse) f ≡ of reuse =
         give-other owner old (of reuse) f n ∙ owner-of _ _ _ reuse [] f rest (g .disjoint) e in
-        good-at _ _ _ _ (ap (λ (x : ℕ). append (append k old) x) (sym (first-is _ _ _ _ _ (g .disjoint) e)))
-        (good-alike (append (append k old) f) _ _ _ _
+        formed-at _ _ _ _ (ap (λ (x : ℕ). append (append k old) x) (sym (first-is _ _ _ _ _ (g .disjoint) e)))
+        (formed-alike (append (append k old) f) _ _ _ _
         (ap (λ (z : ℕ → Owner). give z f (of reuse)) (give-swap owner f old free (of reuse) n) ∙ give-twice
         (give owner old (of reuse)) f free (of reuse) ∙ give-idle (give owner old (of reuse)) f (of reuse) m)
         (ap (λ (l : List ℕ). withChain (withChain c reuse (rest ++ old ∷ [])) reuse (l ++ f ∷ [])) (with-same c reuse (rest ++ old ∷ []))
@@ -279,4 +279,4 @@ module _
         ∙ ap (λ (l : List ℕ). withChain c reuse l) (append-assoc rest (old ∷ []) (f ∷ []))
         ∙ with-swap (withChain chains reuse rest) (head h) reuse (xs ++ ys) (rest ++ old ∷ f ∷ []) (λ q. reuse-apart h (sym q))
         ∙ ap (λ (z : Chain → List ℕ). withChain z (head h) (xs ++ ys)) (with-twice chains reuse rest (rest ++ old ∷ f ∷ [])))
-        (good-append (append k old) _ _ f g₃ (slot-size i (append k old) f (append-next k old ∙ s) spare) b))
+        (formed-append (append k old) _ _ f g₃ (slot-size i (append k old) f (append-next k old ∙ s) spare) b))

@@ -6,7 +6,7 @@ use Prim.Native.Nat.{ℕ, _+_, _<_, _≤_}
 use native.Mathlib.Omega.{arith}
 use lib.ListN.{length, getD}
 use Rattle.index.specs.Index.{Chain, reuse, head, Index, ahead}
-use Rattle.prelude.specs.Members.{In, Once, slots}
+use Rattle.prelude.specs.Members.{In, Once, slotNumbers}
 use Rattle.index.specs.Linked.{Run, Owner, Entry, Disjoint, Linked}
 use Rattle.index.proofs.Paths.{Pos, self}
 use Rattle.index.proofs.Owners.{of-of, reuse-apart}
@@ -21,7 +21,7 @@ run-once f a (x ∷ xs) p r = (self f x xs (λ y m. p y (inr m)) (r .1), run-onc
 
 -- a list of different numbers from 1 to n has at most n elements
 at-most : (n : ℕ) (l : List ℕ) → Once l → ((x : ℕ) → In x l → (0 < x) × (x ≤ n)) → length l ≤ n
-at-most n l a h = omega (arith, no-longer l (slots n) a (λ x m. in-slots n x (let k = h x m in (k .0, k .1))), length-slots n)
+at-most n l a h = omega (arith, no-longer l (slotNumbers n) a (λ x m. in-slots n x (let k = h x m in (k .0, k .1))), length-slots n)
 
 -- while reuse has a slot, no head's chain has all
 pub chain-short : (i : Index) (owner : ℕ → Owner) (chains : Chain → List ℕ) (n h f : ℕ) → Disjoint i owner chains
@@ -44,7 +44,7 @@ chain-short i owner chains n h f w e m =
     inside x (inl d) = rw d (bounds reuse f m)
     inside x (inr k) = bounds (head h) x k
 
--- a good index's chains, as a reader has them
+-- a well-formed index's chains, as a reader has them
 pub run-linked : (i : Index) (c : Chain) (a : ℕ) (xs : List ℕ) → ((x : ℕ) → In x xs → Entry i x) → Run (ahead i c) a xs 0
     → Linked (i .next) a xs
 run-linked i c a [] h r = r
@@ -52,6 +52,6 @@ run-linked i c a (x ∷ xs) h r =
     let s = h x (inl refl) in
     (r .0, s .low, s .high, run-linked i c (getD (i .next) x 0) xs (λ y m. h y (inr m)) (rw (ahead-next i c x (s .low)) at (r .1)))
 
-pub good-linked : (i : Index) (owner : ℕ → Owner) (chains : Chain → List ℕ) (c : Chain) → Disjoint i owner chains
+pub formed-linked : (i : Index) (owner : ℕ → Owner) (chains : Chain → List ℕ) (c : Chain) → Disjoint i owner chains
     → Linked (i .next) (ahead i c 0) (chains c)
-good-linked i owner chains c w = run-linked i c (ahead i c 0) (chains c) (λ x m. w .slot c x (w .owned .mine c x m)) (w .runs c)
+formed-linked i owner chains c w = run-linked i c (ahead i c 0) (chains c) (λ x m. w .slot c x (w .owned .mine c x m)) (w .runs c)

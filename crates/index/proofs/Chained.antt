@@ -1,4 +1,4 @@
--- A good index is the index of its chains, and so is the one that recovery builds. Assumes nothing.
+-- A well-formed index is the index of its chains, and so is the one that recovery builds. Assumes nothing.
 use mathlib.Core.Path.{_≡_, refl, sym, ap, _∙_}
 use mathlib.Core.Logic.{inl, inr}
 use mathlib.Core.List.{List, [], _∷_}
@@ -19,7 +19,7 @@ use Rattle.index.proofs.defs.Linked.{Room, chainsBy}
 use Rattle.index.specs.inner.Build.{push, build, unbuilt}
 use Rattle.index.proofs.Owners.{Told, is, isnt, told}
 use Rattle.index.proofs.Links.{ahead-next}
-use Rattle.index.proofs.Builds.{good-empty}
+use Rattle.index.proofs.Builds.{formed-empty}
 use Rattle.index.proofs.Sits.{sits-has, sits-build}
 
 -- ---- a run's list tells what follows each slot
@@ -55,7 +55,7 @@ same-parts heads heads′ next next′ first first′ last last′ a b c d = cc
 
 module _ (n b : ℕ) (place : ℕ → Chain) (i : Index) (chains : Chain → List ℕ) (g : Sits n b place i chains) where
   starts : (c : Chain) → ahead i c 0 ≡ firstOf (chains c)
-  starts c = run-first (ahead i c) (ahead i c 0) (chains c) (g .good .disjoint .runs c)
+  starts c = run-first (ahead i c) (ahead i c 0) (chains c) (g .formed .disjoint .runs c)
 
   head-starts : (h : ℕ) → getD (i .heads) h 0 ≡ firstOf (chains (head h))
   unfolding ahead start
@@ -72,21 +72,21 @@ module _ (n b : ℕ) (place : ℕ → Chain) (i : Index) (chains : Chain → Lis
       let low : 0 < suc s = omega arith in
       let c = place (suc s) in
       sym (ahead-next i c (suc s) low)
-      ∙ run-next (ahead i c) (suc s) (ahead i c 0) (chains c) (g .good .disjoint .runs c) (sits-has _ _ _ _ _ g (suc s) low h)
+      ∙ run-next (ahead i c) (suc s) (ahead i c 0) (chains c) (g .formed .disjoint .runs c) (sits-has _ _ _ _ _ g (suc s) low h)
 
   sits-chained : getD (i .next) 0 0 ≡ 0 → i ≡ chained n b chains place
   unfolding chained
   sits-chained z =
       same-parts (i .heads) _ (i .next) _ (i .first) _ (i .last) _
-      (ext-getD 0 (i .heads) (tabulate (λ h. firstOf (chains (head h))) 0 b) (g .width ∙ sym (tabulate-length _ 0 b))
+      (ext-getD 0 (i .heads) (tabulate (λ h. firstOf (chains (head h))) 0 b) (g .heads-size ∙ sym (tabulate-length _ 0 b))
       (λ h l.
       head-starts h ∙ ap (λ (k : ℕ). firstOf (chains (head k))) (omega arith)
-      ∙ sym (tabulate-get (λ h. firstOf (chains (head h))) 0 b h (omega (arith, g .width)))))
-      (ext-getD 0 (i .next) (tabulate (nextIn chains place) 0 (n + 1)) (g .slots ∙ sym (tabulate-length _ 0 (n + 1)))
+      ∙ sym (tabulate-get (λ h. firstOf (chains (head h))) 0 b h (omega (arith, g .heads-size)))))
+      (ext-getD 0 (i .next) (tabulate (nextIn chains place) 0 (n + 1)) (g .next-size ∙ sym (tabulate-length _ 0 (n + 1)))
       (λ s l.
-      follows z s (omega (arith, g .slots)) ∙ ap (nextIn chains place) (omega arith)
-      ∙ sym (tabulate-get (nextIn chains place) 0 (n + 1) s (omega (arith, g .slots)))))
-      first-starts (g .good .ends ∙ end-last (chains reuse))
+      follows z s (omega (arith, g .next-size)) ∙ ap (nextIn chains place) (omega arith)
+      ∙ sym (tabulate-get (nextIn chains place) 0 (n + 1) s (omega (arith, g .next-size)))))
+      first-starts (g .formed .ends ∙ end-last (chains reuse))
 
 -- ---- what recovery builds
 
@@ -114,7 +114,7 @@ pub built-sits : (n b : ℕ) (place : ℕ → Chain) (order heads next : List �
     → ((h : ℕ) → getD heads h 0 ≡ 0) → Sits n b place (build place (unbuilt heads next) order) (chainsBy place order)
 built-sits n b place order heads next once inside all heads-in eb en zeros =
     let i = unbuilt heads next in
-    sits-build n b place i order (good-empty i zeros refl refl) en eb once inside all
+    sits-build n b place i order (formed-empty i zeros refl refl) en eb once inside all
     (λ x m. room i (place x) (λ h e. omega (arith, heads-in x h m e)))
 
 pub built-chained : (n b : ℕ) (place : ℕ → Chain) (order heads next : List ℕ) (chains : Chain → List ℕ)

@@ -2,6 +2,7 @@ pub mod Walks
 pub mod Faults
 pub mod Writes
 pub mod Owners
+pub mod Heads
 pub mod Links
 pub mod Searches
 pub mod Builds

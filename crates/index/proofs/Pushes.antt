@@ -46,7 +46,7 @@ module _ (heads next : List ℕ) (s : State) (place slot : ℕ) where
 
 -- before a turn: the slots from `left` on are pushed
 pub record Going (heads₀ next₀ order places heads next : List ℕ) (s : State) (left : ℕ) : Type 0 where
-  pub place : left ≤ length order
+  pub position : left ≤ length order
   pub heads-size : length heads ≡ length heads₀
   pub next-size : length next ≡ length next₀
   pub done : PartsOf heads next s (build (placeIn places) (unbuilt heads₀ next₀) (drop left order)) 0 0
@@ -56,7 +56,7 @@ pub going-starts : (heads next order places : List ℕ)
 unfolding build
 going-starts heads next order places =
     record {
-      place = omega arith;
+      position = omega arith;
       heads-size = refl;
       next-size = refl;
       done = rw (drop-length order) (record { index = refl; live-count = refl; next-version = refl });
@@ -66,7 +66,7 @@ module _
     (heads₀ next₀ order places heads next : List ℕ) (s : State) (left : ℕ)
     (g : Going heads₀ next₀ order places heads next s left) where
   pub going-slot : 0 < left → left - 1 < length order
-  going-slot h = omega (arith, g .place)
+  going-slot h = omega (arith, g .position)
 
   pub going-on : (heads′ next′ : List ℕ) (s′ : State) → 0 < left → length heads′ ≡ length heads → length next′ ≡ length next
       → PartsOf heads′ next′ s′
@@ -79,7 +79,7 @@ module _
       let d : drop (left - 1) order ≡ x ∷ drop left order =
       drop-cons order (left - 1) 0 (going-slot h) ∙ ap (λ (m : ℕ). x ∷ drop m order) e in
       record {
-        place = omega (arith, g .place);
+        position = omega (arith, g .position);
         heads-size = lh ∙ g .heads-size;
         next-size = ln ∙ g .next-size;
         done =

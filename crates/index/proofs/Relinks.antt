@@ -1,4 +1,4 @@
--- The changes of a good index: a slot leaves a chain, takes another's place, or joins; a free slot's next is nobody's. Assumes nothing.
+-- The changes of a well-formed index: a slot leaves a chain, takes another's place, or joins; a free slot's next is nobody's. Assumes nothing.
 use mathlib.Core.Path.{_≡_, refl, sym, ap, _∙_}
 use mathlib.Core.Logic.{_⊎_, inl, inr, by-cases}
 use mathlib.Core.List.{List, [], _∷_, _++_}

@@ -17,7 +17,7 @@ use Rattle.index.proofs.defs.SearchIn.{searchIn}
 use Rattle.index.specs.declared.Found.{Found}
 use Rattle.index.specs.declared.Found.the-variants.{At, Missing, BadChain}
 use Rattle.index.proofs.Owners.{Told, is, isnt, told}
-use Rattle.index.proofs.ChainLengths.{chain-short, good-linked}
+use Rattle.index.proofs.ChainLengths.{chain-short, formed-linked}
 
 pub walk-linked : (key : ℕ → ℕ) (next : List ℕ) (n k : ℕ) (xs : List ℕ) (left seen prev at : ℕ) → length next ≡ n + 1
     → Linked next at xs → length xs < left
@@ -31,22 +31,22 @@ walk-linked key next n k (x ∷ xs) (suc left) seen prev at z r h =
     (ap (λ (f : Found). cond (eqb (key x) k) (At x prev (seen + 1)) f)
     (walk-linked key next n k xs left (seen + 1) x (getD next x 0) z (r .3) (omega arith)))
 
--- in a good index, from a head
-pub good-walk : (key : ℕ → ℕ) (i : Index) (owner : ℕ → Owner) (chains : Chain → List ℕ) (n k h f : ℕ) → Disjoint i owner chains
+-- in a well-formed index, from a head
+pub formed-walk : (key : ℕ → ℕ) (i : Index) (owner : ℕ → Owner) (chains : Chain → List ℕ) (n k h f : ℕ) → Disjoint i owner chains
     → length (i .next) ≡ n + 1 → In f (chains reuse)
     → walk key (i .next) n k n 0 0 (getD (i .heads) h 0) ≡ searchIn key k 0 0 (chains (head h))
 unfolding ahead start
-good-walk key i owner chains n k h f w z m =
-    walk-linked _ _ _ _ _ _ _ _ _ z (good-linked _ _ _ (head h) w)
+formed-walk key i owner chains n k h f w z m =
+    walk-linked _ _ _ _ _ _ _ _ _ z (formed-linked _ _ _ (head h) w)
     (chain-short _ _ _ _ _ f w z m)
 
 -- the whole search of a key
-pub good-search : (l : ℕ) (image : List ℕ) (i : Index) (owner : ℕ → Owner) (chains : Chain → List ℕ) (key f : ℕ) → Disjoint i owner chains
+pub formed-search : (l : ℕ) (image : List ℕ) (i : Index) (owner : ℕ → Owner) (chains : Chain → List ℕ) (key f : ℕ) → Disjoint i owner chains
     → length (i .next) ≡ slotsIn image + 1 → In f (chains reuse)
     → search l image (i .heads) (i .next) key ≡ searchIn (slotKey l image) key 0 0 (chains (head (headOf key (length (i .heads)))))
 unfolding search
-good-search l image i owner chains key f w z m =
-    good-walk (slotKey l image) i owner chains (slotsIn image) key (headOf key (length (i .heads))) f w z m
+formed-search l image i owner chains key f w z m =
+    formed-walk (slotKey l image) i owner chains (slotsIn image) key (headOf key (length (i .heads))) f w z m
 
 -- ---- the search of a list
 

@@ -18,9 +18,9 @@ use Rattle.index.proofs.defs.Linked.{give, withChain, Room, ownerOf, ch
 use Rattle.index.proofs.Paths.{end-in}
 use Rattle.index.proofs.Links.{ahead-next}
 use Rattle.index.proofs.Owners.{Told, is, isnt, told, free-of, of-of, give-same, give-other}
-use Rattle.index.proofs.CallWrites.{first-is, owner-of, good-alike, good-new, good-held, good-remove, new-next, new-heads, held-next, held-heads, remove-next, remove-heads}
+use Rattle.index.proofs.CallWrites.{first-is, owner-of, formed-alike, formed-new, formed-held, formed-remove, new-next, new-heads, held-next, held-heads, remove-next, remove-heads}
 use Rattle.index.proofs.ChainLengths.{run-once}
-use Rattle.index.proofs.Builds.{good-build, build-next, build-heads, owner-in, owner-out}
+use Rattle.index.proofs.Builds.{formed-build, build-next, build-heads, owner-in, owner-out}
 
 pub placed-in : (n : ℕ) (place : ℕ → Chain) (x : ℕ) → 0 < x → x ≤ n → placed n place x ≡ of (place x)
 unfolding placed
@@ -101,33 +101,33 @@ placed-two n place place′ s t h ls ms lt mt q r o =
 module _ (n b : ℕ) (place : ℕ → Chain) (i : Index) (chains : Chain → List ℕ) (g : Sits n b place i chains) where
   -- a slot stands in just the chain that is its place, and once
   pub sits-in : (c : Chain) (x : ℕ) → In x (chains c) → (0 < x) × (x ≤ n) × (place x ≡ c)
-  sits-in c x m = placed-of n place x c (g .good .disjoint .owned .mine c x m)
+  sits-in c x m = placed-of n place x c (g .formed .disjoint .owned .mine c x m)
 
   pub sits-has : (x : ℕ) → 0 < x → x ≤ n → In x (chains (place x))
-  sits-has x l m = g .good .disjoint .owned .has (place x) x (placed-in n place x l m)
+  sits-has x l m = g .formed .disjoint .owned .has (place x) x (placed-in n place x l m)
 
   pub sits-once : (c : Chain) → Once (chains c)
-  sits-once c = run-once (ahead i c) (ahead i c 0) (chains c) (λ y m. sits-in c y m .0) (g .good .disjoint .runs c)
+  sits-once c = run-once (ahead i c) (ahead i c 0) (chains c) (λ y m. sits-in c y m .0) (g .formed .disjoint .runs c)
 
   second : (f : ℕ) (rest : List ℕ) → chains reuse ≡ f ∷ rest → Run (ahead i reuse) (getD (i .next) (i .first) 0) rest 0
   second f rest e =
-      let r : Run (ahead i reuse) (ahead i reuse 0) (f ∷ rest) 0 = rw e at (g .good .disjoint .runs reuse) in
+      let r : Run (ahead i reuse) (ahead i reuse 0) (f ∷ rest) 0 = rw e at (g .formed .disjoint .runs reuse) in
       let q = sits-in reuse f (rw e (inl refl)) in
       let d : ahead i reuse f ≡ getD (i .next) (i .first) 0 =
       ahead-next i reuse f (q .0) ∙ ap (λ (x : ℕ). getD (i .next) x 0)
-      (sym (first-is _ _ _ f rest (g .good .disjoint) e)) in
+      (sym (first-is _ _ _ f rest (g .formed .disjoint) e)) in
       rw d at (r .1)
 
   -- the tests of the reuse chain pass
   pub sits-first : (f : ℕ) (rest : List ℕ) → chains reuse ≡ f ∷ rest → (i .first ≡ f) × (0 < i .first) × (i .first ≤ n)
   sits-first f rest e =
-      let d : i .first ≡ f = first-is _ _ _ f rest (g .good .disjoint) e in
+      let d : i .first ≡ f = first-is _ _ _ f rest (g .formed .disjoint) e in
       let q = sits-in reuse f (rw e (inl refl)) in
       (d, omega (arith, q .0), omega (arith, q .1))
 
   pub sits-last : (f : ℕ) (rest : List ℕ) → chains reuse ≡ f ∷ rest → (0 < i .last) × (i .last ≤ n)
   sits-last f rest e =
-      let d : i .last ≡ endOf f rest = g .good .ends ∙ ap (endOf 0) e in
+      let d : i .last ≡ endOf f rest = g .formed .ends ∙ ap (endOf 0) e in
       let q = sits-in reuse (endOf f rest) (rw e (end-in f rest)) in
       (omega (arith, q .0), omega (arith, q .1))
 
@@ -137,45 +137,45 @@ module _ (n b : ℕ) (place : ℕ → Chain) (i : Index) (chains : Chain → Lis
 
   module _ (place′ : ℕ → Chain) (h prev f : ℕ) (rest : List ℕ) (e : chains reuse ≡ f ∷ rest) where
     first-in : (0 < f) × (f ≤ n) × (place f ≡ reuse)
-    first-in = placed-of n place f reuse (owner-of _ _ _ reuse [] f rest (g .good .disjoint) e)
+    first-in = placed-of n place f reuse (owner-of _ _ _ reuse [] f rest (g .formed .disjoint) e)
 
     pub sits-new : h < b → prev ≡ endOf 0 (chains (head h)) → place′ f ≡ head h
         → ((x : ℕ) → 0 < x → x ≤ n → (x ≡ f → ⊥) → place′ x ≡ place x)
         → Sits n b place′ (putNew i h prev) (withChain (withChain chains reuse rest) (head h) (chains (head h) ++ f ∷ []))
     sits-new l p q o = record {
-      good =
-          good-alike (putNew i h prev) _ _ _ _ (ap (λ (c : Chain). give (placed n place) f (of c)) (sym q)
+      formed =
+          formed-alike (putNew i h prev) _ _ _ _ (ap (λ (c : Chain). give (placed n place) f (of c)) (sym q)
           ∙ placed-move n place place′ f (first-in .0) (first-in .1) o) refl
-          (good-new _ _ _ h prev f rest (g .good) e (rw (g .width) l) p);
-      slots = new-next _ _ _ ∙ g .slots;
-      width = new-heads _ _ _ ∙ g .width;
+          (formed-new _ _ _ h prev f rest (g .formed) e (rw (g .heads-size) l) p);
+      next-size = new-next _ _ _ ∙ g .next-size;
+      heads-size = new-heads _ _ _ ∙ g .heads-size;
     }
 
     module _ (xs : List ℕ) (old : ℕ) (ys : List ℕ) (d : chains (head h) ≡ xs ++ old ∷ ys) (p : prev ≡ endOf 0 xs) where
       old-in : (0 < old) × (old ≤ n) × (place old ≡ head h)
-      old-in = placed-of n place old (head h) (owner-of _ _ _ (head h) xs old ys (g .good .disjoint) d)
+      old-in = placed-of n place old (head h) (owner-of _ _ _ (head h) xs old ys (g .formed .disjoint) d)
 
       pub sits-held : place′ f ≡ head h → place′ old ≡ reuse → ((x : ℕ) → 0 < x → x ≤ n → (x ≡ f → ⊥) → (x ≡ old → ⊥) → place′ x ≡ place x)
           → Sits n b place′ (putHeld i h prev old) (withChain (withChain chains reuse (rest ++ old ∷ [])) (head h) (xs ++ f ∷ ys))
       sits-held q r o = record {
-        good =
-            good-alike (putHeld i h prev old) _ _ _ _
+        formed =
+            formed-alike (putHeld i h prev old) _ _ _ _
             (placed-two n place place′ f old h (first-in .0) (first-in .1) (old-in .0) (old-in .1) q r o) refl
-            (good-held _ _ _ h prev f rest (g .good) e xs old ys d p);
-        slots = held-next _ _ _ _ ∙ g .slots;
-        width = held-heads _ _ _ _ ∙ g .width;
+            (formed-held _ _ _ h prev f rest (g .formed) e xs old ys d p);
+        next-size = held-next _ _ _ _ ∙ g .next-size;
+        heads-size = held-heads _ _ _ _ ∙ g .heads-size;
       }
 
       pub sits-remove : place′ old ≡ reuse → ((x : ℕ) → 0 < x → x ≤ n → (x ≡ old → ⊥) → place′ x ≡ place x)
           → Sits n b place′ (removeHeld i h prev old) (withChain (withChain chains reuse (rest ++ old ∷ f ∷ [])) (head h) (xs ++ ys))
       sits-remove q o = record {
-        good =
-            good-alike (removeHeld i h prev old) _ _ _ _
+        formed =
+            formed-alike (removeHeld i h prev old) _ _ _ _
             (ap (λ (c : Chain). give (placed n place) old (of c)) (sym q) ∙ placed-move n place place′ old (old-in .0)
             (old-in .1) o) refl
-            (good-remove _ _ _ h prev f rest (g .good) e xs old ys d p);
-        slots = remove-next _ _ _ _ ∙ g .slots;
-        width = remove-heads _ _ _ _ ∙ g .width;
+            (formed-remove _ _ _ h prev f rest (g .formed) e xs old ys d p);
+        next-size = remove-next _ _ _ _ ∙ g .next-size;
+        heads-size = remove-heads _ _ _ _ ∙ g .heads-size;
       }
 
 -- recovery's last step, from a list of all slots
@@ -184,10 +184,10 @@ pub sits-build : (n b : ℕ) (place : ℕ → Chain) (i : Index) (l : List ℕ) 
     → ((x : ℕ) → In x l → (0 < x) × (x ≤ n)) → ((x : ℕ) → 0 < x → x ≤ n → In x l) → ((x : ℕ) → In x l → Room i (place x))
     → Sits n b place (build place i l) (chainsBy place l)
 sits-build n b place i l g en eb a h k m = record {
-  good =
-      good-alike (build place i l) _ _ _ _ (placed-alike n (ownerOf place l) place (λ x u v. owner-in place l x (k x u v))
+  formed =
+      formed-alike (build place i l) _ _ _ _ (placed-alike n (ownerOf place l) place (λ x u v. owner-in place l x (k x u v))
       (λ x p. owner-out place l x (λ z. free-of (place x) (sym p ∙ placed-in n place x (h x z .0) (h x z .1))))) refl
-      (good-build place i l g a (λ x z. record { low = h x z .0; high = omega (arith, h x z .1) }) m);
-  slots = build-next _ _ _ ∙ en;
-  width = build-heads _ _ _ ∙ eb;
+      (formed-build place i l g a (λ x z. record { low = h x z .0; high = omega (arith, h x z .1) }) m);
+  next-size = build-next _ _ _ ∙ en;
+  heads-size = build-heads _ _ _ ∙ eb;
 }

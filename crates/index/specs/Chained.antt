@@ -6,11 +6,12 @@ use lib.Dec.{eqb}
 use Rattle.prelude.specs.Range.{tabulate}
 use Rattle.index.specs.Index.{Index, Chain, reuse, head}
 
--- the first and the last slot of a chain, 0 if it has none
+-- the first slot of a chain, 0 if it has none
 unfoldable pub firstOf : List ℕ → ℕ
 firstOf [] = 0
 firstOf (x ∷ xs) = x
 
+-- and the last
 unfoldable pub lastOf : List ℕ → ℕ
 lastOf [] = 0
 lastOf (x ∷ []) = x

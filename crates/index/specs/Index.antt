@@ -11,10 +11,11 @@ pub record Index : Type 0 where
   pub first : ℕ
   pub last : ℕ
 
--- the lent slices and the state as an index, and the state of an index with a live count and a next version
+-- the lent slices and the state as an index
 abbrev pub indexOf : (heads next : List ℕ) → State → Index
 indexOf heads next s = record { heads = heads; next = next; first = s .first; last = s .last }
 
+-- the state beside an index, with a live count and a next version
 abbrev pub stateOf : Index → (live version : ℕ) → State
 stateOf i live version = record { first = i .first; last = i .last; live = live; version = version }
 
@@ -39,13 +40,16 @@ ahead i c (suc x) = getD (i .next) (suc x) 0
 
 -- ---- one number written
 
+-- the next of slot s becomes v
 unfoldable pub setNext : Index → (s v : ℕ) → Index
 setNext i s v = record { heads = i .heads; next = set (i .next) s v; first = i .first; last = i .last }
 
+-- the first slot of a chain becomes v
 unfoldable pub setStart : Index → Chain → ℕ → Index
 setStart i reuse v = record { heads = i .heads; next = i .next; first = v; last = i .last }
 setStart i (head h) v = record { heads = set (i .heads) h v; next = i .next; first = i .first; last = i .last }
 
+-- the last slot of the reuse chain becomes v
 unfoldable pub setLast : Index → ℕ → Index
 setLast i v = record { heads = i .heads; next = i .next; first = i .first; last = v }
 

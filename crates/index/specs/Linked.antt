@@ -53,7 +53,7 @@ pub record WellFormed (i : Index) (owner : ℕ → Owner) (chains : Chain → Li
   pub disjoint : Disjoint i owner chains
   pub ends : i .last ≡ endOf 0 (chains reuse)
 
--- ---- the slots 1 to n, each in its place
+-- ---- the slots 1 to n, each in its place: the place of a slot is the chain in which it stands
 
 -- the slots 1 to n, each in the chain that `place` names
 unfoldable pub placed : (n : ℕ) → (place : ℕ → Chain) → ℕ → Owner
@@ -61,6 +61,6 @@ placed n place x = cond (eqb x 0) free (cond (ltb n x) free (of (place x)))
 
 -- a well-formed index of n slots and b heads, whose slots stand where `place` says
 pub record Sits (n b : ℕ) (place : ℕ → Chain) (i : Index) (chains : Chain → List ℕ) : Type 0 where
-  pub good : WellFormed i (placed n place) chains
-  pub slots : length (i .next) ≡ n + 1
-  pub width : length (i .heads) ≡ b
+  pub formed : WellFormed i (placed n place) chains
+  pub next-size : length (i .next) ≡ n + 1
+  pub heads-size : length (i .heads) ≡ b

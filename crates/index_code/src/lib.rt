@@ -2,4 +2,5 @@
 pub mod build;
 pub mod change;
 pub mod fault;
+pub mod head;
 pub mod search;

@@ -1,16 +1,27 @@
 // Following a key's chain.
 ghost use mathlib.Core.Path.{_≡_};
-ghost use Rattle.index.specs.Walk.{search};
+ghost use Rattle.layout.specs.Record.{Layout};
+ghost use Rattle.layout.specs.inner.Key.{keyWith};
 ghost use Rattle.layout.specs.inner.Sized.{Sized};
+ghost use Rattle.index.specs.Walk.{search};
+use crate::head::head_of;
 use index::Found;
-use layout_code::fields::slot_key;
+use layout_code::fields::has_key;
 
 // Follows the chain of the key's head, up to the first slot with that key or the end.
-pub fn find(image: &[u8], heads: &[u32], next: &[u32], n: usize, key: u64) -> Found
-    requires { ⌜ Sized (now image) (now heads) (now next) n ⌝ }
-    ensures { λ r. ⌜ r ≡ search 1 (now (image .entry)) (now (heads .entry)) (now (next .entry)) key ⌝ }
+pub fn find(
+    image: &[u8],
+    l: usize,
+    heads: &[u32],
+    next: &[u32],
+    n: usize,
+    low: u64,
+    high: u64,
+) -> Found
+    requires { ⌜ Layout l × Sized (now image) (now heads) (now next) n ⌝ }
+    ensures { λ r. ⌜ r ≡ search l (now (image .entry)) (now (heads .entry)) (now (next .entry)) (keyWith low high) ⌝ }
 {
-    let head = (key % heads.len() as u64) as usize;
+    let head = head_of(low, heads.len());
     let mut at = heads[head];
     let mut prev: u32 = 0;
     let mut compared: u32 = 0;
@@ -24,7 +35,7 @@ pub fn find(image: &[u8], heads: &[u32], next: &[u32], n: usize, key: u64) -> Fo
             return Found::BadChain;
         }
         compared += 1;
-        if slot_key(image, slot) == key {
+        if has_key(image, l, slot, low, high) {
             return Found::At {
                 slot: at,
                 prev,

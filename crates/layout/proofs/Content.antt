@@ -12,7 +12,7 @@ use Rattle.prelude.proofs.Choice.{pick-true, pick-false, split}
 use Rattle.layout.specs.Line.{lineA, lineB, whole, versionOf, lineTop}
 use Rattle.layout.specs.Slot.{paired, slotTop, verdictOf, lineVerdict}
 use Rattle.layout.specs.Record.{kindOf, lengthOf, keyOf, limit, valueByte, valueFront, valueOf}
-use Rattle.layout.specs.Content.{broken, empty, put, remove, made, contentBy, contentOf, content, top, topOf}
+use Rattle.layout.specs.Content.{broken, empty, putRecord, removeRecord, made, contentBy, contentOf, content, top, topOf}
 use Rattle.layout.specs.Fault.{wordFault, tailFault, faultOf}
 use Rattle.layout.specs.declared.Verdict.the-variants.{Valid, Empty, Broken}
 use Rattle.prelude.proofs.Any.{or-none}
@@ -108,8 +108,8 @@ pub data Reading (l : ℕ) (A B : ℕ → ℕ) : Type 0 where
   reads-broken : paired (A 0) (A 7) (B 0) (B 7) ≡ false → contentOf l A B ≡ broken (slotTop A B) → Reading l A B
   reads-empty : paired (A 0) (A 7) (B 0) (B 7) ≡ true → versionOf (A 7) ≡ 0 → contentOf l A B ≡ empty → Reading l A B
   reads-put : PutAt l A B (versionOf (A 7)) (keyOf l A) (valueOf l A B)
-      → contentOf l A B ≡ put (versionOf (A 7)) (keyOf l A) (valueOf l A B) → Reading l A B
-  reads-remove : RemoveAt l A B (versionOf (A 7)) (keyOf l A) → contentOf l A B ≡ remove (versionOf (A 7)) (keyOf l A) → Reading l A B
+      → contentOf l A B ≡ putRecord (versionOf (A 7)) (keyOf l A) (valueOf l A B) → Reading l A B
+  reads-remove : RemoveAt l A B (versionOf (A 7)) (keyOf l A) → contentOf l A B ≡ removeRecord (versionOf (A 7)) (keyOf l A) → Reading l A B
 
 module _ (l : ℕ) (A B : ℕ → ℕ) where
   pub broken-content : paired (A 0) (A 7) (B 0) (B 7) ≡ false → contentOf l A B ≡ broken (slotTop A B)
@@ -168,22 +168,22 @@ top-is l m s = top-content l (lineA m s) (lineB m s)
 
 -- ---- from a content to its slot
 
-put-not-broken : (t v k : ℕ) (x : List ℕ) → broken t ≡ put v k x → ⊥
+put-not-broken : (t v k : ℕ) (x : List ℕ) → broken t ≡ putRecord v k x → ⊥
 put-not-broken t v k x e = let z : _≡_ {A = ℕ} 0 1 = cc in omega arith
 
-put-not-empty : (v k : ℕ) (x : List ℕ) → empty ≡ put v k x → ⊥
+put-not-empty : (v k : ℕ) (x : List ℕ) → empty ≡ putRecord v k x → ⊥
 put-not-empty v k x e = let z : _≡_ {A = ℕ} 0 1 = cc in omega arith
 
-put-not-remove : (w j v k : ℕ) (x : List ℕ) → remove w j ≡ put v k x → ⊥
+put-not-remove : (w j v k : ℕ) (x : List ℕ) → removeRecord w j ≡ putRecord v k x → ⊥
 put-not-remove w j v k x e = let z : _≡_ {A = ℕ} 0 1 = cc in omega arith
 
-put-fields : (w j v k : ℕ) (y x : List ℕ) → put w j y ≡ put v k x → (w ≡ v) × (j ≡ k) × (y ≡ x)
+put-fields : (w j v k : ℕ) (y x : List ℕ) → putRecord w j y ≡ putRecord v k x → (w ≡ v) × (j ≡ k) × (y ≡ x)
 put-fields w j v k y x e = (cc, cc, cc)
 
 of-version : (A B : ℕ → ℕ) (w v : ℕ) → ValidAt A B w → w ≡ v → ValidAt A B v
 of-version A B w v h e = record { pair = h .pair; version = h .version ∙ e; positive = omega (arith, h .positive, e) }
 
-pub put-at : (l : ℕ) (A B : ℕ → ℕ) (v k : ℕ) (x : List ℕ) → contentOf l A B ≡ put v k x → PutAt l A B v k x
+pub put-at : (l : ℕ) (A B : ℕ → ℕ) (v k : ℕ) (x : List ℕ) → contentOf l A B ≡ putRecord v k x → PutAt l A B v k x
 put-at l A B v k x e = go (reading l A B)
   where
     go : Reading l A B → PutAt l A B v k x
@@ -203,7 +203,7 @@ value-length l A B = tabulate-length (valueByte l A B) 0 (lengthOf (A (l + 1)))
 -- without a fault the length is within the limit
 pub length-bound : (l : ℕ) (A B : ℕ → ℕ) → faultOf l A B ≡ false → lengthOf (A (l + 1)) ≤ limit l
 unfolding faultOf
-length-bound l A B e = within l (A (l + 1)) (or-none (wordFault l (A (l + 1))) (tailFault l A B (lengthOf (A (l + 1)))) e .0)
+length-bound l A B e = within l (A (l + 1)) _ refl (or-none (wordFault l (A (l + 1))) (tailFault l A B (lengthOf (A (l + 1)))) e .0)
 
 -- ---- a slot whose marks and stamps are zero is empty
 

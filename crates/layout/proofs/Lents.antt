@@ -40,7 +40,7 @@ module _ (l f : ℕ) (image heads next : List ℕ) (ef : f ≡ lentFault l image
         let i = image-long l image (parts .0) in
         let x = index-sized (slotsIn image) (length heads) (length next) (parts .1) in
         record {
-          slots = sym e;
+          slot-count = sym e;
           image-size = omega (arith, e, i .size);
           next-size = omega (arith, e, x .2);
           some-head = x .0;

@@ -84,27 +84,27 @@ shifted w (suc r) =
 abbrev past : (l : ℕ) → (A B : ℕ → ℕ) → ℕ → Bool
 past l A B k = not (eqb (valueByte l A B k) 0)
 
-pub record Left (l : ℕ) (A B : ℕ → ℕ) (size i bits : ℕ) : Type 0 where
+pub record TailLeft (l : ℕ) (A B : ℕ → ℕ) (size i bits : ℕ) : Type 0 where
   pub byte : ℕ
   pub bits-are : bits ≡ 8 * byte
   pub byte-low : byte < 8
-  pub place : 8 * i + byte ≤ limit l
+  pub position : 8 * i + byte ≤ limit l
   pub rest : anyOf (past l A B) (8 * i + byte) (limit l - (8 * i + byte)) ≡ anyOf (past l A B) size (limit l - size)
 
-pub left-start : (l : ℕ) (A B : ℕ → ℕ) (size : ℕ) → size ≤ limit l → Left l A B size (size / 8) (8 * (size % 8))
+pub left-start : (l : ℕ) (A B : ℕ → ℕ) (size : ℕ) → size ≤ limit l → TailLeft l A B size (size / 8) (8 * (size % 8))
 left-start l A B size h =
     record {
       byte = size % 8;
       bits-are = refl;
       byte-low = omega arith;
-      place = omega arith;
+      position = omega arith;
       rest = ap (λ (k : ℕ). anyOf (past l A B) k (limit l - k)) whole;
     }
   where
     whole : 8 * (size / 8) + size % 8 ≡ size
     whole = omega arith
 
-module _ (l : ℕ) (A B : ℕ → ℕ) (size i bits w : ℕ) (low : 1 ≤ l) (g : Left l A B size i bits) (h : i < 11 - l) (e : w ≡ valueWord l A B i) (b : w < 2 ^ 64) where
+module _ (l : ℕ) (A B : ℕ → ℕ) (size i bits w : ℕ) (low : 1 ≤ l) (g : TailLeft l A B size i bits) (h : i < 11 - l) (e : w ≡ valueWord l A B i) (b : w < 2 ^ 64) where
   in-word : (j : ℕ) → g .byte + j < 8 → past l A B (8 * i + g .byte + j) ≡ not (eqb (w / 256 ^ (g .byte + j) % 256) 0)
   unfolding valueByte
   in-word j p =
@@ -125,7 +125,7 @@ module _ (l : ℕ) (A B : ℕ → ℕ) (size i bits w : ℕ) (low : 1 ≤ l) (g 
       ∙ ap₂ (λ (x : Bool) (k : ℕ). cond x true (anyOf (past l A B) k (limit l - 8 * (i + 1)))) here along
     where
       parts : limit l - (8 * i + g .byte) ≡ 8 - g .byte + (limit l - 8 * (i + 1))
-      parts = omega (arith, g .byte-low, g .place)
+      parts = omega (arith, g .byte-low, g .position)
 
       along : 8 * i + g .byte + (8 - g .byte) ≡ 8 * (i + 1)
       along = omega (arith, g .byte-low)
@@ -140,13 +140,13 @@ module _ (l : ℕ) (A B : ℕ → ℕ) (size i bits w : ℕ) (low : 1 ≤ l) (g 
   pub left-hit : (w / 2 ^ bits ≡ 0 → ⊥) → true ≡ anyOf (past l A B) size (limit l - size)
   left-hit ne = sym (turn ∙ pick-true (not (eqb (w / 2 ^ bits) 0)) _ _ (ap not (ne-eqb (w / 2 ^ bits) 0 ne))) ∙ g .rest
 
-  pub left-next : w / 2 ^ bits ≡ 0 → Left l A B size (i + 1) 0
+  pub left-next : w / 2 ^ bits ≡ 0 → TailLeft l A B size (i + 1) 0
   left-next z =
       record {
         byte = 0;
         bits-are = refl;
         byte-low = omega arith;
-        place = omega (arith, h);
+        position = omega (arith, h);
         rest =
             ap (λ (k : ℕ). anyOf (past l A B) k (limit l - k)) start
             ∙ sym (turn ∙ pick-false (not (eqb (w / 2 ^ bits) 0)) _ _ (ap not (eq-eqb (w / 2 ^ bits) 0 z))) ∙ g .rest;
@@ -155,9 +155,9 @@ module _ (l : ℕ) (A B : ℕ → ℕ) (size i bits w : ℕ) (low : 1 ≤ l) (g 
       start : 8 * (i + 1) + 0 ≡ 8 * (i + 1)
       start = omega arith
 
-pub left-end : (l : ℕ) (A B : ℕ → ℕ) (size i bits : ℕ) → l ≤ 2 → Left l A B size i bits → 11 - l ≤ i → false ≡ anyOf (past l A B) size (limit l - size)
+pub left-end : (l : ℕ) (A B : ℕ → ℕ) (size i bits : ℕ) → l ≤ 2 → TailLeft l A B size i bits → 11 - l ≤ i → false ≡ anyOf (past l A B) size (limit l - size)
 unfolding anyOf
 left-end l A B size i bits high g h = ap (anyOf (past l A B) (8 * i + g .byte)) none ∙ g .rest
   where
     none : 0 ≡ limit l - (8 * i + g .byte)
-    none = omega (arith, g .place)
+    none = omega (arith, g .position)

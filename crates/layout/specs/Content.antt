@@ -14,12 +14,12 @@ use Rattle.words.specs.Word.{word}
 pub data Content : Type 0 where
   broken : (top : ℕ) → Content
   empty : Content
-  put : (version key : ℕ) → (value : List ℕ) → Content
-  remove : (version key : ℕ) → Content
+  putRecord : (version key : ℕ) → (value : List ℕ) → Content
+  removeRecord : (version key : ℕ) → Content
 
 -- the record that these fields make: "kind 1 put, 2 remove"
 unfoldable pub made : (kind version key : ℕ) → List ℕ → Content
-made kind version key value = cond (eqb kind 2) (remove version key) (put version key value)
+made kind version key value = cond (eqb kind 2) (removeRecord version key) (putRecord version key value)
 
 -- what a verdict leaves of lines A and B
 unfoldable pub contentBy : (l : ℕ) → (A B : ℕ → ℕ) → Verdict → Content
@@ -27,6 +27,7 @@ contentBy l A B (Valid version) = made (kindOf (A (l + 1))) version (keyOf l A) 
 contentBy l A B Empty = empty
 contentBy l A B (Broken top) = broken top
 
+-- what a slot with lines A and B holds
 unfoldable pub contentOf : (l : ℕ) → (A B : ℕ → ℕ) → Content
 contentOf l A B = contentBy l A B (lineVerdict A B)
 
@@ -42,12 +43,13 @@ top m s = slotTop (lineA m s) (lineB m s)
 unfoldable pub topOf : Content → ℕ
 topOf (broken t) = t
 topOf empty = 0
-topOf (put version key value) = version
-topOf (remove version key) = version
+topOf (putRecord version key value) = version
+topOf (removeRecord version key) = version
 
 -- the table of an image: what each slot holds
 abbrev pub Table : Type 0
 Table = ℕ → Content
 
+-- the table of an image that is given by its bytes
 abbrev pub tableOf : (l : ℕ) → (image : List ℕ) → Table
 tableOf l image = content l (word image)

@@ -21,7 +21,7 @@ wordFault l w =
     cond (kindFault (kindOf w)) true
     (cond (leb 65536 w) true (cond (ltb (limit l) (lengthOf w)) true (cond (eqb (kindOf w) 2) (ltb 0 (lengthOf w)) false)))
 
--- a byte of the value from place `size` on is not zero
+-- a byte of the value from position `size` on is not zero
 unfoldable pub tailFault : (l : ℕ) → (A B : ℕ → ℕ) → (size : ℕ) → Bool
 tailFault l A B size = anyOf (λ k. not (eqb (valueByte l A B k) 0)) size (limit l - size)
 

@@ -4,7 +4,7 @@ use Prim.Native.Nat.{ℕ, _+_, _-_, _*_, _/_, _%_, _^_}
 use lib.Dec.{eqb, leb}
 use Rattle.prelude.specs.Refusal.{say}
 
--- "A line is 64 bytes, 8 words numbered 0 to 7": word i of line n. i counts modulo 8, so that a line speaks of its own eight words alone
+-- "A line is 64 bytes, 8 words numbered 0 to 7": word i of line n. i counts modulo 8, so that a line is a function of its own eight words alone
 abbrev pub line : (ℕ → ℕ) → ℕ → ℕ → ℕ
 line m n i = m (8 * n + i % 8)
 
@@ -12,13 +12,15 @@ line m n i = m (8 * n + i % 8)
 abbrev pub lineA : (ℕ → ℕ) → ℕ → ℕ → ℕ
 lineA m s = line m (2 * s)
 
+-- and line B, after line A
 abbrev pub lineB : (ℕ → ℕ) → ℕ → ℕ → ℕ
 lineB m s = line m (2 * s + 1)
 
--- "Word 7 is the stamp: version × 2 + close bit"; word 0 is the mark
+-- "word 0 of each line is the mark, 0 or 1. Word 7 is the stamp: version × 2 + close bit": the close bit in a stamp
 abbrev pub closeBit : ℕ → ℕ
 closeBit stamp = stamp % 2
 
+-- the version in a stamp, "0 to 2^63 − 1"
 abbrev pub versionOf : ℕ → ℕ
 versionOf stamp = stamp / 2
 

@@ -17,6 +17,7 @@ unfoldable pub keyFrom : (ℕ → ℕ) → (i n : ℕ) → ℕ
 keyFrom A i zero = 0
 keyFrom A i (suc n) = A i + 2 ^ 64 * keyFrom A (suc i) n
 
+-- the key in line A: l words from word 1 on
 unfoldable pub keyOf : (l : ℕ) → (A : ℕ → ℕ) → ℕ
 keyOf l A = keyFrom A 1 l
 
@@ -24,13 +25,15 @@ keyOf l A = keyFrom A 1 l
 abbrev pub keyWord : (key i : ℕ) → ℕ
 keyWord key i = key / (2 ^ 64) ^ i % 2 ^ 64
 
--- kind and length, to the kind word and from it
+-- the kind word: "kind + 256 × length"
 abbrev pub kindWord : (kind size : ℕ) → ℕ
 kindWord kind size = kind + 256 * size
 
+-- the kind in a kind word: its low byte
 abbrev pub kindOf : ℕ → ℕ
 kindOf w = w % 256
 
+-- and the length: the byte above the kind. "bits above the length byte" are no part of it
 abbrev pub lengthOf : ℕ → ℕ
 lengthOf w = w / 256 % 256
 

@@ -22,13 +22,15 @@ verdictOf markA stampA markB stampB =
     cond (paired markA stampA markB stampB) (cond (eqb (versionOf stampA) 0) Empty (Valid (versionOf stampA)))
     (Broken (max (lineTop markA stampA) (lineTop markB stampB)))
 
--- the verdict on lines A and B, and on slot s of an image
+-- the verdict on a slot with lines A and B
 unfoldable pub lineVerdict : (A B : ℕ → ℕ) → Verdict
 lineVerdict A B = verdictOf (A 0) (A 7) (B 0) (B 7)
 
+-- and on slot s of an image that is given by its words
 unfoldable pub slotVerdict : (ℕ → ℕ) → ℕ → Verdict
 slotVerdict m s = lineVerdict (lineA m s) (lineB m s)
 
+-- is the slot valid?
 unfoldable pub isValid : Verdict → Bool
 isValid (Valid version) = true
 isValid Empty = false

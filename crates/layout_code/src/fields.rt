@@ -2,21 +2,45 @@
 ghost use mathlib.Core.Path.{_≡_};
 ghost use mathlib.Core.List.{List, _++_};
 ghost use Prim.Native.Nat.{ℕ, _+_, _*_, _<_, _≤_};
+ghost use lib.Dec.{eqb};
 ghost use lib.ListN.{length, drop};
 ghost use Rattle.words.specs.Word.{word};
 ghost use Rattle.layout.specs.Line.{lineA, lineB};
 ghost use Rattle.layout.specs.Record.{keyOf, kindOf, lengthOf, limit, valueWord, valueByte, valueFront};
 ghost use Rattle.layout.specs.Fault.{kindFault, wordFault, tailFault, faultOf};
 ghost use Rattle.layout.specs.inner.Inside.{SlotInside};
+ghost use Rattle.layout.specs.inner.Key.{keyWith, highWord};
 use words_code::read_word;
 use words_code::write_word;
 
-// The key in slot s of layout 1.
-pub fn slot_key(image: &[u8], s: usize) -> u64
+// The low word of the key in slot s.
+pub fn slot_low(image: &[u8], s: usize) -> u64
     requires { ⌜ 128 * (s + 1) ≤ length (now image) ⌝ }
-    ensures { λ r. ⌜ r ≡ keyOf 1 (lineA (word (now (image .entry))) s) ⌝ }
+    ensures { λ r. ⌜ r ≡ lineA (word (now (image .entry))) s 1 ⌝ }
 {
     read_word(image, 16 * s + 1)
+}
+
+// The high word of the key in slot s, 0 in layout 1.
+pub fn slot_high(image: &[u8], l: usize, s: usize) -> u64
+    requires { ⌜ SlotInside (now image) l s ⌝ }
+    ensures { λ r. ⌜ r ≡ highWord l (lineA (word (now (image .entry))) s) ⌝ }
+{
+    if l == 1 {
+        return 0;
+    }
+    read_word(image, 16 * s + 2)
+}
+
+// Is it the key in slot s?
+pub fn has_key(image: &[u8], l: usize, s: usize, low: u64, high: u64) -> bool
+    requires { ⌜ SlotInside (now image) l s ⌝ }
+    ensures { λ r. ⌜ r ≡ eqb (keyOf l (lineA (word (now (image .entry))) s)) (keyWith low high) ⌝ }
+{
+    if slot_low(image, s) != low {
+        return false;
+    }
+    slot_high(image, l, s) == high
 }
 
 // The kind word of slot s.
@@ -27,12 +51,34 @@ fn kind_word(image: &[u8], l: usize, s: usize) -> u64
     read_word(image, 16 * s + l + 1)
 }
 
-// The kind in slot s: 1 put, 2 remove.
+// The kind in a kind word: 1 put, 2 remove.
+fn kind_of(w: u64) -> u64
+    ensures { λ r. ⌜ r ≡ kindOf w ⌝ }
+{
+    w % 256
+}
+
+// The length in a kind word.
+fn length_of(w: u64) -> usize
+    ensures { λ r. ⌜ r ≡ lengthOf w ⌝ }
+{
+    (w / 256 % 256) as usize
+}
+
+// The greatest length of a value.
+pub fn value_limit(l: usize) -> usize
+    requires { ⌜ l ≤ 2 ⌝ }
+    ensures { λ r. ⌜ r ≡ limit l ⌝ }
+{
+    88 - 8 * l
+}
+
+// The kind in slot s.
 pub fn slot_kind(image: &[u8], l: usize, s: usize) -> u64
     requires { ⌜ SlotInside (now image) l s ⌝ }
     ensures { λ r. ⌜ r ≡ kindOf (lineA (word (now (image .entry))) s (l + 1)) ⌝ }
 {
-    kind_word(image, l, s) % 256
+    kind_of(kind_word(image, l, s))
 }
 
 // The length of the value in slot s.
@@ -40,7 +86,7 @@ pub fn slot_length(image: &[u8], l: usize, s: usize) -> usize
     requires { ⌜ SlotInside (now image) l s ⌝ }
     ensures { λ r. ⌜ r ≡ lengthOf (lineA (word (now (image .entry))) s (l + 1)) ⌝ }
 {
-    (kind_word(image, l, s) / 256 % 256) as usize
+    length_of(kind_word(image, l, s))
 }
 
 // Byte k of the value in slot s.
@@ -68,21 +114,23 @@ fn kind_fault(kind: u64) -> bool
 }
 
 // Is the kind word wrong by itself?
-fn word_fault(l: u64, w: u64) -> bool
+fn word_fault(l: usize, w: u64) -> bool
     requires { ⌜ l ≤ 2 ⌝ }
     ensures { λ r. ⌜ r ≡ wordFault l w ⌝ }
 {
-    if kind_fault(w % 256) {
+    let kind = kind_of(w);
+    let size = length_of(w);
+    if kind_fault(kind) {
         return true;
     }
     if 65536 <= w {
         return true;
     }
-    if 88 - 8 * l < w / 256 % 256 {
+    if value_limit(l) < size {
         return true;
     }
-    if w % 256 == 2 {
-        return 0 < w / 256 % 256;
+    if kind == 2 {
+        return 0 < size;
     }
     false
 }
@@ -111,7 +159,7 @@ fn copy_words(image: &[u8], l: usize, s: usize, out: &mut [u8], words: usize)
     }
 }
 
-// The bytes from place start up to n of the value in slot s follow those before them in out.
+// The bytes from position start up to n of the value in slot s follow those before them in out.
 fn copy_bytes(image: &[u8], l: usize, s: usize, out: &mut [u8], start: usize, n: usize)
     requires { ⌜ SlotInside (now image) l s × (start ≤ n) × (n ≤ limit l) × (n ≤ length (now out)) ⌝ }
     ensures { λ _. ⌜ ((old : List ℕ) → length old ≡ length (now (out .entry)) → now (out .entry) ≡ valueFront l (lineA (word (now (image .entry))) s) (lineB (word (now (image .entry))) s) start ++ drop start old → now (out .exit) ≡ valueFront l (lineA (word (now (image .entry))) s) (lineB (word (now (image .entry))) s) n ++ drop n old) ⌝ }
@@ -133,7 +181,7 @@ pub fn copy_value(image: &[u8], l: usize, s: usize, out: &mut [u8], n: usize)
     copy_bytes(image, l, s, out, 8 * words, n);
 }
 
-// Is a byte of the value from place size on not zero? Word by word, the first one from place size % 8 on.
+// Is a byte of the value from position size on not zero? Word by word, the first one from position size % 8 on.
 fn tail_fault(image: &[u8], l: usize, s: usize, size: usize) -> bool
     requires { ⌜ SlotInside (now image) l s × (size ≤ limit l) ⌝ }
     ensures { λ r. ⌜ r ≡ tailFault l (lineA (word (now (image .entry))) s) (lineB (word (now (image .entry))) s) size ⌝ }
@@ -158,8 +206,8 @@ pub fn record_fault(image: &[u8], l: usize, s: usize) -> bool
     ensures { λ r. ⌜ r ≡ faultOf l (lineA (word (now (image .entry))) s) (lineB (word (now (image .entry))) s) ⌝ }
 {
     let w = kind_word(image, l, s);
-    if word_fault(l as u64, w) {
+    if word_fault(l, w) {
         return true;
     }
-    tail_fault(image, l, s, (w / 256 % 256) as usize)
+    tail_fault(image, l, s, length_of(w))
 }

@@ -11,7 +11,7 @@ ghost use Rattle.layout.specs.Header.{headerWord, headerFault, imageFault, inde
 use words_code::read_word;
 
 // The slots of an image of len bytes, or 0 where no image has that length.
-pub fn slots(len: usize) -> usize
+pub fn slot_count(len: usize) -> usize
     ensures { λ r. ⌜ r ≡ slotsOf len ⌝ }
 {
     if len < 384 {
@@ -42,21 +42,21 @@ fn rest_differs(image: &[u8]) -> bool
 }
 
 // Is a word of the header other than laid down?
-fn header_differs(image: &[u8], l: u64, n: u64) -> bool
+fn header_differs(image: &[u8], l: usize, n: u64) -> bool
     requires { ⌜ 64 ≤ length (now image) ⌝ }
     ensures { λ r. ⌜ r ≡ anyOf (λ i. not (eqb (word (now (image .entry)) i) (headerWord l n i))) 0 8 ⌝ }
 {
     if read_word(image, 0) != n {
         return true;
     }
-    if read_word(image, 1) != l {
+    if read_word(image, 1) != l as u64 {
         return true;
     }
     rest_differs(image)
 }
 
 // 2 or 3 by the header, else 0.
-fn header_fault(image: &[u8], l: u64, n: u64) -> u32
+fn header_fault(image: &[u8], l: usize, n: u64) -> u32
     requires { ⌜ (64 ≤ length (now image)) × (1 ≤ n) ⌝ }
     ensures { λ r. ⌜ r ≡ headerFault l n (word (now (image .entry))) ⌝ }
 {
@@ -70,10 +70,10 @@ fn header_fault(image: &[u8], l: u64, n: u64) -> u32
 }
 
 // 1, 2 or 3 by the image alone, else 0.
-pub fn image_fault(image: &[u8], l: u64) -> u32
+pub fn image_fault(image: &[u8], l: usize) -> u32
     ensures { λ r. ⌜ r ≡ imageFault l (now (image .entry)) ⌝ }
 {
-    let n = slots(image.len());
+    let n = slot_count(image.len());
     if n == 0 {
         return 1;
     }
@@ -98,12 +98,12 @@ pub fn index_fault(n: usize, heads: usize, next: usize) -> u32
 }
 
 // 1, 2, 3 or 4 by what is lent, else 0.
-pub fn lent_fault(image: &[u8], l: u64, heads: usize, next: usize) -> u32
+pub fn lent_fault(image: &[u8], l: usize, heads: usize, next: usize) -> u32
     ensures { λ r. ⌜ r ≡ lentFault l (now (image .entry)) heads next ⌝ }
 {
     let fault = image_fault(image, l);
     if fault != 0 {
         return fault;
     }
-    index_fault(slots(image.len()), heads, next)
+    index_fault(slot_count(image.len()), heads, next)
 }

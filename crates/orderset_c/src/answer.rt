@@ -2,8 +2,7 @@
 ghost use mathlib.Core.Path.{_≡_};
 ghost use mathlib.Core.List.{List};
 ghost use Prim.Native.Nat.{ℕ};
-ghost use Rattle.stores.specs.Store.{zipped};
-ghost use Rattle.calls.specs.Change.{changeEnd};
+ghost use Rattle.face.specs.Set.{zipped, changeEnd};
 ghost use Rattle.exports.specs.State.{stateFrom};
 ghost use Rattle.exports.specs.Call.{changeLeft, changeCall};
 use crate::state::keep_state;

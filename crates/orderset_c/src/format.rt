@@ -1,6 +1,6 @@
 // Format.
 ghost use mathlib.Core.Path.{_≡_};
-ghost use Rattle.calls.specs.Format.{formatResult};
+ghost use Rattle.face.specs.Set.{formatResult};
 ghost use Rattle.exports.specs.Call.{formatLeft, formatCall};
 use orderset::Formatted;
 use orderset::format;

@@ -1,6 +1,6 @@
 // Get.
 ghost use mathlib.Core.Path.{_≡_};
-ghost use Rattle.calls.specs.Get.{getResult};
+ghost use Rattle.face.specs.Set.{getResult};
 ghost use Rattle.exports.specs.Call.{getLeft, getCall};
 use orderset::Got;
 use orderset::get;

@@ -1,9 +1,9 @@
 // Play, with two counts and of a list.
 ghost use mathlib.Core.Path.{_≡_};
-ghost use Rattle.stores.specs.Play.{playEnd, playResult, playListResult};
+ghost use Rattle.face.specs.Set.{playEnd, playResult, playListResult};
+use orderset::Stores;
 use orderset::play;
 use orderset::play_list;
-use stores::Stores;
 
 // The first a stores of the first half and the first b of the second are made.
 #[no_mangle]

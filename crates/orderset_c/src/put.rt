@@ -1,7 +1,6 @@
 // Put.
 ghost use mathlib.Core.Path.{_≡_};
-ghost use Rattle.stores.specs.Store.{zipped};
-ghost use Rattle.calls.specs.Change.{putResult};
+ghost use Rattle.face.specs.Set.{zipped, putResult};
 ghost use Rattle.exports.specs.State.{stateFrom};
 ghost use Rattle.exports.specs.Call.{changeLeft, changeCall};
 use crate::answer::hand_out;

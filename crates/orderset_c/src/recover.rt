@@ -1,6 +1,6 @@
 // Recover.
 ghost use mathlib.Core.Path.{_≡_};
-ghost use Rattle.recovery.specs.Recover.{recoverResult};
+ghost use Rattle.face.specs.Set.{recoverResult};
 ghost use Rattle.exports.specs.State.{stateFrom};
 ghost use Rattle.exports.specs.Call.{recoverLeft, recoverCall};
 use crate::state::keep_state;

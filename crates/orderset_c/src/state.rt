@@ -1,7 +1,7 @@
 // The state as lent numbers: first, last and live count of 32 bits, and the next version of 64.
 ghost use mathlib.Core.Path.{_≡_};
 ghost use Rattle.exports.specs.State.{stateFrom};
-use index::State;
+use orderset::State;
 
 // The state in the lent numbers.
 pub fn state_from(state: &[u32; 3], version: &[u64; 1]) -> State

@@ -1,8 +1,8 @@
 // The examples of document 01 after E12, executed: a value of 0 bytes is held, unlike absent; a header whose word 1 is 2 gives 3; play with
 // counts 0 and 0 changes nothing; 9 in a count gives 14.
-use index::State;
 use orderset::Change;
 use orderset::Recovered;
+use orderset::State;
 use orderset::format;
 use orderset::get;
 use orderset::play;

@@ -122,7 +122,7 @@ module _ (l : ℕ) (image : List ℕ) (accepted : Accepted l image) where
   accepted-long = long (length image) accepted-slots
 
   pub accepted-right : RightSlots l (word image) (slotsIn image)
-  accepted-right = passed-slots l (word image) (slotsIn image) (accepted .slots)
+  accepted-right = passed-slots l (word image) (slotsIn image) (accepted .records)
 
   pub accepted-distinct : Distinct (tableOf l image) (slotsIn image)
   accepted-distinct = accepted-right .distinct
@@ -136,10 +136,10 @@ pub accepted-recovers : (l : ℕ) (image : List ℕ) (heads next : ℕ) → Acce
     → recoverFault l image heads next ≡ 0
 unfolding recoverFault lentFault
 accepted-recovers l image heads next accepted e =
-    orElse-later _ _ (orElse-later _ _ (accepted .header) ∙ e) ∙ accepted .slots
+    orElse-later _ _ (orElse-later _ _ (accepted .header) ∙ e) ∙ accepted .records
 
 pub recovers-accepted : (l : ℕ) (image : List ℕ) (heads next : ℕ) → recoverFault l image heads next ≡ 0 → Accepted l image
 unfolding recoverFault lentFault
 recovers-accepted l image heads next e =
     let parts = orElse-zero (lentFault l image heads next) _ e in
-    record { header = orElse-zero (imageFault l image) _ (parts .0) .0; slots = parts .1 }
+    record { header = orElse-zero (imageFault l image) _ (parts .0) .0; records = parts .1 }

@@ -26,7 +26,7 @@ use Rattle.prelude.proofs.defs.Answer.{isRefusal}
 use Rattle.plainmap.specs.Accepted.{Accepted}
 use Rattle.plainmap.specs.Claims.{slotsMap}
 use Rattle.plainmap.proofs.Struck.{made-record, TableCut, kept, done, lost, nextRecord, nextStores, struckImage, struck-length, struck-table, struck-accepted}
-use Rattle.plainmap.proofs.Outcomes.{worldWith, SomeSound, Wrote}
+use Rattle.plainmap.proofs.Outcomes.{worldWith, SomeSound, WroteRecord}
 use Rattle.plainmap.proofs.CallSteps.{Stepped, stored-none, stored-record}
 use Rattle.stores.specs.Play.{playEnd, playListResult, listFault, wordNumbers, values}
 use Rattle.prelude.specs.Range.{anyOf}
@@ -74,7 +74,7 @@ nothing-listed image = ap (playEnd 0) (sym (playing-none image 8 8))
 -- it is accepted, as long as before, and its map made the plain map's step where all stores stand
 pub record After (l : ℕ) (w : World) (call : Call) (a b : ℕ) : Type 0 where
   pub accepted : Accepted l (playedImage l w call a b)
-  pub slots : slotsIn (playedImage l w call a b) ≡ slotsIn (w .image)
+  pub slot-count : slotsIn (playedImage l w call a b) ≡ slotsIn (w .image)
   pub map :
       (k : ℕ)
       → slotsMap l (playedImage l w call a b) k ≡
@@ -100,7 +100,7 @@ module _ (l : ℕ) (w : World) (call : Call) (accepted : Accepted l (w .image)) 
   -- a record was written, and a and b of its stores were played
   module _
       (a b key kind : ℕ) (value : List ℕ) (i : Index) (alive : ℕ) (p : a ≤ 8) (q : b ≤ 8)
-      (d : called l w call ≡ calledChange (changed l (w .image) (w .state) key kind value i alive)) (wr : Wrote l w key kind value i alive) where
+      (d : called l w call ≡ calledChange (changed l (w .image) (w .state) key kind value i alive)) (wr : WroteRecord l w key kind value i alive) where
     abbrev struck : List ℕ
     struck = struckImage l (w .image) (w .state .first) key kind value a b
 
@@ -136,14 +136,14 @@ module _ (l : ℕ) (w : World) (call : Call) (accepted : Accepted l (w .image)) 
       let e : playedImage l w call a b ≡ w .image = ap (λ (ss : List Store). playing (w .image) ss a b) none ∙ playing-none (w .image) a b in
       record {
         accepted = subst (Accepted l) (sym e) accepted;
-        slots = ap (λ (t : List ℕ). slotsIn t) e;
+        slot-count = ap (λ (t : List ℕ). slotsIn t) e;
         map = λ k. ap (λ (t : List ℕ). slotsMap l t k) e ∙ either (bothStand a b) (slotsMap l (w .image)) _ k (same k);
       }
   after-call a b p q (stored-record key kind value i alive d wr step) =
       let e = as-struck a b key kind value i alive p q d wr in
       record {
         accepted = subst (Accepted l) (sym e) (stays-accepted a b key kind value i alive p q d wr);
-        slots = ap (λ (t : List ℕ). slotsIn t) e ∙ same-slots a b key kind value i alive p q d wr;
+        slot-count = ap (λ (t : List ℕ). slotsIn t) e ∙ same-slots a b key kind value i alive p q d wr;
         map = λ k.
             ap (λ (t : List ℕ). slotsMap l t k) e ∙ record-map a b key kind value i alive p q d wr k
             ∙ branch (bothStand a b) (slotsMap l (w .image)) _ _ k (step k);

@@ -10,7 +10,8 @@ use Rattle.prelude.specs.Answer.{gives, absent}
 use Rattle.layout.specs.Size.{slotsOf, slotsIn}
 use Rattle.layout.specs.Content.{empty, Table, tableOf}
 use Rattle.table.specs.Table.{weight, valueAt, mapOf, isHeld}
-use Rattle.prelude.specs.Members.{Slot, All, none-left, one-more}
+use Rattle.prelude.specs.Members.{Slot, All}
+use Rattle.prelude.proofs.Histories.{throughout}
 use Rattle.table.proofs.Map.{decider-none}
 use Rattle.index.specs.Index.{Chain}
 use Rattle.recovery.specs.Recover.{slotsFault}
@@ -58,7 +59,7 @@ module _ (l : ℕ) (lay : Layout l) (w : World) (chains : Chain → List ℕ) (a
 
 -- the map of the slots in the place of m
 alike : (l : ℕ) (w : World) (m : PlainMap) → Agrees l w m → slotsMap l (w .image) ≡ m
-alike l w m g = fun-ext (g .slots)
+alike l w m g = fun-ext (g .map)
 
 pub agrees-right : (l : ℕ) → Layout l → (w : World) (m : PlainMap) → Agrees l w m → (call : Call) → Typed l call → Right l w m call
 agrees-right l lay w m g call s =
@@ -68,11 +69,11 @@ pub agrees-reads : (l : ℕ) (w : World) (m : PlainMap) → Agrees l w m → Rea
 agrees-reads l w m g = subst (λ (x : PlainMap). Reads l w x) (alike l w m g) (sound-reads l w (g .chains) (g .accepted) (g .sound))
 
 agrees-by : (l : ℕ) (w : World) (m : PlainMap) → Accepted l (w .image) → SomeSound l w → ((k : ℕ) → slotsMap l (w .image) k ≡ m k) → Agrees l w m
-agrees-by l w m a (some-sound chains s) h = record { accepted = a; chains = chains; sound = s; slots = h }
+agrees-by l w m a (some-sound chains s) h = record { accepted = a; chains = chains; sound = s; map = h }
 
 -- m may be given another way
 pub agrees-with : (l : ℕ) (w : World) (m m′ : PlainMap) → Agrees l w m → ((k : ℕ) → m k ≡ m′ k) → Agrees l w m′
-agrees-with l w m m′ g h = record { accepted = g .accepted; chains = g .chains; sound = g .sound; slots = λ k. g .slots k ∙ h k }
+agrees-with l w m m′ g h = record { accepted = g .accepted; chains = g .chains; sound = g .sound; map = λ k. g .map k ∙ h k }
 
 -- EVERY CALL with its stores played leaves an accepted image, a sound index and the plain map's next map
 pub agrees-next : (l : ℕ) → Layout l → (w : World) (m : PlainMap) → Agrees l w m → (call : Call) → Typed l call
@@ -87,13 +88,8 @@ agrees-next l lay w m g call s =
 
 -- EVERY LIST OF CALLS answers as the plain map does
 pub plain-rule : (l : ℕ) → Layout l → (w : World) (m : PlainMap) (calls : List Call) → Agrees l w m → All (Typed l) calls → PlainRule l w m calls
-plain-rule l lay w m [] g none-left = (g, agrees-reads l w m g)
-plain-rule l lay w m (call ∷ calls) g (one-more s rest) = (
-  g,
-  agrees-reads l w m g,
-  agrees-right l lay w m g call s,
-  plain-rule l lay (finished l w call) (mapAfterCall l w m call) calls (agrees-next l lay w m g call s) rest,
-)
+plain-rule l lay =
+    throughout _ _ _ _ (Agrees l) (Typed l) (λ w m g. (g, agrees-reads l w m g)) (agrees-right l lay) (agrees-next l lay)
 
 -- ---- from a recovered image, and from a formatted one
 
@@ -123,7 +119,7 @@ pub formatted-fine : (l len : ℕ) → (slotsOf len ≡ 0 → ⊥) → l < 2 ^ 6
 formatted-fine l len ne b =
     record {
       header = formatted-fault l len ne b;
-      slots = ap (λ (x : ℕ). slotsFault l (word (formatted l len)) (slotsOf x)) (formatted-length l len) ∙ formatted-slots l len ne b;
+      records = ap (λ (x : ℕ). slotsFault l (word (formatted l len)) (slotsOf x)) (formatted-length l len) ∙ formatted-slots l len ne b;
     }
 
 -- EVERY LIST OF CALLS from a formatted image answers as a plain map does that starts empty

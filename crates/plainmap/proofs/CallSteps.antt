@@ -18,7 +18,7 @@ use Rattle.plainmap.specs.Sound.{Sound}
 use Rattle.layout.specs.Record.{Layout}
 use Rattle.plainmap.specs.Claims.{Typed, put-typed, remove-typed, slotsMap}
 use Rattle.plainmap.proofs.Struck.{nextRecord}
-use Rattle.plainmap.proofs.Outcomes.{worldWith, SomeSound, some-sound, Wrote, Ran, ran-refused, ran-absent, ran-wrote, put-runs, remove-runs}
+use Rattle.plainmap.proofs.Outcomes.{worldWith, SomeSound, some-sound, WroteRecord, Ran, ran-refused, ran-absent, ran-wrote, put-runs, remove-runs}
 
 -- ---- what a call does: it stores nothing and the plain map stays, or it writes a record, which is the plain map's step
 
@@ -27,7 +27,7 @@ pub data Stepped (l : ℕ) (w : World) (call : Call) : Type 0 where
       → ((k : ℕ) → slotsMap l (w .image) k ≡ plainStep (operation call) (isRefusal (called l w call .answer)) (slotsMap l (w .image)) k)
       → Stepped l w call
   stored-record : (key kind : ℕ) (value : List ℕ) (i : Index) (alive : ℕ)
-      → called l w call ≡ calledChange (changed l (w .image) (w .state) key kind value i alive) → Wrote l w key kind value i alive
+      → called l w call ≡ calledChange (changed l (w .image) (w .state) key kind value i alive) → WroteRecord l w key kind value i alive
       → ((k : ℕ) → cond (eqb k key) (valueIn (nextRecord l (w .image) key kind value)) (slotsMap l (w .image) k) ≡
       plainStep (operation call) (isRefusal (called l w call .answer)) (slotsMap l (w .image)) k)
       → Stepped l w call

@@ -6,24 +6,22 @@ use native.Mathlib.Omega.{arith}
 use lib.Dec.{ltb}
 use Rattle.words.specs.Word.{word}
 use Rattle.prelude.proofs.Choice.{pick-false}
-use Rattle.prelude.specs.Refusal.{orElse}
 use Rattle.layout.specs.Size.{slotsOf}
-use Rattle.layout.specs.Header.{imageFault, indexFault, lentFault}
 use Rattle.layout.specs.Line.{line, lineA, lineB, whole}
 use Rattle.layout.specs.Slot.{lineVerdict, isValid}
 use Rattle.layout.specs.declared.Verdict.{Verdict}
 use Rattle.layout.specs.declared.Verdict.the-variants.{Empty}
 use Rattle.layout.specs.Fault.{markFault, faultOf, recordFault}
 use Rattle.layout.specs.Content.{tableOf}
-use Rattle.prelude.proofs.Refusals.{say-false, orElse-later}
+use Rattle.prelude.proofs.Refusals.{say-false}
 use Rattle.layout.proofs.Content.{verdict-empty, paired-by}
 use Rattle.layout.proofs.Size.{long}
 use Rattle.prelude.proofs.Any.{any-clear}
-use Rattle.recovery.specs.Recover.{slotsFault, recoverFault}
+use Rattle.recovery.specs.Recover.{slotsFault}
 use Rattle.recovery.proofs.defs.Fresh.{Fresh}
 use Rattle.recovery.proofs.Unwritten.{unwritten-fine, formatted-recovery}
 use Rattle.calls.specs.Format.{formatted}
-use Rattle.calls.proofs.Formats.{formatted-later, formatted-length, formatted-fault, formatted-content}
+use Rattle.calls.proofs.Formats.{formatted-later, formatted-content}
 
 -- the words of a formatted image
 abbrev words-of : (l len : ℕ) → ℕ → ℕ
@@ -62,13 +60,6 @@ formatted-slots l len ne b =
     ∙ say-false _ _ _ (any-clear _ 1 (slotsOf len) (λ i h. no-record l len ne b (1 + i) (omega arith)))
     ∙ unwritten-fine (tableOf l (formatted l len)) (slotsOf len) (λ s i. formatted-content l l len s ne b (i .0))
     (omega (arith, long len ne .low))
-
-pub formatted-accepted : (len heads next : ℕ) → (slotsOf len ≡ 0 → ⊥) → indexFault (slotsOf len) heads next ≡ 0
-    → recoverFault 1 (formatted 1 len) heads next ≡ 0
-unfolding recoverFault lentFault
-formatted-accepted len heads next ne e =
-    ap (λ (k : ℕ). orElse (orElse (imageFault 1 (formatted 1 len)) (indexFault (slotsOf k) heads next)) (slotsFault 1 (word (formatted 1 len)) (slotsOf k))) (formatted-length 1 len)
-    ∙ orElse-later _ _ (orElse-later _ _ (formatted-fault 1 len ne (omega arith)) ∙ e) ∙ formatted-slots 1 len ne (omega arith)
 
 pub formatted-fresh : (l len : ℕ) → (slotsOf len ≡ 0 → ⊥) → l < 2 ^ 64 → Fresh (tableOf l (formatted l len)) (slotsOf len)
 formatted-fresh l len ne b =

@@ -25,7 +25,7 @@ use Rattle.plainmap.specs.Sound.{Sound}
 use Rattle.plainmap.specs.Claims.{slotsMap, dueFault, Untouched, Right, Reads}
 use Rattle.plainmap.proofs.AcceptedImages.{accepted-right}
 use Rattle.plainmap.proofs.Sees.{Sees, sees-held, sees-absent, sound-sees}
-use Rattle.plainmap.proofs.Values.{Keeps, live-keeps, accepted-fits}
+use Rattle.plainmap.proofs.Values.{KeepsValue, live-keeps, accepted-fits}
 use Rattle.plainmap.proofs.Refuses.{get-fault}
 use Rattle.plainmap.proofs.Rights.{gives-absent}
 
@@ -38,7 +38,7 @@ abbrev denied : ℕ → (out : List ℕ) → GetResult
 denied k out = record { answer = refused k; out = out }
 
 get-done : (l : ℕ) (image : List ℕ) (f : Table) (n key : ℕ) (chain out : List ℕ)
-    → ((t : ℕ) (v : List ℕ) → Slot n t → live f n t ≡ true → valueIn (f t) ≡ some v → Keeps l image t v)
+    → ((t : ℕ) (v : List ℕ) → Slot n t → live f n t ≡ true → valueIn (f t) ≡ some v → KeepsValue l image t v)
     → (found : Found) → Sees f n key chain found → getDone l image out found ≡ gotten (mapOf f n key) out
 unfolding getDone lengthAnswer filled
 get-done l image f n key chain out keeps found (sees-held xs ys v d p i q e m u) =

@@ -50,7 +50,7 @@ pub data SomeSound (l : ℕ) (w : World) : Type 0 where
   some-sound : (chains : Chain → List ℕ) → Sound l w chains → SomeSound l w
 
 -- a call wrote a record of this kind and value into the first slot of reuse: its result, what the record is, and the index after it
-pub record Wrote (l : ℕ) (w : World) (key kind : ℕ) (value : List ℕ) (i : Index) (alive : ℕ) : Type 0 where
+pub record WroteRecord (l : ℕ) (w : World) (key kind : ℕ) (value : List ℕ) (i : Index) (alive : ℕ) : Type 0 where
   pub fields : Fields l key kind value
   pub lawful : Lawful kind value
   pub small : nextVersion (tableOf l (w .image)) (slotsIn (w .image)) < 2 ^ 63
@@ -71,7 +71,7 @@ pub data Ran (l : ℕ) (w : World) (key kind : ℕ) (value : List ℕ) (fault : 
   ran-absent : fault ≡ 0 → kind ≡ 2 → r ≡ unchanged absent (w .state) (w .heads) (w .next)
       → mapOf (tableOf l (w .image)) (slotsIn (w .image)) key ≡ none → Ran l w key kind value fault r
   ran-wrote : fault ≡ 0 → (i : Index) (alive : ℕ) → r ≡ changed l (w .image) (w .state) key kind value i alive
-      → Wrote l w key kind value i alive → Ran l w key kind value fault r
+      → WroteRecord l w key kind value i alive → Ran l w key kind value fault r
 
 -- ---- what a call that is not refused has passed
 
@@ -142,7 +142,7 @@ module _ (l : ℕ) (lay : Layout l) (w : World) (chains : Chain → List ℕ) (g
           → (kind ≡ 2 → isHeld (mapOf f n key) ≡ true)
           → ((image′ : List ℕ) → slotsIn image′ ≡ n → tableOf l image′ ≡ upd f s c
           → SomeSound l (record { image = image′; heads = i .heads; next = i .next; state = stateOf i alive (w .state .version + 1) }))
-          → Wrote l w key kind value i alive
+          → WroteRecord l w key kind value i alive
       wrote fields lawful small room held sound =
           record {
             fields = fields;

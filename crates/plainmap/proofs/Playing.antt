@@ -30,10 +30,10 @@ zipped-stores (s ∷ ss) = ap (λ (t : List Store). s ∷ t) (zipped-stores ss)
 
 -- ---- a record's stores pass play's tests
 
-record-places : (l : ℕ) (m : ℕ → ℕ) (s key kind : ℕ) (value : List ℕ) (version : ℕ)
+record-numbers : (l : ℕ) (m : ℕ → ℕ) (s key kind : ℕ) (value : List ℕ) (version : ℕ)
     → wordNumbers (recordStores l m s key kind value version) ≡ recordNumbers s
 unfolding wordNumbers recordStores lineStores run recordNumbers tabulate
-record-places l m s key kind value version = refl
+record-numbers l m s key kind value version = refl
 
 first-line : (s i : ℕ) → i < 8 → getD (recordNumbers s) i 0 ≡ 8 * (2 * s) + i
 unfolding recordNumbers
@@ -67,7 +67,7 @@ pub record-passes : (l len : ℕ) (m : ℕ → ℕ) (s key kind : ℕ) (value : 
     → (slotsOf len ≡ 0 → ⊥) → 128 * (s + 1) ≤ len → a ≤ 8 → b ≤ 8
     → playFault len (wordNumbers (recordStores l m s key kind value version)) a b ≡ 0
 record-passes l len m s key kind value version a b ne h p q =
-    ap (λ (at : List ℕ). playFault len at a b) (record-places l m s key kind value version)
+    ap (λ (at : List ℕ). playFault len at a b) (record-numbers l m s key kind value version)
     ∙ sym
     (play-halves len (recordNumbers s) a b (slotsOf len) refl ne p q 0
     (halves-fine len (recordNumbers s) false
@@ -101,7 +101,7 @@ playing-record l image m s key kind value version a b counts ne h p q e f =
     playing-counted image ss a b passes
     ∙ ap (λ (t : List Store). played t image)
     (ap (counted a b) (sym (zipped-stores ss))
-    ∙ play-stands (length image) (wordNumbers ss) (values ss) a b counts (ap length (record-places l m s key kind value version) ∙ places-length s) passes
+    ∙ play-stands (length image) (wordNumbers ss) (values ss) a b counts (ap length (record-numbers l m s key kind value version) ∙ places-length s) passes
     (ap counts (line-of 0 (2 * s) (first-line s 0 (omega arith))) ∙ e) (ap counts (line-of 8 (2 * s + 1) (second-line s 0 (omega arith))) ∙ f)
     ∙ ap (standing counts) (zipped-stores ss))
   where
@@ -112,7 +112,7 @@ playing-record l image m s key kind value version a b counts ne h p q e f =
     passes = record-passes l (length image) m s key kind value version a b ne h p q
 
     line-of : (k n : ℕ) → getD (recordNumbers s) k 0 ≡ 8 * n + 0 → getD (wordNumbers ss) k 0 / 8 ≡ n
-    line-of k n d = omega (arith, ap (λ (at : List ℕ). getD at k 0) (record-places l m s key kind value version), d)
+    line-of k n d = omega (arith, ap (λ (at : List ℕ). getD at k 0) (record-numbers l m s key kind value version), d)
 
 -- THE PLAY OF A LIST of a record's stores leaves what play with 8 and 8 leaves
 pub list-record : (l : ℕ) (image : List ℕ) (m : ℕ → ℕ) (s key kind : ℕ) (value : List ℕ) (version : ℕ)

@@ -38,7 +38,7 @@ use Rattle.plainmap.specs.Sound.{Starts, starts, Sound}
 use Rattle.plainmap.specs.Claims.{slotsMap, dueFault}
 use Rattle.plainmap.proofs.AcceptedImages.{accepted-right}
 use Rattle.plainmap.proofs.Sees.{Sees, sees-held, sees-absent, sound-sees}
-use Rattle.plainmap.proofs.Values.{Keeps, live-keeps}
+use Rattle.plainmap.proofs.Values.{KeepsValue, live-keeps}
 
 -- ---- refusals that are not due
 
@@ -111,7 +111,7 @@ module _ (f : Table) (n key : ℕ) (chain : List ℕ) where
   remove-checks next s z c found (sees-absent p m) = sym (ap (λ (o : Option (List ℕ)). cond (isHeld o) (versionFault (s .version)) 0) m)
 
   get-checks : (l : ℕ) (image : List ℕ) (size : ℕ)
-      → ((t : ℕ) (v : List ℕ) → Slot n t → live f n t ≡ true → valueIn (f t) ≡ some v → Keeps l image t v)
+      → ((t : ℕ) (v : List ℕ) → Slot n t → live f n t ≡ true → valueIn (f t) ≡ some v → KeepsValue l image t v)
       → (found : Found) → Sees f n key chain found → getLaterFault l image size found ≡ say (ltb size (sizeOf (mapOf f n key))) 13 0
   unfolding getLaterFault lengthFault sizeOf
   get-checks l image size keeps found (sees-held xs ys v d p i q e m u) =

@@ -84,7 +84,7 @@ refused-is (gives values) ne = absurd (ne refl)
 refused-is absent ne = absurd (ne refl)
 refused-is (refused number) ne = refl
 
-plain-given : (slot version : ℕ) (m : PlainMap) (call : Call) → isRefusal (plainAnswer slot version m call) ≡ false
+pub plain-given : (slot version : ℕ) (m : PlainMap) (call : Call) → isRefusal (plainAnswer slot version m call) ≡ false
 unfolding plainAnswer isRefusal lengthAnswer
 plain-given slot version m (put key value) = refl
 plain-given slot version m (remove key) = go (isHeld (m key))

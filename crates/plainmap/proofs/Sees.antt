@@ -23,7 +23,7 @@ use Rattle.index.specs.declared.Found.{Found}
 use Rattle.index.specs.declared.Found.the-variants.{At, Missing, BadChain}
 use Rattle.index.proofs.Owners.{apart-heads, reuse-apart}
 use Rattle.index.proofs.Sits.{sits-in, sits-has, sits-once}
-use Rattle.index.proofs.Searches.{good-search, search-in-hit, search-in-missed, never-bad}
+use Rattle.index.proofs.Searches.{formed-search, search-in-hit, search-in-missed, never-bad}
 use Rattle.recovery.specs.Recover.{placeOf}
 use Rattle.recovery.specs.Represents.{Answers}
 use Rattle.recovery.proofs.Answers.{live-slot-key, chain-at, chain-absent, search-in-answers}
@@ -133,7 +133,7 @@ module _ (l : ℕ) (w : World) (chains : Chain → List ℕ) (s : Sound l w chai
       → search l (w .image) (w .heads) (w .next) key ≡ searchIn (slotKey l (w .image)) key 0 0 (chains (head (headOf key (length (w .heads)))))
   sound-search key =
       let t = starts-in (chains reuse) (s .some-spare) in
-      good-search l (w .image) _ _ chains key (t .0) (s .index .good .disjoint) (s .index .slots) (t .1)
+      formed-search l (w .image) _ _ chains key (t .0) (s .index .formed .disjoint) (s .index .next-size) (t .1)
 
   -- THE SEARCH
   pub sound-sees : (key : ℕ)

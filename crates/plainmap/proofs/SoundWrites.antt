@@ -148,7 +148,7 @@ module _
         → Sound l (after j alive) chains′
     write-sound j alive chains′ q d room ea =
         sound-parts l image′ j alive (w .state .version + 1) n b (upd f s c) chains′ en ef
-        (ap (indexFault n b) (sym (g .index .slots)) ∙ g .size) q
+        (ap (indexFault n b) (sym (g .index .next-size)) ∙ g .size) q
         (subst (HiddenFirst (upd f s c) n) (sym d) (write-hidden f n s (nextVersion f n) key c rest r above sp hf)) room ea
         (omega (arith, g .next-version, write-next f n s (nextVersion f n) key c at free r above))
 

@@ -49,8 +49,8 @@ pub sound-parts : (l : ℕ) (image : List ℕ) (i : Index) (alive version n b : 
     → Sound l (record { image = image; heads = i .heads; next = i .next; state = stateOf i alive version }) chains
 sound-parts l image i alive version n b f chains en ef size g hf room ea ev =
     record {
-      size = ap₂ (λ (x y : ℕ). indexFault (slotsIn image) x y) (g .width) (g .slots) ∙ ap (λ (x : ℕ). indexFault x b (n + 1)) en ∙ size;
-      index = rw (en, ef, g .width) g;
+      size = ap₂ (λ (x y : ℕ). indexFault (slotsIn image) x y) (g .heads-size) (g .next-size) ∙ ap (λ (x : ℕ). indexFault x b (n + 1)) en ∙ size;
+      index = rw (en, ef, g .heads-size) g;
       hidden = rw (en, ef) hf;
       some-spare = room-starts f n b i chains g room;
       live-count = ea ∙ sym (ap₂ liveCount ef en);

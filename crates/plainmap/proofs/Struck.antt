@@ -10,7 +10,7 @@ use lib.Dec.{eqb}
 use lib.ListN.{length}
 use Rattle.words.specs.Word.{word}
 use Rattle.layout.specs.Size.{slotsOf, slotsIn}
-use Rattle.layout.specs.Content.{Content, broken, put, remove, made, top, Table, tableOf}
+use Rattle.layout.specs.Content.{Content, broken, putRecord, removeRecord, made, top, Table, tableOf}
 use Rattle.layout.specs.Header.{headerWord}
 use Rattle.layout.proofs.Content.{top-is}
 use Rattle.stores.specs.Store.{Store, played, standing}
@@ -31,7 +31,7 @@ pub made-record : (kind version key : ℕ) (value : List ℕ) → Record (made k
 unfolding made
 made-record kind version key value = go (eqb kind 2)
   where
-    go : (t : Bool) → Record (cond t (remove version key) (put version key value)) version key
+    go : (t : Bool) → Record (cond t (removeRecord version key) (putRecord version key value)) version key
     go true = remove-record version key
     go false = put-record version key value
 
@@ -167,7 +167,7 @@ module _ (l : ℕ) (image : List ℕ) (s key kind : ℕ) (value : List ℕ) (a b
   struck-accepted full =
       record {
         header = right-header l (struckImage l image s key kind value a b) struck-header;
-        slots =
+        records =
             right-slots l (word (struckImage l image s key kind value a b)) (slotsIn (struckImage l image s key kind value a b))
             (subst (RightSlots l (word (struckImage l image s key kind value a b))) (ap slotsOf (sym struck-length)) (struck-slots full));
       }

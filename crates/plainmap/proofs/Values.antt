@@ -11,7 +11,7 @@ use Rattle.prelude.proofs.Choice.{pick-true}
 use Rattle.layout.specs.Line.{lineA, lineB}
 use Rattle.layout.specs.Slot.{lineVerdict, isValid}
 use Rattle.layout.specs.Record.{limit, valueOf}
-use Rattle.layout.specs.Content.{put, content, tableOf}
+use Rattle.layout.specs.Content.{putRecord, content, tableOf}
 use Rattle.layout.specs.Fault.{faultOf, recordFault}
 use Rattle.layout.proofs.Content.{ValidAt, PutAt, put-at, verdict-valid, value-length, length-bound}
 use Rattle.table.specs.Table.{valueIn, mapOf, live}
@@ -36,7 +36,7 @@ valid-fault l m s v h e =
     ∙ e
 
 -- slot s keeps the value v
-pub record Keeps (l : ℕ) (image : List ℕ) (s : ℕ) (v : List ℕ) : Type 0 where
+pub record KeepsValue (l : ℕ) (image : List ℕ) (s : ℕ) (v : List ℕ) : Type 0 where
   pub value : valueOf l (lineA (word image) s) (lineB (word image) s) ≡ v
   pub size : slotLength l image s ≡ length v
   pub fits : length v ≤ limit l
@@ -46,11 +46,11 @@ some-some v u e = cc
 
 module _ (l : ℕ) (image : List ℕ) (n : ℕ) (right : RightSlots l (word image) n) where
   pub live-keeps : (s : ℕ) (v : List ℕ) → Slot n s → live (tableOf l image) n s ≡ true → valueIn (tableOf l image s) ≡ some v
-      → Keeps l image s v
+      → KeepsValue l image s v
   unfolding content valueIn
   live-keeps s v i e q = go (live-is (tableOf l image) n s e)
     where
-      kept : (w k : ℕ) → PutAt l (lineA (word image) s) (lineB (word image) s) w k v → Keeps l image s v
+      kept : (w k : ℕ) → PutAt l (lineA (word image) s) (lineB (word image) s) w k v → KeepsValue l image s v
       kept w k at =
           let size : slotLength l image s ≡ length v = sym (value-length l (lineA (word image) s) (lineB (word image) s)) ∙ ap length (at .value) in
           record {
@@ -64,11 +64,11 @@ module _ (l : ℕ) (image : List ℕ) (n : ℕ) (right : RightSlots l (word imag
                 );
           }
 
-      go : Live (tableOf l image) n s → Keeps l image s v
+      go : Live (tableOf l image) n s → KeepsValue l image s v
       go (lives w k u d b) =
           kept w k
           (put-at l (lineA (word image) s) (lineB (word image) s) w k v
-          (d ∙ ap (λ (x : List ℕ). put w k x) (some-some u v (sym (ap valueIn d) ∙ q))))
+          (d ∙ ap (λ (x : List ℕ). putRecord w k x) (some-some u v (sym (ap valueIn d) ∙ q))))
 
   map-fits : (key : ℕ) → sizeOf (mapOf (tableOf l image) n key) ≤ limit l
   unfolding sizeOf mapOf

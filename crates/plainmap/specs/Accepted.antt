@@ -11,7 +11,7 @@ use Rattle.layout.specs.Size.{slotsIn}
 -- "an accepted image, one that recovery does not refuse": 1, 2, 3 and 5 to 8 are not due. 4 is about the lent index
 pub record Accepted (l : ℕ) (image : List ℕ) : Type 0 where
   pub header : imageFault l image ≡ 0
-  pub slots : slotsFault l (word image) (slotsIn image) ≡ 0
+  pub records : slotsFault l (word image) (slotsIn image) ≡ 0
 
 -- "That index has the right size when 4 is not due"
 abbrev pub RightSize : (image heads next : List ℕ) → Type 0

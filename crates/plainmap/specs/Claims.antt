@@ -1,4 +1,4 @@
--- What it is that the calls are a plain map: the statements of the laws of this crate. The fields of the calls are numbers of their size, the only side condition.
+-- What it means that the calls are a plain map: what the statements of this crate's laws are made of. All that is asked of a call is that its fields are numbers of their size.
 use mathlib.Core.Path.{_≡_}
 use mathlib.Core.List.{List, []}
 use Prim.Native.Nat.{ℕ, _^_, _≤_, _<_}
@@ -13,7 +13,7 @@ use Rattle.layout.specs.Size.{slotsIn}
 use Rattle.layout.specs.Content.{tableOf}
 use Rattle.plainmap.specs.Plain.{PlainMap, operation, plainStep, ruleFault, lengthAnswer, filled, plainAnswer, plainOut}
 
--- a key has l words, a value is bytes
+-- a put's and a remove's key has l words, and a put's value is bytes; of a get nothing is asked
 pub data Typed (l : ℕ) : Call → Type 0 where
   put-typed : {key : ℕ} {value : List ℕ} → key < (2 ^ 64) ^ l → AreBytes value → Typed l (put key value)
   remove-typed : {key : ℕ} → key < (2 ^ 64) ^ l → Typed l (remove key)
@@ -31,7 +31,7 @@ dueFault l w m call =
     ruleFault l (slotsIn (w .image)) (liveCount (tableOf l (w .image)) (slotsIn (w .image)))
     (nextVersion (tableOf l (w .image)) (slotsIn (w .image))) m call
 
--- the call changes nothing
+-- the call changes nothing: neither the output, the index nor the state, and it has no stores
 pub record Untouched (w : World) (call : Call) (r : Called) : Type 0 where
   pub out : r .out ≡ outOf call
   pub stores : r .stores ≡ []

@@ -2,7 +2,7 @@
 use mathlib.Core.Path.{_≡_}
 use mathlib.Core.Logic.{_↔_}
 use mathlib.Core.Option.{none}
-use mathlib.Core.List.{List, [], _∷_}
+use mathlib.Core.List.{List}
 use Prim.Native.Nat.{ℕ, _+_, _≤_}
 use lib.ListN.{length}
 use Rattle.layout.specs.Size.{slotsOf, slotsIn}
@@ -21,13 +21,12 @@ use Rattle.plainmap.specs.Accepted.{Accepted, RightSize}
 use Rattle.plainmap.specs.Sound.{Sound, Agrees}
 use Rattle.plainmap.specs.Claims.{Typed, slotsMap, Right, Reads, mapAfterCall}
 use Rattle.prelude.specs.Members.{All}
+use Rattle.prelude.specs.History.{Throughout}
 use Rattle.stores.specs.Play.{playEnd, playListResult, wordNumbers, values}
 
 -- at each call the set is the plain map, by its slots and by get, and the call answers right; so it is at the end
 abbrev pub PlainRule : (l : ℕ) → World → PlainMap → List Call → Type 0
-PlainRule l w m [] = Agrees l w m × Reads l w m
-PlainRule l w m (call ∷ calls) =
-    Agrees l w m × Reads l w m × Right l w m call × PlainRule l (finished l w call) (mapAfterCall l w m call) calls
+PlainRule l = Throughout (λ w m call. finished l w call) (mapAfterCall l) (λ w m. Agrees l w m × Reads l w m) (Right l)
 
 -- together the calls are a plain map, for layout l
 pub record IsMap (l : ℕ) : Type 0 where
@@ -44,12 +43,12 @@ pub record IsMap (l : ℕ) : Type 0 where
   -- the play of a list of its stores leaves that image too
   pub list-plays : (w : World) (m : PlainMap) → Agrees l w m → (call : Call) → Typed l call
       → playListResult (w .image) (wordNumbers (called l w call .stores)) (values (called l w call .stores)) ≡ playEnd 0 (finished l w call .image)
-  -- "A put is refused for room only when one slot is left that holds no open key": exactly then, for a key that is not held
+  -- 12 is given exactly where the value fits, the key is not held, and one slot is left that is not live
   pub room : (w : World) (chains : Chain → List ℕ) → Accepted l (w .image) → Sound l w chains → (key : ℕ) (value : List ℕ)
       → (putFault l (w .image) (w .heads) (w .next) (w .state) key (length value) ≡ 12)
       ↔ ((length value ≤ limit l) × (slotsMap l (w .image) key ≡ none)
       × (liveCount (tableOf l (w .image)) (slotsIn (w .image)) + 1 ≡ slotsIn (w .image)))
-  -- "reading an accepted image slot by slot gives the same map as the recovered index"
+  -- get with the recovered index gives the map that the slots of an accepted image give
   pub reads : (image heads next : List ℕ) → Accepted l image → RightSize image heads next → Reads l (recoveredWorld l image heads next) (slotsMap l image)
   -- a formatted image's map is empty
   pub empty : (len : ℕ) → (slotsOf len ≡ 0 → ⊥) → (key : ℕ) → slotsMap l (formatted l len) key ≡ none

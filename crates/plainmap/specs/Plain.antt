@@ -22,6 +22,7 @@ pub data Operation : Type 0 where
   removing : (key : ℕ) → Operation
   getting : (key : ℕ) → Operation
 
+-- of a call, what the plain map is fed; a get's output is no part of it
 unfoldable pub operation : Call → Operation
 operation (put key value) = putting key value
 operation (remove key) = removing key
@@ -56,6 +57,7 @@ unfoldable pub lengthAnswer : Option (List ℕ) → Answer
 lengthAnswer none = absent
 lengthAnswer (some value) = gives (length value ∷ [])
 
+-- the output after a get: "the value fills the front of the output and the bytes after it keep what they had"
 unfoldable pub filled : Option (List ℕ) → (out : List ℕ) → List ℕ
 filled none out = out
 filled (some value) out = value ++ drop (length value) out
@@ -66,6 +68,7 @@ plainAnswer slot version m (put key value) = gives (slot ∷ version ∷ [])
 plainAnswer slot version m (remove key) = cond (isHeld (m key)) (gives (slot ∷ version ∷ [])) absent
 plainAnswer slot version m (get key out) = lengthAnswer (m key)
 
+-- the output that a call leaves; a put and a remove have none
 unfoldable pub plainOut : PlainMap → Call → List ℕ
 plainOut m (put key value) = []
 plainOut m (remove key) = []

@@ -38,4 +38,4 @@ pub record Agrees (l : ℕ) (w : World) (m : PlainMap) : Type 0 where
   pub accepted : Accepted l (w .image)
   pub chains : Chain → List ℕ
   pub sound : Sound l w chains
-  pub slots : (k : ℕ) → slotsMap l (w .image) k ≡ m k
+  pub map : (k : ℕ) → slotsMap l (w .image) k ≡ m k

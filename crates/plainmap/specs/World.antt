@@ -46,6 +46,7 @@ toPlay (gives values) ss = ss
 toPlay absent ss = []
 toPlay (refused number) ss = []
 
+-- by the result of put or remove, which have no output
 unfoldable pub calledChange : ChangeResult → Called
 calledChange r =
     record {
@@ -57,6 +58,7 @@ calledChange r =
       state = r .state;
     }
 
+-- by the result of get, which has no stores and leaves index and state as they were
 unfoldable pub calledGet : World → GetResult → Called
 calledGet w r =
     record { answer = r .answer; out = r .out; stores = []; heads = w .heads; next = w .next; state = w .state }
@@ -85,9 +87,10 @@ finished l w call =
 
 -- ---- recovery
 
--- "with the index and state it leaves"
+-- an image "with the index and state it leaves": by the result of recovery
 unfoldable pub worldAfter : (image : List ℕ) → Result → World
 worldAfter image r = record { image = image; heads = r .heads; next = r .next; state = r .state }
 
+-- the same by recovery itself, with heads and next lent to it; where it refuses they stay, and the state is zeros
 unfoldable pub recoveredWorld : (l : ℕ) → (image heads next : List ℕ) → World
 recoveredWorld l image heads next = worldAfter image (recoverResult l image heads next)

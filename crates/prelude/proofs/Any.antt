@@ -8,11 +8,11 @@ use Rattle.prelude.specs.Range.{anyOf}
 
 -- the search from start to end has come to k: what is left of it answers for the whole
 pub record Going (p : ℕ → Bool) (end start k : ℕ) : Type 0 where
-  pub place : k ≤ end
+  pub position : k ≤ end
   pub rest : anyOf p k (end - k) ≡ anyOf p start (end - start)
 
 pub any-start : (p : ℕ → Bool) (end start : ℕ) → start ≤ end → Going p end start start
-any-start p end start h = record { place = h; rest = refl }
+any-start p end start h = record { position = h; rest = refl }
 
 any-step : (p : ℕ → Bool) (k n : ℕ) → 0 < n → anyOf p k n ≡ cond (p k) true (anyOf p (suc k) (n - 1))
 unfolding anyOf
@@ -27,7 +27,7 @@ module _ (p : ℕ → Bool) (end start k : ℕ) (g : Going p end start k) where
   pub any-next : k < end → p k ≡ false → Going p end start (k + 1)
   any-next h e =
       record {
-        place = omega arith;
+        position = omega arith;
         rest =
             ap₂ (anyOf p) (omega arith) (omega arith)
             ∙ sym (any-step p k (end - k) (omega arith) ∙ pick-false (p k) _ _ e) ∙ g .rest;

@@ -8,3 +8,4 @@ pub mod Count
 pub mod Most
 pub mod Lists
 pub mod defs
+pub mod Histories

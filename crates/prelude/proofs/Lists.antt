@@ -7,8 +7,9 @@ use Prim.Native.Nat.{ℕ, zero, suc, _≤_}
 use native.Mathlib.Omega.{arith}
 use lib.Dec.{eqb}
 use borrow.Author.Tests.{eqb-true, eqb-false}
-use lib.ListN.{length}
-use Rattle.prelude.specs.Members.{In, Once, slots, Slot}
+use lib.ListN.{length, take}
+use lib.Seq.{length-take-le}
+use Rattle.prelude.specs.Members.{In, Once, slotNumbers, Slot}
 use Rattle.prelude.proofs.Fills.{length-slots}
 
 pub in-append : (t : ℕ) (l m : List ℕ) → In t (l ++ m) → In t l ⊎ In t m
@@ -35,31 +36,31 @@ once-append (x ∷ l) m a b h = (
   once-append l m (a .1) b (λ t i j. h t (inr i) j),
 )
 
-pub slots-in : (n t : ℕ) → In t (slots n) → Slot n t
-unfolding slots
+pub slots-in : (n t : ℕ) → In t (slotNumbers n) → Slot n t
+unfolding slotNumbers
 slots-in zero t i = absurd i
-slots-in (suc n) t i = go (in-append t (slots n) (suc n ∷ []) i) (slots-in n t)
+slots-in (suc n) t i = go (in-append t (slotNumbers n) (suc n ∷ []) i) (slots-in n t)
   where
-    go : In t (slots n) ⊎ In t (suc n ∷ []) → (In t (slots n) → Slot n t) → Slot (suc n) t
+    go : In t (slotNumbers n) ⊎ In t (suc n ∷ []) → (In t (slotNumbers n) → Slot n t) → Slot (suc n) t
     go (inl j) ih = omega (arith, ih j)
     go (inr (inl e)) ih = omega arith
     go (inr (inr b)) ih = absurd b
 
-pub in-slots : (n t : ℕ) → Slot n t → In t (slots n)
-unfolding slots
+pub in-slots : (n t : ℕ) → Slot n t → In t (slotNumbers n)
+unfolding slotNumbers
 in-slots zero t i = absurd (omega arith)
 in-slots (suc n) t i = go (eqb t (suc n)) refl (in-slots n t)
   where
-    go : (b : Bool) → eqb t (suc n) ≡ b → (Slot n t → In t (slots n)) → In t (slots n ++ (suc n ∷ []))
-    go true e ih = in-right t (slots n) (suc n ∷ []) (inl (eqb-true t (suc n) e))
-    go false e ih = in-left t (slots n) (suc n ∷ []) (ih (omega (arith, eqb-false t (suc n) e)))
+    go : (b : Bool) → eqb t (suc n) ≡ b → (Slot n t → In t (slotNumbers n)) → In t (slotNumbers n ++ (suc n ∷ []))
+    go true e ih = in-right t (slotNumbers n) (suc n ∷ []) (inl (eqb-true t (suc n) e))
+    go false e ih = in-left t (slotNumbers n) (suc n ∷ []) (ih (omega (arith, eqb-false t (suc n) e)))
 
-pub once-slots : (n : ℕ) → Once (slots n)
-unfolding slots
+pub once-slots : (n : ℕ) → Once (slotNumbers n)
+unfolding slotNumbers
 once-slots zero = tt
-once-slots (suc n) = once-append (slots n) (suc n ∷ []) (once-slots n) ((λ b. b), tt) apart
+once-slots (suc n) = once-append (slotNumbers n) (suc n ∷ []) (once-slots n) ((λ b. b), tt) apart
   where
-    apart : (t : ℕ) → In t (slots n) → In t (suc n ∷ []) → ⊥
+    apart : (t : ℕ) → In t (slotNumbers n) → In t (suc n ∷ []) → ⊥
     apart t i (inl e) = omega (arith, slots-in n t i)
     apart t i (inr b) = b
 
@@ -70,7 +71,7 @@ pub record AllSlots (n : ℕ) (l : List ℕ) : Type 0 where
   pub within : (t : ℕ) → In t l → Slot n t
   pub all : (t : ℕ) → Slot n t → In t l
 
-pub whole-slots : (n : ℕ) → AllSlots n (slots n)
+pub whole-slots : (n : ℕ) → AllSlots n (slotNumbers n)
 whole-slots n = record { size = length-slots n; once = once-slots n; within = slots-in n; all = in-slots n }
 
 -- a list without the first x in it
@@ -109,3 +110,8 @@ no-longer (x ∷ l) m o h =
       without-length x m (h x (inl refl)),
       no-longer l (without x m) (o .1) (λ t i. in-without x t m (h t (inr i)) (λ e. o .0 (rw e at i))),
     )
+
+-- ---- fronts
+
+pub front-length : (k : ℕ) (list : List ℕ) → k ≤ length list → k ≡ length (take k list)
+front-length k list h = sym (length-take-le k list h)

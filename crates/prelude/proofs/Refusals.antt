@@ -52,3 +52,10 @@ apart v w a b p q ne = ap not (ne-eqb a b (λ e. ne (p ∙ e ∙ sym q)))
 
 pub alike : (v w a b : ℕ) → v ≡ a → w ≡ b → v ≡ w → not (eqb a b) ≡ false
 alike v w a b p q e = ap not (eq-eqb a b (sym p ∙ e ∙ q))
+
+-- what holds of the new and of the old holds of what a call leaves
+module _ {A : Type 0} (P : A → Type 0) where
+  pub by-refusal : (k : ℕ) (new old : A) → P new → P old → P (unlessRefused k new old)
+  unfolding unlessRefused
+  by-refusal zero new old p q = p
+  by-refusal (suc k) new old p q = q

@@ -3,4 +3,5 @@ pub mod Answer
 pub mod Range
 pub mod Members
 pub mod Filter
+pub mod History
 pub mod inner

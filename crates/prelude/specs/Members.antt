@@ -30,9 +30,9 @@ Once [] = Unit
 Once (x ∷ l) = (In x l → ⊥) × Once l
 
 -- 1 to n
-unfoldable pub slots : (n : ℕ) → List ℕ
-slots zero = []
-slots (suc n) = slots n ++ (suc n ∷ [])
+unfoldable pub slotNumbers : (n : ℕ) → List ℕ
+slotNumbers zero = []
+slotNumbers (suc n) = slotNumbers n ++ (suc n ∷ [])
 
 -- s is one of the slots 1 to n
 abbrev pub Slot : (n s : ℕ) → Type 0

@@ -4,12 +4,12 @@ use mathlib.Core.List.{List, [], _∷_}
 use Prim.Native.Nat.{ℕ, zero, suc, max}
 use lib.Dec.{ltb}
 
--- the test holds at one of the numbers k, k + 1, .., n of them
+-- the test holds at one of the n numbers from k on
 unfoldable pub anyOf : (ℕ → Bool) → (k n : ℕ) → Bool
 anyOf p k zero = false
 anyOf p k (suc n) = cond (p k) true (anyOf p (suc k) n)
 
--- f of each, in order
+-- f of each of these numbers, in order
 unfoldable pub tabulate : (ℕ → ℕ) → (k n : ℕ) → List ℕ
 tabulate f k zero = []
 tabulate f k (suc n) = f k ∷ tabulate f (suc k) n

@@ -12,8 +12,8 @@ unfoldable pub orElse : ℕ → ℕ → ℕ
 orElse zero later = later
 orElse (suc k) later = suc k
 
--- what a call leaves: `new` where it is not refused, else `old`
 module _ {A : Type 0} where
+  -- what a call leaves: `new` where its refusal is 0, else `old`
   unfoldable pub unlessRefused : ℕ → (new old : A) → A
   unlessRefused zero new old = new
   unlessRefused (suc k) new old = old

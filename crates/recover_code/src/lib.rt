@@ -10,7 +10,7 @@ use crate::scratch::recover_4096;
 use crate::scratch::recover_16384;
 use crate::scratch::recover_65536;
 use layout_code::header::lent_fault;
-use layout_code::header::slots;
+use layout_code::header::slot_count;
 use recovery::Recovered;
 
 // The index of the image: the state beside the rebuilt heads and next, or a refusal, which changes neither.
@@ -21,21 +21,21 @@ pub fn recover(image: &[u8], heads: &mut [u32], next: &mut [u32]) -> Recovered
     if fault != 0 {
         return Recovered::Refused(fault);
     }
-    let n = slots(image.len());
+    let n = slot_count(image.len());
     if n < 64 {
-        return recover_64(image, heads, next, n);
+        return recover_64(image, 1, heads, next, n);
     }
     if n < 256 {
-        return recover_256(image, heads, next, n);
+        return recover_256(image, 1, heads, next, n);
     }
     if n < 1024 {
-        return recover_1024(image, heads, next, n);
+        return recover_1024(image, 1, heads, next, n);
     }
     if n < 4096 {
-        return recover_4096(image, heads, next, n);
+        return recover_4096(image, 1, heads, next, n);
     }
     if n < 16384 {
-        return recover_16384(image, heads, next, n);
+        return recover_16384(image, 1, heads, next, n);
     }
-    recover_65536(image, heads, next, n)
+    recover_65536(image, 1, heads, next, n)
 }

@@ -6,30 +6,35 @@ ghost use Rattle.recovery.specs.inner.Judge.{Ready, Roomy};
 use recovery::Recovered;
 use recovery_code::rebuilding::recover_with;
 
-// With scratch lists that are long enough: their fronts are used.
+// With scratch lists that are long enough: their fronts are used, and in layout 1 none of highs.
 fn recover_in(
     image: &[u8],
+    l: usize,
     heads: &mut [u32],
     next: &mut [u32],
     n: usize,
     ranks: &mut [u64],
-    keys: &mut [u64],
+    lows: &mut [u64],
+    highs: &mut [u64],
     places: &mut [u32],
     order: &mut [u32],
     by_key: &mut [u32],
     scratch: &mut [u32],
 ) -> Recovered
-    requires { ⌜ Ready (now image) (now heads) (now next) n × Roomy (now ranks) (now keys) (now places) (now order) (now «by_key») (now scratch) n ⌝ }
-    ensures { λ r. ⌜ recoverEnd r (now (heads .exit)) (now (next .exit)) ≡ recoverResult 1 (now (image .entry)) (now (heads .entry)) (now (next .entry)) ⌝ }
+    requires { ⌜ Ready (now image) l (now heads) (now next) n × Roomy (now ranks) (now lows) (now highs) (now places) (now order) (now «by_key») (now scratch) n ⌝ }
+    ensures { λ r. ⌜ recoverEnd r (now (heads .exit)) (now (next .exit)) ≡ recoverResult l (now (image .entry)) (now (heads .entry)) (now (next .entry)) ⌝ }
 {
     let m = n + 1;
+    let h = (l - 1) * m;
     recover_with(
         image,
+        l,
         heads,
         next,
         n,
         &mut ranks[..m],
-        &mut keys[..m],
+        &mut lows[..m],
+        &mut highs[..h],
         &mut places[..m],
         &mut order[..n],
         &mut by_key[..n],
@@ -38,23 +43,32 @@ fn recover_in(
 }
 
 // With scratch for fewer than 64 slots.
-pub fn recover_64(image: &[u8], heads: &mut [u32], next: &mut [u32], n: usize) -> Recovered
-    requires { ⌜ Ready (now image) (now heads) (now next) n × (n < 64) ⌝ }
-    ensures { λ r. ⌜ recoverEnd r (now (heads .exit)) (now (next .exit)) ≡ recoverResult 1 (now (image .entry)) (now (heads .entry)) (now (next .entry)) ⌝ }
+pub fn recover_64(
+    image: &[u8],
+    l: usize,
+    heads: &mut [u32],
+    next: &mut [u32],
+    n: usize,
+) -> Recovered
+    requires { ⌜ Ready (now image) l (now heads) (now next) n × (n < 64) ⌝ }
+    ensures { λ r. ⌜ recoverEnd r (now (heads .exit)) (now (next .exit)) ≡ recoverResult l (now (image .entry)) (now (heads .entry)) (now (next .entry)) ⌝ }
 {
     let mut ranks = [0u64; 64];
-    let mut keys = [0u64; 64];
+    let mut lows = [0u64; 64];
+    let mut highs = [0u64; 64];
     let mut places = [0u32; 64];
     let mut order = [0u32; 64];
     let mut by_key = [0u32; 64];
     let mut scratch = [0u32; 64];
     recover_in(
         image,
+        l,
         heads,
         next,
         n,
         &mut ranks,
-        &mut keys,
+        &mut lows,
+        &mut highs,
         &mut places,
         &mut order,
         &mut by_key,
@@ -63,23 +77,32 @@ pub fn recover_64(image: &[u8], heads: &mut [u32], next: &mut [u32], n: usize) -
 }
 
 // With scratch for fewer than 256 slots.
-pub fn recover_256(image: &[u8], heads: &mut [u32], next: &mut [u32], n: usize) -> Recovered
-    requires { ⌜ Ready (now image) (now heads) (now next) n × (n < 256) ⌝ }
-    ensures { λ r. ⌜ recoverEnd r (now (heads .exit)) (now (next .exit)) ≡ recoverResult 1 (now (image .entry)) (now (heads .entry)) (now (next .entry)) ⌝ }
+pub fn recover_256(
+    image: &[u8],
+    l: usize,
+    heads: &mut [u32],
+    next: &mut [u32],
+    n: usize,
+) -> Recovered
+    requires { ⌜ Ready (now image) l (now heads) (now next) n × (n < 256) ⌝ }
+    ensures { λ r. ⌜ recoverEnd r (now (heads .exit)) (now (next .exit)) ≡ recoverResult l (now (image .entry)) (now (heads .entry)) (now (next .entry)) ⌝ }
 {
     let mut ranks = [0u64; 256];
-    let mut keys = [0u64; 256];
+    let mut lows = [0u64; 256];
+    let mut highs = [0u64; 256];
     let mut places = [0u32; 256];
     let mut order = [0u32; 256];
     let mut by_key = [0u32; 256];
     let mut scratch = [0u32; 256];
     recover_in(
         image,
+        l,
         heads,
         next,
         n,
         &mut ranks,
-        &mut keys,
+        &mut lows,
+        &mut highs,
         &mut places,
         &mut order,
         &mut by_key,
@@ -88,23 +111,32 @@ pub fn recover_256(image: &[u8], heads: &mut [u32], next: &mut [u32], n: usize) 
 }
 
 // With scratch for fewer than 1,024 slots.
-pub fn recover_1024(image: &[u8], heads: &mut [u32], next: &mut [u32], n: usize) -> Recovered
-    requires { ⌜ Ready (now image) (now heads) (now next) n × (n < 1024) ⌝ }
-    ensures { λ r. ⌜ recoverEnd r (now (heads .exit)) (now (next .exit)) ≡ recoverResult 1 (now (image .entry)) (now (heads .entry)) (now (next .entry)) ⌝ }
+pub fn recover_1024(
+    image: &[u8],
+    l: usize,
+    heads: &mut [u32],
+    next: &mut [u32],
+    n: usize,
+) -> Recovered
+    requires { ⌜ Ready (now image) l (now heads) (now next) n × (n < 1024) ⌝ }
+    ensures { λ r. ⌜ recoverEnd r (now (heads .exit)) (now (next .exit)) ≡ recoverResult l (now (image .entry)) (now (heads .entry)) (now (next .entry)) ⌝ }
 {
     let mut ranks = [0u64; 1024];
-    let mut keys = [0u64; 1024];
+    let mut lows = [0u64; 1024];
+    let mut highs = [0u64; 1024];
     let mut places = [0u32; 1024];
     let mut order = [0u32; 1024];
     let mut by_key = [0u32; 1024];
     let mut scratch = [0u32; 1024];
     recover_in(
         image,
+        l,
         heads,
         next,
         n,
         &mut ranks,
-        &mut keys,
+        &mut lows,
+        &mut highs,
         &mut places,
         &mut order,
         &mut by_key,
@@ -113,23 +145,32 @@ pub fn recover_1024(image: &[u8], heads: &mut [u32], next: &mut [u32], n: usize)
 }
 
 // With scratch for fewer than 4,096 slots.
-pub fn recover_4096(image: &[u8], heads: &mut [u32], next: &mut [u32], n: usize) -> Recovered
-    requires { ⌜ Ready (now image) (now heads) (now next) n × (n < 4096) ⌝ }
-    ensures { λ r. ⌜ recoverEnd r (now (heads .exit)) (now (next .exit)) ≡ recoverResult 1 (now (image .entry)) (now (heads .entry)) (now (next .entry)) ⌝ }
+pub fn recover_4096(
+    image: &[u8],
+    l: usize,
+    heads: &mut [u32],
+    next: &mut [u32],
+    n: usize,
+) -> Recovered
+    requires { ⌜ Ready (now image) l (now heads) (now next) n × (n < 4096) ⌝ }
+    ensures { λ r. ⌜ recoverEnd r (now (heads .exit)) (now (next .exit)) ≡ recoverResult l (now (image .entry)) (now (heads .entry)) (now (next .entry)) ⌝ }
 {
     let mut ranks = [0u64; 4096];
-    let mut keys = [0u64; 4096];
+    let mut lows = [0u64; 4096];
+    let mut highs = [0u64; 4096];
     let mut places = [0u32; 4096];
     let mut order = [0u32; 4096];
     let mut by_key = [0u32; 4096];
     let mut scratch = [0u32; 4096];
     recover_in(
         image,
+        l,
         heads,
         next,
         n,
         &mut ranks,
-        &mut keys,
+        &mut lows,
+        &mut highs,
         &mut places,
         &mut order,
         &mut by_key,
@@ -138,23 +179,32 @@ pub fn recover_4096(image: &[u8], heads: &mut [u32], next: &mut [u32], n: usize)
 }
 
 // With scratch for fewer than 16,384 slots.
-pub fn recover_16384(image: &[u8], heads: &mut [u32], next: &mut [u32], n: usize) -> Recovered
-    requires { ⌜ Ready (now image) (now heads) (now next) n × (n < 16384) ⌝ }
-    ensures { λ r. ⌜ recoverEnd r (now (heads .exit)) (now (next .exit)) ≡ recoverResult 1 (now (image .entry)) (now (heads .entry)) (now (next .entry)) ⌝ }
+pub fn recover_16384(
+    image: &[u8],
+    l: usize,
+    heads: &mut [u32],
+    next: &mut [u32],
+    n: usize,
+) -> Recovered
+    requires { ⌜ Ready (now image) l (now heads) (now next) n × (n < 16384) ⌝ }
+    ensures { λ r. ⌜ recoverEnd r (now (heads .exit)) (now (next .exit)) ≡ recoverResult l (now (image .entry)) (now (heads .entry)) (now (next .entry)) ⌝ }
 {
     let mut ranks = [0u64; 16384];
-    let mut keys = [0u64; 16384];
+    let mut lows = [0u64; 16384];
+    let mut highs = [0u64; 16384];
     let mut places = [0u32; 16384];
     let mut order = [0u32; 16384];
     let mut by_key = [0u32; 16384];
     let mut scratch = [0u32; 16384];
     recover_in(
         image,
+        l,
         heads,
         next,
         n,
         &mut ranks,
-        &mut keys,
+        &mut lows,
+        &mut highs,
         &mut places,
         &mut order,
         &mut by_key,
@@ -163,23 +213,32 @@ pub fn recover_16384(image: &[u8], heads: &mut [u32], next: &mut [u32], n: usize
 }
 
 // With scratch for fewer than 65,536 slots.
-pub fn recover_65536(image: &[u8], heads: &mut [u32], next: &mut [u32], n: usize) -> Recovered
-    requires { ⌜ Ready (now image) (now heads) (now next) n × (n < 65536) ⌝ }
-    ensures { λ r. ⌜ recoverEnd r (now (heads .exit)) (now (next .exit)) ≡ recoverResult 1 (now (image .entry)) (now (heads .entry)) (now (next .entry)) ⌝ }
+pub fn recover_65536(
+    image: &[u8],
+    l: usize,
+    heads: &mut [u32],
+    next: &mut [u32],
+    n: usize,
+) -> Recovered
+    requires { ⌜ Ready (now image) l (now heads) (now next) n × (n < 65536) ⌝ }
+    ensures { λ r. ⌜ recoverEnd r (now (heads .exit)) (now (next .exit)) ≡ recoverResult l (now (image .entry)) (now (heads .entry)) (now (next .entry)) ⌝ }
 {
     let mut ranks = [0u64; 65536];
-    let mut keys = [0u64; 65536];
+    let mut lows = [0u64; 65536];
+    let mut highs = [0u64; 65536];
     let mut places = [0u32; 65536];
     let mut order = [0u32; 65536];
     let mut by_key = [0u32; 65536];
     let mut scratch = [0u32; 65536];
     recover_in(
         image,
+        l,
         heads,
         next,
         n,
         &mut ranks,
-        &mut keys,
+        &mut lows,
+        &mut highs,
         &mut places,
         &mut order,
         &mut by_key,

@@ -30,7 +30,7 @@ use Rattle.index.specs.Linked.{Sits}
 use Rattle.index.specs.Walk.{slotKey, search}
 use Rattle.index.proofs.defs.SearchIn.{searchIn}
 use Rattle.index.specs.declared.Found.{Found}
-use Rattle.index.proofs.Searches.{good-search, Hit, Missed, search-in-hit, search-in-missed, never-bad}
+use Rattle.index.proofs.Searches.{formed-search, Hit, Missed, search-in-hit, search-in-missed, never-bad}
 use Rattle.recovery.specs.Recover.{recoverFault, chainsOf, placeOf, recoveredIndex}
 use Rattle.recovery.specs.Represents.{Answers}
 use Rattle.recovery.proofs.Clear.{slots-clear}
@@ -123,8 +123,8 @@ searched : (l : ℕ) (image : List ℕ) (f : Table) (n b key : ℕ) (i : Index) 
     → search l image (i .heads) (i .next) key ≡ searchIn (slotKey l image) key 0 0 (chainsOf f n b (head (headOf key b)))
 searched l image f n b key i size g e =
     let s = some-spare f n b e in
-    good-search l image i _ (chainsOf f n b) key (s .0) (g .good .disjoint) (g .slots ∙ ap (λ (k : ℕ). k + 1) (sym size)) (s .1)
-    ∙ ap (λ (w : ℕ). searchIn (slotKey l image) key 0 0 (chainsOf f n b (head (headOf key w)))) (g .width)
+    formed-search l image i _ (chainsOf f n b) key (s .0) (g .formed .disjoint) (g .next-size ∙ ap (λ (k : ℕ). k + 1) (sym size)) (s .1)
+    ∙ ap (λ (w : ℕ). searchIn (slotKey l image) key 0 0 (chainsOf f n b (head (headOf key w)))) (g .heads-size)
 
 -- THE SEARCH of the recovered index: the map of the slots
 pub recovered-search : (l : ℕ) (image heads next : List ℕ) → recoverFault l image (length heads) (length next) ≡ 0 → (key : ℕ)

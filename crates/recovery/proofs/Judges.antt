@@ -12,6 +12,7 @@ use Rattle.words.proofs.Laws.{word-range}
 use Rattle.prelude.proofs.Choice.{pick-true, pick-false, split}
 use Rattle.prelude.specs.Refusal.{say}
 use Rattle.prelude.specs.Range.{anyOf}
+use Rattle.layout.specs.Record.{Layout}
 use Rattle.layout.specs.Line.{lineA, lineB, whole, versionOf, lineTop}
 use Rattle.layout.specs.Slot.{slotTop}
 use Rattle.layout.specs.Content.{top, topOf, Table, tableOf}
@@ -19,7 +20,7 @@ use Rattle.layout.specs.Fault.{markFault, recordFault}
 use Rattle.prelude.proofs.Refusals.{say-true}
 use Rattle.layout.proofs.Content.{top-is}
 use Rattle.sorting.specs.Sorted.{sorted}
-use Rattle.prelude.specs.Members.{slots}
+use Rattle.prelude.specs.Members.{slotNumbers}
 use Rattle.sorting.proofs.Order.{sorted-alike}
 use Rattle.table.specs.Table.{liveCount, nextVersion, sharedVersion, allLive}
 use Rattle.table.specs.Order.{rankOf, ordered}
@@ -29,13 +30,14 @@ use Rattle.sorting.proofs.Whole.{whole-sorted}
 use Rattle.prelude.proofs.Most.{greatest-least}
 use Rattle.table.proofs.Distinct.{shared-distinct}
 use Rattle.recovery.specs.Recover.{slotsFault}
-use Rattle.recovery.specs.inner.Scan.{Scanned}
-use Rattle.recovery.specs.inner.Decide.{equalNeighbours, decided, placedCount, livePlace, Within}
+use Rattle.recovery.specs.inner.Scan.{keyAt, Scanned}
+use Rattle.recovery.specs.inner.Decide.{equalNeighbours, decided, placedCount, livePlace, Within, NoneOrAll}
 use Rattle.recovery.specs.inner.Judge.{foundFault, Judgement}
 use Rattle.recovery.specs.declared.Scan.{Scan}
 use Rattle.recovery.proofs.Clear.{slots-clear}
 use Rattle.recovery.proofs.Orders.{whole-order, whole-within}
 use Rattle.recovery.proofs.Neighbours.{neighbours-shared}
+use Rattle.recovery.proofs.Scans.{highs-all}
 use Rattle.recovery.proofs.Decides.{decided-live, counted-live}
 
 -- ---- versions fit
@@ -48,35 +50,35 @@ line-small mark stamp h = go (split (whole mark stamp))
     go (inl e) = omega (arith, pick-true (whole mark stamp) (versionOf stamp) 0 e)
     go (inr e) = omega (arith, pick-false (whole mark stamp) (versionOf stamp) 0 e)
 
-top-small : (image : List ℕ) (s : ℕ) → AreBytes image → topOf (tableOf 1 image s) < 2 ^ 63
+top-small : (l : ℕ) (image : List ℕ) (s : ℕ) → AreBytes image → topOf (tableOf l image s) < 2 ^ 63
 unfolding top slotTop
-top-small image s b =
+top-small l image s b =
     omega (
       arith,
-      top-is 1 (word image) s,
+      top-is l (word image) s,
       line-small (lineA (word image) s 0) (lineA (word image) s 7) (word-range image (8 * (2 * s) + 7) b),
       line-small (lineB (word image) s 0) (lineB (word image) s 7) (word-range image (8 * (2 * s + 1) + 7) b),
     )
 
 -- ---- judge
 
-module _ (image : List ℕ) (n b : ℕ) (ranks keys places₁ order by-key places : List ℕ) (all : Scan) (shared : Bool) (live-count : ℕ)
-    (bytes : AreBytes image) (size : length places₁ ≡ n + 1) (s : Scanned (word image) n b ranks keys places₁ all)
-    (in-order : order ≡ sorted (λ x. getD ranks x 0) (slots n)) (twin : shared ≡ anyOf (equalNeighbours ranks order) 0 (n - 1))
-    (keyed : by-key ≡ sorted (λ x. getD keys x 0) order) (done : places ≡ decided keys by-key n places₁)
+module _ (l : ℕ) (image : List ℕ) (n b : ℕ) (ranks lows highs places₁ order by-key places : List ℕ) (all : Scan) (shared : Bool)
+    (live-count : ℕ) (bytes : AreBytes image) (size : length places₁ ≡ n + 1) (s : Scanned l (word image) n b ranks lows highs places₁ all)
+    (in-order : order ≡ sorted (λ x. getD ranks x 0) (slotNumbers n)) (twin : shared ≡ anyOf (equalNeighbours ranks order) 0 (n - 1))
+    (keyed : by-key ≡ sorted (keyAt lows highs) order) (done : places ≡ decided (keyAt lows highs) by-key n places₁)
     (counted : live-count ≡ placedCount places n) where
   f : Table
-  f = tableOf 1 image
+  f = tableOf l image
 
   shared-is : shared ≡ sharedVersion f n
   unfolding f
   shared-is = twin ∙ neighbours-shared f n ranks order (s .listed .rank-at) in-order
 
-  order-is : order ≡ ordered f (slots n)
+  order-is : order ≡ ordered f (slotNumbers n)
   unfolding f ordered
   order-is =
       in-order
-      ∙ sorted-alike (λ x. getD ranks x 0) (λ x. rankOf (f x)) (slots n)
+      ∙ sorted-alike (λ x. getD ranks x 0) (λ x. rankOf (f x)) (slotNumbers n)
       (λ x i. let t = slots-in n x i in s .listed .rank-at x (t .0) (t .1))
 
   module _ (fine : sharedVersion f n ≡ false) where
@@ -87,13 +89,13 @@ module _ (image : List ℕ) (n b : ℕ) (ranks keys places₁ order by-key place
     unfolding f
     place-is t low high =
         ap (λ (p : List ℕ). getD p t 0) done
-        ∙ decided-live f n b ranks keys places₁ order by-key (s .listed) size apart-versions order-is keyed t low high
+        ∙ decided-live f n b ranks lows highs places₁ order by-key (s .listed) size apart-versions order-is keyed t low high
 
     live-is : live-count ≡ liveCount f n
     unfolding f
     live-is =
         counted ∙ ap (λ (p : List ℕ). placedCount p n) done
-        ∙ counted-live f n b ranks keys places₁ order by-key (s .listed) size apart-versions order-is keyed
+        ∙ counted-live f n b ranks lows highs places₁ order by-key (s .listed) size apart-versions order-is keyed
 
   late : say (sharedVersion f n) 7 (say (eqb live-count n) 8 0) ≡ say (sharedVersion f n) 7 (say (allLive f n) 8 0)
   unfolding allLive
@@ -104,27 +106,27 @@ module _ (image : List ℕ) (n b : ℕ) (ranks keys places₁ order by-key place
       go (inl e) = say-true (sharedVersion f n) 7 _ e ∙ sym (say-true (sharedVersion f n) 7 _ e)
       go (inr e) = ap (λ (x : ℕ). say (sharedVersion f n) 7 (say (eqb x n) 8 0)) (live-is e)
 
-  fault-is : foundFault (all .mark) (all .fault) shared live-count n ≡ slotsFault 1 (word image) n
+  fault-is : foundFault (all .mark) (all .fault) shared live-count n ≡ slotsFault l (word image) n
   unfolding foundFault slotsFault f
   fault-is =
       ap₂ (λ (x y : Bool). say x 5 (say y 6 (say shared 7 (say (eqb live-count n) 8 0)))) (s .marks-are) (s .faults-are)
-      ∙ ap (λ (z : Bool). say (anyOf (markFault (word image)) 1 n) 5 (say (anyOf (recordFault 1 (word image)) 1 n) 6 (say z 7 (say (eqb live-count n) 8 0)))) shared-is
-      ∙ ap (λ (k : ℕ). say (anyOf (markFault (word image)) 1 n) 5 (say (anyOf (recordFault 1 (word image)) 1 n) 6 k)) late
+      ∙ ap (λ (z : Bool). say (anyOf (markFault (word image)) 1 n) 5 (say (anyOf (recordFault l (word image)) 1 n) 6 (say z 7 (say (eqb live-count n) 8 0)))) shared-is
+      ∙ ap (λ (k : ℕ). say (anyOf (markFault (word image)) 1 n) 5 (say (anyOf (recordFault l (word image)) 1 n) 6 k)) late
 
-  none-shared : slotsFault 1 (word image) n ≡ 0 → sharedVersion f n ≡ false
+  none-shared : slotsFault l (word image) n ≡ 0 → sharedVersion f n ≡ false
   unfolding f
-  none-shared e = slots-clear 1 (word image) n e .versions
+  none-shared e = slots-clear l (word image) n e .versions
 
   top-fits : all .top < 2 ^ 63
   top-fits =
       omega (
         arith,
         s .top-is,
-        greatest-least (λ t. topOf (tableOf 1 image t)) n (2 ^ 63 - 1) (λ t i. let h = top-small image t bytes in omega arith),
+        greatest-least (λ t. topOf (tableOf l image t)) n (2 ^ 63 - 1) (λ t i. let h = top-small l image t bytes in omega arith),
       )
 
   pub judged : (fault : ℕ) → fault ≡ foundFault (all .mark) (all .fault) shared live-count n
-      → Judgement (word image) n b order places (record { fault = fault; live = live-count; top = all .top })
+      → Judgement l (word image) n b order places (record { fault = fault; live = live-count; top = all .top })
   unfolding f nextVersion
   judged fault e =
       record {
@@ -143,9 +145,9 @@ module _ (image : List ℕ) (n b : ℕ) (ranks keys places₁ order by-key place
 
 -- ---- what the functions that judge calls ask for
 
-module _ (order₀ order ranks₀ ranks : List ℕ) (n : ℕ) (e : order ≡ sorted (λ x. getD ranks x 0) (slots (length order₀)))
+module _ (order₀ order ranks₀ ranks : List ℕ) (n : ℕ) (e : order ≡ sorted (λ x. getD ranks x 0) (slotNumbers (length order₀)))
     (size : length order₀ ≡ n) where
-  pub in-rank : order ≡ sorted (λ x. getD ranks x 0) (slots n)
+  pub in-rank : order ≡ sorted (λ x. getD ranks x 0) (slotNumbers n)
   in-rank = rw size at e
 
   all-slots : AllSlots n order
@@ -155,9 +157,10 @@ module _ (order₀ order ranks₀ ranks : List ℕ) (n : ℕ) (e : order ≡ sor
       → (length order ≡ n) × (1 ≤ n) × (length ranks ≡ n + 1) × Within order n
   neighbours-ready some p q = (all-slots .size, some, p ∙ q, whole-within order n all-slots)
 
-  pub decide-ready : (keys₀ keys places₀ places by-key : List ℕ) → by-key ≡ sorted (λ x. getD keys x 0) order → n ≤ 65535
-      → length keys ≡ length keys₀ → length keys₀ ≡ n + 1 → length places ≡ length places₀ → length places₀ ≡ n + 1
-      → (length by-key ≡ n) × (n ≤ 65535) × (length keys ≡ n + 1) × (length places ≡ n + 1) × Within by-key n
-  decide-ready keys₀ keys places₀ places by-key k few p q r t =
-      let w : AllSlots n by-key = rw k (whole-sorted (λ x. getD keys x 0) n order all-slots) in
-      (w .size, few, p ∙ q, r ∙ t, whole-within by-key n w)
+  pub decide-ready : (l : ℕ) (lows₀ lows highs₀ highs places₀ places by-key : List ℕ) → by-key ≡ sorted (keyAt lows highs) order → n ≤ 65535
+      → length lows ≡ length lows₀ → length lows₀ ≡ n + 1 → Layout l → length highs ≡ length highs₀ → length highs₀ ≡ (l - 1) * (n + 1)
+      → length places ≡ length places₀ → length places₀ ≡ n + 1
+      → (length by-key ≡ n) × (n ≤ 65535) × (length lows ≡ n + 1) × NoneOrAll highs n × (length places ≡ n + 1) × Within by-key n
+  decide-ready l lows₀ lows highs₀ highs places₀ places by-key k few p q lay u v r t =
+      let w : AllSlots n by-key = rw k (whole-sorted (keyAt lows highs) n order all-slots) in
+      (w .size, few, p ∙ q, highs-all l n highs lay (u ∙ v), r ∙ t, whole-within by-key n w)

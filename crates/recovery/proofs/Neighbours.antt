@@ -9,10 +9,10 @@ use lib.Dec.{eqb, ltb}
 use lib.ListN.{length, getD}
 use borrow.Author.Tests.{eq-eqb, ne-eqb, ltb-false}
 use Rattle.prelude.specs.Range.{anyOf}
-use Rattle.layout.specs.Content.{Content, broken, empty, put, remove, topOf, Table}
+use Rattle.layout.specs.Content.{Content, broken, empty, putRecord, removeRecord, topOf, Table}
 use Rattle.prelude.proofs.Any.{any-none, any-clear}
 use Rattle.sorting.specs.Sorted.{sorted}
-use Rattle.prelude.specs.Members.{In, slots}
+use Rattle.prelude.specs.Members.{In, slotNumbers}
 use Rattle.prelude.proofs.defs.Members.{Rising}
 use Rattle.sorting.proofs.Order.{rising-sorted}
 use Rattle.table.specs.Table.{isRecord, sharedVersion}
@@ -22,7 +22,7 @@ use Rattle.prelude.proofs.Lists.{AllSlots}
 use Rattle.table.proofs.Distinct.{shared-distinct, distinct-shared}
 use Rattle.recovery.specs.inner.Decide.{equalNeighbours}
 use Rattle.recovery.proofs.Orders.{whole-order, whole-within, neighbours-test}
-use Rattle.sorting.proofs.Places.{once-at}
+use Rattle.sorting.proofs.Positions.{once-at}
 
 -- the rank of a slot that is a record, and the slots of such ranks
 
@@ -30,15 +30,15 @@ rank-counts : (c : Content) → isRecord c ≡ true → rankOf c ≡ 2 + topOf c
 unfolding isRecord rankOf topOf
 rank-counts (broken top) e = absurd (true≢false (sym e))
 rank-counts empty e = absurd (true≢false (sym e))
-rank-counts (put version key value) e = refl
-rank-counts (remove version key) e = refl
+rank-counts (putRecord version key value) e = refl
+rank-counts (removeRecord version key) e = refl
 
 counts-rank : (c : Content) → 2 ≤ rankOf c → isRecord c ≡ true
 unfolding isRecord rankOf
 counts-rank (broken top) l = absurd (omega arith)
 counts-rank empty l = absurd (omega arith)
-counts-rank (put version key value) l = refl
-counts-rank (remove version key) l = refl
+counts-rank (putRecord version key value) l = refl
+counts-rank (removeRecord version key) l = refl
 
 -- no two neighbours have one rank of 2 or more
 abbrev Parted : (ℕ → ℕ) → List ℕ → Type 0
@@ -86,7 +86,7 @@ both-false true false f g = g refl
 both-false false b f g = sym (f refl)
 
 module _ (f : Table) (n : ℕ) (ranks order : List ℕ) (rank : (s : ℕ) → 0 < s → s ≤ n → getD ranks s 0 ≡ rankOf (f s))
-    (o : order ≡ sorted (λ x. getD ranks x 0) (slots n)) where
+    (o : order ≡ sorted (λ x. getD ranks x 0) (slotNumbers n)) where
   abbrev g : ℕ → ℕ
   g x = getD ranks x 0
 
@@ -113,7 +113,7 @@ module _ (f : Table) (n : ℕ) (ranks order : List ℕ) (rank : (s : ℕ) → 0 
   -- where no neighbours have one rank no version is shared
   neighbours-distinct : anyOf (equalNeighbours ranks order) 0 (n - 1) ≡ false → Distinct f n
   neighbours-distinct none s t i j ne p q e =
-      parted-all g s t order (rw o (rising-sorted g (slots n))) parted (whole .all s i) (whole .all t j) ne
+      parted-all g s t order (rw o (rising-sorted g (slotNumbers n))) parted (whole .all s i) (whole .all t j) ne
       (omega (arith, rank s (i .0) (i .1), rank-counts (f s) p))
       (omega (arith, rank s (i .0) (i .1), rank t (j .0) (j .1), rank-counts (f s) p, rank-counts (f t) q, e))
     where

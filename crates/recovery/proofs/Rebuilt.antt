@@ -13,7 +13,7 @@ use borrow.Author.Tests.{eq-eqb, ne-eqb}
 use Rattle.prelude.proofs.Choice.{pick-true, pick-false, split}
 use Rattle.prelude.specs.Range.{tabulate}
 use Rattle.prelude.specs.Filter.{filter}
-use Rattle.prelude.specs.Members.{In, slots}
+use Rattle.prelude.specs.Members.{In, slotNumbers}
 use Rattle.sorting.proofs.Order.{filter-sorted}
 use Rattle.layout.specs.Content.{Table}
 use Rattle.table.specs.Table.{keyIn, live, spare}
@@ -127,7 +127,7 @@ head-in f n b s h few e = go (split (live f n s))
         )
     go (inr t) = absurd (other (sym (pick-false (live f n s) (head (headOf (keyIn (f s)) b)) reuse t) ∙ e))
 
-pub ordered-whole : (f : Table) (n : ℕ) (order : List ℕ) → order ≡ ordered f (slots n) → AllSlots n order
+pub ordered-whole : (f : Table) (n : ℕ) (order : List ℕ) → order ≡ ordered f (slotNumbers n) → AllSlots n order
 unfolding ordered
 ordered-whole f n order e = whole-order (λ s. rankOf (f s)) n order e
 
@@ -137,16 +137,16 @@ unfolding placeIn
 arranged-place f n b order places live-count top a s low high = ap chainFrom (a .place-is s low high) ∙ place-of f n b s
 
 -- all slots by rising rank, pushed into an index of zeros
-module _ (f : Table) (n b : ℕ) (order : List ℕ) (place : ℕ → Chain) (few : 1 ≤ b) (order-is : order ≡ ordered f (slots n))
+module _ (f : Table) (n b : ℕ) (order : List ℕ) (place : ℕ → Chain) (few : 1 ≤ b) (order-is : order ≡ ordered f (slotNumbers n))
     (at-place : (s : ℕ) → 0 < s → s ≤ n → place s ≡ placeOf f n b s) where
   whole : AllSlots n order
   whole = ordered-whole f n order order-is
 
-  kept : (p q : ℕ → Bool) → ((s : ℕ) → 0 < s → s ≤ n → p s ≡ q s) → filter p order ≡ ordered f (filter q (slots n))
+  kept : (p q : ℕ → Bool) → ((s : ℕ) → 0 < s → s ≤ n → p s ≡ q s) → filter p order ≡ ordered f (filter q (slotNumbers n))
   unfolding ordered
   kept p q h =
-      ap (filter p) order-is ∙ filter-sorted (λ s. rankOf (f s)) p (slots n)
-      ∙ ap (ordered f) (filter-alike p q (slots n) (λ x i. let t = slots-in n x i in h x (t .0) (t .1)))
+      ap (filter p) order-is ∙ filter-sorted (λ s. rankOf (f s)) p (slotNumbers n)
+      ∙ ap (ordered f) (filter-alike p q (slotNumbers n) (λ x i. let t = slots-in n x i in h x (t .0) (t .1)))
 
   chains-are : (c : Chain) → chainsBy place order c ≡ chainsOf f n b c
   unfolding chainsBy chainsOf reuseOf chainOf

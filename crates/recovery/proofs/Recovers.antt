@@ -3,8 +3,8 @@ use mathlib.Core.Path.{_≡_, refl, sym, ap, ap₂, _∙_}
 use mathlib.Core.Bool.{true, false, cond}
 use mathlib.Core.Logic.{_⊎_, inl, inr}
 use mathlib.Core.List.{List}
-use Prim.Native.Nat.{ℕ, zero, suc, _+_, _%_, _^_, _≤_, _<_}
-use native.Mathlib.Nat.{mod-lt}
+use Prim.Native.Nat.{ℕ, zero, suc, _+_, _-_, _*_, _%_, _^_, _≤_, _<_}
+use native.Mathlib.Nat.{mod-lt, mul-le-mul-right}
 use native.Mathlib.Omega.{arith}
 use lib.ListN.{length, getD, take, replicate}
 use lib.Seq.{length-take-le}
@@ -15,6 +15,7 @@ use Rattle.prelude.proofs.Choice.{pick-true, pick-false, split}
 use Rattle.prelude.specs.Answer.{gives}
 use Rattle.layout.specs.Size.{slotsIn}
 use Rattle.layout.specs.Header.{lentFault}
+use Rattle.layout.specs.Record.{Layout}
 use Rattle.layout.specs.Content.{Table, tableOf}
 use Rattle.prelude.proofs.Refusals.{orElse-first, orElse-later, taken-leaves, refused-keeps}
 use Rattle.table.specs.Table.{keyIn, live, nextVersion}
@@ -33,63 +34,63 @@ use Rattle.recovery.proofs.Rebuilt.{arranged-index, arranged-place, ord
 use Rattle.recovery.proofs.Orders.{whole-within}
 
 -- the result by the refusal's number
-module _ (image heads next : List ℕ) (fault : ℕ) (e : recoverFault 1 image (length heads) (length next) ≡ fault) where
-  result-refused : (fault ≡ 0 → ⊥) → refusedResult fault heads next ≡ recoverResult 1 image heads next
+module _ (l : ℕ) (image heads next : List ℕ) (fault : ℕ) (e : recoverFault l image (length heads) (length next) ≡ fault) where
+  result-refused : (fault ≡ 0 → ⊥) → refusedResult fault heads next ≡ recoverResult l image heads next
   unfolding recoverResult
   result-refused ne =
       sym
-      (refused-keeps (recovered (tableOf 1 image) (slotsIn image) (length heads))
-      (refusedResult (recoverFault 1 image (length heads) (length next)) heads next)
-      (recoverFault 1 image (length heads) (length next)) (λ z. ne (sym e ∙ z))
+      (refused-keeps (recovered (tableOf l image) (slotsIn image) (length heads))
+      (refusedResult (recoverFault l image (length heads) (length next)) heads next)
+      (recoverFault l image (length heads) (length next)) (λ z. ne (sym e ∙ z))
       ∙ ap (λ (k : ℕ). refusedResult k heads next) e)
 
-  result-taken : fault ≡ 0 → recovered (tableOf 1 image) (slotsIn image) (length heads) ≡ recoverResult 1 image heads next
+  result-taken : fault ≡ 0 → recovered (tableOf l image) (slotsIn image) (length heads) ≡ recoverResult l image heads next
   unfolding recoverResult
   result-taken z =
       sym
-      (taken-leaves (recovered (tableOf 1 image) (slotsIn image) (length heads))
-      (refusedResult (recoverFault 1 image (length heads) (length next)) heads next)
-      (recoverFault 1 image (length heads) (length next)) (e ∙ z))
+      (taken-leaves (recovered (tableOf l image) (slotsIn image) (length heads))
+      (refusedResult (recoverFault l image (length heads) (length next)) heads next)
+      (recoverFault l image (length heads) (length next)) (e ∙ z))
 
 -- 1 to 4
-pub lent-refused : (image heads next : List ℕ) (fault : ℕ) → fault ≡ lentFault 1 image (length heads) (length next) → (fault ≡ 0 → ⊥)
-    → refusedResult fault heads next ≡ recoverResult 1 image heads next
+pub lent-refused : (l : ℕ) (image heads next : List ℕ) (fault : ℕ) → fault ≡ lentFault l image (length heads) (length next) → (fault ≡ 0 → ⊥)
+    → refusedResult fault heads next ≡ recoverResult l image heads next
 unfolding recoverFault
-lent-refused image heads next fault e ne =
-    result-refused image heads next fault (orElse-first _ _ (λ z. ne (e ∙ z)) ∙ sym e) ne
+lent-refused l image heads next fault e ne =
+    result-refused l image heads next fault (orElse-first _ _ (λ z. ne (e ∙ z)) ∙ sym e) ne
 
 zero-or-not : (k : ℕ) → (k ≡ 0) ⊎ (k ≡ 0 → ⊥)
 zero-or-not zero = inl refl
 zero-or-not (suc k) = inr (λ e. omega arith)
 
 -- 5 to 8, and the index
-module _ (image heads next : List ℕ) (n : ℕ) (ready : Ready image heads next n) where
-  by-slots : (fault : ℕ) → fault ≡ slotsFault 1 (word image) n → recoverFault 1 image (length heads) (length next) ≡ fault
+module _ (l : ℕ) (image heads next : List ℕ) (n : ℕ) (ready : Ready image l heads next n) where
+  by-slots : (fault : ℕ) → fault ≡ slotsFault l (word image) n → recoverFault l image (length heads) (length next) ≡ fault
   unfolding recoverFault
-  by-slots fault e = orElse-later _ _ (ready .lent) ∙ ap (slotsFault 1 (word image)) (ready .sized .slots) ∙ sym e
+  by-slots fault e = orElse-later _ _ (ready .lent) ∙ ap (slotsFault l (word image)) (ready .sized .slot-count) ∙ sym e
 
-  slots-refused : (fault : ℕ) → fault ≡ slotsFault 1 (word image) n → (fault ≡ 0 → ⊥)
-      → refusedResult fault heads next ≡ recoverResult 1 image heads next
-  slots-refused fault e ne = result-refused image heads next fault (by-slots fault e) ne
+  slots-refused : (fault : ℕ) → fault ≡ slotsFault l (word image) n → (fault ≡ 0 → ⊥)
+      → refusedResult fault heads next ≡ recoverResult l image heads next
+  slots-refused fault e ne = result-refused l image heads next fault (by-slots fault e) ne
 
   -- the result of an index with this live count and this next version
   shown : Index → (live-count version : ℕ) → Result
   shown i live-count version =
       record { answer = gives (stateValues (stateOf i live-count version)); state = stateOf i live-count version; heads = i .heads; next = i .next }
 
-  slots-taken : (fault : ℕ) → fault ≡ slotsFault 1 (word image) n → fault ≡ 0 → (order places heads′ next′ : List ℕ) (live-count top : ℕ) (r : State)
-      → Arranged (tableOf 1 image) n (length heads) order places live-count top
+  slots-taken : (fault : ℕ) → fault ≡ slotsFault l (word image) n → fault ≡ 0 → (order places heads′ next′ : List ℕ) (live-count top : ℕ) (r : State)
+      → Arranged (tableOf l image) n (length heads) order places live-count top
       → PartsOf heads′ next′ r (build (placeIn places) (unbuilt (replicate (length heads) 0) (replicate (length next) 0)) order) live-count (top + 1)
-      → record { answer = gives (stateValues r); state = r; heads = heads′; next = next′ } ≡ recoverResult 1 image heads next
+      → record { answer = gives (stateValues r); state = r; heads = heads′; next = next′ } ≡ recoverResult l image heads next
   unfolding shown recovered recoveredState
   slots-taken fault e z order places heads′ next′ live-count top r a h =
       ap (λ (i : Index). shown i (r .live) (r .version)) (h .index ∙ built)
       ∙ ap₂ (shown (recoveredIndex f n (length heads))) (h .live-count ∙ a .live-is) (h .next-version ∙ next-is)
-      ∙ ap (λ (k : ℕ). recovered f k (length heads)) (sym (ready .sized .slots))
-      ∙ result-taken image heads next fault (by-slots fault e) z
+      ∙ ap (λ (k : ℕ). recovered f k (length heads)) (sym (ready .sized .slot-count))
+      ∙ result-taken l image heads next fault (by-slots fault e) z
     where
       f : Table
-      f = tableOf 1 image
+      f = tableOf l image
 
       built : build (placeIn places) (unbuilt (replicate (length heads) 0) (replicate (length next) 0)) order ≡ recoveredIndex f n (length heads)
       built =
@@ -102,12 +103,12 @@ module _ (image heads next : List ℕ) (n : ℕ) (ready : Ready image heads next
       next-is = omega (arith, a .top-is)
 
 -- both ways of a call, by the refusal's number
-pub slots-answered : (image heads next order places : List ℕ) (n : ℕ) (found : Judged) (heads′ next′ : List ℕ) (state : State) (r : Recovered)
-    → Ready image heads next n → Judgement (word image) n (length heads) order places found
+pub slots-answered : (l : ℕ) (image heads next order places : List ℕ) (n : ℕ) (found : Judged) (heads′ next′ : List ℕ) (state : State) (r : Recovered)
+    → Ready image l heads next n → Judgement l (word image) n (length heads) order places found
     → Left (found .fault) heads next order places (found .live) (found .top) heads′ next′ state → r ≡ answerBy (found .fault) state
-    → recoverEnd r heads′ next′ ≡ recoverResult 1 image heads next
+    → recoverEnd r heads′ next′ ≡ recoverResult l image heads next
 unfolding recoverSays recoverState answerBy
-slots-answered image heads next order places n found heads′ next′ state r ready j v q = go (zero-or-not fault)
+slots-answered l image heads next order places n found heads′ next′ state r ready j v q = go (zero-or-not fault)
   where
     fault : ℕ
     fault = found .fault
@@ -115,14 +116,14 @@ slots-answered image heads next order places n found heads′ next′ state r re
     says : (w : Recovered) → answerBy fault state ≡ w → recoverEnd r heads′ next′ ≡ recoverEnd w heads′ next′
     says w u = ap (λ (x : Recovered). recoverEnd x heads′ next′) (q ∙ u)
 
-    go : (fault ≡ 0) ⊎ (fault ≡ 0 → ⊥) → recoverEnd r heads′ next′ ≡ recoverResult 1 image heads next
+    go : (fault ≡ 0) ⊎ (fault ≡ 0 → ⊥) → recoverEnd r heads′ next′ ≡ recoverResult l image heads next
     go (inl z) =
         says (Rebuilt state) (pick-true (eqb fault 0) (Rebuilt state) (Refused fault) (eq-eqb fault 0 z))
-        ∙ slots-taken image heads next n ready fault (j .fault-is) z order places heads′ next′ (found .live) (found .top) state (j .arranged z) (v .rebuilt z)
+        ∙ slots-taken l image heads next n ready fault (j .fault-is) z order places heads′ next′ (found .live) (found .top) state (j .arranged z) (v .rebuilt z)
     go (inr ne) =
         says (Refused fault) (pick-false (eqb fault 0) (Rebuilt state) (Refused fault) (ne-eqb fault 0 ne))
         ∙ ap₂ (λ (h x : List ℕ). recoverEnd (Refused fault) h x) (v .kept ne .0) (v .kept ne .1)
-        ∙ slots-refused image heads next n ready fault (j .fault-is) ne
+        ∙ slots-refused l image heads next n ready fault (j .fault-is) ne
 
 -- ---- rebuild can write
 
@@ -137,20 +138,20 @@ place-small f n b s few = go (split (live f n s))
     go (inl e) = omega (arith, pick-true (live f n s) (headOf (keyIn (f s)) b + 1) 0 e, below (keyIn (f s) % 2 ^ 64))
     go (inr e) = omega (arith, pick-false (live f n s) (headOf (keyIn (f s)) b + 1) 0 e)
 
-pub rebuild-ordered : (image heads next ranks keys places₀ order₀ by-key spare order places : List ℕ) (n : ℕ) (found : Judged)
-    → Ready image heads next n → Judgeable image ranks keys places₀ order₀ by-key spare n (length heads)
-    → Judgement (word image) n (length heads) order places found → length places ≡ length places₀ → found .fault ≡ 0
+pub rebuild-ordered : (l : ℕ) (image heads next ranks lows highs places₀ order₀ by-key spare order places : List ℕ) (n : ℕ) (found : Judged)
+    → Ready image l heads next n → Judgeable image l ranks lows highs places₀ order₀ by-key spare n (length heads)
+    → Judgement l (word image) n (length heads) order places found → length places ≡ length places₀ → found .fault ≡ 0
     → Ordered heads next order places
-rebuild-ordered image heads next ranks keys places₀ order₀ by-key spare order places n found ready g j same z = ordered-by
+rebuild-ordered l image heads next ranks lows highs places₀ order₀ by-key spare order places n found ready g j same z = ordered-by
   where
-    a : Arranged (tableOf 1 image) n (length heads) order places (found .live) (found .top)
+    a : Arranged (tableOf l image) n (length heads) order places (found .live) (found .top)
     a = j .arranged z
 
     size : length places ≡ n + 1
     size = same ∙ g .places-size
 
     f : Table
-    f = tableOf 1 image
+    f = tableOf l image
 
     few : 1 ≤ length heads
     few = ready .sized .some-head
@@ -175,23 +176,30 @@ rebuild-ordered image heads next ranks keys places₀ order₀ by-key spare orde
               );
         }
 
-pub rebuild-top : (m : ℕ → ℕ) (n b : ℕ) (order places : List ℕ) (found : Judged) → Judgement m n b order places found → found .fault ≡ 0
+pub rebuild-top : (l : ℕ) (m : ℕ → ℕ) (n b : ℕ) (order places : List ℕ) (found : Judged) → Judgement l m n b order places found → found .fault ≡ 0
     → found .top < 2 ^ 63
-rebuild-top m n b order places found j z = j .arranged z .top-fits
+rebuild-top l m n b order places found j z = j .arranged z .top-fits
 
 -- ---- the fronts of the scratch lists
 
-pub front : (k : ℕ) (list : List ℕ) → k ≤ length list → k ≡ length (take k list)
-front k list h = sym (length-take-le k list h)
+-- no layout has more high words than slots and entry 0
+pub highs-few : (l n : ℕ) → Layout l → (l - 1) * (n + 1) ≤ n + 1
+highs-few l n lay = omega (arith, mul-le-mul-right (n + 1) few)
+  where
+    few : l - 1 ≤ 1
+    few = omega (arith, lay .high)
 
-pub judgeable : (image heads next ranks keys places order by-key spare : List ℕ) (n : ℕ) → Ready image heads next n
-    → Roomy ranks keys places order by-key spare n
-    → Judgeable image (take (n + 1) ranks) (take (n + 1) keys) (take (n + 1) places) (take n order) (take n by-key) (take n spare) n (length heads)
-judgeable image heads next ranks keys places order by-key spare n ready room =
+pub judgeable : (l : ℕ) (image heads next ranks lows highs places order by-key spare : List ℕ) (n : ℕ) → Ready image l heads next n
+    → Roomy ranks lows highs places order by-key spare n
+    → Judgeable image l (take (n + 1) ranks) (take (n + 1) lows) (take ((l - 1) * (n + 1)) highs) (take (n + 1) places) (take n order) (take n by-key)
+    (take n spare) n (length heads)
+judgeable l image heads next ranks lows highs places order by-key spare n ready room =
     record {
+      layout = ready .layout;
       image-size = ready .sized .image-size;
       ranks-size = length-take-le (n + 1) ranks (omega arith);
-      keys-size = length-take-le (n + 1) keys (omega arith);
+      lows-size = length-take-le (n + 1) lows (omega arith);
+      highs-size = length-take-le ((l - 1) * (n + 1)) highs (omega (arith, highs-few l n (ready .layout), room .highs-room));
       places-size = length-take-le (n + 1) places (omega arith);
       order-size = length-take-le n order (omega arith);
       by-key-size = length-take-le n by-key (omega arith);
@@ -203,16 +211,17 @@ judgeable image heads next ranks keys places order by-key spare n ready room =
     }
 
 -- what is lent and not refused with 1 to 4
-pub lent-ready : (image heads next : List ℕ) (fault n : ℕ) → fault ≡ lentFault 1 image (length heads) (length next) → fault ≡ 0
-    → n ≡ slotsIn image → Ready image heads next n
-lent-ready image heads next fault n e z size =
+pub lent-ready : (l : ℕ) (image heads next : List ℕ) (fault n : ℕ) → Layout l → fault ≡ lentFault l image (length heads) (length next)
+    → fault ≡ 0 → n ≡ slotsIn image → Ready image l heads next n
+lent-ready l image heads next fault n lay e z size =
     record {
+      layout = lay;
       lent = sym e ∙ z;
-      sized = lent-sized 1 fault image heads next e z n size;
-      heads-high = lent-heads 1 fault image heads next e z;
-      some-slots = omega (arith, lent-slots 1 fault image heads next e z n size);
+      sized = lent-sized l fault image heads next e z n size;
+      heads-high = lent-heads l fault image heads next e z;
+      some-slots = omega (arith, lent-slots l fault image heads next e z n size);
     }
 
-pub lent-few : (image heads next : List ℕ) (fault n : ℕ) → fault ≡ lentFault 1 image (length heads) (length next) → fault ≡ 0
+pub lent-few : (l : ℕ) (image heads next : List ℕ) (fault n : ℕ) → fault ≡ lentFault l image (length heads) (length next) → fault ≡ 0
     → n ≡ slotsIn image → n < 65536
-lent-few image heads next fault n e z size = omega (arith, lent-sized 1 fault image heads next e z n size .few)
+lent-few l image heads next fault n e z size = omega (arith, lent-sized l fault image heads next e z n size .few)

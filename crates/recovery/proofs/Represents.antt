@@ -2,7 +2,7 @@
 use mathlib.Core.Path.{_≡_, refl, _∙_}
 use Prim.Native.Nat.{ℕ, _≤_}
 use lib.ListN.{getD}
-use Rattle.prelude.specs.Members.{slots}
+use Rattle.prelude.specs.Members.{slotNumbers}
 use Rattle.layout.specs.Content.{Table}
 use Rattle.table.specs.Order.{ordered, chainOf, reuseOf}
 use Rattle.index.specs.Index.{Index, reuse, head, headOf, start, ahead}
@@ -10,7 +10,7 @@ use Rattle.index.specs.Chained.{lastOf}
 use Rattle.index.specs.Linked.{Linked, Sits}
 use Rattle.index.proofs.Chained.{end-last}
 use Rattle.index.proofs.Sits.{sits-in, sits-has, sits-once}
-use Rattle.index.proofs.ChainLengths.{good-linked}
+use Rattle.index.proofs.ChainLengths.{formed-linked}
 use Rattle.recovery.specs.Recover.{chainsOf, placeOf, recoveredIndex}
 use Rattle.recovery.specs.Represents.{Represents}
 use Rattle.recovery.proofs.Rebuilt.{arranged-sits, arranged-index}
@@ -18,29 +18,29 @@ use Rattle.recovery.proofs.Rebuilt.{arranged-sits, arranged-index}
 -- THE RECOVERED INDEX: every slot stands in the chain that is its place
 pub recovered-sits : (f : Table) (n b : ℕ) → 1 ≤ b → Sits n b (placeOf f n b) (recoveredIndex f n b) (chainsOf f n b)
 recovered-sits f n b few =
-    rw (arranged-index f n b (ordered f (slots n)) (placeOf f n b) few refl (λ s low high. refl)) at
-    (arranged-sits f n b (ordered f (slots n)) (placeOf f n b) few refl (λ s low high. refl))
+    rw (arranged-index f n b (ordered f (slotNumbers n)) (placeOf f n b) few refl (λ s low high. refl)) at
+    (arranged-sits f n b (ordered f (slotNumbers n)) (placeOf f n b) few refl (λ s low high. refl))
 
 -- ---- for a reader
 
 module _ (f : Table) (n b : ℕ) (i : Index) (g : Sits n b (placeOf f n b) i (chainsOf f n b)) where
   by-head : (h : ℕ) → Linked (i .next) (getD (i .heads) h 0) (chainOf f n (λ key. headOf key b) h)
   unfolding chainsOf ahead start
-  by-head h = good-linked _ _ _ (head h) (g .good .disjoint)
+  by-head h = formed-linked _ _ _ (head h) (g .formed .disjoint)
 
   by-first : Linked (i .next) (i .first) (reuseOf f n)
   unfolding chainsOf ahead start
-  by-first = good-linked _ _ _ reuse (g .good .disjoint)
+  by-first = formed-linked _ _ _ reuse (g .formed .disjoint)
 
   by-last : i .last ≡ lastOf (reuseOf f n)
   unfolding chainsOf
-  by-last = g .good .ends ∙ end-last (reuseOf f n)
+  by-last = g .formed .ends ∙ end-last (reuseOf f n)
 
   pub sits-represents : Represents f n b i
   sits-represents =
       record {
-        heads-size = g .width;
-        next-size = g .slots;
+        heads-size = g .heads-size;
+        next-size = g .next-size;
         head-chain = λ h l. by-head h;
         reuse-chain = by-first;
         last-slot = by-last;

@@ -4,7 +4,6 @@ use mathlib.Core.Bool.{Bool, true, false, cond}
 use mathlib.Core.Logic.{by-cases}
 use mathlib.Core.List.{List}
 use Prim.Native.Nat.{ℕ, zero, suc, _+_, _-_, _*_, _/_, _%_, _^_, _≤_, _<_, max}
-use native.Mathlib.Nat.{mod-eq-of-lt, mod-lt}
 use native.Mathlib.Decide.{ℕ-discrete}
 use native.Mathlib.Omega.{arith}
 use lib.Dec.{eqb}
@@ -17,84 +16,93 @@ use Rattle.prelude.proofs.Choice.{pick-true, pick-false}
 use Rattle.prelude.specs.Range.{anyOf, greatest}
 use Rattle.layout.specs.Line.{lineA, lineB, lineTop}
 use Rattle.layout.specs.Slot.{paired, verdictOf, lineVerdict, slotVerdict, isValid}
-use Rattle.layout.specs.Record.{kindOf, keyOf, valueOf}
-use Rattle.layout.specs.Content.{put, remove, made, contentBy, contentOf, content, topOf}
+use Rattle.layout.specs.Record.{Layout, kindOf, keyOf, valueOf}
+use Rattle.layout.specs.inner.Key.{keyWith, highWord}
+use Rattle.layout.specs.Content.{putRecord, removeRecord, made, contentBy, contentOf, content, topOf}
 use Rattle.layout.specs.Fault.{markFault, faultOf, recordFault}
 use Rattle.layout.specs.declared.Verdict.{Verdict}
 use Rattle.layout.specs.declared.Verdict.the-variants.{Valid, Empty, Broken}
+use Rattle.layout.proofs.KeyWords.{no-high, key-parts}
 use Rattle.table.specs.Table.{keyIn}
 use Rattle.table.specs.Order.{rankOf}
 use Rattle.index.specs.Index.{headOf}
-use Rattle.recovery.specs.inner.Scan.{putPlace, Scannable, validSummary, Summed, Scanned}
+use Rattle.recovery.specs.inner.Scan.{putPlace, Scannable, validSummary, Summed, keyAt, Scanned}
+use Rattle.recovery.specs.inner.Decide.{NoneOrAll}
 use Rattle.recovery.specs.declared.Summary.{Summary}
 use Rattle.recovery.specs.declared.Scan.{Scan}
+use Rattle.recovery.proofs.Orders.{no-highs}
 
 -- ---- a record's chain
 
 pub remove-place : (kind key b : ℕ) → kind ≡ 2 → 0 ≡ cond (eqb kind 2) 0 (headOf key b + 1)
 remove-place kind key b e = sym (pick-true (eqb kind 2) 0 (headOf key b + 1) (eq-eqb kind 2 e))
 
-pub put-place : (kind key b : ℕ) → (kind ≡ 2 → ⊥) → key < 2 ^ 64 → key % b + 1 ≡ cond (eqb kind 2) 0 (headOf key b + 1)
-put-place kind key b h l =
-    ap (λ (k : ℕ). k % b + 1) (sym (mod-eq-of-lt l)) ∙ sym (pick-false (eqb kind 2) 0 (headOf key b + 1) (ne-eqb kind 2 h))
-
-pub place-small : (key b : ℕ) → 1 ≤ b → b ≤ 65536 → key % b + 1 ≤ 65536
-place-small key b l h = omega (arith, mod-lt key l)
+pub put-place : (kind key b r : ℕ) → (kind ≡ 2 → ⊥) → r ≡ headOf key b → r + 1 ≡ cond (eqb kind 2) 0 (headOf key b + 1)
+put-place kind key b r h e = ap (λ (k : ℕ). k + 1) e ∙ sym (pick-false (eqb kind 2) 0 (headOf key b + 1) (ne-eqb kind 2 h))
 
 -- ---- what is kept of one slot
 
-abbrev kept : (version : ℕ) → (mark : Bool) → (key place : ℕ) → (fault : Bool) → Summary
-kept version mark key place fault =
-    record { rank = 2 + version; key = key; place = place; top = version; mark = mark; fault = fault }
+abbrev kept : (version : ℕ) → (mark : Bool) → (low high place : ℕ) → (fault : Bool) → Summary
+kept version mark low high place fault =
+    record { rank = 2 + version; low = low; high = high; place = place; top = version; mark = mark; fault = fault }
 
-pub valid-is : (m : ℕ → ℕ) (s b version : ℕ) (mark : Bool) (key kind place : ℕ) (fault : Bool) → key ≡ keyOf 1 (lineA m s)
-    → kind ≡ kindOf (lineA m s 2) → place ≡ cond (eqb kind 2) 0 (headOf key b + 1) → fault ≡ faultOf 1 (lineA m s) (lineB m s)
-    → record { rank = 2 + version; key = key; place = place; top = version; mark = mark; fault = fault } ≡ validSummary m s b version mark
+pub valid-is : (l : ℕ) (m : ℕ → ℕ) (s b version : ℕ) (mark : Bool) (low high kind place : ℕ) (fault : Bool) → Layout l → low ≡ lineA m s 1
+    → high ≡ highWord l (lineA m s) → kind ≡ kindOf (lineA m s (l + 1))
+    → ((h : ℕ) → place ≡ cond (eqb kind 2) 0 (headOf (keyWith low h) b + 1)) → fault ≡ faultOf l (lineA m s) (lineB m s)
+    → record { rank = 2 + version; low = low; high = high; place = place; top = version; mark = mark; fault = fault }
+    ≡ validSummary l m s b version mark
 unfolding validSummary
-valid-is m s b version mark key kind place fault k x p f =
-    ap (λ (q : ℕ). kept version mark key q fault) (p ∙ ap₂ (λ (u v : ℕ). cond (eqb u 2) 0 (headOf v b + 1)) x k)
-    ∙ ap₂
-    (λ (u : ℕ) (t : Bool). kept version mark u (cond (eqb (kindOf (lineA m s 2)) 2) 0 (headOf (keyOf 1 (lineA m s)) b + 1)) t) k f
+valid-is l m s b version mark low high kind place fault lay k h x p f =
+    ap (λ (q : ℕ). kept version mark low high q fault) (p high ∙ ap₂ (λ (u v : ℕ). cond (eqb u 2) 0 (headOf v b + 1)) x key)
+    ∙ ap₂ (λ (u v : ℕ). kept version mark u v place′ fault) k h ∙ ap (kept version mark (lineA m s 1) (highWord l (lineA m s)) place′) f
+  where
+    place′ : ℕ
+    place′ = cond (eqb (kindOf (lineA m s (l + 1))) 2) 0 (headOf (keyOf l (lineA m s)) b + 1)
+
+    key : keyWith low high ≡ keyOf l (lineA m s)
+    key = ap₂ (λ (u v : ℕ). keyWith u v) k h ∙ sym (key-parts l (lineA m s) lay)
 
 -- a record's rank, key, place and top
-record-parts : (remove? : Bool) (v k b : ℕ) (x : List ℕ)
-    → (2 + v ≡ rankOf (cond remove? (remove v k) (put v k x))) × (k ≡ keyIn (cond remove? (remove v k) (put v k x)))
-    × (cond remove? 0 (headOf k b + 1) ≡ putPlace b (cond remove? (remove v k) (put v k x)))
-    × (v ≡ topOf (cond remove? (remove v k) (put v k x)))
+record-parts : (removeRecord? : Bool) (v k b : ℕ) (x : List ℕ)
+    → (2 + v ≡ rankOf (cond removeRecord? (removeRecord v k) (putRecord v k x))) × (k ≡ keyIn (cond removeRecord? (removeRecord v k) (putRecord v k x)))
+    × (cond removeRecord? 0 (headOf k b + 1) ≡ putPlace b (cond removeRecord? (removeRecord v k) (putRecord v k x)))
+    × (v ≡ topOf (cond removeRecord? (removeRecord v k) (putRecord v k x)))
 unfolding rankOf keyIn putPlace topOf
 record-parts true v k b x = (refl, refl, refl, refl)
 record-parts false v k b x = (refl, refl, refl, refl)
 
-module _ (m : ℕ → ℕ) (s b : ℕ) (verdict : Verdict) (e : verdict ≡ slotVerdict m s) (mark : Bool) (f : mark ≡ markFault m s) where
-  content-by : (v : Verdict) → verdict ≡ v → contentBy 1 (lineA m s) (lineB m s) v ≡ content 1 m s
+module _ (l : ℕ) (m : ℕ → ℕ) (s b : ℕ) (verdict : Verdict) (e : verdict ≡ slotVerdict m s) (mark : Bool) (f : mark ≡ markFault m s) where
+  content-by : (v : Verdict) → verdict ≡ v → contentBy l (lineA m s) (lineB m s) v ≡ content l m s
   unfolding content contentOf slotVerdict
-  content-by v h = ap (contentBy 1 (lineA m s) (lineB m s)) (sym h ∙ e)
+  content-by v h = ap (contentBy l (lineA m s) (lineB m s)) (sym h ∙ e)
 
-  fault-by : (v : Verdict) → verdict ≡ v → cond (isValid v) (faultOf 1 (lineA m s) (lineB m s)) false ≡ recordFault 1 m s
+  fault-by : (v : Verdict) → verdict ≡ v → cond (isValid v) (faultOf l (lineA m s) (lineB m s)) false ≡ recordFault l m s
   unfolding recordFault slotVerdict
-  fault-by v h = ap (λ (w : Verdict). cond (isValid w) (faultOf 1 (lineA m s) (lineB m s)) false) (sym h ∙ e)
+  fault-by v h = ap (λ (w : Verdict). cond (isValid w) (faultOf l (lineA m s) (lineB m s)) false) (sym h ∙ e)
 
-  pub summed-valid : (version : ℕ) → verdict ≡ Valid version → (r : Summary) → r ≡ validSummary m s b version mark → Summed m s b r
+  pub summed-valid : (version : ℕ) → verdict ≡ Valid version → Layout l → (r : Summary) → r ≡ validSummary l m s b version mark → Summed l m s b r
   unfolding contentBy made isValid validSummary
-  summed-valid version v r x =
-      let here = record-parts (eqb (kindOf (lineA m s 2)) 2) version (keyOf 1 (lineA m s)) b (valueOf 1 (lineA m s) (lineB m s)) in
+  summed-valid version v lay r x =
+      let here = record-parts (eqb (kindOf (lineA m s (l + 1))) 2) version (keyOf l (lineA m s)) b (valueOf l (lineA m s) (lineB m s)) in
       let it = content-by (Valid version) v in
       record {
         rank-is = ap (λ (y : Summary). y .rank) x ∙ here .0 ∙ ap rankOf it;
-        key-is = ap (λ (y : Summary). y .key) x ∙ here .1 ∙ ap keyIn it;
+        key-is = ap (λ (y : Summary). keyWith (y .low) (y .high)) x ∙ sym (key-parts l (lineA m s) lay) ∙ here .1 ∙ ap keyIn it;
+        no-high = λ one. ap (λ (y : Summary). y .high) x ∙ sym (no-high l (lineA m s) one);
         place-is = ap (λ (y : Summary). y .place) x ∙ here .2 ∙ ap (putPlace b) it;
         top-is = ap (λ (y : Summary). y .top) x ∙ here .3 ∙ ap topOf it;
         mark-is = ap (λ (y : Summary). y .mark) x ∙ f;
         fault-is = ap (λ (y : Summary). y .fault) x ∙ fault-by (Valid version) v;
       }
 
-  pub summed-empty : verdict ≡ Empty → Summed m s b (record { rank = 1; key = 0; place = 0; top = 0; mark = mark; fault = false })
+  pub summed-empty : verdict ≡ Empty → Summed l m s b (record { rank = 1; low = 0; high = 0; place = 0; top = 0; mark = mark; fault = false })
   unfolding contentBy isValid rankOf keyIn putPlace topOf
   summed-empty v =
       let it = content-by Empty v in
       record {
         rank-is = ap rankOf it;
         key-is = ap keyIn it;
+        no-high = λ one. refl;
         place-is = ap (putPlace b) it;
         top-is = ap topOf it;
         mark-is = f;
@@ -102,13 +110,14 @@ module _ (m : ℕ → ℕ) (s b : ℕ) (verdict : Verdict) (e : verdict ≡ slot
       }
 
   pub summed-broken : (top : ℕ) → verdict ≡ Broken top
-      → Summed m s b (record { rank = 0; key = 0; place = 0; top = top; mark = mark; fault = false })
+      → Summed l m s b (record { rank = 0; low = 0; high = 0; place = 0; top = top; mark = mark; fault = false })
   unfolding contentBy isValid rankOf keyIn putPlace topOf
   summed-broken top v =
       let it = content-by (Broken top) v in
       record {
         rank-is = ap rankOf it;
         key-is = ap keyIn it;
+        no-high = λ one. refl;
         place-is = ap (putPlace b) it;
         top-is = ap topOf it;
         mark-is = f;
@@ -180,10 +189,66 @@ entries-next g xs k x l e h s p q = by-cases (ℕ-discrete s (suc k)) same other
     other : (s ≡ suc k → ⊥) → getD (set xs (suc k) x) s 0 ≡ g s
     other i = getD-set-other xs (suc k) s x 0 i ∙ h s p (omega arith)
 
-scanned-none : (m : ℕ → ℕ) (b : ℕ) (ranks keys places : List ℕ)
-    → Scanned m 0 b ranks keys places (record { mark = false; fault = false; top = 0 })
+-- the list of high words, with entry s set or in layout 1 left without entries
+
+pub high-inside : (l n s : ℕ) (highs : List ℕ) → l ≡ 2 → length highs ≡ (l - 1) * (n + 1) → s ≤ n → s < length highs
+high-inside l n s highs two e h =
+    let z : (l - 1) * (n + 1) ≡ 1 * (n + 1) = ap (λ (k : ℕ). (k - 1) * (n + 1)) two in omega (arith, e, z)
+
+highs-none : (l n : ℕ) (highs : List ℕ) → l ≡ 1 → length highs ≡ (l - 1) * (n + 1) → length highs ≡ 0
+highs-none l n highs one e =
+    let z : (l - 1) * (n + 1) ≡ 0 * (n + 1) = ap (λ (k : ℕ). (k - 1) * (n + 1)) one in omega (arith, e, z)
+
+pub highs-all : (l n : ℕ) (highs : List ℕ) → Layout l → length highs ≡ (l - 1) * (n + 1) → NoneOrAll highs n
+highs-all l n highs lay e some = by-cases (ℕ-discrete l 2) (λ two. high-inside l n n highs two e (omega arith)) other
+  where
+    other : (l ≡ 2 → ⊥) → n < length highs
+    other ne = let one : l ≡ 1 = omega (arith, lay .low, lay .high, ne) in absurd (omega (arith, highs-none l n highs one e))
+
+-- after is highs with this high word of slot s, and is as long
+pub record HighSet (highs after : List ℕ) (s high : ℕ) : Type 0 where
+  pub size : length after ≡ length highs
+  pub here : getD after s 0 ≡ high
+  pub others : (t : ℕ) → (t ≡ s → ⊥) → getD after t 0 ≡ getD highs t 0
+
+pub high-set : (l n s high : ℕ) (highs after : List ℕ) → l ≡ 2 → length highs ≡ (l - 1) * (n + 1) → s ≤ n → after ≡ set highs s high
+    → HighSet highs after s high
+high-set l n s high highs after two e h d =
+    record {
+      size = ap (λ (t : List ℕ). length t) d ∙ length-set highs s high;
+      here = ap (λ (t : List ℕ). getD t s 0) d ∙ getD-set-same highs s high 0 (high-inside l n s highs two e h);
+      others = λ t ne. ap (λ (r : List ℕ). getD r t 0) d ∙ getD-set-other highs s t high 0 ne;
+    }
+
+pub high-left : (l n s high : ℕ) (highs after : List ℕ) → Layout l → (l ≡ 2 → ⊥) → length highs ≡ (l - 1) * (n + 1) → (l ≡ 1 → high ≡ 0)
+    → after ≡ highs → HighSet highs after s high
+high-left l n s high highs after lay other e z d =
+    let one : l ≡ 1 = omega (arith, lay .low, lay .high, other) in
+    record {
+      size = ap (λ (t : List ℕ). length t) d;
+      here = ap (λ (t : List ℕ). getD t s 0) d ∙ no-highs highs s (highs-none l n highs one e) ∙ sym (z one);
+      others = λ t ne. ap (λ (r : List ℕ). getD r t 0) d;
+    }
+
+-- the same of keys: entry k + 1 of lows is set, and that of highs by HighSet
+keys-next : (g : ℕ → ℕ) (lows highs after : List ℕ) (k low high : ℕ) → suc k < length lows → keyWith low high ≡ g (suc k)
+    → HighSet highs after (suc k) high → ((s : ℕ) → 0 < s → s ≤ k → keyAt lows highs s ≡ g s)
+    → (s : ℕ) → 0 < s → s ≤ suc k → keyAt (set lows (suc k) low) after s ≡ g s
+unfolding keyAt
+keys-next g lows highs after k low high l e w h s p q = by-cases (ℕ-discrete s (suc k)) same other
+  where
+    same : s ≡ suc k → keyWith (getD (set lows (suc k) low) s 0) (getD after s 0) ≡ g s
+    same i =
+        ap (λ (j : ℕ). keyWith (getD (set lows (suc k) low) j 0) (getD after j 0)) i
+        ∙ ap₂ (λ (x y : ℕ). keyWith x y) (getD-set-same lows (suc k) low 0 l) (w .here) ∙ e ∙ ap g (sym i)
+
+    other : (s ≡ suc k → ⊥) → keyWith (getD (set lows (suc k) low) s 0) (getD after s 0) ≡ g s
+    other i = ap₂ (λ (x y : ℕ). keyWith x y) (getD-set-other lows (suc k) s low 0 i) (w .others s i) ∙ h s p (omega arith)
+
+scanned-none : (l : ℕ) (m : ℕ → ℕ) (b : ℕ) (ranks lows highs places : List ℕ)
+    → Scanned l m 0 b ranks lows highs places (record { mark = false; fault = false; top = 0 })
 unfolding anyOf greatest
-scanned-none m b ranks keys places =
+scanned-none l m b ranks lows highs places =
     record {
       listed =
           record { rank-at = λ s p q. absurd (omega arith); key-at = λ s p q. absurd (omega arith); place-at = λ s p q. absurd (omega arith) };
@@ -192,73 +257,80 @@ scanned-none m b ranks keys places =
       top-is = refl;
     }
 
-scanned-next : (m : ℕ → ℕ) (k b : ℕ) (ranks keys places : List ℕ) (all next : Scan) (slot : Summary)
-    → Scanned m k b ranks keys places all → suc k < length ranks → suc k < length keys → suc k < length places → Summed m (suc k) b slot
+scanned-next : (l : ℕ) (m : ℕ → ℕ) (k b : ℕ) (ranks lows highs places after : List ℕ) (all next : Scan) (slot : Summary)
+    → Scanned l m k b ranks lows highs places all → suc k < length ranks → suc k < length lows → suc k < length places
+    → HighSet highs after (suc k) (slot .high) → Summed l m (suc k) b slot
     → (next .mark ≡ cond (all .mark) true (slot .mark)) × (next .fault ≡ cond (all .fault) true (slot .fault))
     × (next .top ≡ max (all .top) (slot .top))
-    → Scanned m (suc k) b (set ranks (suc k) (slot .rank)) (set keys (suc k) (slot .key)) (set places (suc k) (slot .place)) next
+    → Scanned l m (suc k) b (set ranks (suc k) (slot .rank)) (set lows (suc k) (slot .low)) after (set places (suc k) (slot .place)) next
 unfolding greatest
-scanned-next m k b ranks keys places all next slot g r y p here j =
+scanned-next l m k b ranks lows highs places after all next slot g r y p w here j =
     record {
       listed =
           record {
-            rank-at = entries-next (λ i. rankOf (content 1 m i)) ranks k (slot .rank) r (here .rank-is) (g .listed .rank-at);
-            key-at = entries-next (λ i. keyIn (content 1 m i)) keys k (slot .key) y (here .key-is) (g .listed .key-at);
-            place-at = entries-next (λ i. putPlace b (content 1 m i)) places k (slot .place) p (here .place-is) (g .listed .place-at);
+            rank-at = entries-next (λ i. rankOf (content l m i)) ranks k (slot .rank) r (here .rank-is) (g .listed .rank-at);
+            key-at =
+                keys-next (λ i. keyIn (content l m i)) lows highs after k (slot .low) (slot .high) y (here .key-is) w (g .listed .key-at);
+            place-at = entries-next (λ i. putPlace b (content l m i)) places k (slot .place) p (here .place-is) (g .listed .place-at);
           };
       marks-are = j .0 ∙ ap₂ (λ (u v : Bool). cond u true v) (g .marks-are) (here .mark-is) ∙ with-last (markFault m);
-      faults-are = j .1 ∙ ap₂ (λ (u v : Bool). cond u true v) (g .faults-are) (here .fault-is) ∙ with-last (recordFault 1 m);
+      faults-are = j .1 ∙ ap₂ (λ (u v : Bool). cond u true v) (g .faults-are) (here .fault-is) ∙ with-last (recordFault l m);
       top-is = j .2 ∙ ap₂ max (g .top-is) (here .top-is);
     }
   where
     with-last : (q : ℕ → Bool) → cond (anyOf q 1 k) true (q (suc k)) ≡ anyOf q 1 (suc k)
     with-last q = ap (λ (i : ℕ). cond (anyOf q 1 k) true (q i)) (omega arith) ∙ sym (any-last q 1 k)
 
-scanned-at : (m : ℕ → ℕ) (i j b : ℕ) (ranks keys places : List ℕ) (all : Scan) → i ≡ j → Scanned m i b ranks keys places all
-    → Scanned m j b ranks keys places all
-scanned-at m i j b ranks keys places all e g = subst (λ (k : ℕ). Scanned m k b ranks keys places all) e g
+scanned-at : (l : ℕ) (m : ℕ → ℕ) (i j b : ℕ) (ranks lows highs places : List ℕ) (all : Scan) → i ≡ j
+    → Scanned l m i b ranks lows highs places all → Scanned l m j b ranks lows highs places all
+scanned-at l m i j b ranks lows highs places all e g = subst (λ (k : ℕ). Scanned l m k b ranks lows highs places all) e g
 
 -- the slots before s are scanned
-pub record Scanning (m : ℕ → ℕ) (n b : ℕ) (ranks keys places : List ℕ) (all : Scan) (s : ℕ) : Type 0 where
+pub record Scanning (l : ℕ) (m : ℕ → ℕ) (n b : ℕ) (ranks lows highs places : List ℕ) (all : Scan) (s : ℕ) : Type 0 where
   pub low : 1 ≤ s
   pub high : s ≤ n + 1
   pub ranks-size : length ranks ≡ n + 1
-  pub keys-size : length keys ≡ n + 1
+  pub lows-size : length lows ≡ n + 1
+  pub highs-size : length highs ≡ (l - 1) * (n + 1)
   pub places-size : length places ≡ n + 1
-  pub so-far : Scanned m (s - 1) b ranks keys places all
+  pub so-far : Scanned l m (s - 1) b ranks lows highs places all
 
-pub scan-start : (image ranks keys places : List ℕ) (n b : ℕ) → Scannable image ranks keys places n b
-    → Scanning (word image) n b ranks keys places (record { mark = false; fault = false; top = 0 }) 1
-scan-start image ranks keys places n b g =
+pub scan-start : (image : List ℕ) (l : ℕ) (ranks lows highs places : List ℕ) (n b : ℕ) → Scannable image l ranks lows highs places n b
+    → Scanning l (word image) n b ranks lows highs places (record { mark = false; fault = false; top = 0 }) 1
+scan-start image l ranks lows highs places n b g =
     record {
       low = omega arith;
       high = omega arith;
       ranks-size = g .ranks-size;
-      keys-size = g .keys-size;
+      lows-size = g .lows-size;
+      highs-size = g .highs-size;
       places-size = g .places-size;
-      so-far = scanned-at (word image) 0 (1 - 1) b ranks keys places _ (omega arith) (scanned-none (word image) b ranks keys places);
+      so-far =
+          scanned-at l (word image) 0 (1 - 1) b ranks lows highs places _ (omega arith) (scanned-none l (word image) b ranks lows highs places);
     }
 
-pub scan-next : (m : ℕ → ℕ) (n b : ℕ) (ranks keys places : List ℕ) (all next : Scan) (slot : Summary) (s : ℕ)
-    → Scanning m n b ranks keys places all s → s ≤ n → Summed m s b slot
+pub scan-next : (l : ℕ) (m : ℕ → ℕ) (n b : ℕ) (ranks lows highs places after : List ℕ) (all next : Scan) (slot : Summary) (s : ℕ)
+    → Scanning l m n b ranks lows highs places all s → s ≤ n → Summed l m s b slot → HighSet highs after s (slot .high)
     → (next .mark ≡ cond (all .mark) true (slot .mark)) × (next .fault ≡ cond (all .fault) true (slot .fault))
     × (next .top ≡ max (all .top) (slot .top))
-    → Scanning m n b (set ranks s (slot .rank)) (set keys s (slot .key)) (set places s (slot .place)) next (s + 1)
-scan-next m n b ranks keys places all next slot zero g h here j = absurd (omega (arith, g .low))
-scan-next m n b ranks keys places all next slot (suc k) g h here j =
+    → Scanning l m n b (set ranks s (slot .rank)) (set lows s (slot .low)) after (set places s (slot .place)) next (s + 1)
+scan-next l m n b ranks lows highs places after all next slot zero g h here w j = absurd (omega (arith, g .low))
+scan-next l m n b ranks lows highs places after all next slot (suc k) g h here w j =
     record {
       low = omega arith;
       high = omega arith;
       ranks-size = length-set ranks (suc k) (slot .rank) ∙ g .ranks-size;
-      keys-size = length-set keys (suc k) (slot .key) ∙ g .keys-size;
+      lows-size = length-set lows (suc k) (slot .low) ∙ g .lows-size;
+      highs-size = w .size ∙ g .highs-size;
       places-size = length-set places (suc k) (slot .place) ∙ g .places-size;
       so-far =
-          scanned-at m (suc k) (suc k + 1 - 1) b _ _ _ next (omega arith)
-          (scanned-next m k b ranks keys places all next slot
-          (scanned-at m (suc k - 1) k b ranks keys places all (omega arith) (g .so-far))
-          (omega (arith, g .ranks-size)) (omega (arith, g .keys-size)) (omega (arith, g .places-size)) here j);
+          scanned-at l m (suc k) (suc k + 1 - 1) b _ _ _ _ next (omega arith)
+          (scanned-next l m k b ranks lows highs places after all next slot
+          (scanned-at l m (suc k - 1) k b ranks lows highs places all (omega arith) (g .so-far))
+          (omega (arith, g .ranks-size)) (omega (arith, g .lows-size)) (omega (arith, g .places-size)) w here j);
     }
 
-pub scan-end : (m : ℕ → ℕ) (n b : ℕ) (ranks keys places : List ℕ) (all : Scan) (s : ℕ) → Scanning m n b ranks keys places all s → n < s
-    → Scanned m n b ranks keys places all
-scan-end m n b ranks keys places all s g h = scanned-at m (s - 1) n b ranks keys places all (omega (arith, g .low, g .high)) (g .so-far)
+pub scan-end : (l : ℕ) (m : ℕ → ℕ) (n b : ℕ) (ranks lows highs places : List ℕ) (all : Scan) (s : ℕ)
+    → Scanning l m n b ranks lows highs places all s → n < s → Scanned l m n b ranks lows highs places all
+scan-end l m n b ranks lows highs places all s g h =
+    scanned-at l m (s - 1) n b ranks lows highs places all (omega (arith, g .low, g .high)) (g .so-far)

@@ -14,7 +14,7 @@ use Rattle.prelude.proofs.Refusals.{say-false}
 use Rattle.prelude.proofs.Any.{any-clear}
 use Rattle.prelude.specs.Filter.{filter}
 use Rattle.sorting.specs.Sorted.{sorted}
-use Rattle.prelude.specs.Members.{In, slots, Slot}
+use Rattle.prelude.specs.Members.{In, slotNumbers, Slot}
 use Rattle.sorting.proofs.Order.{sorted-rising}
 use Rattle.sorting.proofs.Counts.{flat}
 use Rattle.table.specs.Table.{isRecord, keyIn, nextVersion, decidingPut, live, spare, liveCount, sharedVersion, allLive}
@@ -65,17 +65,17 @@ module _ (f : Table) (n : ℕ) (blank : (s : ℕ) → Slot n s → f s ≡ empty
   unfolding spare
   spare-all s i = ap not (unwritten-live s i)
 
-  pub unwritten-reuse : reuseOf f n ≡ slots n
+  pub unwritten-reuse : reuseOf f n ≡ slotNumbers n
   unfolding reuseOf ordered
   unwritten-reuse =
-      ap (sorted (λ s. rankOf (f s))) (filter-all (spare f n) (slots n) (λ x i. spare-all x (slots-in n x i)))
-      ∙ sorted-rising (λ s. rankOf (f s)) (slots n) (flat (λ s. rankOf (f s)) 1 (slots n) (λ x i. rank-one x (slots-in n x i)))
+      ap (sorted (λ s. rankOf (f s))) (filter-all (spare f n) (slotNumbers n) (λ x i. spare-all x (slots-in n x i)))
+      ∙ sorted-rising (λ s. rankOf (f s)) (slotNumbers n) (flat (λ s. rankOf (f s)) 1 (slotNumbers n) (λ x i. rank-one x (slots-in n x i)))
 
   pub unwritten-chain : (head : ℕ → ℕ) (h : ℕ) → chainOf f n head h ≡ []
   unfolding chainOf ordered sorted
   unwritten-chain head h =
       ap (sorted (λ s. rankOf (f s)))
-      (filter-none (λ s. live f n s && eqb (head (keyIn (f s))) h) (slots n)
+      (filter-none (λ s. live f n s && eqb (head (keyIn (f s))) h) (slotNumbers n)
       (λ x i. ap (λ (t : Bool). t && eqb (head (keyIn (f x))) h) (unwritten-live x (slots-in n x i))))
 
   counts-not : (s : ℕ) → Slot n s → isRecord (f s) ≡ false

@@ -8,11 +8,12 @@ pub enum Recovered {
     Refused(u32),
 }
 
-// What is kept of one slot: its rank in recovery's order, its key, its chain as a number (0 is the reuse chain), the highest version on a whole line,
-// and whether it has a bad mark (5) or a bad record (6).
+// What is kept of one slot: its rank in recovery's order, the low and the high word of its key, its chain as a number (0 is the reuse chain),
+// the highest version on a whole line, and whether it has a bad mark (5) or a bad record (6).
 pub struct Summary {
     pub rank: u64,
-    pub key: u64,
+    pub low: u64,
+    pub high: u64,
     pub place: u32,
     pub top: u64,
     pub mark: bool,

@@ -32,23 +32,25 @@ fn found_fault(mark: bool, fault: bool, shared: bool, live: u32, n: u32) -> u32
 // Judges the slots of the image with the lent scratch lists.
 pub fn judge(
     image: &[u8],
+    l: usize,
     n: usize,
     b: usize,
     ranks: &mut [u64],
-    keys: &mut [u64],
+    lows: &mut [u64],
+    highs: &mut [u64],
     places: &mut [u32],
     order: &mut [u32],
     by_key: &mut [u32],
     scratch: &mut [u32],
 ) -> Judged
-    requires { ⌜ Judgeable (now image) (now ranks) (now keys) (now places) (now order) (now «by_key») (now scratch) n b ⌝ }
-    ensures { λ r. ⌜ Judgement (word (now (image .entry))) n b (now (order .exit)) (now (places .exit)) r ⌝ }
+    requires { ⌜ Judgeable (now image) l (now ranks) (now lows) (now highs) (now places) (now order) (now «by_key») (now scratch) n b ⌝ }
+    ensures { λ r. ⌜ Judgement l (word (now (image .entry))) n b (now (order .exit)) (now (places .exit)) r ⌝ }
 {
-    let all = scan(image, n, b, ranks, keys, places);
+    let all = scan(image, l, n, b, ranks, lows, highs, places);
     order_by_rank(ranks, order, scratch);
     let shared = any_equal_neighbours(ranks, order, n);
-    order_by_key(keys, order, by_key, scratch);
-    decide(keys, by_key, places, n);
+    order_by_key(lows, highs, order, by_key, scratch);
+    decide(lows, highs, by_key, places, n);
     let live = count_placed(places, n);
     let fault = found_fault(all.mark, all.fault, shared, live, n as u32);
     Judged {

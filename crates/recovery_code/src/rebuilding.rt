@@ -72,25 +72,29 @@ fn answer(fault: u32, state: State) -> Recovered
 // Recovers with the lent scratch lists.
 pub fn recover_with(
     image: &[u8],
+    l: usize,
     heads: &mut [u32],
     next: &mut [u32],
     n: usize,
     ranks: &mut [u64],
-    keys: &mut [u64],
+    lows: &mut [u64],
+    highs: &mut [u64],
     places: &mut [u32],
     order: &mut [u32],
     by_key: &mut [u32],
     scratch: &mut [u32],
 ) -> Recovered
-    requires { ⌜ Ready (now image) (now heads) (now next) n × Judgeable (now image) (now ranks) (now keys) (now places) (now order) (now «by_key») (now scratch) n (length (now heads)) ⌝ }
-    ensures { λ r. ⌜ recoverEnd r (now (heads .exit)) (now (next .exit)) ≡ recoverResult 1 (now (image .entry)) (now (heads .entry)) (now (next .entry)) ⌝ }
+    requires { ⌜ Ready (now image) l (now heads) (now next) n × Judgeable (now image) l (now ranks) (now lows) (now highs) (now places) (now order) (now «by_key») (now scratch) n (length (now heads)) ⌝ }
+    ensures { λ r. ⌜ recoverEnd r (now (heads .exit)) (now (next .exit)) ≡ recoverResult l (now (image .entry)) (now (heads .entry)) (now (next .entry)) ⌝ }
 {
     let judged = judge(
         image,
+        l,
         n,
         heads.len(),
         ranks,
-        keys,
+        lows,
+        highs,
         places,
         order,
         by_key,

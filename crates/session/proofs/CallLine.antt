@@ -4,15 +4,9 @@ use mathlib.Core.Option.{some}
 use mathlib.Core.List.{List, [], _∷_}
 use Prim.Native.Nat.{ℕ, _+_, _*_}
 use lib.ListN.{take}
-use Rattle.stores.specs.Store.{Store}
-use Rattle.plainmap.specs.World.{World, Call, called}
-use Rattle.layout.specs.Size.{slotsIn}
-use Rattle.plainmap.specs.Plain.{PlainMap}
-use Rattle.plainmap.specs.Claims.{Typed, Right}
-use Rattle.plainmap.specs.Sound.{Agrees}
-use Rattle.plainmap.proofs.CallLists.{agrees-right}
-use Rattle.cutrule.specs.Event.{Event, step, mapAfterEvent, Fits}
-use Rattle.cutrule.proofs.CutRule.{event-agrees, event-slots}
+use Rattle.face.specs.Set.{Store, World, Call, called, slotsIn, PlainMap, Typed, Right}
+use Rattle.face.specs.Event.{Event, step, mapAfterEvent, Fits}
+use Rattle.face.specs.Laws.{SetLaws}
 use Rattle.session.specs.Step.{StepResult, slotsFor, lineStep}
 use Rattle.session.specs.Stream.{stepAfter}
 use Rattle.text.specs.declared.Line.{Line}
@@ -20,7 +14,7 @@ use Rattle.session.specs.declared.Waiting.{Waiting}
 use Rattle.session.specs.Lines.{worldOf, callIn, eventIn, waitsOn}
 use Rattle.session.specs.Rule.{faultAt, plainPrints, mapByLine, mapAfter, FewWait, none-waits, SetKeeps, Keeps, LineRight, call-line}
 use Rattle.session.proofs.Sizes.{OneHead, one-head}
-use Rattle.session.proofs.Events.{layout-one, event-heads, event-fits}
+use Rattle.session.proofs.Events.{event-heads, event-fits}
 use Rattle.session.proofs.Prints.{right-prints}
 use Rattle.session.proofs.CallEvents.{Carried}
 use Rattle.session.proofs.Fronts.{heads-front, slots-front, line-leaves}
@@ -30,7 +24,7 @@ unfolding waitsOn
 still-few waiting [] f = f
 still-few waiting (s ∷ ss) f = none-waits
 
-module _ (r : StepResult) (m : PlainMap) (k : SetKeeps r m) (call : Call) (fine : Typed 1 call) where
+module _ (Inv : World → PlainMap → Type 0) (laws : SetLaws 1 Inv) (r : StepResult) (m : PlainMap) (k : SetKeeps Inv r m) (call : Call) (fine : Typed 1 call) where
   abbrev n : ℕ
   n = r .session .n
 
@@ -44,27 +38,27 @@ module _ (r : StepResult) (m : PlainMap) (k : SetKeeps r m) (call : Call) (fine 
   map = mapAfterEvent 1 w m event
 
   right : Right 1 w m call
-  right = agrees-right 1 layout-one w m (k .agrees) call fine
+  right = laws .answers w m (k .set) call fine
 
   fits : Fits 1 (slotsIn (w .image)) event
-  fits = event-fits w call m (k .agrees) fine (r .session .waiting) (k .waits)
+  fits = event-fits Inv laws w call m (k .set) fine (r .session .waiting) (k .waits)
 
-  after : Agrees 1 (step 1 w event) map
-  after = event-agrees 1 layout-one w m (k .agrees) event fits
+  after : Inv (step 1 w event) map
+  after = laws .keeps w m (k .set) event fits
 
   sizes : OneHead n (step 1 w event)
   unfolding worldOf
   sizes =
-      one-head n (step 1 w event) map after (event-slots 1 layout-one w m (k .agrees) event fits ∙ slots-front r n (k .size))
-      (event-heads w call (r .session .waiting) ∙ heads-front r n (k .size))
+      one-head Inv laws n (step 1 w event) map after (laws .slots w m (k .set) event fits ∙ slots-front r n (k .size) Inv laws)
+      (event-heads Inv laws w call (r .session .waiting) ∙ heads-front r n (k .size))
 
   pub call-goes : (line : Line) → faultAt r line ≡ 0 → slotsFor line (r .session) ≡ n → callIn line ≡ some call
       → mapByLine w (r .session .waiting) m line ≡ map
       → Carried n (r .session .waiting) w call
       (lineStep line (r .session) (take (128 * (n + 1)) (r .image)) (take 1 (r .heads)) (take (n + 1) (r .next)))
-      → LineRight r m line × Keeps (stepAfter r line) (mapAfter r m line)
+      → LineRight r m line × Keeps Inv (stepAfter r line) (mapAfter r m line)
   call-goes line z same e f c =
-      let l = line-leaves r m line n same z (plainPrints w m call) (step 1 w event) _ map
+      let l = line-leaves r m line n same z Inv (plainPrints w m call) (step 1 w event) _ map
       (record { answer = c .answer ∙ right-prints w m call right; session = c .session; world = c .world }) sizes
       (still-few (r .session .waiting) (called 1 w call .stores) (k .waits)) after f in
       (call-line z e (l .0) right, l .1)

@@ -5,7 +5,7 @@ use native.Mathlib.Omega.{arith}
 use lib.Dec.{ltb}
 use borrow.Author.Tests.{ltb-false}
 use Rattle.prelude.proofs.Refusals.{say-zero, orElse-zero}
-use Rattle.plainmap.specs.Plain.{PlainMap}
+use Rattle.face.specs.Set.{World, PlainMap}
 use Rattle.text.specs.Output.{cut}
 use Rattle.session.specs.Step.{StepResult, slotsFor, countFault, cutFault, lineFault, waitingFor, lineStep}
 use Rattle.session.specs.Stream.{stepAfter}
@@ -26,7 +26,7 @@ cut-passed : (r : StepResult) (a b : ℕ) → faultAt r (Cut a b) ≡ 0 → coun
 unfolding lineFault cutFault
 cut-passed r a b z = orElse-zero _ _ (orElse-zero _ _ z .1) .1
 
-module _ (r : StepResult) (m : PlainMap) (k : SetKeeps r m) where
+module _ (Inv : World → PlainMap → Type 0) (r : StepResult) (m : PlainMap) (k : SetKeeps Inv r m) where
   abbrev n : ℕ
   n = r .session .n
 
@@ -34,9 +34,9 @@ module _ (r : StepResult) (m : PlainMap) (k : SetKeeps r m) where
   unfolding worldOf
   same-sizes = record { image-size = image-front r n (k .size); heads-size = heads-front r n (k .size); next-size = next-front r n (k .size) }
 
-  pub cut-goes : (a b : ℕ) → faultAt r (Cut a b) ≡ 0 → LineRight r m (Cut a b) × Keeps (stepAfter r (Cut a b)) (mapAfter r m (Cut a b))
+  pub cut-goes : (a b : ℕ) → faultAt r (Cut a b) ≡ 0 → LineRight r m (Cut a b) × Keeps Inv (stepAfter r (Cut a b)) (mapAfter r m (Cut a b))
   unfolding slotsFor mapByLine lineStep waitingFor worldOf
   cut-goes a b z =
-      let l = line-leaves r m (Cut a b) n refl z (cut a b) (worldOf r) (Counts a b) m (record { answer = refl; session = refl; world = refl })
-      same-sizes (few-counts a b (cut-passed r a b z)) (k .agrees) refl in
+      let l = line-leaves r m (Cut a b) n refl z Inv (cut a b) (worldOf r) (Counts a b) m (record { answer = refl; session = refl; world = refl })
+      same-sizes (few-counts a b (cut-passed r a b z)) (k .set) refl in
       (cut-line z (l .0), l .1)

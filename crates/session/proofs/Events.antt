@@ -1,49 +1,36 @@
--- The event of a call in a session is one that the cut rule allows, and it keeps the lengths of the index. Assumes nothing.
+-- The event of a call in a session is one that the cut rule allows, and it keeps the number of heads. Assumes nothing.
 use mathlib.Core.Path.{_≡_, sym, ap, _∙_}
 use mathlib.Core.List.{List, [], _∷_}
 use Prim.Native.Nat.{ℕ, _≤_}
-use native.Mathlib.Omega.{arith}
 use lib.ListN.{length}
-use Rattle.layout.specs.Header.{indexFault}
-use Rattle.stores.specs.Store.{Store}
-use Rattle.plainmap.specs.World.{World, Call, called, finished}
-use Rattle.layout.specs.Size.{slotsIn}
-use Rattle.plainmap.specs.Plain.{PlainMap}
-use Rattle.layout.specs.Record.{Layout}
-use Rattle.plainmap.specs.Claims.{Typed}
-use Rattle.plainmap.specs.Sound.{Agrees}
-use Rattle.plainmap.proofs.CallLists.{agrees-next}
-use Rattle.cutrule.specs.Event.{done, step, Fits, done-fits, struck-fits}
-use Rattle.cutrule.proofs.CutRule.{event-slots}
+use Rattle.face.specs.Set.{World, Call, PlainMap, Store, Typed, called, finished, indexFault, slotsIn}
+use Rattle.face.specs.Event.{done, step, Fits, done-fits, struck-fits}
+use Rattle.face.specs.Laws.{SetLaws}
 use Rattle.session.specs.declared.Waiting.{Waiting}
 use Rattle.session.specs.declared.Waiting.the-variants.{Nothing, Counts}
 use Rattle.session.specs.Lines.{struckWith, eventIn}
 use Rattle.session.specs.Rule.{FewWait, none-waits, few-wait}
-use Rattle.session.proofs.Sizes.{called-heads, recovered-heads}
 
-pub layout-one : Layout 1
-layout-one = record { low = omega arith; high = omega arith }
-
-module _ (w : World) (call : Call) where
+module _ (Inv : World → PlainMap → Type 0) (laws : SetLaws 1 Inv) (w : World) (call : Call) where
   struck-heads : (a b : ℕ) (ss : List Store)
       → length (step 1 w (struckWith call a b (called 1 w call .heads) (called 1 w call .next) ss) .heads) ≡ length (w .heads)
   unfolding step finished struckWith
-  struck-heads a b [] = called-heads 1 w call
-  struck-heads a b (s ∷ ss) = recovered-heads 1 _ (called 1 w call .heads) (called 1 w call .next) ∙ called-heads 1 w call
+  struck-heads a b [] = laws .call-heads w call
+  struck-heads a b (s ∷ ss) = laws .recovery-heads _ (called 1 w call .heads) (called 1 w call .next) ∙ laws .call-heads w call
 
   pub event-heads : (waiting : Waiting) → length (step 1 w (eventIn w waiting call) .heads) ≡ length (w .heads)
   unfolding step finished eventIn
-  event-heads Nothing = called-heads 1 w call
+  event-heads Nothing = laws .call-heads w call
   event-heads (Counts a b) = struck-heads a b (called 1 w call .stores)
 
-  module _ (m : PlainMap) (g : Agrees 1 w m) (s : Typed 1 call) where
+  module _ (m : PlainMap) (i : Inv w m) (s : Typed 1 call) where
     -- the index that the call leaves has the right size
     pub left-size : indexFault (slotsIn (w .image)) (length (called 1 w call .heads)) (length (called 1 w call .next)) ≡ 0
     unfolding step finished
     left-size =
         ap (λ (n : ℕ). indexFault n (length (called 1 w call .heads)) (length (called 1 w call .next)))
-        (sym (event-slots 1 layout-one w m g (done call) (done-fits s)))
-        ∙ agrees-next 1 layout-one w m g call s .sound .size
+        (sym (laws .slots w m i (done call) (done-fits s)))
+        ∙ laws .lengths (step 1 w (done call)) _ (laws .keeps w m i (done call) (done-fits s)) .index
 
     struck-fit : (a b : ℕ) (ss : List Store) → a ≤ 8 → b ≤ 8
         → Fits 1 (slotsIn (w .image)) (struckWith call a b (called 1 w call .heads) (called 1 w call .next) ss)

@@ -1,15 +1,11 @@
 -- No line of a session prints more than two numbers. Assumes nothing.
+use mathlib.Core.Path.{_≡_, refl}
 use mathlib.Core.List.{List}
 use Prim.Native.Nat.{ℕ, _≤_}
 use native.Mathlib.Omega.{arith}
 use lib.ListN.{length}
 use Rattle.prelude.specs.Answer.{Answer, gives, absent, refused}
-use Rattle.stores.specs.Store.{Store}
-use Rattle.index.specs.declared.State.{State}
-use Rattle.index.specs.declared.Found.{Found}
-use Rattle.index.specs.declared.Found.the-variants.{At, Missing, BadChain}
-use Rattle.calls.specs.Format.{FormatResult, formatResult}
-use Rattle.calls.specs.Change.{ChangeResult, changed, unchanged, putDone, putResult, removeDone, removeResult}
+use Rattle.face.specs.Set.{Store, State, Call, put, remove, calledChange, called, FormatResult, formatResult}
 use Rattle.text.specs.Output.{Printed}
 use Rattle.text.proofs.Storing.{FewNumbers}
 use Rattle.session.specs.Step.{StepResult, recoveredAs, recoveredBy, recoverStep, madeAs, madeBy, makeStep, storedWith, changedAs, changeStep, gotAs, gotBy, wordFound, lineStep, followedBy, frontStep, stepResult}
@@ -18,7 +14,8 @@ use Rattle.text.specs.declared.Line.the-variants.{New, Put, Remove, Get, Cut, B
 use Rattle.session.specs.declared.Waiting.{Waiting}
 use Rattle.session.specs.declared.Waiting.the-variants.{Nothing, Counts}
 use Rattle.session.specs.declared.Session.{Session}
-use Rattle.session.proofs.Sizes.{either}
+use Rattle.prelude.proofs.Refusals.{by-refusal}
+use Rattle.face.proofs.SetLaws.{first-laws}
 
 -- ---- the calls
 
@@ -27,18 +24,10 @@ Few (gives values) = length values ≤ 2
 Few absent = Unit
 Few (refused number) = Unit
 
-module _ (image heads next : List ℕ) (s : State) (key : ℕ) where
-  put-few : (value : List ℕ) (found : Found) → Few (putDone 1 image heads next s key value found .answer)
-  unfolding putDone changed unchanged
-  put-few value (At old prev compared) = omega arith
-  put-few value (Missing prev compared) = omega arith
-  put-few value BadChain = tt
-
-  remove-few : (found : Found) → Few (removeDone 1 image heads next s key found .answer)
-  unfolding removeDone changed unchanged
-  remove-few (At old prev compared) = omega arith
-  remove-few (Missing prev compared) = tt
-  remove-few BadChain = tt
+few-by : (answer : Answer) → ((given : List ℕ) → answer ≡ gives given → length given ≤ 2) → Few answer
+few-by (gives given) h = h given refl
+few-by absent h = tt
+few-by (refused number) h = tt
 
 -- ---- the steps
 
@@ -75,18 +64,21 @@ got-few out (gives values) = tt
 got-few out absent = tt
 got-few out (refused number) = tt
 
+-- a call on an image and an index of its set's size, by the face of the set
+call-few : (s : Session) (image heads next : List ℕ) (call : Call)
+    → Few (called 1 (record { image = image; heads = heads; next = next; state = s .state }) call .answer)
+call-few s image heads next call = few-by _ (first-laws .few-values _ call)
+
 line-few : (line : Line) (s : Session) (image heads next : List ℕ) → FewNumbers (lineStep line s image heads next .answer)
-unfolding lineStep makeStep madeBy formatResult changeStep putResult removeResult unchanged wordFound gotBy
+unfolding lineStep makeStep madeBy formatResult changeStep wordFound gotBy called calledChange
 line-few (New n) s image heads next =
-    made-few n s _ heads next _ (either (λ (r : FormatResult). Few (r .answer)) _ _ _ (omega arith) tt)
-line-few (Put key w) s image heads next =
-    changed-few s _ _ image _ _ _ (either (λ (r : ChangeResult). Few (r .answer)) _ _ _ (put-few image heads next (s .state) key _ _) tt)
-line-few (Remove key) s image heads next =
-    changed-few s _ _ image _ _ _ (either (λ (r : ChangeResult). Few (r .answer)) _ _ _ (remove-few image heads next (s .state) key _) tt)
+    made-few n s _ heads next _ (by-refusal (λ (r : FormatResult). Few (r .answer)) _ _ _ (omega arith) tt)
+line-few (Put key w) s image heads next = changed-few s _ _ image _ _ _ (call-few s image heads next (put key _))
+line-few (Remove key) s image heads next = changed-few s _ _ image _ _ _ (call-few s image heads next (remove key))
 line-few (Get key) s image heads next = got-few _ _
 line-few (Cut a b) s image heads next = tt
 line-few Bad s image heads next = tt
 
 pub step-few : (line : Line) (s : Session) (image heads next : List ℕ) → FewNumbers (stepResult line s image heads next .answer)
 unfolding stepResult frontStep followedBy
-step-few line s image heads next = either (λ (r : StepResult). FewNumbers (r .answer)) _ _ _ (line-few line s _ _ _) tt
+step-few line s image heads next = by-refusal (λ (r : StepResult). FewNumbers (r .answer)) _ _ _ (line-few line s _ _ _) tt

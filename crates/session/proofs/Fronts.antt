@@ -5,12 +5,9 @@ use Prim.Native.Nat.{ℕ, _+_, _*_}
 use native.Mathlib.Omega.{arith}
 use lib.ListN.{length, take, drop}
 use lib.Seq.{length-take-le, length-front, take-at}
-use Rattle.layout.specs.Size.{slotsOf, slotsIn}
+use Rattle.face.specs.Laws.{SetLaws}
+use Rattle.face.specs.Set.{slotsOf, slotsIn, World, PlainMap}
 use Rattle.prelude.proofs.Refusals.{orElse-zero, taken-leaves}
-use Rattle.layout.proofs.Size.{sized}
-use Rattle.plainmap.specs.World.{World}
-use Rattle.plainmap.specs.Plain.{PlainMap}
-use Rattle.plainmap.specs.Sound.{Agrees}
 use Rattle.text.specs.Output.{Printed}
 use Rattle.session.specs.Step.{StepResult, slotsFor, sizeFault, lineFault, lineStep, followedBy, frontStep, stepResult}
 use Rattle.session.specs.Stream.{stepAfter}
@@ -29,7 +26,7 @@ abbrev pub leftBy : StepResult → World
 leftBy t = record { image = t .image; heads = t .heads; next = t .next; state = t .session .state }
 
 -- it prints p and leaves set w of n slots with this cut waiting
-pub record Left (n : ℕ) (p : Printed) (w : World) (waiting : Waiting) (t : StepResult) : Type 0 where
+pub record LeftBehind (n : ℕ) (p : Printed) (w : World) (waiting : Waiting) (t : StepResult) : Type 0 where
   pub answer : t .answer ≡ p
   pub session : t .session ≡ sessionOf n w waiting
   pub world : leftBy t ≡ w
@@ -50,10 +47,10 @@ module _ (r : StepResult) (n : ℕ) (z : sizeFault n (length (r .image)) (length
   pub next-front : length (take (n + 1) (r .next)) ≡ n + 1
   next-front = length-take-le _ (r .next) (room n (length (r .image)) (length (r .heads)) (length (r .next)) z .next-room)
 
-  pub slots-front : slotsIn (take (128 * (n + 1)) (r .image)) ≡ n
-  slots-front =
+  pub slots-front : (Inv : World → PlainMap → Type 0) → SetLaws 1 Inv → slotsIn (take (128 * (n + 1)) (r .image)) ≡ n
+  slots-front Inv laws =
       let q = room n (length (r .image)) (length (r .heads)) (length (r .next)) z in
-      ap slotsOf image-front ∙ sized n (q .some) (omega (arith, q .few))
+      ap slotsOf image-front ∙ laws .slots-of n (q .some) (omega (arith, q .few))
 
   -- a step on the fronts that left a set of n slots
   module _ (t : StepResult) (e : t .session .n ≡ n) (o : OneHead n (leftBy t)) where
@@ -125,23 +122,23 @@ module _ (r : StepResult) (m : PlainMap) (line : Line) (n : ℕ) (same : slotsFo
   map-taken = taken-leaves _ _ (faultAt r line) z
 
   -- A LINE leaves what its step on the fronts leaves
-  pub line-leaves : (p : Printed) (w : World) (waiting : Waiting) (m′ : PlainMap) → Left n p w waiting carried → OneHead n w
-      → FewWait waiting → Agrees 1 w m′ → mapByLine (worldOf r) (r .session .waiting) m line ≡ m′
-      → Leaves r line p (sessionOf n w waiting) w × Keeps (stepAfter r line) (mapAfter r m line)
+  pub line-leaves : (Inv : World → PlainMap → Type 0) (p : Printed) (w : World) (waiting : Waiting) (m′ : PlainMap) → LeftBehind n p w waiting carried → OneHead n w
+      → FewWait waiting → Inv w m′ → mapByLine (worldOf r) (r .session .waiting) m line ≡ m′
+      → Leaves r line p (sessionOf n w waiting) w × Keeps Inv (stepAfter r line) (mapAfter r m line)
   unfolding followedBy
-  line-leaves p w waiting m′ l o few g e = (
+  line-leaves Inv p w waiting m′ l o few g e = (
     record {
       answer = ap (λ (x : StepResult). x .answer) step-taken ∙ l .answer;
       session = ap (λ (x : StepResult). x .session) step-taken ∙ l .session;
       world = ap worldOf step-taken ∙ there;
     },
     a-set
-        (subst (SetKeeps (stepAfter r line)) (sym (map-taken ∙ e))
-        (subst (λ (x : StepResult). SetKeeps x m′) (sym step-taken)
+        (subst (SetKeeps Inv (stepAfter r line)) (sym (map-taken ∙ e))
+        (subst (λ (x : StepResult). SetKeeps Inv x m′) (sym step-taken)
         (record {
           size = front-size r n line-size carried slots sizes;
           waits = subst FewWait (sym (ap (λ (x : Session). x .waiting) (l .session))) few;
-          agrees = subst (λ (x : World). Agrees 1 x m′) (sym there) g;
+          set = subst (λ (x : World). Inv x m′) (sym there) g;
         }))),
   )
     where

@@ -10,11 +10,9 @@ pub mod CutLine
 pub mod CallLine
 pub mod OneLine
 pub mod SessionRule
-pub mod Accepts
 pub mod Numbers
 pub mod Outputs
 pub mod CallEvents
-pub mod NewAccepted
 pub mod defs
 pub mod FewNumbers
 pub mod StreamResults

@@ -7,9 +7,8 @@ use native.Mathlib.Decide.{ℕ-discrete}
 use native.Mathlib.Omega.{arith}
 use lib.ListN.{replicate}
 use Rattle.prelude.proofs.Refusals.{orElse-zero, refused-keeps}
-use Rattle.plainmap.specs.World.{put, remove, get}
-use Rattle.plainmap.specs.Plain.{PlainMap}
-use Rattle.plainmap.specs.Claims.{put-typed, remove-typed, get-typed}
+use Rattle.face.specs.Laws.{SetLaws}
+use Rattle.face.specs.Set.{World, put, remove, get, PlainMap, put-typed, remove-typed, get-typed}
 use Rattle.text.specs.Output.{Printed, no}
 use Rattle.session.specs.Step.{StepResult, leaves, noSet, formFault, slotsFor, lineFault, wordBytes, stepResult}
 use Rattle.session.specs.Stream.{stepAfter}
@@ -25,8 +24,8 @@ use Rattle.session.proofs.CutLine.{cut-goes}
 use Rattle.session.proofs.CallLine.{call-goes}
 
 -- a line answers right, and the plain map stays the set's
-abbrev pub Goes : StepResult → PlainMap → Line → Type 0
-Goes r m line = LineRight r m line × Keeps (stepAfter r line) (mapAfter r m line)
+abbrev pub Goes : (Inv : World → PlainMap → Type 0) → StepResult → PlainMap → Line → Type 0
+Goes Inv r m line = LineRight r m line × Keeps Inv (stepAfter r line) (mapAfter r m line)
 
 -- ---- a refused line
 
@@ -35,18 +34,18 @@ step-refused : (r : StepResult) (line : Line) → (faultAt r line ≡ 0 → ⊥)
 unfolding stepAfter stepResult
 step-refused r line ne = refused-keeps _ _ (faultAt r line) ne
 
-still-keeps : (r : StepResult) (m : PlainMap) (p : Printed) → Keeps r m → Keeps (leaves p (r .session) (r .image) (r .heads) (r .next)) m
+still-keeps : (Inv : World → PlainMap → Type 0) (r : StepResult) (m : PlainMap) (p : Printed) → Keeps Inv r m → Keeps Inv (leaves p (r .session) (r .image) (r .heads) (r .next)) m
 unfolding worldOf
-still-keeps r m p (no-set e) = no-set e
-still-keeps r m p (a-set k) = a-set (record { size = k .size; waits = k .waits; agrees = k .agrees })
+still-keeps Inv r m p (no-set e) = no-set e
+still-keeps Inv r m p (a-set k) = a-set (record { size = k .size; waits = k .waits; set = k .set })
 
-refused-goes : (r : StepResult) (m : PlainMap) (line : Line) → Keeps r m → (faultAt r line ≡ 0 → ⊥) → Goes r m line
+refused-goes : (Inv : World → PlainMap → Type 0) (r : StepResult) (m : PlainMap) (line : Line) → Keeps Inv r m → (faultAt r line ≡ 0 → ⊥) → Goes Inv r m line
 unfolding mapAfter
-refused-goes r m line k ne =
+refused-goes Inv r m line k ne =
     let e = step-refused r line ne in (
       refused-line ne e,
-      subst (λ (x : StepResult). Keeps x (mapAfter r m line)) (sym e)
-          (subst (Keeps (leaves _ (r .session) (r .image) (r .heads) (r .next))) (sym (refused-keeps _ _ (faultAt r line) ne)) (still-keeps r m _ k)),
+      subst (λ (x : StepResult). Keeps Inv x (mapAfter r m line)) (sym e)
+          (subst (Keeps Inv (leaves _ (r .session) (r .image) (r .heads) (r .next))) (sym (refused-keeps _ _ (faultAt r line) ne)) (still-keeps Inv r m _ k)),
     )
 
 -- a line of no form is always refused
@@ -56,33 +55,34 @@ bad-refused r z = let f : _≡_ {A = ℕ} 16 0 = orElse-zero 16 _ z .0 in omega 
 
 -- ---- every line
 
--- a line that is carried out on a set has one
-has-set : (r : StepResult) (m : PlainMap) (line : Line) → slotsFor line (r .session) ≡ r .session .n → faultAt r line ≡ 0 → Keeps r m → SetKeeps r m
-unfolding noSet
-has-set r m line e z (a-set k) = k
-has-set r m line e z (no-set q) =
-    absurd
-    (let none-there : r .session .n ≡ 0 = ap (λ (s : Session). s .n) q in
-    omega (arith, e, none-there, roomy line (r .session) _ _ _ _ _ refl z refl .some))
+module _ (Inv : World → PlainMap → Type 0) (laws : SetLaws 1 Inv) where
+  -- a line that is carried out on a set has one
+  has-set : (r : StepResult) (m : PlainMap) (line : Line) → slotsFor line (r .session) ≡ r .session .n → faultAt r line ≡ 0 → Keeps Inv r m → SetKeeps Inv r m
+  unfolding noSet
+  has-set r m line e z (a-set k) = k
+  has-set r m line e z (no-set q) =
+      absurd
+      (let none-there : r .session .n ≡ 0 = ap (λ (s : Session). s .n) q in
+      omega (arith, e, none-there, roomy line (r .session) _ _ _ _ _ refl z refl .some))
 
-taken-goes : (r : StepResult) (m : PlainMap) (line : Line) → SizedLine line → Keeps r m → faultAt r line ≡ 0 → Goes r m line
-unfolding slotsFor callIn mapByLine mapByCall worldOf
-taken-goes r m (New n) s k z = new-goes r m n z
-taken-goes r m (Put key x) (sized-put p q) k z =
-    let t = has-set r m (Put key x) refl z k in
-    call-goes r m t (put key (wordBytes x)) (put-typed p (word-bytes x)) (Put key x) z refl refl refl
-    (put-carried (r .session) _ _ _ m (t .agrees) (t .waits) key x p)
-taken-goes r m (Remove key) (sized-remove p) k z =
-    let t = has-set r m (Remove key) refl z k in
-    call-goes r m t (remove key) (remove-typed p) (Remove key) z refl refl refl
-    (remove-carried (r .session) _ _ _ m (t .agrees) (t .waits) key p)
-taken-goes r m (Get key) s k z =
-    let t = has-set r m (Get key) refl z k in
-    call-goes r m t (get key (replicate 80 0)) get-typed (Get key) z refl refl refl
-    (get-carried (r .session) _ _ _ m (t .agrees) (t .waits) key)
-taken-goes r m (Cut a b) s k z = cut-goes r m (has-set r m (Cut a b) refl z k) a b z
-taken-goes r m Bad s k z = absurd (bad-refused r z)
+  taken-goes : (r : StepResult) (m : PlainMap) (line : Line) → SizedLine line → Keeps Inv r m → faultAt r line ≡ 0 → Goes Inv r m line
+  unfolding slotsFor callIn mapByLine mapByCall worldOf
+  taken-goes r m (New n) s k z = new-goes Inv laws r m n z
+  taken-goes r m (Put key x) (sized-put p q) k z =
+      let t = has-set r m (Put key x) refl z k in
+      call-goes Inv laws r m t (put key (wordBytes x)) (put-typed p (word-bytes x)) (Put key x) z refl refl refl
+      (put-carried Inv laws (r .session) _ _ _ m (t .set) (t .waits) key x p)
+  taken-goes r m (Remove key) (sized-remove p) k z =
+      let t = has-set r m (Remove key) refl z k in
+      call-goes Inv laws r m t (remove key) (remove-typed p) (Remove key) z refl refl refl
+      (remove-carried Inv laws (r .session) _ _ _ m (t .set) (t .waits) key p)
+  taken-goes r m (Get key) s k z =
+      let t = has-set r m (Get key) refl z k in
+      call-goes Inv laws r m t (get key (replicate 80 0)) get-typed (Get key) z refl refl refl
+      (get-carried Inv laws (r .session) _ _ _ m (t .set) (t .waits) key)
+  taken-goes r m (Cut a b) s k z = cut-goes Inv r m (has-set r m (Cut a b) refl z k) a b z
+  taken-goes r m Bad s k z = absurd (bad-refused r z)
 
--- ONE LINE
-pub line-goes : (r : StepResult) (m : PlainMap) (line : Line) → SizedLine line → Keeps r m → Goes r m line
-line-goes r m line s k = by-cases (ℕ-discrete (faultAt r line) 0) (taken-goes r m line s k) (refused-goes r m line k)
+  -- ONE LINE
+  pub line-goes : (r : StepResult) (m : PlainMap) (line : Line) → SizedLine line → Keeps Inv r m → Goes Inv r m line
+  line-goes r m line s k = by-cases (ℕ-discrete (faultAt r line) 0) (taken-goes r m line s k) (refused-goes Inv r m line k)

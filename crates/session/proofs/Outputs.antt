@@ -7,8 +7,9 @@ use Prim.Native.Nat.{ℕ, _≤_}
 use native.Mathlib.Omega.{arith}
 use lib.ListN.{length}
 use Rattle.prelude.proofs.Refusals.{taken-leaves, refused-keeps}
-use Rattle.plainmap.specs.World.{World, Call}
-use Rattle.plainmap.specs.Plain.{PlainMap}
+use Rattle.face.specs.Laws.{SetLaws}
+use Rattle.face.proofs.SetLaws.{first-laws}
+use Rattle.face.specs.Set.{World, Call, PlainMap}
 use Rattle.text.specs.Forms.{lineOf}
 use Rattle.text.specs.Output.{Printed, text}
 use Rattle.session.specs.Step.{StepResult, leaves, noSet}
@@ -53,13 +54,13 @@ module _ (r : StepResult) (m : PlainMap) where
 
 -- ---- every input
 
-pub output-due : (r : StepResult) (m : PlainMap) (lines : List (List ℕ)) → Keeps r m → outputOf r lines ≡ dueOutput r m lines
+pub output-due : (Inv : World → PlainMap → Type 0) → SetLaws 1 Inv → (r : StepResult) (m : PlainMap) (lines : List (List ℕ)) → Keeps Inv r m → outputOf r lines ≡ dueOutput r m lines
 unfolding outputOf dueOutput
-output-due r m [] k = refl
-output-due r m (line ∷ lines) k =
-    let g = line-goes r m (lineOf line) (sized-line line) k in
+output-due Inv laws r m [] k = refl
+output-due Inv laws r m (line ∷ lines) k =
+    let g = line-goes Inv laws r m (lineOf line) (sized-line line) k in
     ap₂ (λ (p : Printed) (rest : List ℕ). text p ++ rest) (right-due r m (lineOf line) (g .0))
-    (output-due (stepAfter r (lineOf line)) (mapAfter r m (lineOf line)) lines (g .1))
+    (output-due Inv laws (stepAfter r (lineOf line)) (mapAfter r m (lineOf line)) lines (g .1))
 
 module _ (p : Printed) (image heads next : List ℕ) (m : PlainMap) (bytes : List ℕ) where
   -- before the first line: no set, whatever the lent image and index hold
@@ -68,7 +69,7 @@ module _ (p : Printed) (image heads next : List ℕ) (m : PlainMap) (bytes : Lis
 
   -- THE OUTPUT of any input, byte by byte, is what the plain map gives
   pub input-output : byteOutput (leaves p noSet image heads next) Start false bytes ≡ dueOutput (leaves p noSet image heads next) m (linesOf bytes)
-  input-output = output-of-lines beforeLines bytes ∙ output-due beforeLines m (linesOf bytes) (no-set refl)
+  input-output = output-of-lines beforeLines bytes ∙ output-due _ first-laws beforeLines m (linesOf bytes) (no-set refl)
 
   -- THE OUTPUT of any input by what the contracts of take_byte and end_input promise, written out at least where the lent output is full
   pub results-output : (flushes : List ℕ → StreamResult → Bool) → FlushesFull flushes → (output : List ℕ) → 64 ≤ length output

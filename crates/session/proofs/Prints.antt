@@ -6,9 +6,7 @@ use Prim.Native.Nat.{ℕ}
 use native.Mathlib.Decide.{ℕ-discrete}
 use Rattle.prelude.specs.Answer.{Answer, gives, absent, refused, refusalIn}
 use Rattle.prelude.proofs.Refusals.{taken-leaves, refused-keeps}
-use Rattle.plainmap.specs.World.{World, Call, put, remove, get, called}
-use Rattle.plainmap.specs.Plain.{PlainMap}
-use Rattle.plainmap.specs.Claims.{dueFault, Right}
+use Rattle.face.specs.Set.{World, Call, put, remove, get, called, PlainMap, dueFault, Right}
 use Rattle.text.specs.Output.{no}
 use Rattle.session.specs.Step.{gotAs}
 use Rattle.session.specs.Lines.{changePrints, printedFor}

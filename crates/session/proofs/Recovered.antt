@@ -1,63 +1,70 @@
 -- Recovery within a session accepts, and a new set is the empty plain map. Assumes nothing.
-use mathlib.Core.Path.{_≡_, sym, ap, _∙_}
+use mathlib.Core.Path.{_≡_, ap, _∙_}
+use mathlib.Core.Bool.{not}
 use mathlib.Core.Option.{none}
 use mathlib.Core.List.{List, [], _∷_}
 use Prim.Native.Nat.{ℕ, _+_, _*_, _≤_}
 use native.Mathlib.Omega.{arith}
 use lib.ListN.{length}
-use Rattle.layout.specs.Size.{slotsOf}
-use Rattle.layout.specs.Header.{indexFault}
-use Rattle.recovery.specs.Recover.{Result, recovered}
-use Rattle.recovery.proofs.Lent.{recovery-taken}
-use Rattle.calls.specs.Format.{formatted}
-use Rattle.calls.proofs.Formats.{formatted-length}
-use Rattle.plainmap.specs.World.{World, worldAfter, recoveredWorld}
-use Rattle.plainmap.specs.Accepted.{Accepted, RightSize}
-use Rattle.plainmap.specs.Sound.{Agrees}
-use Rattle.plainmap.proofs.AcceptedImages.{accepted-recovers}
-use Rattle.plainmap.proofs.CallLists.{agrees-with, recovered-agrees, formatted-empty, formatted-fine}
+use borrow.Author.Tests.{le-ltb, eq-eqb, ne-eqb}
+use Rattle.prelude.specs.Answer.{Answer, gives}
+use Rattle.prelude.proofs.Refusals.{say-false, taken-leaves}
+use Rattle.face.specs.Set.{World, PlainMap, recoverFault, recoverResult, worldAfter, recoveredWorld, FormatResult, formatFault, formatted, formatResult, indexFault, slotsOf, slotsIn}
+use Rattle.face.specs.Laws.{SetLaws}
 use Rattle.text.specs.Output.{Printed, ok}
 use Rattle.session.specs.Step.{StepResult, leaves, recoveredAs, recoveredBy, recoverStep, madeAs, madeBy, makeStep}
 use Rattle.session.specs.declared.Waiting.the-variants.{Nothing}
 use Rattle.session.specs.declared.Session.{Session}
-use Rattle.session.proofs.NewAccepted.{some-slots, formats, index-fits}
 
 -- the session goes on with this set, and no cut waits
 abbrev pub goesOn : Printed → (n : ℕ) → World → StepResult
 goesOn p n w = leaves p (record { n = n; state = w .state; waiting = Nothing }) (w .image) (w .heads) (w .next)
 
--- RECOVERY OF AN ACCEPTED IMAGE in a session is the recovery of the cut rule
-pub recover-step : (p : Printed) (n : ℕ) (image heads next : List ℕ) → Accepted 1 image → RightSize image heads next
-    → recoverStep p n image heads next ≡ goesOn p n (recoveredWorld 1 image heads next)
-unfolding recoverStep recoveredBy recoveredAs recoveredWorld worldAfter recovered
-recover-step p n image heads next a s =
-    let e = recovery-taken 1 image heads next (accepted-recovers 1 image (length heads) (length next) a s) in
-    ap (recoveredBy p n image) e ∙ ap (λ (r : Result). goesOn p n (worldAfter image r)) (sym e)
+-- what a format of n slots leaves
+abbrev leftBytes : (n : ℕ) → List ℕ → FormatResult
+leftBytes n bytes = record { answer = gives (n ∷ []); bytes = bytes }
 
--- A NEW SET, on an image and an index of its size
-module _ (n : ℕ) (low : 2 ≤ n) (high : n ≤ 511) (s : Session) (image heads next : List ℕ)
-    (i : length image ≡ 128 * (n + 1)) (h : length heads ≡ 1) (x : length next ≡ n + 1) where
-  abbrev len : ℕ
-  len = length image
+module _ (Inv : World → PlainMap → Type 0) (laws : SetLaws 1 Inv) where
+  -- RECOVERY OF AN ACCEPTED IMAGE in a session is the recovery of the cut rule
+  pub recover-step : (p : Printed) (n : ℕ) (image heads next : List ℕ) → recoverFault 1 image (length heads) (length next) ≡ 0
+      → recoverStep p n image heads next ≡ goesOn p n (recoveredWorld 1 image heads next)
+  unfolding recoverStep recoveredBy recoveredAs recoveredWorld worldAfter
+  recover-step p n image heads next z =
+      ap
+      (λ (answer : Answer).
+      recoveredAs p n image (recoverResult 1 image heads next .heads) (recoverResult 1 image heads next .next) (recoverResult 1 image heads next .state) answer)
+      (laws .answers-state image heads next z)
 
-  some : slotsOf len ≡ 0 → ⊥
-  some = some-slots n low high s image heads next i h x
+  -- A NEW SET, on an image and an index of its size
+  module _ (n : ℕ) (low : 2 ≤ n) (high : n ≤ 511) (s : Session) (image heads next : List ℕ)
+      (i : length image ≡ 128 * (n + 1)) (h : length heads ≡ 1) (x : length next ≡ n + 1) where
+    slots-here : slotsIn image ≡ n
+    slots-here = ap slotsOf i ∙ laws .slots-of n low (omega arith)
 
-  fine : Accepted 1 (formatted 1 len)
-  fine = formatted-fine 1 len some (omega arith)
+    some-slots : slotsIn image ≡ 0 → ⊥
+    some-slots e = omega (arith, slots-here)
 
-  right-size : RightSize (formatted 1 len) heads next
-  right-size =
-      ap (λ (k : ℕ). indexFault (slotsOf k) (length heads) (length next)) (formatted-length 1 len)
-      ∙ index-fits n low high s image heads next i h x
+    formats : formatResult 1 image ≡ leftBytes n (formatted 1 (length image))
+    unfolding formatResult formatFault
+    formats =
+        taken-leaves _ _ _ (say-false _ _ _ (ne-eqb (slotsIn image) 0 some-slots))
+        ∙ ap (λ (k : ℕ). leftBytes k (formatted 1 (length image))) slots-here
 
-  pub new-step : makeStep n s image heads next ≡ goesOn (ok (n ∷ [])) n (recoveredWorld 1 (formatted 1 len) heads next)
-  unfolding makeStep madeBy madeAs
-  new-step =
-      ap (madeBy n s heads next) (formats n low high s image heads next i h x)
-      ∙ recover-step (ok (n ∷ [])) n (formatted 1 len) heads next fine right-size
+    index-fits : indexFault (slotsIn image) (length heads) (length next) ≡ 0
+    unfolding indexFault
+    index-fits =
+        say-false _ _ _ (le-ltb (length heads) 1 (omega arith)) ∙ say-false _ _ _ (le-ltb 65536 (length heads) (omega arith))
+        ∙ say-false _ _ _ (ap not (eq-eqb (length next) (slotsIn image + 1) (omega (arith, slots-here))))
 
-  pub new-agrees : Agrees 1 (recoveredWorld 1 (formatted 1 len) heads next) (λ k. none)
-  new-agrees =
-      agrees-with 1 _ _ (λ k. none) (recovered-agrees 1 (formatted 1 len) heads next fine right-size)
-      (formatted-empty 1 len some (omega arith))
+    new-set : (recoverFault 1 (formatted 1 (length image)) (length heads) (length next) ≡ 0)
+        × Inv (recoveredWorld 1 (formatted 1 (length image)) heads next) (λ k. none)
+    new-set = laws .fresh (length image) heads next some-slots index-fits
+
+    pub new-step : makeStep n s image heads next ≡ goesOn (ok (n ∷ [])) n (recoveredWorld 1 (formatted 1 (length image)) heads next)
+    unfolding makeStep madeBy madeAs
+    new-step =
+        ap (madeBy n s heads next) formats
+        ∙ recover-step (ok (n ∷ [])) n (formatted 1 (length image)) heads next (new-set .0)
+
+    pub new-keeps : Inv (recoveredWorld 1 (formatted 1 (length image)) heads next) (λ k. none)
+    new-keeps = new-set .1

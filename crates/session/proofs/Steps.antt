@@ -7,11 +7,9 @@ use native.Mathlib.Omega.{arith}
 use lib.ListN.{length, take, drop}
 use borrow.Author.Tests.{ltb-false}
 use Rattle.prelude.proofs.Refusals.{say-zero, orElse-zero, taken-leaves}
-use Rattle.stores.specs.Store.{zipped}
-use Rattle.stores.specs.Play.{wordNumbers, values, Played, playEnd, playResult}
+use Rattle.face.specs.Set.{zipped, wordNumbers, values, Played, playEnd, playResult, playing}
 use Rattle.text.specs.Output.{Printed}
 use Rattle.session.specs.Step.{leaves, slotsFor, sizeFault, lineFault, lineStep, followedBy, frontStep, stepResult}
-use Rattle.plainmap.specs.World.{playing}
 use Rattle.text.specs.declared.Line.{Line}
 use Rattle.session.specs.declared.Session.{Session}
 
@@ -37,14 +35,14 @@ played-on image at value words numbers a b k after e =
 -- ---- the refusals before a step
 
 -- a line that is not refused has room for its slots
-pub record Roomy (n image heads next : ℕ) : Type 0 where
+pub record FitsLent (n image heads next : ℕ) : Type 0 where
   pub some : 2 ≤ n
   pub few : n ≤ 511
   pub image-room : 128 * (n + 1) ≤ image
   pub heads-room : 1 ≤ heads
   pub next-room : n + 1 ≤ next
 
-pub room : (n image heads next : ℕ) → sizeFault n image heads next ≡ 0 → Roomy n image heads next
+pub room : (n image heads next : ℕ) → sizeFault n image heads next ≡ 0 → FitsLent n image heads next
 unfolding sizeFault
 room n image heads next z =
     let low = say-zero _ _ _ z (omega arith) in
@@ -62,7 +60,7 @@ room n image heads next z =
 
 module _ (line : Line) (s : Session) (image heads next k n : ℕ) (e : k ≡ lineFault line s image heads next) (z : k ≡ 0)
     (g : n ≡ slotsFor line s) where
-  pub roomy : Roomy n image heads next
+  pub roomy : FitsLent n image heads next
   unfolding lineFault
   roomy =
       room n image heads next

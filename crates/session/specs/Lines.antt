@@ -5,9 +5,8 @@ use Prim.Native.Nat.{ℕ, _+_, _*_}
 use lib.ListN.{take, replicate}
 use Rattle.words.specs.Word.{word}
 use Rattle.prelude.specs.Answer.{Answer, gives, absent, refused}
-use Rattle.stores.specs.Store.{Store}
-use Rattle.plainmap.specs.World.{World, Call, put, remove, get, called}
-use Rattle.cutrule.specs.Event.{Event, done, struck}
+use Rattle.face.specs.Set.{Store, World, Call, put, remove, get, called}
+use Rattle.face.specs.Event.{Event, done, struck}
 use Rattle.text.specs.Output.{Printed, ok, notHeld, no}
 use Rattle.session.specs.Step.{StepResult, wordBytes, gotAs}
 use Rattle.text.specs.declared.Line.{Line}

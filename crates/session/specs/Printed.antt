@@ -3,8 +3,7 @@ use mathlib.Core.Option.{Option, some, none}
 use mathlib.Core.List.{List, [], _∷_, _++_}
 use Prim.Native.Nat.{ℕ}
 use Rattle.prelude.specs.Refusal.{unlessRefused}
-use Rattle.plainmap.specs.World.{World, Call}
-use Rattle.plainmap.specs.Plain.{PlainMap}
+use Rattle.face.specs.Set.{World, Call, PlainMap}
 use Rattle.text.specs.Forms.{lineOf}
 use Rattle.text.specs.Output.{Printed, ok, cut, text, no}
 use Rattle.session.specs.Step.{StepResult}
@@ -14,7 +13,7 @@ use Rattle.text.specs.declared.Line.the-variants.{New, Put, Remove, Get, Cut, B
 use Rattle.session.specs.Lines.{worldOf, callIn}
 use Rattle.session.specs.Rule.{faultAt, plainPrints, mapAfter}
 
--- what a call prints; a line that makes no call is none here
+-- what a line's call prints; of the lines that come here only a Bad one has none, and it is refused before
 unfoldable pub callPrints : World → PlainMap → Option Call → Printed
 callPrints w m (some call) = plainPrints w m call
 callPrints w m none = no 16
@@ -32,7 +31,7 @@ linePrints w m Bad = callPrints w m (callIn Bad)
 unfoldable pub duePrints : StepResult → PlainMap → Line → Printed
 duePrints r m line = unlessRefused (faultAt r line) (linePrints (worldOf r) m line) (no (faultAt r line))
 
--- the output that is due
+-- the output that is due for these lines, after a step that left r and beside the plain map m
 unfoldable pub dueOutput : StepResult → PlainMap → List (List ℕ) → List ℕ
 dueOutput r m [] = []
 dueOutput r m (line ∷ lines) =

@@ -5,15 +5,8 @@ use mathlib.Core.List.{List, [], _∷_}
 use Prim.Native.Nat.{ℕ, _+_, _*_, _^_, _≤_, _<_}
 use lib.ListN.{length, take}
 use Rattle.prelude.specs.Refusal.{unlessRefused}
-use Rattle.table.specs.Table.{nextVersion}
-use Rattle.calls.specs.Format.{formatted}
-use Rattle.plainmap.specs.World.{World, Call, called, recoveredWorld}
-use Rattle.layout.specs.Size.{slotsIn}
-use Rattle.layout.specs.Content.{tableOf}
-use Rattle.plainmap.specs.Plain.{PlainMap, plainAnswer, plainOut}
-use Rattle.plainmap.specs.Claims.{dueFault, Right}
-use Rattle.plainmap.specs.Sound.{Agrees}
-use Rattle.cutrule.specs.Event.{step, mapAfterEvent}
+use Rattle.face.specs.Set.{nextVersion, formatted, World, Call, called, recoveredWorld, slotsIn, tableOf, PlainMap, plainAnswer, plainOut, dueFault, Right}
+use Rattle.face.specs.Event.{step, mapAfterEvent}
 use Rattle.text.specs.Output.{Printed, ok, cut, no}
 use Rattle.session.specs.Step.{StepResult, leaves, noSet, sizeFault, lineFault}
 use Rattle.session.specs.Stream.{stepAfter}
@@ -24,6 +17,7 @@ use Rattle.session.specs.declared.Waiting.the-variants.{Nothing, Counts}
 use Rattle.session.specs.declared.Session.{Session}
 use Rattle.session.specs.Lines.{worldOf, sessionOf, callIn, eventIn, waitsOn, printedFor}
 use Rattle.prelude.specs.Members.{All}
+use Rattle.prelude.specs.History.{Throughout}
 
 -- the refusal of a line before it is carried out, 0 for none
 abbrev pub faultAt : StepResult → Line → ℕ
@@ -60,21 +54,21 @@ mapAfter r m line = unlessRefused (faultAt r line) (mapByLine (worldOf r) (r .se
 
 -- ---- between lines
 
--- "`no 14` for a count above 8"
+-- the counts of a waiting cut are at most 8: "`no 14` for a count above 8"
 pub data FewWait : Waiting → Type 0 where
   none-waits : FewWait Nothing
   few-wait : {a b : ℕ} → a ≤ 8 → b ≤ 8 → FewWait (Counts a b)
 
--- the set fits into the lent image and index, its index is its own, and its slots have the plain map m
-pub record SetKeeps (r : StepResult) (m : PlainMap) : Type 0 where
+-- there is a set: it fits into the lent image and index, and with the plain map m it has the invariant of sets
+pub record SetKeeps (Inv : World → PlainMap → Type 0) (r : StepResult) (m : PlainMap) : Type 0 where
   pub size : sizeFault (r .session .n) (length (r .image)) (length (r .heads)) (length (r .next)) ≡ 0
   pub waits : FewWait (r .session .waiting)
-  pub agrees : Agrees 1 (worldOf r) m
+  pub set : Inv (worldOf r) m
 
--- before an accepted n there is no set
-pub data Keeps (r : StepResult) (m : PlainMap) : Type 0 where
-  no-set : r .session ≡ noSet → Keeps r m
-  a-set : SetKeeps r m → Keeps r m
+-- between lines: before an accepted n there is no set
+pub data Keeps (Inv : World → PlainMap → Type 0) (r : StepResult) (m : PlainMap) : Type 0 where
+  no-set : r .session ≡ noSet → Keeps Inv r m
+  a-set : SetKeeps Inv r m → Keeps Inv r m
 
 -- ---- one line
 
@@ -84,10 +78,11 @@ pub record Leaves (r : StepResult) (line : Line) (p : Printed) (s : Session) (w 
   pub session : stepAfter r line .session ≡ s
   pub world : worldOf (stepAfter r line) ≡ w
 
--- the set of a new n, and the set after a call
+-- the set of a new n
 abbrev pub newWorld : StepResult → (n : ℕ) → World
 newWorld r n = recoveredWorld 1 (formatted 1 (128 * (n + 1))) (take 1 (r .heads)) (take (n + 1) (r .next))
 
+-- and the set after a call
 abbrev pub worldAfterCall : StepResult → Call → World
 worldAfterCall r call = step 1 (worldOf r) (eventIn (worldOf r) (r .session .waiting) call)
 
@@ -107,7 +102,7 @@ pub data LineRight (r : StepResult) (m : PlainMap) : Line → Type 0 where
 
 -- ---- every list of lines
 
--- "16 is a line .. with a number past 64 bits": every other line's numbers are below 2^64
+-- "16 is a line .. with a number past 64 bits": keys and words are below 2^64; of the other numbers nothing is asked
 pub data SizedLine : Line → Type 0 where
   sized-new : {n : ℕ} → SizedLine (New n)
   sized-put : {key word : ℕ} → key < 2 ^ 64 → word < 2 ^ 64 → SizedLine (Put key word)
@@ -117,10 +112,10 @@ pub data SizedLine : Line → Type 0 where
   sized-bad : SizedLine Bad
 
 -- before each line and after the last the set is the plain map's, and each line answers right
-abbrev pub SessionHolds : StepResult → PlainMap → List Line → Type 0
-SessionHolds r m [] = Keeps r m
-SessionHolds r m (line ∷ lines) = Keeps r m × LineRight r m line × SessionHolds (stepAfter r line) (mapAfter r m line) lines
+abbrev pub SessionHolds : (Inv : World → PlainMap → Type 0) → StepResult → PlainMap → List Line → Type 0
+SessionHolds Inv = Throughout (λ r m line. stepAfter r line) mapAfter (Keeps Inv) LineRight
 
--- from any session whose set is the plain map's, every list of lines answers right
-abbrev pub SessionRule : Type 0
-SessionRule = (r : StepResult) (m : PlainMap) → Keeps r m → (lines : List Line) → All SizedLine lines → SessionHolds r m lines
+-- from any session whose set has the invariant of sets with the plain map m, every list of lines answers right
+abbrev pub SessionRule : (Inv : World → PlainMap → Type 0) → Type 0
+SessionRule Inv =
+    (r : StepResult) (m : PlainMap) → Keeps Inv r m → (lines : List Line) → All SizedLine lines → SessionHolds Inv r m lines

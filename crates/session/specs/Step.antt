@@ -6,20 +6,13 @@ use lib.ListN.{length, take, drop, replicate}
 use Rattle.words.specs.Word.{word, setWord}
 use Rattle.prelude.specs.Refusal.{say, orElse, unlessRefused}
 use Rattle.prelude.specs.Answer.{Answer, gives, absent, refused}
-use Rattle.stores.specs.Store.{Store}
-use Rattle.stores.specs.Play.{values}
-use Rattle.index.specs.declared.State.{State}
-use Rattle.recovery.specs.Recover.{Result, noState, recoverResult}
-use Rattle.calls.specs.Format.{FormatResult, formatResult}
-use Rattle.calls.specs.Change.{ChangeResult, putResult, removeResult}
-use Rattle.calls.specs.Get.{GetResult, getResult}
+use Rattle.face.specs.Set.{Store, values, State, Result, noState, recoverResult, FormatResult, formatResult, ChangeResult, putResult, removeResult, GetResult, getResult, playing}
 use Rattle.text.specs.Output.{Printed, ok, found, cut, notHeld, no}
 use Rattle.text.specs.declared.Line.{Line}
 use Rattle.text.specs.declared.Line.the-variants.{New, Put, Remove, Get, Cut, Bad}
 use Rattle.session.specs.declared.Waiting.{Waiting}
 use Rattle.session.specs.declared.Waiting.the-variants.{Nothing, Counts}
 use Rattle.session.specs.declared.Session.{Session}
-use Rattle.plainmap.specs.World.{playing}
 
 -- the answer, the session after it, and the lent image and index
 pub record StepResult : Type 0 where
@@ -29,6 +22,7 @@ pub record StepResult : Type 0 where
   pub heads : List ℕ
   pub next : List ℕ
 
+-- the result with these parts
 abbrev pub leaves : Printed → Session → (image heads next : List ℕ) → StepResult
 leaves p s image heads next = record { answer = p; session = s; image = image; heads = heads; next = next }
 
@@ -66,6 +60,7 @@ sizeFault n image heads next =
 unfoldable pub countFault : (a b : ℕ) → ℕ
 countFault a b = say (ltb 8 a) 14 (say (ltb 8 b) 14 0)
 
+-- of a line: only c has counts
 unfoldable pub cutFault : Line → ℕ
 cutFault (New n) = 0
 cutFault (Put key word) = 0
@@ -88,22 +83,27 @@ recoveredAs p n image heads next state (gives values) =
 recoveredAs p n image heads next state absent = leaves notHeld noSet image heads next
 recoveredAs p n image heads next state (refused number) = leaves (no number) noSet image heads next
 
+-- by recovery's result on this image
 unfoldable pub recoveredBy : (p : Printed) → (n : ℕ) → (image : List ℕ) → Result → StepResult
 recoveredBy p n image r = recoveredAs p n image (r .heads) (r .next) (r .state) (r .answer)
 
+-- recovery of this image, with this index lent to it
 unfoldable pub recoverStep : (p : Printed) → (n : ℕ) → (image heads next : List ℕ) → StepResult
 recoverStep p n image heads next = recoveredBy p n image (recoverResult 1 image heads next)
 
 -- ---- `n N` "formats and recovers": `ok N`. "A new n drops a waiting cut" (format answers no absent)
 
+-- by format's answer: where that is N, recovery comes next, and the line prints `ok N`
 unfoldable pub madeAs : (n : ℕ) → Session → (image heads next : List ℕ) → Answer → StepResult
 madeAs n s image heads next (gives values) = recoverStep (ok values) n image heads next
 madeAs n s image heads next absent = leaves notHeld s image heads next
 madeAs n s image heads next (refused number) = leaves (no number) s image heads next
 
+-- by format's result, with this index lent to recovery
 unfoldable pub madeBy : (n : ℕ) → Session → (heads next : List ℕ) → FormatResult → StepResult
 madeBy n s heads next r = madeAs n s (r .bytes) heads next (r .answer)
 
+-- n on an image of n slots
 unfoldable pub makeStep : (n : ℕ) → Session → (image heads next : List ℕ) → StepResult
 makeStep n s image heads next = madeBy n s heads next (formatResult 1 image)
 
@@ -116,13 +116,14 @@ storedWith n values state stores image heads next Nothing =
 storedWith n values state stores image heads next (Counts a b) =
     recoverStep (ok values) n (playing image stores a b) heads next
 
--- by the answer of the call; "the same, or `absent`", or its refusal, with which a cut goes on waiting
+-- by the answer of the call; "the same, or `absent`", or its refusal; after either of the last two a cut goes on waiting
 unfoldable pub changedAs : Session → State → List Store → (image heads next : List ℕ) → Answer → StepResult
 changedAs s state stores image heads next (gives values) =
     storedWith (s .n) values state stores image heads next (s .waiting)
 changedAs s state stores image heads next absent = leaves notHeld s image heads next
 changedAs s state stores image heads next (refused number) = leaves (no number) s image heads next
 
+-- by the result of put or remove on this image
 unfoldable pub changeStep : Session → (image : List ℕ) → ChangeResult → StepResult
 changeStep s image r = changedAs s (r .state) (r .stores) image (r .heads) (r .next) (r .answer)
 
@@ -132,11 +133,13 @@ wordBytes w = setWord (replicate 8 0) 0 w
 
 -- ---- `g K`: "`found W`, or `absent`"
 
+-- by get's answer and the output that it left: W is the word at the output's front
 unfoldable pub gotAs : (out : List ℕ) → Answer → Printed
 gotAs out (gives values) = found (word out 0)
 gotAs out absent = notHeld
 gotAs out (refused number) = no number
 
+-- by get's result
 unfoldable pub gotBy : GetResult → Printed
 gotBy r = gotAs (r .out) (r .answer)
 
@@ -146,11 +149,13 @@ wordFound image heads next key = gotBy (getResult 1 image heads next key (replic
 
 -- ---- `c A B`: "`cut A B`"; "a later c replaces a waiting one"
 
+-- the session with a cut of these counts waiting
 unfoldable pub waitingFor : Session → (a b : ℕ) → Session
 waitingFor s a b = record { n = s .n; state = s .state; waiting = Counts a b }
 
 -- ---- a line on an image and an index of the set's size
 
+-- each line by its form; a Bad line is refused before it comes here
 unfoldable pub lineStep : Line → Session → (image heads next : List ℕ) → StepResult
 lineStep (New n) s image heads next = makeStep n s image heads next
 lineStep (Put key w) s image heads next = changeStep s image (putResult 1 image heads next (s .state) key (wordBytes w))

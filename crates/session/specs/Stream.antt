@@ -30,6 +30,7 @@ stepAfter r line = stepResult line (r .session) (r .image) (r .heads) (r .next)
 
 -- ---- with the output in a lent slice
 
+-- where the input stands, the lent image and index, and the lent output
 pub record StreamResult : Type 0 where
   pub progress : Progress
   pub image : List ℕ
@@ -56,6 +57,7 @@ printedBy r w =
       output = w .output;
     }
 
+-- the same, by the step alone: its answer is rendered into the output from position at on
 unfoldable pub answeredBy : (at : ℕ) → (output : List ℕ) → StepResult → StreamResult
 answeredBy at output r = printedBy r (renderResult (r .answer) output at)
 
@@ -83,10 +85,11 @@ endResult s image heads next output =
 
 -- ---- everything that a caller of take_byte and end_input writes, as `console` does
 
--- after one more byte, and after the end of the input
+-- after one more byte
 abbrev pub afterByte : StreamResult → (byte : ℕ) → StreamResult
 afterByte q byte = byteResult (q .progress) byte (q .image) (q .heads) (q .next) (q .output)
 
+-- and after the end of the input
 abbrev pub afterEnd : StreamResult → StreamResult
 afterEnd q = endResult (q .progress) (q .image) (q .heads) (q .next) (q .output)
 

@@ -1,5 +1,5 @@
 // The trial session, and that it answers as the plain map does: types, definitions and laws.
-use index::State;
+use face::State;
 use text::Parse;
 use text::Reply;
 

@@ -1,19 +1,17 @@
 // The calls of the set as a session makes them: a new set, put, remove, get, and recovery after a cut.
 ghost use mathlib.Core.Path.{_≡_};
 ghost use mathlib.Core.List.{[], _∷_};
-ghost use Rattle.stores.specs.Store.{zipped};
-ghost use Rattle.calls.specs.Change.{changeEnd, putResult, removeResult};
-ghost use Rattle.calls.specs.Get.{getResult};
+ghost use Rattle.face.specs.Set.{zipped, changeEnd, putResult, removeResult, getResult};
 ghost use Rattle.text.specs.inner.Output.{replySays};
 ghost use Rattle.session.specs.inner.Step.{stepEnd};
 ghost use Rattle.session.specs.Step.{recoverStep, makeStep, storedWith, changeStep, wordBytes, gotBy, wordFound};
 use crate::start::start;
-use index::State;
 use orderset::Change;
 use orderset::Formatted;
 use orderset::Got;
 use orderset::Outcome;
 use orderset::Recovered;
+use orderset::State;
 use orderset::format;
 use orderset::get;
 use orderset::play;

@@ -1,7 +1,7 @@
 // The session before its first accepted n.
 ghost use mathlib.Core.Path.{_≡_};
 ghost use Rattle.session.specs.Step.{noSet};
-use index::State;
+use orderset::State;
 use session::Session;
 use session::Waiting;
 

@@ -1,12 +1,12 @@
 // Printing to standard output: labels, numbers and lists of them, and the answers of the calls.
-use index::State;
 use libc::STDOUT_FILENO;
 use orderset::Change;
 use orderset::Formatted;
 use orderset::Got;
 use orderset::Outcome;
 use orderset::Recovered;
-use stores::Stores;
+use orderset::State;
+use orderset::Stores;
 
 pub fn text(label: &[u8]) {
     io::write_all(STDOUT_FILENO, label);
@@ -41,7 +41,7 @@ fn byte(n: u8) -> u64 {
     n as u64
 }
 
-// The bytes of a list from place `from` on, at most four of them.
+// The bytes of a list from position `from` on, at most four of them.
 pub fn bytes(list: &[u8], from: usize) {
     let mut i = 0;
     while i < list.len() {

@@ -160,7 +160,7 @@ pub half-makeable : (len size : ℕ) (at value : List ℕ) (k c : ℕ) → Half 
     → size ≡ len → Makeable size at value k c
 half-makeable len size at value k c h g l p q e =
     record {
-      places = omega arith;
+      numbers = omega arith;
       values = omega arith;
       inside =
           λ i low high.
@@ -178,7 +178,7 @@ list-makeable len at value e =
     let fine = say-zero _ _ _ (sizes .1) (omega arith) in
     let same : length at ≡ length value = eqb-true _ _ (not-false _ (sizes .0)) in
     record {
-      places = omega arith;
+      numbers = omega arith;
       values = omega arith;
       inside = λ i low high. ltb-false len (8 * getD at i 0 + 8) (at-place i (fine .0) (omega arith));
     }

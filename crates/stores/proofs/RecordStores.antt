@@ -1,6 +1,6 @@
 -- What the functions that make a record's stores need: the words of a key, of line A, and the stores as two lists. Assumes nothing.
 use mathlib.Core.Path.{_≡_, refl, sym, ap, ap₂, _∙_}
-use mathlib.Core.List.{List, _∷_, _++_}
+use mathlib.Core.List.{List, [], _∷_, _++_}
 use Prim.Native.Nat.{ℕ, zero, suc, _+_, _-_, _*_, _/_, _%_, _^_, _≤_, _<_}
 use native.Mathlib.Nat.{div-one, mod-eq-of-lt}
 use native.Mathlib.Omega.{arith}
@@ -10,29 +10,26 @@ use borrow.Author.Tests.{eq-eqb, ne-eqb, lt-ltb, le-ltb}
 use Rattle.words.specs.Word.{word}
 use Rattle.prelude.proofs.Choice.{pick-true, pick-false}
 use Rattle.prelude.specs.Range.{tabulate}
-use Rattle.layout.specs.Record.{keyWord, kindWord}
+use Rattle.layout.specs.Record.{Layout, keyWord, kindWord}
+use Rattle.layout.specs.inner.Key.{keyWith}
 use Rattle.stores.specs.Store.{Store, zipped}
 use Rattle.stores.specs.Written.{newA, newB, bodyA, run, lineStores, recordStores}
 use Rattle.stores.specs.inner.Written.{recordNumbers, recordWords}
 
-high-part : (low high : ℕ) → low < 2 ^ 64 → (low + 2 ^ 64 * high) / 2 ^ 64 ≡ high
+high-part : (low high : ℕ) → low < 2 ^ 64 → (keyWith low high) / 2 ^ 64 ≡ high
 high-part low high h = omega arith
 
 -- the two words of a key
-pub key-low : (low high i : ℕ) → low < 2 ^ 64 → i ≡ 0 → low ≡ keyWord (low + 2 ^ 64 * high) i
+pub key-low : (low high i : ℕ) → low < 2 ^ 64 → i ≡ 0 → low ≡ keyWord (keyWith low high) i
 key-low low high i h e =
-    sym (ap (keyWord (low + 2 ^ 64 * high)) e ∙ ap (λ (x : ℕ). x % 2 ^ 64) (div-one (low + 2 ^ 64 * high)) ∙ omega arith)
+    sym (ap (keyWord (keyWith low high)) e ∙ ap (λ (x : ℕ). x % 2 ^ 64) (div-one (keyWith low high)) ∙ omega arith)
 
-pub key-high : (low high i : ℕ) → low < 2 ^ 64 → high < 2 ^ 64 → i < 2 → (i ≡ 0 → ⊥) → high ≡ keyWord (low + 2 ^ 64 * high) i
+pub key-high : (low high i : ℕ) → low < 2 ^ 64 → high < 2 ^ 64 → i < 2 → (i ≡ 0 → ⊥) → high ≡ keyWord (keyWith low high) i
 key-high low high i h k b ne =
-    sym (ap (keyWord (low + 2 ^ 64 * high)) one ∙ ap (λ (x : ℕ). x % 2 ^ 64) (high-part low high h) ∙ mod-eq-of-lt k)
+    sym (ap (keyWord (keyWith low high)) one ∙ ap (λ (x : ℕ). x % 2 ^ 64) (high-part low high h) ∙ mod-eq-of-lt k)
   where
     one : i ≡ 1
     one = omega arith
-
--- the word of a key of layout 1
-pub key-alone : (key : ℕ) → key < 2 ^ 64 → keyWord key 0 ≡ key
-key-alone key h = ap (λ (x : ℕ). x % 2 ^ 64) (div-one key) ∙ mod-eq-of-lt h
 
 -- the three parts of line A
 module _ (l key kind : ℕ) (value : List ℕ) (i : ℕ) where
@@ -49,6 +46,15 @@ module _ (l key kind : ℕ) (value : List ℕ) (i : ℕ) where
   unfolding bodyA
   in-value r h ne e =
       e ∙ sym (pick-false (ltb i (l + 1)) _ _ (le-ltb i (l + 1) h) ∙ pick-false (eqb i (l + 1)) _ _ (ne-eqb i (l + 1) ne))
+
+-- line A of a remove: its first word is the low key word, and past word 3 it has zeros
+pub remove-low : (l low high : ℕ) → Layout l → low < 2 ^ 64 → bodyA l (keyWith low high) 2 [] 1 ≡ low
+remove-low l low high lay h =
+    sym (in-key l (keyWith low high) 2 [] 1 low (omega (arith, lay .low)) (key-low low high 0 h refl))
+
+pub remove-zero : (l key i : ℕ) → l + 1 < i → bodyA l key 2 [] i ≡ 0
+unfolding word
+remove-zero l key i h = sym (in-value l key 2 [] i 0 (omega arith) (λ e. omega arith) refl)
 
 -- ---- the stores as two lists
 

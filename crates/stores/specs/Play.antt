@@ -18,11 +18,12 @@ pub record Played : Type 0 where
 abbrev pub playEnd : (answer : ℕ) → (bytes : List ℕ) → Played
 playEnd answer bytes = record { answer = answer; bytes = bytes }
 
--- the stores as play is given them: their word numbers and their values
+-- the stores as play is given them: their word numbers
 unfoldable pub wordNumbers : List Store → List ℕ
 wordNumbers [] = []
 wordNumbers (s ∷ ss) = s .word ∷ wordNumbers ss
 
+-- and their values
 unfoldable pub values : List Store → List ℕ
 values [] = []
 values (s ∷ ss) = s .value ∷ values ss
@@ -45,6 +46,7 @@ playFault len at a b = say (eqb (slotsOf len) 0) 1 (say (ltb 8 a) 14 (say (ltb 8
 unfoldable pub counted : (a b : ℕ) → List Store → List Store
 counted a b ss = take a ss ++ take b (drop 8 ss)
 
+-- what play answers and leaves; "A refused call changes no lent byte"
 unfoldable pub playResult : (image at value : List ℕ) → (a b : ℕ) → Played
 playResult image at value a b =
     record {

@@ -21,10 +21,11 @@ unfoldable pub played : List Store → List ℕ → List ℕ
 played [] image = image
 played (s ∷ ss) image = played ss (setWord image (s .word) (s .value))
 
--- the same on the words of an image
+-- the words of an image after one store
 unfoldable pub stored : Store → (ℕ → ℕ) → ℕ → ℕ
 stored s m i = cond (eqb i (s .word)) (s .value) (m i)
 
+-- and after these stores, in order
 unfoldable pub playedWords : List Store → (ℕ → ℕ) → ℕ → ℕ
 playedWords [] m = m
 playedWords (s ∷ ss) m = playedWords ss (stored s m)

@@ -22,10 +22,11 @@ bodyA l key kind value i =
 unfoldable pub bodyB : (l : ℕ) → List ℕ → ℕ → ℕ
 bodyB l value i = word value (i + 4 - l)
 
--- all eight words of the two lines, over lines with these stamps
+-- all eight words of line A, over a line with this stamp
 abbrev pub newA : (l stamp key kind : ℕ) → List ℕ → (version : ℕ) → ℕ → ℕ
 newA l stamp key kind value version = marked stamp version (bodyA l key kind value)
 
+-- and of line B
 abbrev pub newB : (l stamp : ℕ) → List ℕ → (version : ℕ) → ℕ → ℕ
 newB l stamp value version = marked stamp version (bodyB l value)
 

@@ -6,7 +6,7 @@ ghost use lib.Dec.{eqb, ltb};
 ghost use lib.ListN.{length, getD};
 ghost use Rattle.prelude.specs.Range.{anyOf};
 ghost use Rattle.stores.specs.Play.{halfFault, halvesFault, playFault, listFault};
-use layout_code::header::slots;
+use layout_code::header::slot_count;
 
 // A word number as an index.
 fn wide(w: u32) -> usize
@@ -65,7 +65,7 @@ fn halves_fault(len: usize, at: &[u32; 16]) -> u32
 pub fn play_fault(len: usize, at: &[u32; 16], a: usize, b: usize) -> u32
     ensures { λ r. ⌜ r ≡ playFault len (now (at .entry)) a b ⌝ }
 {
-    if slots(len) == 0 {
+    if slot_count(len) == 0 {
         return 1;
     }
     if 8 < a {

@@ -4,7 +4,8 @@ ghost use mathlib.Core.List.{[]};
 ghost use Prim.Native.Nat.{_+_, _*_, _^_, _≤_, _<_};
 ghost use lib.ListN.{length};
 ghost use Rattle.words.specs.Word.{word};
-ghost use Rattle.layout.specs.Record.{keyWord, kindWord};
+ghost use Rattle.layout.specs.Record.{Layout, keyWord, kindWord, limit};
+ghost use Rattle.layout.specs.inner.Key.{keyWith};
 ghost use Rattle.stores.specs.Store.{zipped};
 ghost use Rattle.stores.specs.Written.{bodyA, bodyB, recordStores};
 ghost use Rattle.stores.specs.inner.Written.{recordNumbers, recordWords};
@@ -18,7 +19,7 @@ use words_code::read_word;
 // Word i of a key.
 fn key_word(low: u64, high: u64, i: usize) -> u64
     requires { ⌜ i < 2 ⌝ }
-    ensures { λ r. ⌜ r ≡ keyWord (low + 2 ^ 64 * high) i ⌝ }
+    ensures { λ r. ⌜ r ≡ keyWord (keyWith low high) i ⌝ }
 {
     if i == 0 {
         return low;
@@ -36,8 +37,8 @@ fn kind_word(kind: u64, size: usize) -> u64
 
 // Word i of line A, between mark and stamp.
 fn word_a(l: usize, low: u64, high: u64, kind: u64, value: &[u8], i: usize) -> u64
-    requires { ⌜ (1 ≤ l) × (l ≤ 2) × (kind < 256) × (length (now value) ≤ 80) × (1 ≤ i) × (i ≤ 6) ⌝ }
-    ensures { λ r. ⌜ r ≡ bodyA l (low + 2 ^ 64 * high) kind (now (value .entry)) i ⌝ }
+    requires { ⌜ Layout l × (kind < 256) × (length (now value) ≤ limit l) × (1 ≤ i) × (i ≤ 6) ⌝ }
+    ensures { λ r. ⌜ r ≡ bodyA l (keyWith low high) kind (now (value .entry)) i ⌝ }
 {
     if i < l + 1 {
         return key_word(low, high, i - 1);
@@ -57,7 +58,7 @@ fn word_b(l: usize, value: &[u8], i: usize) -> u64
 }
 
 // The word numbers of the stores for slot s.
-fn record_places(s: u32) -> [u32; 16]
+fn record_numbers(s: u32) -> [u32; 16]
     requires { ⌜ s < 65536 ⌝ }
     ensures { λ r. ⌜ r ≡ recordNumbers s ⌝ }
 {
@@ -95,7 +96,7 @@ fn record_words(
     version: u64,
 ) -> [u64; 16]
     requires { ⌜ Recordable l kind (now value) version ⌝ }
-    ensures { λ r. ⌜ r ≡ recordWords l a b (low + 2 ^ 64 * high) kind (now (value .entry)) version ⌝ }
+    ensures { λ r. ⌜ r ≡ recordWords l a b (keyWith low high) kind (now (value .entry)) version ⌝ }
 {
     [
         first_word(a),
@@ -129,26 +130,40 @@ pub fn record_stores(
     version: u64,
 ) -> Stores
     requires { ⌜ Recordable l kind (now value) version × (s < 65536) × (128 * (s + 1) ≤ length (now image)) ⌝ }
-    ensures { λ r. ⌜ zipped (r .at) (r .value) ≡ recordStores l (word (now (image .entry))) s (low + 2 ^ 64 * high) kind (now (value .entry)) version ⌝ }
+    ensures { λ r. ⌜ zipped (r .at) (r .value) ≡ recordStores l (word (now (image .entry))) s (keyWith low high) kind (now (value .entry)) version ⌝ }
 {
     let slot = s as usize;
     let a = read_word(image, 16 * slot + 7);
     let b = read_word(image, 16 * slot + 15);
-    let at = record_places(s);
+    let at = record_numbers(s);
     let words = record_words(l, a, b, low, high, kind, value, version);
     Stores { at, value: words }
 }
 
-// The values of a remove's stores, over lines with stamps a and b. Layout 1.
-fn remove_words(a: u64, b: u64, key: u64, version: u64) -> [u64; 16]
-    requires { ⌜ version < 2 ^ 63 ⌝ }
-    ensures { λ r. ⌜ r ≡ recordWords 1 a b key 2 [] version ⌝ }
+// Word i of line A of a remove, between mark and stamp: a record without a value.
+fn remove_word(l: usize, low: u64, high: u64, i: usize) -> u64
+    requires { ⌜ Layout l × (1 ≤ i) × (i ≤ 6) ⌝ }
+    ensures { λ r. ⌜ r ≡ bodyA l (keyWith low high) 2 [] i ⌝ }
+{
+    if i < l + 1 {
+        return key_word(low, high, i - 1);
+    }
+    if i == l + 1 {
+        return kind_word(2, 0);
+    }
+    0
+}
+
+// The values of a remove's stores, over lines with stamps a and b. The high key word and the kind word stand in words 2 and 3 of line A.
+fn remove_words(l: usize, a: u64, b: u64, low: u64, high: u64, version: u64) -> [u64; 16]
+    requires { ⌜ Layout l × (version < 2 ^ 63) ⌝ }
+    ensures { λ r. ⌜ r ≡ recordWords l a b (keyWith low high) 2 [] version ⌝ }
 {
     [
         first_word(a),
-        key,
-        2,
-        0,
+        low,
+        remove_word(l, low, high, 2),
+        remove_word(l, low, high, 3),
         0,
         0,
         0,
@@ -164,20 +179,22 @@ fn remove_words(a: u64, b: u64, key: u64, version: u64) -> [u64; 16]
     ]
 }
 
-// The stores of a remove for slot s of the image, in layout 1: those of a record without a value, of which most are known beforehand.
-pub fn remove_stores(image: &[u8], s: u32, key: u64, version: u64) -> Stores
-    requires { ⌜ (version < 2 ^ 63) × (s < 65536) × (128 * (s + 1) ≤ length (now image)) ⌝ }
-    ensures { λ r. ⌜ zipped (r .at) (r .value) ≡ recordStores 1 (word (now (image .entry))) s key 2 [] version ⌝ }
+// The stores of a remove for slot s of the image: those of a record without a value, of which most are known beforehand.
+pub fn remove_stores(image: &[u8], l: usize, s: u32, low: u64, high: u64, version: u64) -> Stores
+    requires { ⌜ Layout l × (version < 2 ^ 63) × (s < 65536) × (128 * (s + 1) ≤ length (now image)) ⌝ }
+    ensures { λ r. ⌜ zipped (r .at) (r .value) ≡ recordStores l (word (now (image .entry))) s (keyWith low high) 2 [] version ⌝ }
 {
     let slot = s as usize;
     let value = remove_words(
+        l,
         read_word(image, 16 * slot + 7),
         read_word(image, 16 * slot + 15),
-        key,
+        low,
+        high,
         version,
     );
     Stores {
-        at: record_places(s),
+        at: record_numbers(s),
         value,
     }
 }

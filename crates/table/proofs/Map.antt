@@ -7,7 +7,7 @@ use Prim.Native.Nat.{ℕ, zero, suc, _≤_, _<_}
 use native.Mathlib.Omega.{arith}
 use lib.Dec.{eqb}
 use borrow.Author.Tests.{eqb-true, eqb-false, eq-eqb, ne-eqb}
-use Rattle.layout.specs.Content.{Content, broken, empty, put, remove, Table}
+use Rattle.layout.specs.Content.{Content, broken, empty, putRecord, removeRecord, Table}
 use Rattle.table.specs.Table.{keyIn, weight, decider, valueIn, valueAt, mapOf, decidingPut, live}
 use Rattle.prelude.specs.Members.{Slot}
 use Rattle.table.proofs.defs.Write.{Above, ApartByKey, Free, Outside, NoRecord}
@@ -68,13 +68,13 @@ decider-unique f n k s d i p h = decider-only f n k s i p (λ t j ne. nearer (we
 
 -- a live slot is a put that decides its key, and such a put is live
 pub data Live (f : Table) (n s : ℕ) : Type 0 where
-  lives : (w k : ℕ) (v : List ℕ) → f s ≡ put w k v → decider f n k ≡ s → Live f n s
+  lives : (w k : ℕ) (v : List ℕ) → f s ≡ putRecord w k v → decider f n k ≡ s → Live f n s
 
-pub live-put : (f : Table) (n s w k : ℕ) (v : List ℕ) → f s ≡ put w k v → live f n s ≡ eqb (decider f n k) s
+pub live-put : (f : Table) (n s w k : ℕ) (v : List ℕ) → f s ≡ putRecord w k v → live f n s ≡ eqb (decider f n k) s
 unfolding live decidingPut
 live-put f n s w k v e = ap (decidingPut f n s) e
 
-pub live-remove : (f : Table) (n s w k : ℕ) → f s ≡ remove w k → live f n s ≡ false
+pub live-remove : (f : Table) (n s w k : ℕ) → f s ≡ removeRecord w k → live f n s ≡ false
 unfolding live decidingPut
 live-remove f n s w k e = ap (decidingPut f n s) e
 
@@ -89,8 +89,8 @@ live-is f n s h = go (f s) refl h
     go : (c : Content) → f s ≡ c → decidingPut f n s c ≡ true → Live f n s
     go (broken t) e l = absurd (true-false l refl)
     go empty e l = absurd (true-false l refl)
-    go (put w k v) e l = lives w k v e (eqb-true (decider f n k) s l)
-    go (remove w k) e l = absurd (true-false l refl)
+    go (putRecord w k v) e l = lives w k v e (eqb-true (decider f n k) s l)
+    go (removeRecord w k) e l = absurd (true-false l refl)
 
 pub is-live : (f : Table) (n s : ℕ) → Live f n s → live f n s ≡ true
 is-live f n s (lives w k v e b) = live-put f n s w k v e ∙ eq-eqb (decider f n k) s b
@@ -180,15 +180,15 @@ module _ (f f′ : Table) (n : ℕ) (C : ℕ → Bool) (free : Free f n C) (out 
 
 -- outside C a slot whose key gets no new record in C is live as before
 pub live-kept : (f f′ : Table) (n : ℕ) (C : ℕ → Bool) → Free f n C → Outside f f′ n C
-    → (t : ℕ) → Slot n t → C t ≡ false → ((w k : ℕ) (v : List ℕ) → f t ≡ put w k v → NoRecord f′ n C k) → live f′ n t ≡ live f n t
+    → (t : ℕ) → Slot n t → C t ≡ false → ((w k : ℕ) (v : List ℕ) → f t ≡ putRecord w k v → NoRecord f′ n C k) → live f′ n t ≡ live f n t
 unfolding live decidingPut
 live-kept f f′ n C free out t i c quiet = ap (decidingPut f′ n t) (out t i c) ∙ go (f t) refl
   where
     go : (x : Content) → f t ≡ x → decidingPut f′ n t x ≡ decidingPut f n t x
     go (broken b) e = refl
     go empty e = refl
-    go (put w k v) e = decider-kept f f′ n C free out k (quiet w k v e) t i c
-    go (remove w k) e = refl
+    go (putRecord w k v) e = decider-kept f f′ n C free out k (quiet w k v e) t i c
+    go (removeRecord w k) e = refl
 
 -- adding records
 

@@ -6,45 +6,45 @@ use Prim.Native.Nat.{ℕ, zero, suc, _≤_, _<_}
 use native.Mathlib.Omega.{arith}
 use lib.Dec.{eqb}
 use borrow.Author.Tests.{eqb-true, eq-eqb, ne-eqb}
-use Rattle.layout.specs.Content.{Content, broken, empty, put, remove, topOf, Table}
+use Rattle.layout.specs.Content.{Content, broken, empty, putRecord, removeRecord, topOf, Table}
 use Rattle.table.specs.Table.{isRecord, keyIn, weight, valueIn, valueAt}
 use Rattle.prelude.specs.Members.{Slot}
 use Rattle.table.proofs.defs.Write.{upd}
 
 -- the record of key k that a slot holds
 pub data Says (k : ℕ) (c : Content) : Type 0 where
-  puts : (w : ℕ) (v : List ℕ) → c ≡ put w k v → Says k c
-  removes : (w : ℕ) → c ≡ remove w k → Says k c
+  puts : (w : ℕ) (v : List ℕ) → c ≡ putRecord w k v → Says k c
+  removes : (w : ℕ) → c ≡ removeRecord w k → Says k c
 
 -- a slot that says something of key k holds a record of it
 pub says : (k : ℕ) (c : Content) → 0 < weight k c → Says k c
 unfolding weight
 says k (broken t) h = absurd (omega arith)
 says k empty h = absurd (omega arith)
-says k (put w j v) h = go (eqb j k) refl h
+says k (putRecord w j v) h = go (eqb j k) refl h
   where
-    go : (b : Bool) → eqb j k ≡ b → 0 < cond b (suc w) 0 → Says k (put w j v)
-    go true e l = puts w v (ap (λ (i : ℕ). put w i v) (eqb-true j k e))
+    go : (b : Bool) → eqb j k ≡ b → 0 < cond b (suc w) 0 → Says k (putRecord w j v)
+    go true e l = puts w v (ap (λ (i : ℕ). putRecord w i v) (eqb-true j k e))
     go false e l = absurd (omega arith)
-says k (remove w j) h = go (eqb j k) refl h
+says k (removeRecord w j) h = go (eqb j k) refl h
   where
-    go : (b : Bool) → eqb j k ≡ b → 0 < cond b (suc w) 0 → Says k (remove w j)
-    go true e l = removes w (ap (λ (i : ℕ). remove w i) (eqb-true j k e))
+    go : (b : Bool) → eqb j k ≡ b → 0 < cond b (suc w) 0 → Says k (removeRecord w j)
+    go true e l = removes w (ap (λ (i : ℕ). removeRecord w i) (eqb-true j k e))
     go false e l = absurd (omega arith)
 
-pub weight-put : (w k : ℕ) (v : List ℕ) → weight k (put w k v) ≡ suc w
+pub weight-put : (w k : ℕ) (v : List ℕ) → weight k (putRecord w k v) ≡ suc w
 unfolding weight
 weight-put w k v = ap (λ (b : Bool). cond b (suc w) 0) (eq-eqb k k refl)
 
-pub weight-remove : (w k : ℕ) → weight k (remove w k) ≡ suc w
+pub weight-remove : (w k : ℕ) → weight k (removeRecord w k) ≡ suc w
 unfolding weight
 weight-remove w k = ap (λ (b : Bool). cond b (suc w) 0) (eq-eqb k k refl)
 
-pub weight-put-other : (w j : ℕ) (v : List ℕ) (k : ℕ) → (j ≡ k → ⊥) → weight k (put w j v) ≡ 0
+pub weight-put-other : (w j : ℕ) (v : List ℕ) (k : ℕ) → (j ≡ k → ⊥) → weight k (putRecord w j v) ≡ 0
 unfolding weight
 weight-put-other w j v k h = ap (λ (b : Bool). cond b (suc w) 0) (ne-eqb j k h)
 
-pub weight-remove-other : (w j k : ℕ) → (j ≡ k → ⊥) → weight k (remove w j) ≡ 0
+pub weight-remove-other : (w j k : ℕ) → (j ≡ k → ⊥) → weight k (removeRecord w j) ≡ 0
 unfolding weight
 weight-remove-other w j k h = ap (λ (b : Bool). cond b (suc w) 0) (ne-eqb j k h)
 
@@ -57,12 +57,12 @@ pub weight-top : (k : ℕ) (c : Content) → weight k c ≤ suc (topOf c)
 unfolding weight topOf
 weight-top k (broken t) = omega arith
 weight-top k empty = omega arith
-weight-top k (put w j v) = go (eqb j k)
+weight-top k (putRecord w j v) = go (eqb j k)
   where
     go : (b : Bool) → cond b (suc w) 0 ≤ suc w
     go true = omega arith
     go false = omega arith
-weight-top k (remove w j) = go (eqb j k)
+weight-top k (removeRecord w j) = go (eqb j k)
   where
     go : (b : Bool) → cond b (suc w) 0 ≤ suc w
     go true = omega arith

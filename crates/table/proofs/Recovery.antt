@@ -9,7 +9,7 @@ use lib.Dec.{eqb}
 use borrow.Author.Tests.{eqb-true, eq-eqb, not-true}
 use Rattle.layout.specs.Content.{Content, Table}
 use Rattle.prelude.specs.Filter.{filter}
-use Rattle.prelude.specs.Members.{In, Once, slots, Slot}
+use Rattle.prelude.specs.Members.{In, Once, slotNumbers, Slot}
 use Rattle.prelude.proofs.defs.Members.{Rising}
 use Rattle.sorting.proofs.Order.{sorted-in, in-sorted, rising-sorted, filter-in, in-filter, filter-holds, once-sorted, once-filter}
 use Rattle.table.specs.Table.{keyIn, weight, live, spare}
@@ -27,14 +27,14 @@ use Rattle.table.proofs.Map.{decider-newest}
 pub recovery-spares : (f : Table) (n : ℕ) → Spares f n (reuseOf f n)
 unfolding reuseOf ordered spare
 recovery-spares f n = record {
-  slot = λ t i. slots-in n t (filter-in (spare f n) t (slots n) (kept t i));
-  idle = λ t i. not-true (live f n t) (filter-holds (spare f n) t (slots n) (kept t i));
-  all = λ t i e. in-sorted (λ x. rankOf (f x)) t (filter (spare f n) (slots n)) (in-filter (spare f n) t (slots n) (in-slots n t i) (ap not e));
-  once = once-sorted (λ x. rankOf (f x)) (filter (spare f n) (slots n)) (once-filter (spare f n) (slots n) (once-slots n));
+  slot = λ t i. slots-in n t (filter-in (spare f n) t (slotNumbers n) (kept t i));
+  idle = λ t i. not-true (live f n t) (filter-holds (spare f n) t (slotNumbers n) (kept t i));
+  all = λ t i e. in-sorted (λ x. rankOf (f x)) t (filter (spare f n) (slotNumbers n)) (in-filter (spare f n) t (slotNumbers n) (in-slots n t i) (ap not e));
+  once = once-sorted (λ x. rankOf (f x)) (filter (spare f n) (slotNumbers n)) (once-filter (spare f n) (slotNumbers n) (once-slots n));
 }
   where
-    kept : (t : ℕ) → In t (reuseOf f n) → In t (filter (spare f n) (slots n))
-    kept t i = sorted-in (λ x. rankOf (f x)) t (filter (spare f n) (slots n)) i
+    kept : (t : ℕ) → In t (reuseOf f n) → In t (filter (spare f n) (slotNumbers n))
+    kept t i = sorted-in (λ x. rankOf (f x)) t (filter (spare f n) (slotNumbers n)) i
 
 pub rank-weight : (k : ℕ) (c : Content) → 0 < weight k c → rankOf c ≡ suc (weight k c)
 unfolding rankOf
@@ -57,7 +57,7 @@ rising-hidden f n (x ∷ l) d i o r = (first, rising-hidden f n l d (λ t j. i t
 -- recovery's reuse never falls in rank: broken slots, empty slots, then by version
 pub recovery-rising : (f : Table) (n : ℕ) → Rising (λ t. rankOf (f t)) (reuseOf f n)
 unfolding reuseOf ordered
-recovery-rising f n = rising-sorted (λ t. rankOf (f t)) (filter (spare f n) (slots n))
+recovery-rising f n = rising-sorted (λ t. rankOf (f t)) (filter (spare f n) (slotNumbers n))
 
 -- recovery's reuse has the hidden records first
 pub recovery-hidden : (f : Table) (n : ℕ) → ApartByKey f n → HiddenFirst f n (reuseOf f n)
@@ -72,14 +72,14 @@ chosen f n head i t = live f n t && eqb (head (keyIn (f t))) i
 pub recovery-chains : (f : Table) (n : ℕ) (head : ℕ → ℕ) → Chains f n head (chainOf f n head)
 unfolding chainOf ordered
 recovery-chains f n head = record {
-  slot = λ i t j. slots-in n t (filter-in (chosen f n head i) t (slots n) (kept i t j));
-  alive = λ i t j. both-left (live f n t) (eqb (head (keyIn (f t))) i) (filter-holds (chosen f n head i) t (slots n) (kept i t j));
-  in-head = λ i t j. eqb-true (head (keyIn (f t))) i (both-right (live f n t) (eqb (head (keyIn (f t))) i) (filter-holds (chosen f n head i) t (slots n) (kept i t j)));
-  all = λ t j l. in-sorted (λ x. rankOf (f x)) t (filter (chosen f n head (head (keyIn (f t)))) (slots n))
-      (in-filter (chosen f n head (head (keyIn (f t)))) t (slots n) (in-slots n t j)
+  slot = λ i t j. slots-in n t (filter-in (chosen f n head i) t (slotNumbers n) (kept i t j));
+  alive = λ i t j. both-left (live f n t) (eqb (head (keyIn (f t))) i) (filter-holds (chosen f n head i) t (slotNumbers n) (kept i t j));
+  in-head = λ i t j. eqb-true (head (keyIn (f t))) i (both-right (live f n t) (eqb (head (keyIn (f t))) i) (filter-holds (chosen f n head i) t (slotNumbers n) (kept i t j)));
+  all = λ t j l. in-sorted (λ x. rankOf (f x)) t (filter (chosen f n head (head (keyIn (f t)))) (slotNumbers n))
+      (in-filter (chosen f n head (head (keyIn (f t)))) t (slotNumbers n) (in-slots n t j)
       (both (live f n t) (eqb (head (keyIn (f t))) (head (keyIn (f t)))) l (eq-eqb (head (keyIn (f t))) (head (keyIn (f t))) refl)));
-  once = λ i. once-sorted (λ t. rankOf (f t)) (filter (chosen f n head i) (slots n)) (once-filter (chosen f n head i) (slots n) (once-slots n));
+  once = λ i. once-sorted (λ t. rankOf (f t)) (filter (chosen f n head i) (slotNumbers n)) (once-filter (chosen f n head i) (slotNumbers n) (once-slots n));
 }
   where
-    kept : (i t : ℕ) → In t (chainOf f n head i) → In t (filter (chosen f n head i) (slots n))
-    kept i t j = sorted-in (λ x. rankOf (f x)) t (filter (chosen f n head i) (slots n)) j
+    kept : (i t : ℕ) → In t (chainOf f n head i) → In t (filter (chosen f n head i) (slotNumbers n))
+    kept i t j = sorted-in (λ x. rankOf (f x)) t (filter (chosen f n head i) (slotNumbers n)) j

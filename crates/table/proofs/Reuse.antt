@@ -7,7 +7,7 @@ use Prim.Native.Nat.{ℕ, _<_}
 use native.Mathlib.Omega.{arith}
 use lib.Dec.{eqb}
 use borrow.Author.Tests.{eqb-true, eqb-false}
-use Rattle.layout.specs.Content.{Content, put, remove, Table}
+use Rattle.layout.specs.Content.{Content, putRecord, removeRecord, Table}
 use Rattle.prelude.specs.Members.{In, Slot}
 use Rattle.table.specs.Table.{weight, decider, live}
 use Rattle.table.proofs.defs.Write.{Above, isPut, holder, upd, only, Record, Free}
@@ -39,7 +39,7 @@ module _ (f : Table) (n s w k : ℕ) (c : Content) (l : List ℕ) (r : Record c 
 
   -- the old slot of a held key holds a put of it and is not the slot taken
   data Old : Type 0 where
-    oldput : (u : ℕ) (v : List ℕ) → f (holder f n k) ≡ put u k v → Slot n (holder f n k) → live f n (holder f n k) ≡ true
+    oldput : (u : ℕ) (v : List ℕ) → f (holder f n k) ≡ putRecord u k v → Slot n (holder f n k) → live f n (holder f n k) ≡ true
         → (holder f n k ≡ s → ⊥) → decider f n k ≡ holder f n k → Old
 
   old-slot : 0 < holder f n k → Old
@@ -55,7 +55,7 @@ module _ (f : Table) (n s w k : ℕ) (c : Content) (l : List ℕ) (r : Record c 
           at-live : Live f n (decider f n k) → Old
           at-live (lives x j y d g) =
               oldput x y
-              (ap f same-slot ∙ d ∙ ap (λ (z : ℕ). put x z y)
+              (ap f same-slot ∙ d ∙ ap (λ (z : ℕ). putRecord x z y)
               (one-key j k (f (decider f n k)) (omega (arith, ap (weight j) d, weight-put x j y)) (decider-weight f n k (decider f n k) i refl)))
               (omega (arith, same-slot)) (ap (live f n) same-slot ∙ e)
               (λ z. true-false e (ap (live f n) (sym same-slot ∙ z) ∙ sp .idle s (inl refl))) (sym same-slot)
@@ -64,7 +64,7 @@ module _ (f : Table) (n s w k : ℕ) (c : Content) (l : List ℕ) (r : Record c 
   carried : (x t : ℕ) → In x l → In t l → Hides (upd f s c) n x t → Hides f n x t
   carried x t i j (hides u m e b p) = go (eqb m k) refl
     where
-      fx : f x ≡ remove u m
+      fx : f x ≡ removeRecord u m
       fx = sym (upd-other f s c x (off x i)) ∙ e
 
       ft : 0 < weight m (f t)

@@ -6,7 +6,7 @@ use Prim.Native.Nat.{ℕ, suc, _≤_}
 use native.Mathlib.Omega.{arith}
 use lib.Dec.{eqb, ltb}
 use borrow.Author.Tests.{eqb-true, eqb-false, eq-eqb, ne-eqb, ltb-true, ltb-false}
-use Rattle.layout.specs.Content.{Content, broken, put, remove, topOf, Table}
+use Rattle.layout.specs.Content.{Content, broken, putRecord, removeRecord, topOf, Table}
 use Rattle.table.specs.Table.{isRecord, weight, nextVersion, decider, valueIn, valueAt, mapOf, live, liveCount}
 use Rattle.prelude.specs.Members.{Slot}
 use Rattle.table.proofs.defs.Write.{Above, Distinct, isPut, upd, only, Record, Free, Outside, NoRecord}
@@ -17,11 +17,11 @@ use Rattle.prelude.proofs.Count.{count-same}
 use Rattle.table.proofs.Map.{live-broken, newest, decider-weight, live-remove, live-kept, map-kept, live-put}
 use Rattle.table.proofs.Distinct.{distinct-upd}
 
-pub put-record : (w k : ℕ) (v : List ℕ) → Record (put w k v) w k
+pub put-record : (w k : ℕ) (v : List ℕ) → Record (putRecord w k v) w k
 unfolding topOf isRecord
 put-record w k v = record { own = weight-put w k v; other = λ j h. weight-put-other w k v j h; tops = refl; counted = refl }
 
-pub remove-record : (w k : ℕ) → Record (remove w k) w k
+pub remove-record : (w k : ℕ) → Record (removeRecord w k) w k
 unfolding topOf isRecord
 remove-record w k = record { own = weight-remove w k; other = λ j h. weight-remove-other w k j h; tops = refl; counted = refl }
 
@@ -120,8 +120,8 @@ module _ (f : Table) (n s w k : ℕ) (c : Content) (i : Slot n s) (free : Free f
           live-remove (upd f s c) n t u k (upd-other f s c t ne ∙ e) ∙ none-live (eqb (decider f n k) t)
           ∙ sym (ap (cond (eqb (decider f n k) t) false) (live-remove f n t u k e))
 
-      elsewhere : weight k (f t) ≤ 0 → (u m : ℕ) (v : List ℕ) → f t ≡ put u m v → k ≡ m → ⊥
-      elsewhere z u m v e q = omega (arith, ap (weight k) e, ap (λ (x : ℕ). weight k (put u x v)) q, weight-put u k v)
+      elsewhere : weight k (f t) ≤ 0 → (u m : ℕ) (v : List ℕ) → f t ≡ putRecord u m v → k ≡ m → ⊥
+      elsewhere z u m v e q = omega (arith, ap (weight k) e, ap (λ (x : ℕ). weight k (putRecord u x v)) q, weight-put u k v)
 
       go : (x : Bool) → ltb 0 (weight k (f t)) ≡ x → live (upd f s c) n t ≡ cond (eqb (decider f n k) t) false (live f n t)
       go true l = on (says k (f t) (ltb-true 0 (weight k (f t)) l))

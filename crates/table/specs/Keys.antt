@@ -1,4 +1,4 @@
--- The keys that a map holds, as a list of which only the length counts.
+-- The keys that a map holds, as a list in any order.
 use mathlib.Core.Path.{_≡_}
 use mathlib.Core.Option.{Option, some}
 use mathlib.Core.List.{List}

@@ -3,18 +3,18 @@ use mathlib.Core.Bool.{_&&_, cond}
 use mathlib.Core.List.{List, [], _∷_}
 use Prim.Native.Nat.{ℕ, _+_}
 use lib.Dec.{eqb}
-use Rattle.layout.specs.Content.{Content, broken, empty, put, remove, Table}
+use Rattle.layout.specs.Content.{Content, broken, empty, putRecord, removeRecord, Table}
 use Rattle.prelude.specs.Filter.{filter}
 use Rattle.sorting.specs.Sorted.{sorted}
-use Rattle.prelude.specs.Members.{slots}
+use Rattle.prelude.specs.Members.{slotNumbers}
 use Rattle.table.specs.Table.{keyIn, live, spare}
 
 -- "broken slots, then empty slots, .. then the rest by rising version"
 unfoldable pub rankOf : Content → ℕ
 rankOf (broken top) = 0
 rankOf empty = 1
-rankOf (put version key value) = 2 + version
-rankOf (remove version key) = 2 + version
+rankOf (putRecord version key value) = 2 + version
+rankOf (removeRecord version key) = 2 + version
 
 -- "should versions tie, by slot number": the sort keeps the order of the slots of one rank
 unfoldable pub ordered : Table → List ℕ → List ℕ
@@ -22,11 +22,11 @@ ordered f xs = sorted (λ s. rankOf (f s)) xs
 
 -- "Recovery orders each head's chain by rising version": the live slots whose key belongs to head h; `head` gives a key's head
 unfoldable pub chainOf : Table → (n : ℕ) → (head : ℕ → ℕ) → (h : ℕ) → List ℕ
-chainOf f n head h = ordered f (filter (λ s. live f n s && eqb (head (keyIn (f s))) h) (slots n))
+chainOf f n head h = ordered f (filter (λ s. live f n s && eqb (head (keyIn (f s))) h) (slotNumbers n))
 
 -- "It orders the reuse chain": the spare slots
 unfoldable pub reuseOf : Table → (n : ℕ) → List ℕ
-reuseOf f n = ordered f (filter (spare f n) (slots n))
+reuseOf f n = ordered f (filter (spare f n) (slotNumbers n))
 
 -- the first slot of a chain that holds key k, 0 if none
 unfoldable pub firstWith : Table → (k : ℕ) → List ℕ → ℕ

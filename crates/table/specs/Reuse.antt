@@ -1,14 +1,14 @@
--- The reuse chain as a list: hidden records stand first. Document 01, "How a call writes".
+-- The reuse chain as a list: a record stands before the remove that hides it. Document 01, "Traps": "Queueing a remove record before the record it hides: the withdrawn order returns."
 use mathlib.Core.Path.{_≡_}
 use mathlib.Core.List.{List, [], _∷_}
 use Prim.Native.Nat.{ℕ, _<_}
-use Rattle.layout.specs.Content.{remove, Table}
+use Rattle.layout.specs.Content.{removeRecord, Table}
 use Rattle.prelude.specs.Members.{In}
 use Rattle.table.specs.Table.{weight, decider}
 
 -- slot x is a remove that decides its key, and slot t holds a record of that key
 pub data Hides (f : Table) (n x t : ℕ) : Type 0 where
-  hides : (w k : ℕ) → f x ≡ remove w k → decider f n k ≡ x → 0 < weight k (f t) → Hides f n x t
+  hides : (w k : ℕ) → f x ≡ removeRecord w k → decider f n k ≡ x → 0 < weight k (f t) → Hides f n x t
 
 -- no slot stands after a deciding remove that hides its record
 abbrev pub HiddenFirst : Table → (n : ℕ) → List ℕ → Type 0

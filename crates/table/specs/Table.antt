@@ -5,28 +5,28 @@ use mathlib.Core.List.{List}
 use Prim.Native.Nat.{ℕ, zero, suc, _-_}
 use lib.Dec.{eqb}
 use Rattle.prelude.specs.Range.{anyOf, greatest, topmost, count}
-use Rattle.layout.specs.Content.{Content, broken, empty, put, remove, topOf, Table}
+use Rattle.layout.specs.Content.{Content, broken, empty, putRecord, removeRecord, topOf, Table}
 
 -- does the slot's record count: is the slot valid?
 unfoldable pub isRecord : Content → Bool
 isRecord (broken top) = false
 isRecord empty = false
-isRecord (put version key value) = true
-isRecord (remove version key) = true
+isRecord (putRecord version key value) = true
+isRecord (removeRecord version key) = true
 
--- the key of a record
+-- the key of a record; 0 for any other content
 unfoldable pub keyIn : Content → ℕ
 keyIn (broken top) = 0
 keyIn empty = 0
-keyIn (put version key value) = key
-keyIn (remove version key) = key
+keyIn (putRecord version key value) = key
+keyIn (removeRecord version key) = key
 
 -- one more than the version of a record of key k; 0 for any other content
 unfoldable pub weight : (k : ℕ) → Content → ℕ
 weight k (broken top) = 0
 weight k empty = 0
-weight k (put version key value) = cond (eqb key k) (suc version) 0
-weight k (remove version key) = cond (eqb key k) (suc version) 0
+weight k (putRecord version key value) = cond (eqb key k) (suc version) 0
+weight k (removeRecord version key) = cond (eqb key k) (suc version) 0
 
 -- "The next version is one more than the highest version on any whole line of slots 1 to N, lines of broken slots included; with no line whole it is 1"
 unfoldable pub nextVersion : Table → (n : ℕ) → ℕ
@@ -40,30 +40,34 @@ decider f n k = topmost (λ s. weight k (f s)) n
 unfoldable pub valueIn : Content → Option (List ℕ)
 valueIn (broken top) = none
 valueIn empty = none
-valueIn (put version key value) = some value
-valueIn (remove version key) = none
+valueIn (putRecord version key value) = some value
+valueIn (removeRecord version key) = none
 
+-- the value in slot s; none for 0, which `decider` gives where there is none
 unfoldable pub valueAt : Table → ℕ → Option (List ℕ)
 valueAt f zero = none
 valueAt f (suc s) = valueIn (f (suc s))
 
--- the map of the slots
+-- the map of the slots: each key's value, by the slot that decides it
 unfoldable pub mapOf : Table → (n k : ℕ) → Option (List ℕ)
 mapOf f n k = valueAt f (decider f n k)
 
+-- slot s, with this content, is a put that decides its key
 unfoldable pub decidingPut : Table → (n s : ℕ) → Content → Bool
 decidingPut f n s (broken top) = false
 decidingPut f n s empty = false
-decidingPut f n s (put version key value) = eqb (decider f n key) s
-decidingPut f n s (remove version key) = false
+decidingPut f n s (putRecord version key value) = eqb (decider f n key) s
+decidingPut f n s (removeRecord version key) = false
 
 -- "Such a deciding put is live; all other slots are spare"
 unfoldable pub live : Table → (n s : ℕ) → Bool
 live f n s = decidingPut f n s (f s)
 
+-- and spare is every other slot
 unfoldable pub spare : Table → (n s : ℕ) → Bool
 spare f n s = not (live f n s)
 
+-- how many of the slots 1 to n are live
 unfoldable pub liveCount : Table → (n : ℕ) → ℕ
 liveCount f n = count (live f n) n
 

@@ -8,12 +8,12 @@ use lib.Dec.{eqb, ltb}
 use borrow.Author.Tests.{lt-ltb, le-ltb, ltb-true, ltb-false}
 use Rattle.prelude.proofs.Choice.{pick-true, pick-false}
 use Rattle.text.specs.Forms.{isDigit, areDigits, valueFrom, numberOf, isNumber, firstField, laterFields, withOne, withTwo, withNumbers, withFields, lineOf}
-use Rattle.text.specs.Parsing.{withDigit, addDigit, addByte, nextNumber, fed, endOne, endTwo, lineRead}
+use Rattle.text.specs.Parsing.{withDigit, addDigit, addByte, nextNumber, afterSpace, afterOther, fed, endOne, endTwo, lineRead}
 use Rattle.text.proofs.defs.Parsing.{fedAll}
 use Rattle.text.specs.declared.Line.{Line}
 use Rattle.text.specs.declared.Line.the-variants.{Bad}
 use Rattle.text.specs.declared.Digits.{Digits}
-use Rattle.text.specs.declared.Digits.the-variants.{Empty, Value, NotNumber}
+use Rattle.text.specs.declared.Digits.the-variants.{NoDigit, Value, NotNumber}
 use Rattle.text.specs.declared.Parse.{Parse}
 use Rattle.text.specs.declared.Parse.the-variants.{Start, Letter, First, Second, NotLine}
 
@@ -32,7 +32,7 @@ addBytes digits (byte ∷ bytes) = addBytes (addByte digits byte) bytes
 
 -- what a number says, if it is one
 abbrev onNumber : (ℕ → Line) → Digits → Line
-onNumber k Empty = Bad
+onNumber k NoDigit = Bad
 onNumber k (Value n) = k n
 onNumber k NotNumber = Bad
 
@@ -99,7 +99,7 @@ small-digit byte e = go (ltb byte 48) refl (ltb 57 byte) refl e
     go false p false q r = ltb-false 57 byte q
 
 -- a field that is read byte by byte is the number that it says
-number-read : (k : ℕ → Line) (field : List ℕ) → onNumber k (addBytes Empty field) ≡ cond (isNumber field) (k (numberOf field)) Bad
+number-read : (k : ℕ → Line) (field : List ℕ) → onNumber k (addBytes NoDigit field) ≡ cond (isNumber field) (k (numberOf field)) Bad
 unfolding isNumber numberOf areDigits valueFrom addByte addDigit
 number-read k [] = refl
 number-read k (byte ∷ bytes) =
@@ -121,7 +121,7 @@ afterSecond letter first digits (field ∷ fields) = Bad
 
 abbrev afterFirst : (letter : ℕ) → Digits → List (List ℕ) → Line
 afterFirst letter digits [] = endOne letter digits
-afterFirst letter digits (field ∷ fields) = onNumber (λ first. afterSecond letter first (addBytes Empty field) fields) digits
+afterFirst letter digits (field ∷ fields) = onNumber (λ first. afterSecond letter first (addBytes NoDigit field) fields) digits
 
 -- what the state and further bytes say
 abbrev says : Parse → List ℕ → Line
@@ -132,43 +132,43 @@ says (Second letter first digits) bytes = afterSecond letter first (addBytes dig
 says NotLine bytes = Bad
 
 never : (digits : Digits) → onNumber (λ first. Bad) digits ≡ Bad
-never Empty = refl
+never NoDigit = refl
 never (Value n) = refl
 never NotNumber = refl
 
 end-one : (letter : ℕ) (digits : Digits) → endOne letter digits ≡ onNumber (withOne letter) digits
 unfolding endOne
-end-one letter Empty = refl
+end-one letter NoDigit = refl
 end-one letter (Value n) = refl
 end-one letter NotNumber = refl
 
 end-two : (letter first : ℕ) (digits : Digits) → endTwo letter first digits ≡ onNumber (withTwo letter first) digits
 unfolding endTwo
-end-two letter first Empty = refl
+end-two letter first NoDigit = refl
 end-two letter first (Value n) = refl
 end-two letter first NotNumber = refl
 
 numbers : (letter : ℕ) (field : List ℕ) (fields : List (List ℕ))
-    → afterFirst letter (addBytes Empty field) fields ≡ withNumbers letter (field ∷ fields)
+    → afterFirst letter (addBytes NoDigit field) fields ≡ withNumbers letter (field ∷ fields)
 unfolding withNumbers
 numbers letter field [] = end-one letter _ ∙ number-read (withOne letter) field
 numbers letter field (other ∷ []) =
-    number-read (λ first. endTwo letter first (addBytes Empty other)) field
+    number-read (λ first. endTwo letter first (addBytes NoDigit other)) field
     ∙ ap (λ (x : Line). cond (isNumber field) x Bad)
     (end-two letter (numberOf field) _ ∙ number-read (withTwo letter (numberOf field)) other)
-numbers letter field (other ∷ more ∷ fields) = never (addBytes Empty field)
+numbers letter field (other ∷ more ∷ fields) = never (addBytes NoDigit field)
 
 -- a space after the first number
 second : (letter : ℕ) (digits : Digits) (bytes : List ℕ)
     → says (nextNumber letter digits) bytes ≡ afterFirst letter digits (firstField bytes ∷ laterFields bytes)
 unfolding nextNumber
-second letter Empty bytes = refl
+second letter NoDigit bytes = refl
 second letter (Value n) bytes = refl
 second letter NotNumber bytes = refl
 
 -- one byte
 moves : (parse : Parse) (byte : ℕ) (bytes : List ℕ) → says (fed parse byte) bytes ≡ says parse (byte ∷ bytes)
-unfolding fed firstField laterFields lineOf withFields
+unfolding fed afterSpace afterOther firstField laterFields lineOf withFields
 moves Start byte bytes = go (eqb byte 32)
   where
     go : (t : Bool)
@@ -179,7 +179,7 @@ moves Start byte bytes = go (eqb byte 32)
 moves (Letter letter) byte bytes = go (eqb byte 32)
   where
     go : (t : Bool)
-        → says (cond t (First letter Empty) NotLine) bytes ≡
+        → says (cond t (First letter NoDigit) NotLine) bytes ≡
         withFields (letter ∷ cond t [] (byte ∷ firstField bytes)) (cond t (firstField bytes ∷ laterFields bytes) (laterFields bytes))
     go true = numbers letter (firstField bytes) (laterFields bytes)
     go false = refl
@@ -199,7 +199,11 @@ moves (Second letter first digits) byte bytes = go (eqb byte 32)
         (cond t (firstField bytes ∷ laterFields bytes) (laterFields bytes))
     go true = refl
     go false = refl
-moves NotLine byte bytes = refl
+moves NotLine byte bytes = go (eqb byte 32)
+  where
+    go : (t : Bool) → says (cond t NotLine NotLine) bytes ≡ Bad
+    go true = refl
+    go false = refl
 
 at-end : (parse : Parse) → lineRead parse ≡ says parse []
 unfolding lineRead lineOf firstField laterFields withFields withNumbers

@@ -40,21 +40,21 @@ pub store-more : (out bytes : List ℕ) (at i : ℕ) → i < length bytes
     → written (set out (at + i) (getD bytes i 0)) (at + (i + 1)) (drop (i + 1) bytes) ≡ written out (at + i) (drop i bytes)
 unfolding written
 store-more out bytes at i h =
-    ap₂ (λ (k j : ℕ). written (set out (at + i) (getD bytes i 0)) k (drop j bytes)) place next
+    ap₂ (λ (k j : ℕ). written (set out (at + i) (getD bytes i 0)) k (drop j bytes)) position next
     ∙ ap (λ (t : List ℕ). written out (at + i) t) (sym (drop-cons bytes i 0 h))
   where
     next : i + 1 ≡ suc i
     next = omega arith
 
-    place : at + (i + 1) ≡ suc (at + i)
-    place = omega arith
+    position : at + (i + 1) ≡ suc (at + i)
+    position = omega arith
 
 pub store-all : (out old bytes : List ℕ) (at i : ℕ) → length bytes ≤ i → written out (at + i) (drop i bytes) ≡ written old at bytes
     → out ≡ written old at bytes
 unfolding written
 store-all out old bytes at i h e = ap (λ (t : List ℕ). written out (at + i) t) (sym (drop-of-length-le bytes h)) ∙ e
 
--- ---- the loop of store_digits: rest is what is left of n, and the bytes from place i on have the digits after it
+-- ---- the loop of store_digits: rest is what is left of n, and the bytes from position i on have the digits after it
 
 pub record Filling (n i rest : ℕ) (space : List ℕ) : Type 0 where
   pub low : 1 ≤ i
@@ -151,7 +151,7 @@ decimal-length : (n : ℕ) → length (decimal n) ≤ 20
 unfolding decimal
 decimal-length n = digits-length 20 n []
 
--- ---- the loop of store_line: what is stored from this place on ends the line
+-- ---- the loop of store_line: what is stored from this position on ends the line
 
 pub record Numbers (numbers old : List ℕ) (from i : ℕ) (out : List ℕ) (at : ℕ) : Type 0 where
   pub inside : i ≤ length numbers
@@ -233,12 +233,12 @@ written-front : (out : List ℕ) (at : ℕ) (bytes : List ℕ) → at + length b
 unfolding written
 written-front out at [] h = ap (λ (k : ℕ). take k out) (add-zero at) ∙ sym (append-nil (take at out))
 written-front out at (byte ∷ bytes) h =
-    ap (λ (k : ℕ). take k (written (set out at byte) (suc at) bytes)) place
+    ap (λ (k : ℕ). take k (written (set out at byte) (suc at) bytes)) position
     ∙ written-front (set out at byte) (suc at) bytes (omega (arith, length-set out at byte))
     ∙ ap (λ (t : List ℕ). t ++ bytes) (take-suc-set out at byte (omega arith)) ∙ append-assoc (take at out) (byte ∷ []) bytes
   where
-    place : at + suc (length bytes) ≡ suc at + length bytes
-    place = omega arith
+    position : at + suc (length bytes) ≡ suc at + length bytes
+    position = omega arith
 
 module _ (p : Printed) (out : List ℕ) (at : ℕ) where
   pub render-length : length (renderResult p out at .output) ≡ length out

@@ -1,4 +1,4 @@
--- The forms of a line. Document 01, "The trial session": "lines of decimal numbers with one space between", each after a letter.
+-- The forms of a line. Document 01, "The trial session": "lines of decimal numbers with one space between", after a letter.
 use mathlib.Core.Bool.{Bool, true, false, cond}
 use mathlib.Core.List.{List, [], _∷_}
 use Prim.Native.Nat.{ℕ, _+_, _-_, _*_, _^_}
@@ -12,6 +12,7 @@ use Rattle.text.specs.declared.Line.the-variants.{New, Put, Remove, Get,
 unfoldable pub isDigit : ℕ → Bool
 isDigit byte = cond (ltb byte 48) false (cond (ltb 57 byte) false true)
 
+-- is every byte a digit?
 unfoldable pub areDigits : List ℕ → Bool
 areDigits [] = true
 areDigits (byte ∷ bytes) = cond (isDigit byte) (areDigits bytes) false
@@ -21,6 +22,7 @@ unfoldable pub valueFrom : (n : ℕ) → List ℕ → ℕ
 valueFrom n [] = n
 valueFrom n (byte ∷ bytes) = valueFrom (10 * n + (byte - 48)) bytes
 
+-- the number that these digits write
 unfoldable pub numberOf : List ℕ → ℕ
 numberOf bytes = valueFrom 0 bytes
 
@@ -49,14 +51,14 @@ withOne letter n = cond (eqb letter 110) (New n) (cond (eqb letter 114) (Remove 
 unfoldable pub withTwo : (letter first second : ℕ) → Line
 withTwo letter first second = cond (eqb letter 112) (Put first second) (cond (eqb letter 99) (Cut first second) Bad)
 
--- the letter's numbers
+-- a letter and the fields after it, which are one or two numbers
 unfoldable pub withNumbers : (letter : ℕ) → List (List ℕ) → Line
 withNumbers letter [] = Bad
 withNumbers letter (a ∷ []) = cond (isNumber a) (withOne letter (numberOf a)) Bad
 withNumbers letter (a ∷ b ∷ []) = cond (isNumber a) (cond (isNumber b) (withTwo letter (numberOf a) (numberOf b)) Bad) Bad
 withNumbers letter (a ∷ b ∷ field ∷ fields) = Bad
 
--- the first field is the letter
+-- the first field is one byte, the letter
 unfoldable pub withFields : List ℕ → List (List ℕ) → Line
 withFields [] fields = Bad
 withFields (letter ∷ []) fields = withNumbers letter fields

@@ -15,12 +15,12 @@ pub data Printed : Type 0 where
 
 -- ---- as bytes
 
--- the decimal digits of n, and after them the bytes `rest`: of a number below 10, its one digit; of another, the digits of its tenth and its last one
+-- the decimal digits of n, at most `places`, and after them the bytes `rest`: of a number below 10, its one digit; of another, the digits of its tenth and its last one
 unfoldable pub digitsOnto : (places n : ℕ) → (rest : List ℕ) → List ℕ
 digitsOnto zero n rest = rest
 digitsOnto (suc places) n rest = cond (ltb n 10) ((48 + n) ∷ rest) (digitsOnto places (n / 10) ((48 + n % 10) ∷ rest))
 
--- a number below 2^64 has at most 20 places
+-- the decimal digits of n; a number below 2^64 has at most 20
 unfoldable pub decimal : (n : ℕ) → List ℕ
 decimal n = digitsOnto 20 n []
 
@@ -39,7 +39,7 @@ text (no number) = (110 ∷ 111 ∷ []) ++ numbersText (number ∷ [])
 
 -- ---- in the lent output
 
--- out with these bytes from place at on
+-- out with these bytes from position at on
 unfoldable pub written : (out : List ℕ) → (at : ℕ) → List ℕ → List ℕ
 written out at [] = out
 written out at (byte ∷ bytes) = written (set out at byte) (suc at) bytes
@@ -49,10 +49,11 @@ pub record Rendered : Type 0 where
   pub end : ℕ
   pub output : List ℕ
 
+-- what a call left that returned this end
 abbrev pub renderEnd : (end : ℕ) → (output : List ℕ) → Rendered
 renderEnd end output = record { end = end; output = output }
 
--- the line from place at on; nothing where fewer than 64 bytes are left there
+-- the line from position at on; nothing where fewer than 64 bytes are left there
 unfoldable pub renderResult : Printed → (out : List ℕ) → (at : ℕ) → Rendered
 renderResult p out at =
     cond (ltb (length out) (at + 64)) (renderEnd at out) (renderEnd (at + length (text p)) (written out at (text p)))

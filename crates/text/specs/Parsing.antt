@@ -6,7 +6,7 @@ use Rattle.text.specs.Forms.{isDigit, withOne, withTwo}
 use Rattle.text.specs.declared.Line.{Line}
 use Rattle.text.specs.declared.Line.the-variants.{Bad}
 use Rattle.text.specs.declared.Digits.{Digits}
-use Rattle.text.specs.declared.Digits.the-variants.{Empty, Value, NotNumber}
+use Rattle.text.specs.declared.Digits.the-variants.{NoDigit, Value, NotNumber}
 use Rattle.text.specs.declared.Parse.{Parse}
 use Rattle.text.specs.declared.Parse.the-variants.{Start, Letter, First, Second, NotLine}
 
@@ -14,8 +14,9 @@ use Rattle.text.specs.declared.Parse.the-variants.{Start, Letter, First,
 unfoldable pub withDigit : (n digit : ℕ) → Digits
 withDigit n digit = cond (ltb (10 * n + digit) (2 ^ 64)) (Value (10 * n + digit)) NotNumber
 
+-- one more digit; the first one is a number by itself
 unfoldable pub addDigit : Digits → (digit : ℕ) → Digits
-addDigit Empty digit = Value digit
+addDigit NoDigit digit = Value digit
 addDigit (Value n) digit = withDigit n digit
 addDigit NotNumber digit = NotNumber
 
@@ -25,25 +26,39 @@ addByte digits byte = cond (isDigit byte) (addDigit digits (byte - 48)) NotNumbe
 
 -- a space after the first number
 unfoldable pub nextNumber : (letter : ℕ) → Digits → Parse
-nextNumber letter Empty = NotLine
-nextNumber letter (Value first) = Second letter first Empty
+nextNumber letter NoDigit = NotLine
+nextNumber letter (Value first) = Second letter first NoDigit
 nextNumber letter NotNumber = NotLine
+
+-- a space comes next
+unfoldable pub afterSpace : Parse → Parse
+afterSpace Start = NotLine
+afterSpace (Letter letter) = First letter NoDigit
+afterSpace (First letter digits) = nextNumber letter digits
+afterSpace (Second letter first digits) = NotLine
+afterSpace NotLine = NotLine
+
+-- a byte comes next that is no space
+unfoldable pub afterOther : Parse → (byte : ℕ) → Parse
+afterOther Start byte = Letter byte
+afterOther (Letter letter) byte = NotLine
+afterOther (First letter digits) byte = First letter (addByte digits byte)
+afterOther (Second letter first digits) byte = Second letter first (addByte digits byte)
+afterOther NotLine byte = NotLine
 
 -- one more byte of the line
 unfoldable pub fed : Parse → (byte : ℕ) → Parse
-fed Start byte = cond (eqb byte 32) NotLine (Letter byte)
-fed (Letter letter) byte = cond (eqb byte 32) (First letter Empty) NotLine
-fed (First letter digits) byte = cond (eqb byte 32) (nextNumber letter digits) (First letter (addByte digits byte))
-fed (Second letter first digits) byte = cond (eqb byte 32) NotLine (Second letter first (addByte digits byte))
-fed NotLine byte = NotLine
+fed parse byte = cond (eqb byte 32) (afterSpace parse) (afterOther parse byte)
 
+-- the line ends after its first number
 unfoldable pub endOne : (letter : ℕ) → Digits → Line
-endOne letter Empty = Bad
+endOne letter NoDigit = Bad
 endOne letter (Value n) = withOne letter n
 endOne letter NotNumber = Bad
 
+-- the line ends after its second number
 unfoldable pub endTwo : (letter first : ℕ) → Digits → Line
-endTwo letter first Empty = Bad
+endTwo letter first NoDigit = Bad
 endTwo letter first (Value second) = withTwo letter first second
 endTwo letter first NotNumber = Bad
 

@@ -12,7 +12,7 @@ pub enum Line {
 
 // The part of a number that was read: no digit yet, the value of its digits, or no number below 2^64.
 pub enum Digits {
-    Empty,
+    NoDigit,
     Value(u64),
     NotNumber,
 }

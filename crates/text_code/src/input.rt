@@ -2,7 +2,7 @@
 ghost use mathlib.Core.Path.{_≡_};
 ghost use Prim.Native.Nat.{_<_};
 ghost use Rattle.text.specs.Forms.{withOne, withTwo};
-ghost use Rattle.text.specs.Parsing.{addByte, addDigit, nextNumber, fed, endOne, endTwo, lineRead, withDigit as appendedTo};
+ghost use Rattle.text.specs.Parsing.{addByte, addDigit, nextNumber, afterSpace, afterOther, fed, endOne, endTwo, lineRead, withDigit as appendedTo};
 use text::Digits;
 use text::Line;
 use text::Parse;
@@ -24,7 +24,7 @@ fn add_digit(digits: Digits, digit: u64) -> Digits
     ensures { λ r. ⌜ r ≡ addDigit digits digit ⌝ }
 {
     match digits {
-        Digits::Empty => Digits::Value(digit),
+        Digits::NoDigit => Digits::Value(digit),
         Digits::Value(n) => appended(n, digit),
         Digits::NotNumber => Digits::NotNumber,
     }
@@ -48,13 +48,57 @@ fn next_number(letter: u8, digits: Digits) -> Parse
     ensures { λ r. ⌜ r ≡ nextNumber letter digits ⌝ }
 {
     match digits {
-        Digits::Empty => Parse::NotLine,
+        Digits::NoDigit => Parse::NotLine,
         Digits::Value(first) => Parse::Second {
             letter,
             first,
-            digits: Digits::Empty,
+            digits: Digits::NoDigit,
         },
         Digits::NotNumber => Parse::NotLine,
+    }
+}
+
+// A space comes next.
+fn after_space(parse: Parse) -> Parse
+    ensures { λ r. ⌜ r ≡ afterSpace parse ⌝ }
+{
+    match parse {
+        Parse::Start => Parse::NotLine,
+        Parse::Letter(letter) => Parse::First {
+            letter,
+            digits: Digits::NoDigit,
+        },
+        Parse::First { letter, digits } => next_number(letter, digits),
+        Parse::Second {
+            letter: _,
+            first: _,
+            digits: _,
+        } => Parse::NotLine,
+        Parse::NotLine => Parse::NotLine,
+    }
+}
+
+// A byte comes next that is no space.
+fn after_other(parse: Parse, byte: u8) -> Parse
+    ensures { λ r. ⌜ r ≡ afterOther parse byte ⌝ }
+{
+    match parse {
+        Parse::Start => Parse::Letter(byte),
+        Parse::Letter(_) => Parse::NotLine,
+        Parse::First { letter, digits } => Parse::First {
+            letter,
+            digits: add_byte(digits, byte),
+        },
+        Parse::Second {
+            letter,
+            first,
+            digits,
+        } => Parse::Second {
+            letter,
+            first,
+            digits: add_byte(digits, byte),
+        },
+        Parse::NotLine => Parse::NotLine,
     }
 }
 
@@ -62,51 +106,10 @@ fn next_number(letter: u8, digits: Digits) -> Parse
 pub fn feed(parse: Parse, byte: u8) -> Parse
     ensures { λ r. ⌜ r ≡ fed parse byte ⌝ }
 {
-    match parse {
-        Parse::Start => {
-            if byte == 32 {
-                Parse::NotLine
-            } else {
-                Parse::Letter(byte)
-            }
-        }
-        Parse::Letter(letter) => {
-            if byte == 32 {
-                Parse::First {
-                    letter,
-                    digits: Digits::Empty,
-                }
-            } else {
-                Parse::NotLine
-            }
-        }
-        Parse::First { letter, digits } => {
-            if byte == 32 {
-                next_number(letter, digits)
-            } else {
-                Parse::First {
-                    letter,
-                    digits: add_byte(digits, byte),
-                }
-            }
-        }
-        Parse::Second {
-            letter,
-            first,
-            digits,
-        } => {
-            if byte == 32 {
-                Parse::NotLine
-            } else {
-                Parse::Second {
-                    letter,
-                    first,
-                    digits: add_byte(digits, byte),
-                }
-            }
-        }
-        Parse::NotLine => Parse::NotLine,
+    if byte == 32 {
+        return after_space(parse);
     }
+    after_other(parse, byte)
 }
 
 // The line of a letter and one number.
@@ -149,7 +152,7 @@ fn end_one(letter: u8, digits: Digits) -> Line
     ensures { λ r. ⌜ r ≡ endOne letter digits ⌝ }
 {
     match digits {
-        Digits::Empty => Line::Bad,
+        Digits::NoDigit => Line::Bad,
         Digits::Value(n) => with_one(letter, n),
         Digits::NotNumber => Line::Bad,
     }
@@ -160,7 +163,7 @@ fn end_two(letter: u8, first: u64, digits: Digits) -> Line
     ensures { λ r. ⌜ r ≡ endTwo letter first digits ⌝ }
 {
     match digits {
-        Digits::Empty => Line::Bad,
+        Digits::NoDigit => Line::Bad,
         Digits::Value(n) => with_two(letter, first, n),
         Digits::NotNumber => Line::Bad,
     }

@@ -7,7 +7,7 @@ ghost use Rattle.text.specs.Output.{text, decimal, numbersText, written, render
 ghost use Rattle.text.specs.inner.Output.{replySays, Wrote};
 use text::Reply;
 
-// The bytes are stored from place at on.
+// The bytes are stored from position at on.
 fn store_bytes(out: &mut [u8], at: usize, bytes: &[u8])
     requires { ⌜ at + length (now bytes) ≤ length (now out) ⌝ }
     ensures { λ _. ⌜ now (out .exit) ≡ written (now (out .entry)) at (now (bytes .entry)) ⌝ }
@@ -95,7 +95,7 @@ fn store_reply(reply: Reply, out: &mut [u8], at: usize) -> usize
     }
 }
 
-// The answer's line is stored from place at on: the place after it. Where fewer than 64 bytes are left, nothing is stored.
+// The answer's line is stored from position at on: the position after it. Where fewer than 64 bytes are left, nothing is stored.
 pub fn render(reply: Reply, out: &mut [u8], at: usize) -> usize
     ensures { λ r. ⌜ renderEnd r (now (out .exit)) ≡ renderResult (replySays reply) (now (out .entry)) at ⌝ }
 {

@@ -1,7 +1,7 @@
 // Calls put, get and remove on an image of two slots that is written out byte by byte, with its own index and with damaged ones, and prints
 // every answer, state, store and index.
-use index::State;
 use orderset::Change;
+use orderset::State;
 use orderset::get;
 use orderset::play;
 use orderset::put;

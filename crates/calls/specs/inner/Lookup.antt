@@ -1,32 +1,42 @@
--- What a call reads before it writes: its refusal and what following the key's chain found; and what its writes need.
+-- What a call reads before it writes: its refusal, or what following the key's chain found; and what its writes need.
 use mathlib.Core.Path.{_≡_}
 use mathlib.Core.List.{List}
-use Prim.Native.Nat.{ℕ, _+_, _*_, _^_, _≤_, _<_}
+use Prim.Native.Nat.{ℕ, _+_, _*_, _≤_, _<_}
 use lib.ListN.{length}
+use Rattle.words.specs.Word.{word}
 use Rattle.prelude.specs.Refusal.{unlessRefused}
 use Rattle.layout.specs.Record.{limit}
 use Rattle.layout.specs.Header.{lentFault}
-use Rattle.index.specs.Index.{indexOf, headOf}
-use Rattle.index.specs.Walk.{search, chainFault}
-use Rattle.index.specs.Change.{putNew, putHeld}
-use Rattle.index.specs.inner.Parts.{WritesInside, PartsOf}
+use Rattle.layout.specs.inner.Inside.{SlotInside}
+use Rattle.stores.specs.Store.{zipped}
+use Rattle.stores.specs.Written.{recordStores}
+use Rattle.index.specs.Index.{headOf}
+use Rattle.index.specs.Walk.{search}
+use Rattle.index.specs.inner.Parts.{WritesInside}
 use Rattle.index.specs.declared.State.{State}
 use Rattle.index.specs.declared.Found.{Found}
 use Rattle.index.specs.declared.Found.the-variants.{At, Missing, BadChain}
 use Rattle.calls.specs.Change.{putLentFault, putFault, removeFault}
 use Rattle.calls.specs.Get.{slotLength, getFault}
+use Rattle.calls.specs.declared.Change.{Change}
+use Rattle.calls.specs.declared.Outcome.the-variants.{Stored}
 use Rattle.calls.specs.declared.Lookup.{Lookup}
+use Rattle.calls.specs.declared.Lookup.the-variants.{Refused, Held, NotHeld}
 
--- what following the key's chain found, for a call whose refusal before it is `lent`, 0 for none: a call refused there finds nothing
-unfoldable pub foundAfter : (lent : ℕ) → Found → Found
-foundAfter lent found = unlessRefused lent found BadChain
+-- the lookup of a call by what following the key's chain found: `fault` is the call's refusal, 0 for none, and not 0 for a bad chain
+unfoldable pub lookupBy : (fault : ℕ) → Found → Lookup
+lookupBy fault (At slot prev compared) = unlessRefused fault (Held slot prev compared) (Refused fault compared)
+lookupBy fault (Missing prev compared) = unlessRefused fault (NotHeld prev compared) (Refused fault compared)
+lookupBy fault BadChain = Refused fault 0
 
--- r is the lookup of a call that is refused with `fault`, 0 for none: with `lent` before its chain is followed, or after the search found `found`.
--- Where nothing refuses the call, its writes have what they need
-pub record LooksUp (fault lent : ℕ) (found : Found) (Ready : Found → Type 0) (r : Lookup) : Type 0 where
-  pub fault-is : r .fault ≡ fault
-  pub found-is : r .found ≡ foundAfter lent found
-  pub ready : r .fault ≡ 0 → Ready (r .found)
+-- and by `lent` too, the refusal before the chain is followed: no slot is compared then
+unfoldable pub lookupOf : (fault lent : ℕ) → Found → Lookup
+lookupOf fault lent found = unlessRefused lent (lookupBy fault found) (Refused fault 0)
+
+-- r is that lookup, and the writes that it leads to have what they need
+pub record LooksUp (fault lent : ℕ) (found : Found) (Ready : Lookup → Type 0) (r : Lookup) : Type 0 where
+  pub is : r ≡ lookupOf fault lent found
+  pub ready : Ready r
 
 -- ---- put and remove
 
@@ -36,35 +46,18 @@ pub record Writable (image heads next : List ℕ) (s : State) (key prev old : �
   pub slot-fits : s .first < 65536
   pub slot-in : 128 * (s .first + 1) ≤ length image
 
--- the links that a put makes, by what the key's chain has, lie inside the index; h is the key's head
-abbrev pub Linkable : (heads next : List ℕ) → State → (h : ℕ) → Found → Type 0
-Linkable heads next s h (At old prev compared) = WritesInside heads next s h prev old
-Linkable heads next s h (Missing prev compared) = WritesInside heads next s h prev prev × (s .live < 65535)
-Linkable heads next s h BadChain = Unit
-
--- heads′, next′ and r are the index with these links; a bad chain leaves it as it is
-abbrev pub PutLinked : (heads next : List ℕ) → State → (h : ℕ) → Found → (heads′ next′ : List ℕ) → State → Type 0
-PutLinked heads next s h (At old prev compared) heads′ next′ r =
-    PartsOf heads′ next′ r (putHeld (indexOf heads next s) h prev old) (s .live) (s .version + 1)
-PutLinked heads next s h (Missing prev compared) heads′ next′ r =
-    PartsOf heads′ next′ r (putNew (indexOf heads next s) h prev) (s .live + 1) (s .version + 1)
-PutLinked heads next s h BadChain heads′ next′ r = PartsOf heads′ next′ r (indexOf heads next s) (s .live) (s .version)
-
 -- a put can be carried out; size is the value's length
-pub record PutReady (l : ℕ) (image heads next : List ℕ) (s : State) (key size : ℕ) (found : Found) : Type 0 where
-  pub whole : chainFault found ≡ 0
-  pub some-head : 0 < length heads
-  pub links : Linkable heads next s (headOf key (length heads)) found
-  pub version-fits : s .version < 2 ^ 63
-  pub size-fits : size ≤ limit l
-  pub slot-fits : s .first < 65536
-  pub slot-in : 128 * (s .first + 1) ≤ length image
+abbrev pub PutReady : (l : ℕ) → (image heads next : List ℕ) → State → (key size : ℕ) → Lookup → Type 0
+PutReady l image heads next s key size (Refused number compared) = Unit
+PutReady l image heads next s key size (Held old prev compared) = Writable image heads next s key prev old × (size ≤ limit l)
+PutReady l image heads next s key size (NotHeld prev compared) =
+    Writable image heads next s key prev prev × (size ≤ limit l) × (s .live < 65535)
 
 -- and so can a remove
-abbrev pub RemoveReady : (image heads next : List ℕ) → State → (key : ℕ) → Found → Type 0
-RemoveReady image heads next s key (At old prev compared) = Writable image heads next s key prev old × (0 < s .live)
-RemoveReady image heads next s key (Missing prev compared) = Unit
-RemoveReady image heads next s key BadChain = Unit
+abbrev pub RemoveReady : (image heads next : List ℕ) → State → (key : ℕ) → Lookup → Type 0
+RemoveReady image heads next s key (Refused number compared) = Unit
+RemoveReady image heads next s key (Held old prev compared) = Writable image heads next s key prev old × (0 < s .live)
+RemoveReady image heads next s key (NotHeld prev compared) = Unit
 
 -- what the lookups of put and remove answer
 abbrev pub PutLookup : (l : ℕ) → (image heads next : List ℕ) → State → (key size : ℕ) → Lookup → Type 0
@@ -77,21 +70,28 @@ RemoveLookup l image heads next s key r =
     LooksUp (removeFault l image heads next s key) (lentFault l image (length heads) (length next))
     (search l image heads next key) (RemoveReady image heads next s key) r
 
+-- a record of this kind goes into the first reuse slot of state s: the answer, the state after it and the stores
+pub record StoredBy (l : ℕ) (image : List ℕ) (s : State) (key kind : ℕ) (value : List ℕ) (after : State) (r : Change) : Type 0 where
+  pub outcome-is : r .outcome ≡ Stored (s .first) (s .version)
+  pub state-is : r .state ≡ after
+  pub stores-are : zipped (r .stores .at) (r .stores .value) ≡ recordStores l (word image) (s .first) key kind value (s .version)
+
 -- ---- get
 
 -- the slot that was found is inside the image
-abbrev pub FoundInside : (image : List ℕ) → Found → Type 0
-FoundInside image (At slot prev compared) = 128 * (slot + 1) ≤ length image
-FoundInside image (Missing prev compared) = Unit
-FoundInside image BadChain = Unit
+abbrev pub FoundInside : (l : ℕ) → (image : List ℕ) → Found → Type 0
+FoundInside l image (At slot prev compared) = SlotInside image l slot
+FoundInside l image (Missing prev compared) = Unit
+FoundInside l image BadChain = Unit
 
--- and its value fits an output of this size
-abbrev pub GetReady : (l : ℕ) → (image : List ℕ) → (size : ℕ) → Found → Type 0
-GetReady l image size (At slot prev compared) =
-    (128 * (slot + 1) ≤ length image) × (slotLength l image slot ≤ limit l) × (slotLength l image slot ≤ size)
-GetReady l image size (Missing prev compared) = Unit
-GetReady l image size BadChain = Unit
+-- the slot of a held key is inside the image, and its value fits an output of this size
+abbrev pub GetReady : (l : ℕ) → (image : List ℕ) → (size : ℕ) → Lookup → Type 0
+GetReady l image size (Refused number compared) = Unit
+GetReady l image size (Held slot prev compared) =
+    SlotInside image l slot × (slotLength l image slot ≤ limit l) × (slotLength l image slot ≤ size)
+GetReady l image size (NotHeld prev compared) = Unit
 
+-- what the lookup of get answers
 abbrev pub GetLookup : (l : ℕ) → (image heads next : List ℕ) → (key size : ℕ) → Lookup → Type 0
 GetLookup l image heads next key size r =
     LooksUp (getFault l image heads next key size) (lentFault l image (length heads) (length next))

@@ -24,14 +24,17 @@ pub record PartsOf (heads next : List ℕ) (r : State) (i : Index) (live version
   pub live-count : r .live ≡ live
   pub next-version : r .version ≡ version
 
--- ---- what link, takeFirst and append make of the parts
+-- ---- what `link`, `takeFirst` and `append` make of the parts
 
+-- the heads after a link in the chain of head h: where prev is 0 the link is the head
 unfoldable pub linkHeads : (heads : List ℕ) → (h prev slot : ℕ) → List ℕ
 linkHeads heads h prev slot = cond (eqb prev 0) (set heads h slot) heads
 
+-- and next: any other link is the next of prev
 unfoldable pub linkNext : (next : List ℕ) → (prev slot : ℕ) → List ℕ
 linkNext next prev slot = cond (eqb prev 0) next (set next prev slot)
 
+-- the state after the first reuse slot was taken; heads and next stay
 unfoldable pub takeState : (next : List ℕ) → State → State
 takeState next s =
     record {
@@ -41,9 +44,11 @@ takeState next s =
       version = s .version;
     }
 
+-- next after a slot was appended to the reuse chain
 unfoldable pub appendNext : (next : List ℕ) → State → ℕ → List ℕ
 appendNext next s slot = linkNext (set next slot 0) (s .last) slot
 
+-- and the state; heads stay
 unfoldable pub appendState : State → ℕ → State
 appendState s slot =
     record { first = cond (eqb (s .last) 0) slot (s .first); last = slot; live = s .live; version = s .version }

@@ -7,7 +7,7 @@ use Rattle.layout.specs.Size.{slotsIn}
 
 -- the image has n slots and the index the size for them
 pub record Sized (image heads next : List ℕ) (n : ℕ) : Type 0 where
-  pub slots : slotsIn image ≡ n
+  pub slot-count : slotsIn image ≡ n
   pub image-size : length image ≡ 128 * (n + 1)
   pub next-size : length next ≡ n + 1
   pub some-head : 1 ≤ length heads

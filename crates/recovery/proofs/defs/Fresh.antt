@@ -3,7 +3,7 @@ use mathlib.Core.Path.{_≡_}
 use mathlib.Core.Bool.{false}
 use mathlib.Core.List.{[]}
 use Prim.Native.Nat.{ℕ}
-use Rattle.prelude.specs.Members.{slots}
+use Rattle.prelude.specs.Members.{slotNumbers}
 use Rattle.layout.specs.Content.{Table}
 use Rattle.table.specs.Table.{liveCount, nextVersion, sharedVersion, allLive}
 use Rattle.table.specs.Order.{chainOf, reuseOf}
@@ -12,7 +12,7 @@ use Rattle.table.specs.Order.{chainOf, reuseOf}
 pub record Fresh (f : Table) (n : ℕ) : Type 0 where
   pub live-count : liveCount f n ≡ 0
   pub next-version : nextVersion f n ≡ 1
-  pub all-spare : reuseOf f n ≡ slots n
+  pub all-spare : reuseOf f n ≡ slotNumbers n
   pub no-chain : (head : ℕ → ℕ) (h : ℕ) → chainOf f n head h ≡ []
   pub none-shared : sharedVersion f n ≡ false
   pub some-room : allLive f n ≡ false

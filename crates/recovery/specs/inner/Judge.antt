@@ -2,17 +2,18 @@
 use mathlib.Core.Path.{_≡_}
 use mathlib.Core.Bool.{Bool, cond}
 use mathlib.Core.List.{List}
-use Prim.Native.Nat.{ℕ, suc, _+_, _*_, _^_, _≤_, _<_}
+use Prim.Native.Nat.{ℕ, suc, _+_, _-_, _*_, _^_, _≤_, _<_}
 use lib.Dec.{eqb}
 use lib.ListN.{length, getD, replicate}
 use Rattle.prelude.specs.Refusal.{say}
 use Rattle.layout.specs.Content.{content, Table}
 use Rattle.layout.specs.Header.{lentFault}
+use Rattle.layout.specs.Record.{Layout}
 use Rattle.layout.specs.inner.Sized.{Sized}
 use Rattle.index.specs.inner.Parts.{PartsOf}
 use Rattle.index.specs.inner.Build.{build, placeIn, unbuilt}
 use Rattle.index.specs.declared.State.{State}
-use Rattle.prelude.specs.Members.{slots}
+use Rattle.prelude.specs.Members.{slotNumbers}
 use Rattle.table.specs.Table.{liveCount, nextVersion}
 use Rattle.table.specs.Order.{ordered}
 use Rattle.recovery.specs.Recover.{slotsFault}
@@ -21,11 +22,13 @@ use Rattle.recovery.specs.declared.Judged.{Judged}
 use Rattle.recovery.specs.declared.Recovered.{Recovered}
 use Rattle.recovery.specs.declared.Recovered.the-variants.{Rebuilt, Refused}
 
--- the image has n slots, there are b heads, and the scratch lists have their sizes
-pub record Judgeable (image ranks keys places order by-key scratch : List ℕ) (n b : ℕ) : Type 0 where
+-- the image has n slots, there are b heads, and the scratch lists have their sizes: in layout 1 highs has no entry
+pub record Judgeable (image : List ℕ) (l : ℕ) (ranks lows highs places order by-key scratch : List ℕ) (n b : ℕ) : Type 0 where
+  pub layout : Layout l
   pub image-size : length image ≡ 128 * (n + 1)
   pub ranks-size : length ranks ≡ n + 1
-  pub keys-size : length keys ≡ n + 1
+  pub lows-size : length lows ≡ n + 1
+  pub highs-size : length highs ≡ (l - 1) * (n + 1)
   pub places-size : length places ≡ n + 1
   pub order-size : length order ≡ n
   pub by-key-size : length by-key ≡ n
@@ -36,16 +39,18 @@ pub record Judgeable (image ranks keys places order by-key scratch : List ℕ) (
   pub heads-high : b ≤ 65536
 
 -- what is lent has no fault of 1 to 4, and the image has n slots
-pub record Ready (image heads next : List ℕ) (n : ℕ) : Type 0 where
-  pub lent : lentFault 1 image (length heads) (length next) ≡ 0
+pub record Ready (image : List ℕ) (l : ℕ) (heads next : List ℕ) (n : ℕ) : Type 0 where
+  pub layout : Layout l
+  pub lent : lentFault l image (length heads) (length next) ≡ 0
   pub sized : Sized image heads next n
   pub heads-high : length heads ≤ 65536
   pub some-slots : 1 ≤ n
 
 -- each scratch list has more than n entries
-pub record Roomy (ranks keys places order by-key scratch : List ℕ) (n : ℕ) : Type 0 where
+pub record Roomy (ranks lows highs places order by-key scratch : List ℕ) (n : ℕ) : Type 0 where
   pub ranks-room : n < length ranks
-  pub keys-room : n < length keys
+  pub lows-room : n < length lows
+  pub highs-room : n < length highs
   pub places-room : n < length places
   pub order-room : n < length order
   pub by-key-room : n < length by-key
@@ -57,16 +62,16 @@ foundFault mark fault shared live n = say mark 5 (say fault 6 (say shared 7 (say
 
 -- of an accepted table f: the order of all slots, the chain of each as a number, the live count and the highest version
 pub record Arranged (f : Table) (n b : ℕ) (order places : List ℕ) (live top : ℕ) : Type 0 where
-  pub order-is : order ≡ ordered f (slots n)
+  pub order-is : order ≡ ordered f (slotNumbers n)
   pub place-is : (s : ℕ) → 0 < s → s ≤ n → getD places s 0 ≡ livePlace f n b s
   pub live-is : live ≡ liveCount f n
   pub top-is : suc top ≡ nextVersion f n
   pub top-fits : top < 2 ^ 63
 
 -- what judging answers: the refusal, and of an accepted image the arranged slots
-pub record Judgement (m : ℕ → ℕ) (n b : ℕ) (order places : List ℕ) (r : Judged) : Type 0 where
-  pub fault-is : r .fault ≡ slotsFault 1 m n
-  pub arranged : r .fault ≡ 0 → Arranged (content 1 m) n b order places (r .live) (r .top)
+pub record Judgement (l : ℕ) (m : ℕ → ℕ) (n b : ℕ) (order places : List ℕ) (r : Judged) : Type 0 where
+  pub fault-is : r .fault ≡ slotsFault l m n
+  pub arranged : r .fault ≡ 0 → Arranged (content l m) n b order places (r .live) (r .top)
 
 -- what is left of the lent heads and next: the chains of the order and the state r beside them, or with a refusal what was lent
 pub record Left (fault : ℕ) (heads next order places : List ℕ) (live top : ℕ) (heads′ next′ : List ℕ) (r : State) : Type 0 where

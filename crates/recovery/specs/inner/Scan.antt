@@ -1,15 +1,16 @@
--- What recovery's scan of the slots keeps: one rank, key and place for each slot, and what all slots together say.
+-- What recovery's scan of the slots keeps: rank, key and place of each slot, and what all slots together say. A key is kept as its low and its high word.
 use mathlib.Core.Path.{_≡_}
 use mathlib.Core.Bool.{Bool, cond}
 use mathlib.Core.List.{List}
-use Prim.Native.Nat.{ℕ, _+_, _*_, _≤_, _<_}
+use Prim.Native.Nat.{ℕ, _+_, _-_, _*_, _≤_, _<_}
 use lib.Dec.{eqb}
 use lib.ListN.{length, getD}
 use Rattle.prelude.specs.Range.{anyOf, greatest}
 use Rattle.layout.specs.Line.{lineA, lineB}
-use Rattle.layout.specs.Record.{keyOf, kindOf}
-use Rattle.layout.specs.Content.{Content, broken, empty, put, remove, content, topOf, Table}
+use Rattle.layout.specs.Record.{Layout, keyOf, kindOf}
+use Rattle.layout.specs.Content.{Content, broken, empty, putRecord, removeRecord, content, topOf, Table}
 use Rattle.layout.specs.Fault.{markFault, faultOf, recordFault}
+use Rattle.layout.specs.inner.Key.{keyWith, highWord}
 use Rattle.table.specs.Table.{keyIn}
 use Rattle.table.specs.Order.{rankOf}
 use Rattle.index.specs.Index.{headOf}
@@ -20,49 +21,58 @@ use Rattle.recovery.specs.declared.Scan.{Scan}
 unfoldable pub putPlace : (b : ℕ) → Content → ℕ
 putPlace b (broken top) = 0
 putPlace b empty = 0
-putPlace b (put version key value) = headOf key b + 1
-putPlace b (remove version key) = 0
+putPlace b (putRecord version key value) = headOf key b + 1
+putPlace b (removeRecord version key) = 0
 
--- the image has n slots, the three lists an entry for each slot and entry 0, and there are b heads
-pub record Scannable (image ranks keys places : List ℕ) (n b : ℕ) : Type 0 where
+-- the image has n slots, the lists an entry for each slot and entry 0, but in layout 1 highs has none, and there are b heads
+pub record Scannable (image : List ℕ) (l : ℕ) (ranks lows highs places : List ℕ) (n b : ℕ) : Type 0 where
+  pub layout : Layout l
   pub image-size : length image ≡ 128 * (n + 1)
   pub ranks-size : length ranks ≡ n + 1
-  pub keys-size : length keys ≡ n + 1
+  pub lows-size : length lows ≡ n + 1
+  pub highs-size : length highs ≡ (l - 1) * (n + 1)
   pub places-size : length places ≡ n + 1
   pub few : n ≤ 65535
   pub heads-low : 1 ≤ b
   pub heads-high : b ≤ 65536
 
 -- what is kept of a valid slot of this version, and whether a mark of it is bad
-unfoldable pub validSummary : (m : ℕ → ℕ) → (s b version : ℕ) → (mark : Bool) → Summary
-validSummary m s b version mark =
+unfoldable pub validSummary : (l : ℕ) → (m : ℕ → ℕ) → (s b version : ℕ) → (mark : Bool) → Summary
+validSummary l m s b version mark =
     record {
       rank = 2 + version;
-      key = keyOf 1 (lineA m s);
-      place = cond (eqb (kindOf (lineA m s 2)) 2) 0 (headOf (keyOf 1 (lineA m s)) b + 1);
+      low = lineA m s 1;
+      high = highWord l (lineA m s);
+      place = cond (eqb (kindOf (lineA m s (l + 1))) 2) 0 (headOf (keyOf l (lineA m s)) b + 1);
       top = version;
       mark = mark;
-      fault = faultOf 1 (lineA m s) (lineB m s);
+      fault = faultOf l (lineA m s) (lineB m s);
     }
 
 -- what is kept of slot s
-pub record Summed (m : ℕ → ℕ) (s b : ℕ) (r : Summary) : Type 0 where
-  pub rank-is : r .rank ≡ rankOf (content 1 m s)
-  pub key-is : r .key ≡ keyIn (content 1 m s)
-  pub place-is : r .place ≡ putPlace b (content 1 m s)
-  pub top-is : r .top ≡ topOf (content 1 m s)
+pub record Summed (l : ℕ) (m : ℕ → ℕ) (s b : ℕ) (r : Summary) : Type 0 where
+  pub rank-is : r .rank ≡ rankOf (content l m s)
+  pub key-is : keyWith (r .low) (r .high) ≡ keyIn (content l m s)
+  -- the high word is 0 in layout 1
+  pub no-high : l ≡ 1 → r .high ≡ 0
+  pub place-is : r .place ≡ putPlace b (content l m s)
+  pub top-is : r .top ≡ topOf (content l m s)
   pub mark-is : r .mark ≡ markFault m s
-  pub fault-is : r .fault ≡ recordFault 1 m s
+  pub fault-is : r .fault ≡ recordFault l m s
 
--- slots 1 to n are scanned into the three lists
-pub record Listed (f : Table) (n b : ℕ) (ranks keys places : List ℕ) : Type 0 where
+-- the key of slot x by its words in two lists: past the end of highs the high word is 0
+unfoldable pub keyAt : (lows highs : List ℕ) → ℕ → ℕ
+keyAt lows highs x = keyWith (getD lows x 0) (getD highs x 0)
+
+-- slots 1 to n are scanned into the lists
+pub record Listed (f : Table) (n b : ℕ) (ranks lows highs places : List ℕ) : Type 0 where
   pub rank-at : (s : ℕ) → 0 < s → s ≤ n → getD ranks s 0 ≡ rankOf (f s)
-  pub key-at : (s : ℕ) → 0 < s → s ≤ n → getD keys s 0 ≡ keyIn (f s)
+  pub key-at : (s : ℕ) → 0 < s → s ≤ n → keyAt lows highs s ≡ keyIn (f s)
   pub place-at : (s : ℕ) → 0 < s → s ≤ n → getD places s 0 ≡ putPlace b (f s)
 
 -- what the scan of slots 1 to n leaves and answers
-pub record Scanned (m : ℕ → ℕ) (n b : ℕ) (ranks keys places : List ℕ) (r : Scan) : Type 0 where
-  pub listed : Listed (content 1 m) n b ranks keys places
+pub record Scanned (l : ℕ) (m : ℕ → ℕ) (n b : ℕ) (ranks lows highs places : List ℕ) (r : Scan) : Type 0 where
+  pub listed : Listed (content l m) n b ranks lows highs places
   pub marks-are : r .mark ≡ anyOf (markFault m) 1 n
-  pub faults-are : r .fault ≡ anyOf (recordFault 1 m) 1 n
-  pub top-is : r .top ≡ greatest (λ s. topOf (content 1 m s)) n
+  pub faults-are : r .fault ≡ anyOf (recordFault l m) 1 n
+  pub top-is : r .top ≡ greatest (λ s. topOf (content l m s)) n

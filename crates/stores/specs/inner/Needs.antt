@@ -11,8 +11,8 @@ pub record Recordable (l kind : ℕ) (value : List ℕ) (version : ℕ) : Type 0
   pub size : length value ≤ limit l
   pub version-fits : version < 2 ^ 63
 
--- the stores number from to from + count - 1 are there, and inside an image of len bytes
+-- both lists have the stores with the numbers `from` to `from` + `count` - 1, and an image of len bytes has their words
 pub record Makeable (len : ℕ) (at value : List ℕ) (from count : ℕ) : Type 0 where
-  pub places : from + count ≤ length at
+  pub numbers : from + count ≤ length at
   pub values : from + count ≤ length value
   pub inside : (k : ℕ) → from ≤ k → k < from + count → 8 * getD at k 0 + 8 ≤ len

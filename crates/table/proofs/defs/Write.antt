@@ -3,7 +3,7 @@ use mathlib.Core.Path.{_≡_}
 use mathlib.Core.Bool.{Bool, true, false, cond}
 use Prim.Native.Nat.{ℕ, suc, _<_}
 use lib.Dec.{eqb}
-use Rattle.layout.specs.Content.{Content, broken, empty, put, remove, topOf, Table}
+use Rattle.layout.specs.Content.{Content, broken, empty, putRecord, removeRecord, topOf, Table}
 use Rattle.table.specs.Table.{isRecord, weight, decider, live}
 use Rattle.prelude.specs.Members.{Slot}
 
@@ -22,8 +22,8 @@ ApartByKey f n = (k s t : ℕ) → Slot n s → Slot n t → (s ≡ t → ⊥) �
 unfoldable pub isPut : Content → Bool
 isPut (broken top) = false
 isPut empty = false
-isPut (put version key value) = true
-isPut (remove version key) = false
+isPut (putRecord version key value) = true
+isPut (removeRecord version key) = false
 
 -- the live slot of key k, 0 where the key is not held
 unfoldable pub holder : Table → (n k : ℕ) → ℕ

@@ -16,7 +16,7 @@ replySays Absent = notHeld
 replySays (Cut a b) = cut a b
 replySays (Refused number) = no number
 
--- new is old with these bytes from place at on, and r is the place after them
+-- new is old with these bytes from position at on, and r is the position after them
 pub record Wrote (old new : List ℕ) (at r : ℕ) (bytes : List ℕ) : Type 0 where
   pub output : new ≡ written old at bytes
   pub end : r ≡ at + length bytes

@@ -14,7 +14,7 @@ remove-lookup-spec =
     (λ c κs. search needs)
     (λ c. search (refused-early))
     (λ c κs. search needs)
-    (λ c κs. search (lent-sized))
+    (λ c κs. search (lent-sized, needs))
     (λ c. search (slots-fit))
     (λ c κs. search (lent-next))
     (λ c. search (remove-looks)))

@@ -14,6 +14,6 @@ get-lookup-spec =
     (λ c κs. search needs)
     (λ c. search (refused-early))
     (λ c κs. search needs)
-    (λ c κs. search (lent-sized))
-    (λ c κs. search (lent-inside))
+    (λ c κs. search (lent-sized, needs))
+    (λ c κs. search (lent-inside, needs))
     (λ c. search (get-looks)))

@@ -1,10 +1,9 @@
 -- `get_code::get::length_fault` meets its contract. Assumes nothing.
-use Rattle.prelude.proofs.Tests.{tests}
-use Rattle.prelude.specs.Refusal.{say}
-use Rattle.calls.specs.Get.{lengthFault}
+use borrow.Author.Needs.{needs}
+use Rattle.calls.proofs.Lookups.{too-long, too-small, length-fits}
 use Rattle.get_code.proofs.get.length_fault.Statement.{statement}
 use Rattle.get_code.proofs.get.length_fault.Tie as tie
 
 pub length-fault-spec : {M : Type 1} → statement M
-unfolding lengthFault say
-length-fault-spec = tie.close (tie.spec (λ c. search tests) (λ c. search tests) (λ c. search tests))
+length-fault-spec =
+    tie.close (tie.spec (λ c κs. search needs) (λ c. search too-long) (λ c. search too-small) (λ c. search length-fits))

@@ -1,56 +1,51 @@
 -- `index_code::search::find` meets its contract. Assumes nothing.
-use borrow.Author.Needs.{needs}
-use native.Mathlib.Nat.{mod-lt}
 use native.Mathlib.Omega.{arith}
+use borrow.Author.Needs.{needs}
+use Rattle.layout.specs.inner.Key.{keyWith}
 use Rattle.index.proofs.Walks.{Going, begins, at-end, past, here, on, out}
 use Rattle.index_code.proofs.search.find.Statement.{statement}
 use Rattle.index_code.proofs.search.find.Tie as tie
 
 abbrev Inv-loop : tie.InvT-loop
-Inv-loop image heads next n key head at₀ prev₀ compared₀ left₀ at prev compared left =
-    Going image heads next n key at prev compared left
+Inv-loop image l heads next n low high head at₀ prev₀ compared₀ left₀ at prev compared left =
+    Going l image heads next n (keyWith low high) at prev compared left
 
 abbrev μ-loop : tie.MeasureT-loop
-μ-loop image heads next n key head at₀ prev₀ compared₀ left₀ at prev compared left = left
+μ-loop image l heads next n low high head at₀ prev₀ compared₀ left₀ at prev compared left = left
+
+head-of-requires : tie.Need-head-of-requires Inv-loop μ-loop
+head-of-requires c κs = c .before .before .before .pre .1 .some-head
 
 mul-at : tie.Need-mul-at Inv-loop μ-loop
-mul-at c =
-    let given = c .before .before .before in
-    omega (arith, given .good .1 .0 .1, mod-lt (given .args .key) (given .pre .some-head))
+mul-at c = omega (arith, c .before .before .before .before .good .1 .1 .0 .1, c .head-of .ensures .0)
 
 shared-slice-read-at : tie.Need-shared-slice-read-at Inv-loop μ-loop
-shared-slice-read-at c = mod-lt (c .before .before .before .before .args .key) (c .before .before .before .before .pre .some-head)
+shared-slice-read-at c = c .before .head-of .ensures .0
 
 loop-holds : tie.Need-loop-holds Inv-loop μ-loop
 loop-holds c =
-    let given = c .before .before .before .before in
-    begins _ _ _ _ _ (given .pre .slots) (given .fits .key .fits) (c .shared-slice-known4 .given _ .fits)
+    begins _ _ _ _ _ _ _ (c .before .before .before .before .before .pre .1 .slot-count) (c .before .head-of .ensures .1 (c .before .before .before .before .before .args .high)) (c .shared-slice-known4 .given _ .fits)
 
 returns : tie.Need-returns Inv-loop μ-loop
-returns c = at-end _ _ _ _ _ _ _ _ _ (c .before .before .loop .inv) (search needs) (c .if1 .taken)
+returns c = at-end _ _ _ _ _ _ _ _ _ _ (c .before .before .loop .inv) (search needs) (c .if1 .taken)
 
 returns-2 : tie.Need-returns-2 Inv-loop μ-loop
-returns-2 c = past _ _ _ _ _ _ _ _ _ (c .before .before .before .loop .inv) (search needs) (c .before .if1 .left) (c .if2 .taken)
+returns-2 c = past _ _ _ _ _ _ _ _ _ _ (c .before .before .before .loop .inv) (search needs) (c .before .if1 .left) (c .if2 .taken)
 
-slot-key-requires : tie.Need-slot-key-requires Inv-loop μ-loop
-slot-key-requires c κs =
-    omega (arith, c .before .before .before .before .before .before .before .before .pre .image-size, c .if2 .left)
+has-key-requires : tie.Need-has-key-requires Inv-loop μ-loop
+has-key-requires c κs = record { layout = c .before .before .before .before .before .before .before .before .before .pre .0; room = omega (arith, c .before .before .before .before .before .before .before .before .before .pre .1 .image-size, c .if2 .left) }
 
 returns-3 : tie.Need-returns-3 Inv-loop μ-loop
 returns-3 c =
-    let low = c .before .before .before in
-    here _ _ _ _ _ _ _ _ _ (low .before .before .loop .inv) (search needs) (low .if1 .left)
-    (c .before .before .if2 .left) _ (c .before .slot-key .ensures) (c .if3 .taken)
+    here _ _ _ _ _ _ _ _ _ _ (c .before .before .before .before .before .loop .inv) (search needs) (c .before .before .before .if1 .left) (c .before .before .if2 .left) _ (c .before .has-key .ensures) (c .if3 .taken)
 
 loop-again : tie.Need-loop-again Inv-loop μ-loop
 loop-again c =
-    let low = c .before .before .before .before in
-    on _ _ _ _ _ _ _ _ _ (low .before .before .loop .inv) (search needs) (low .if1 .left)
-    (c .before .before .before .if2 .left) _ (c .before .before .slot-key .ensures) (c .before .if3 .left)
+    on _ _ _ _ _ _ _ _ _ _ (c .before .before .before .before .before .before .loop .inv) (search needs) (c .before .before .before .before .if1 .left) (c .before .before .before .if2 .left) _ (c .before .before .has-key .ensures) (c .before .if3 .left)
     (c .shared-slice-known5 .given _ .fits)
 
 returns-4 : tie.Need-returns-4 Inv-loop μ-loop
-returns-4 c = out _ _ _ _ _ _ _ _ _ (c .before .loop .inv) (c .loop-test .left)
+returns-4 c = out _ _ _ _ _ _ _ _ _ _ (c .before .loop .inv) (c .loop-test .left)
 
 pub find-spec : {M : Type 1} → statement M
 find-spec =
@@ -58,7 +53,7 @@ find-spec =
     (tie.spec
     Inv-loop
     μ-loop
-    (λ c. search needs)
+    head-of-requires
     mul-at
     shared-slice-read-at
     loop-holds
@@ -66,7 +61,7 @@ find-spec =
     (λ c. search needs)
     returns-2
     (λ c. search needs)
-    slot-key-requires
+    has-key-requires
     returns-3
     (λ c. search needs) (λ c. search needs) (λ c. search needs) (λ c. search needs)
     loop-again

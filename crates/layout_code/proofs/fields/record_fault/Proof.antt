@@ -5,10 +5,16 @@ use Rattle.layout.proofs.RecordFields.{within, fault-by-word, fault-by-tail}
 use Rattle.layout_code.proofs.fields.record_fault.Statement.{statement}
 use Rattle.layout_code.proofs.fields.record_fault.Tie as tie
 
+tail-fault-requires : tie.Need-tail-fault-requires
+tail-fault-requires c κs = (c .before .before .before .before .before .pre, within _ _ _ (c .length-of .ensures) (sym (c .before .before .word-fault .ensures) ∙ c .before .if1 .left))
+
+returns-2 : tie.Need-returns-2
+returns-2 c = fault-by-tail _ _ _ _ (c .before .before .before .before .kind-word .ensures) _ (c .before .before .before .word-fault .ensures) (c .before .before .if1 .left) _ (c .before .length-of .ensures) _ (c .tail-fault .ensures)
+
 pub record-fault-spec : {M : Type 1} → statement M
 record-fault-spec =
     tie.close
     (tie.spec
-    (λ c κs. search needs) (λ c κs. search needs) (λ c. search fault-by-word)
-    (λ c κs. (c .before .before .before .before .pre, within _ _ (sym (c .before .word-fault .ensures) ∙ c .if1 .left)))
-    (λ c. search fault-by-tail))
+    (λ c κs. search needs) (λ c κs. search needs) (λ c. search fault-by-word) (λ c κs. search needs)
+    tail-fault-requires
+    returns-2)

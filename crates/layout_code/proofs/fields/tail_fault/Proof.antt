@@ -5,12 +5,12 @@ use borrow.Author.Needs.{needs}
 use Rattle.words.specs.Word.{word}
 use Rattle.layout.specs.Line.{lineA, lineB}
 use Rattle.layout.specs.Fault.{tailFault}
-use Rattle.layout.proofs.Tails.{Left, left-start, left-hit, left-next, left-end}
+use Rattle.layout.proofs.Tails.{TailLeft, left-start, left-hit, left-next, left-end}
 use Rattle.layout_code.proofs.fields.tail_fault.Statement.{statement}
 use Rattle.layout_code.proofs.fields.tail_fault.Tie as tie
 
 abbrev Inv-loop : tie.InvT-loop
-Inv-loop image l s size words i₀ bits₀ i bits = Left l (lineA (word image) s) (lineB (word image) s) size i bits
+Inv-loop image l s size words i₀ bits₀ i bits = TailLeft l (lineA (word image) s) (lineB (word image) s) size i bits
 
 abbrev μ-loop : tie.MeasureT-loop
 μ-loop image l s size words i₀ bits₀ i bits = words - i

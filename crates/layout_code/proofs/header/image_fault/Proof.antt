@@ -12,5 +12,5 @@ image-fault-spec =
     tie.close
     (tie.spec
     (λ c κs. search needs) (λ c. search no-slots)
-    (λ c κs. (omega (arith, long _ (λ e. c .if1 .left (c .before .slots .ensures ∙ e)) .size), omega arith))
+    (λ c κs. (omega (arith, long _ (λ e. c .if1 .left (c .before .slot-count .ensures ∙ e)) .size), omega arith))
     (λ c. search by-header))

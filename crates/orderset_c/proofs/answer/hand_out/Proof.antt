@@ -1,6 +1,6 @@
 -- `orderset_c::answer::hand_out` meets its contract. Assumes nothing.
 use borrow.Author.Needs.{needs}
-use Rattle.calls.specs.Change.{changeSays}
+use Rattle.face.specs.Set.{changeSays}
 use Rattle.prelude.specs.Answer.{refusalIn}
 use Rattle.exports.specs.Call.{answered, handedOut, changeCall}
 use Rattle.orderset_c.proofs.answer.hand_out.Statement.{statement}

@@ -1,6 +1,6 @@
 -- `orderset_c::format::orderset_format` meets its contract. Assumes nothing.
 use borrow.Author.Needs.{needs}
-use Rattle.calls.specs.Format.{formatSays}
+use Rattle.face.specs.Set.{formatSays}
 use Rattle.prelude.specs.Answer.{refusalIn}
 use Rattle.exports.specs.Call.{answered, formatCall}
 use Rattle.orderset_c.proofs.format.orderset_format.Statement.{statement}

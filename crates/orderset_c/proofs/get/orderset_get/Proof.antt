@@ -1,6 +1,6 @@
 -- `orderset_c::get::orderset_get` meets its contract. Assumes nothing.
 use borrow.Author.Needs.{needs}
-use Rattle.calls.specs.Get.{getSays}
+use Rattle.face.specs.Set.{getSays}
 use Rattle.prelude.specs.Answer.{refusalIn}
 use Rattle.exports.specs.Call.{answered, getCall}
 use Rattle.orderset_c.proofs.get.orderset_get.Statement.{statement}

@@ -1,6 +1,6 @@
 -- `orderset_c::recover::orderset_recover` meets its contract. Assumes nothing.
 use borrow.Author.Needs.{needs}
-use Rattle.recovery.specs.Recover.{recoverSays, recoverState}
+use Rattle.face.specs.Set.{recoverSays, recoverState}
 use Rattle.prelude.specs.Answer.{refusalIn}
 use Rattle.exports.specs.Call.{recoveredValues, recoverCall}
 use Rattle.orderset_c.proofs.recover.orderset_recover.Statement.{statement}

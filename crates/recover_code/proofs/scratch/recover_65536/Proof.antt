@@ -6,11 +6,12 @@ use Rattle.recover_code.proofs.scratch.recover_65536.Tie as tie
 
 recover-in-requires : tie.Need-recover-in-requires
 recover-in-requires c κs =
-    let given = c .before .before .before .before .before .before .before .before .before .before .before .pre in (
+    let given = c .before .before .before .before .before .before .before .before .before .before .before .before .pre in (
       given .0,
       record {
         ranks-room = omega (arith, given .1);
-        keys-room = omega (arith, given .1);
+        lows-room = omega (arith, given .1);
+        highs-room = omega (arith, given .1);
         places-room = omega (arith, given .1);
         order-room = omega (arith, given .1);
         by-key-room = omega (arith, given .1);
@@ -23,7 +24,7 @@ recover-65536-spec =
     tie.close
     (tie.spec
     (λ c. search needs) (λ c. search needs) (λ c. search needs) (λ c. search needs) (λ c. search needs)
-    (λ c. search needs)
+    (λ c. search needs) (λ c. search needs)
     recover-in-requires
     (λ c. search needs) (λ c. search needs)
     (λ c. search needs))

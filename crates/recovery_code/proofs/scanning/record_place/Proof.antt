@@ -1,23 +1,18 @@
 -- `recovery_code::scanning::record_place` meets its contract. Assumes nothing.
 use native.Mathlib.Omega.{arith}
-use borrow.Author.Needs.{needs}
-use Rattle.recovery.proofs.Scans.{remove-place, put-place, place-small}
+use Rattle.recovery.proofs.Scans.{remove-place, put-place}
 use Rattle.recovery_code.proofs.scanning.record_place.Statement.{statement}
 use Rattle.recovery_code.proofs.scanning.record_place.Tie as tie
 
-cast-result : tie.Need-cast-result
-cast-result c =
-    let given = c .before in omega (arith, place-small (given .args .key) (given .args .b) (given .pre .0) (given .pre .1))
-
-add-result : tie.Need-add-result
-add-result c =
-    let given = c .before in omega (arith, place-small (given .args .key) (given .args .b) (given .pre .0) (given .pre .1))
+returns-2 : tie.Need-returns-2
+returns-2 c high = put-place _ _ _ _ (c .before .if1 .left) (c .head-of .ensures .1 high)
 
 pub record-place-spec : {M : Type 1} → statement M
 record-place-spec =
     tie.close
     (tie.spec
-    (λ c. search remove-place) (λ c. search needs)
-    cast-result
-    add-result
-    (λ c. search (put-place, needs)))
+    (λ c high. remove-place _ _ _ (c .if1 .taken))
+    (λ c κs. c .before .pre .0)
+    (λ c. omega (arith, c .before .before .pre .1, c .head-of .ensures .0))
+    (λ c. omega (arith, c .before .before .pre .1, c .head-of .ensures .0))
+    returns-2)

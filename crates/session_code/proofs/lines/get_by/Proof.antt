@@ -1,5 +1,5 @@
 -- `session_code::lines::get_by` meets its contract. Assumes nothing.
-use Rattle.calls.specs.Get.{getSays}
+use Rattle.face.specs.Set.{getSays}
 use Rattle.text.specs.inner.Output.{replySays}
 use Rattle.session.specs.Step.{gotBy, gotAs}
 use borrow.Author.Needs.{needs}

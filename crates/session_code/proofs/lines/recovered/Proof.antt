@@ -1,5 +1,5 @@
 -- `session_code::lines::recovered` meets its contract. Assumes nothing.
-use Rattle.recovery.specs.Recover.{recoverSays, recoverState}
+use Rattle.face.specs.Set.{recoverSays, recoverState}
 use Rattle.text.specs.inner.Output.{replySays}
 use Rattle.session.specs.Step.{recoverStep, recoveredBy, recoveredAs}
 use borrow.Author.Needs.{needs}

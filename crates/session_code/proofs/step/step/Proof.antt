@@ -1,6 +1,6 @@
 -- `session_code::step::step` meets its contract. Assumes nothing.
 use Rattle.prelude.proofs.Refusals.{refused-keeps}
-use Rattle.recovery.proofs.Recovers.{front}
+use Rattle.prelude.proofs.Lists.{front-length}
 use Rattle.text.specs.inner.Output.{replySays}
 use Rattle.session.specs.Step.{stepResult}
 use Rattle.session.proofs.Steps.{count-fits, bytes-fit, image-fits, heads-fit, next-fits, step-done}
@@ -19,10 +19,10 @@ step-spec =
     (λ c κs. search needs)
     returns
     (λ c κs. search needs) (λ c. search count-fits) (λ c. search bytes-fit) (λ c. search image-fits)
-    (λ c. search (front, image-fits))
+    (λ c. search (front-length, image-fits))
     (λ c. search heads-fit)
-    (λ c. search (front, heads-fit))
+    (λ c. search (front-length, heads-fit))
     (λ c. search next-fits)
-    (λ c. search (front, next-fits))
+    (λ c. search (front-length, next-fits))
     (λ c κs. search needs) (λ c. search needs) (λ c. search needs) (λ c. search needs)
     (λ c. search step-done))

@@ -10,14 +10,5 @@ unfolding fed
 feed-spec =
     tie.close
     (tie.spec
-    (λ c. search needs) (λ c. search needs) (λ c. search needs) (λ c κs. search needs) (λ c κs. search needs)
-    (λ c. search needs) (λ c κs. search needs) (λ c. search needs)
-    (λ c. search (tests, c .before .enum-told .given .1))
-    (λ c. search (tests, c .before .enum-told .given .1))
-    (λ c. search (tests, c .before .before .parse .given .1))
-    (λ c. search (tests, c .before .before .parse .given .1))
-    (λ c. search (tests, c .before .before .before .parse2 .given .1))
-    (λ c. search (tests, c .before .before .before .parse2 .given .1))
-    (λ c. search (tests, c .before .before .parse3 .given .1))
-    (λ c. search (tests, c .before .before .before .parse3 .given .1))
-    (λ c. search (tests, c .enum-told2 .given .1)))
+    (λ c κs. search needs) (λ c. search (tests, c .after-space .ensures)) (λ c κs. search needs)
+    (λ c. search (tests, c .after-other .ensures)))

@@ -1,0 +1,85 @@
+-- Document 01's trial session: computed, and an instance of the cut rule whose hypotheses are met by computation. Assumes nothing.
+use mathlib.Core.Path.{_≡_, refl}
+use Prim.Native.Nat.{ℕ, zero, suc, _^_, _≤_, _<_}
+use native.Mathlib.Omega.{arith}
+use lib.ListN.{length}
+use Rattle.words.specs.Word.{AreBytes, word, setWord}
+use Rattle.plainmap.specs.World.{put, toPlay, calledChange, calledGet, called, playing, finished, worldAfter, recoveredWorld}
+use Rattle.plainmap.specs.Claims.{Typed, put-typed, remove-typed, get-typed, slotsMap}
+use Rattle.face.specs.Event.{CutFits, done-fits, struck-fits, cutImage, step, Fits}
+use Rattle.prelude.specs.Members.{All, none-left, one-more, slotNumbers}
+use Rattle.cutrule.specs.Rule.{AllRight}
+use Rattle.cutrule.proofs.CutRule.{cut-rule}
+use Rattle.prelude.specs.Refusal.{say, orElse, unlessRefused}
+use Rattle.prelude.specs.Range.{anyOf, tabulate, greatest, topmost, count}
+use Rattle.layout.specs.Size.{slotsOf, slotsIn}
+use Rattle.layout.specs.Line.{lineTop, versionFault}
+use Rattle.layout.specs.Slot.{paired, slotTop, verdictOf, lineVerdict, isValid}
+use Rattle.layout.specs.Record.{keyFrom, keyOf, valueWord, valueByte, valueFront, valueOf}
+use Rattle.layout.specs.Content.{made, contentBy, contentOf, content, topOf}
+use Rattle.layout.specs.Header.{headerWord, headerFault, imageFault, indexFault, lentFault}
+use Rattle.layout.specs.Fault.{markFault, kindFault, wordFault, tailFault, faultOf, recordFault}
+use Rattle.stores.specs.Store.{zipped, played}
+use Rattle.stores.specs.Written.{marked, bodyA, bodyB, run, lineStores, recordStores}
+use Rattle.stores.specs.Play.{halfFault, halvesFault, playFault, counted, playResult, wordNumbers, values}
+use Rattle.prelude.specs.Filter.{filter}
+use Rattle.sorting.specs.Sorted.{insert, sorted}
+use Rattle.table.specs.Table.{isRecord, keyIn, weight, nextVersion, decider, valueIn, valueAt, mapOf, decidingPut, live, spare, liveCount, sharedVersion, allLive}
+use Rattle.table.specs.Order.{rankOf, ordered, chainOf, reuseOf}
+use Rattle.index.specs.Index.{start, ahead, setNext, setStart, setLast, link}
+use Rattle.index.specs.Chained.{firstOf, lastOf, after, nextIn, chained}
+use Rattle.index.specs.Change.{takeFirst, linkNew, append, putNew, putHeld, removeHeld, roomFault, reuseFault}
+use Rattle.index.specs.Walk.{walk, search, chainFault}
+use Rattle.recovery.specs.Recover.{slotsFault, recoverFault, chainsOf, placeOf, recoveredIndex, recoveredState, recovered, recoverResult, noState}
+use Rattle.calls.specs.Format.{formatted}
+use Rattle.calls.specs.Change.{noStores, unchanged, changed, putLentFault, putLaterFault, putFault, putDone, putResult, heldFault, removeLaterFault, removeFault, removeDone, removeResult}
+use Rattle.calls.specs.Get.{lengthFault, getLaterFault, getFault, getDone, getResult}
+use Rattle.examples.specs.Trial.{answers, outputs, small, oneHead, twoSlots, cutAt, fresh, session, expected, expectedOutputs}
+use Rattle.prelude.proofs.Fills.{zeros}
+
+-- THE SESSION answers as document 01 says, with the outputs of its gets; recovery accepts its formatted image, which has two slots
+session-computed : (answers 1 fresh session ≡ expected) × (outputs 1 fresh session ≡ expectedOutputs)
+    × (recoverFault 1 (formatted 1 384) (length oneHead) (length twoSlots) ≡ 0) × (slotsIn (formatted 1 384) ≡ 2)
+unfolding word setWord say orElse unlessRefused anyOf tabulate slotsOf lineTop paired slotTop verdictOf lineVerdict isValid keyFrom keyOf valueWord valueByte valueFront valueOf made contentBy contentOf content topOf headerWord headerFault imageFault indexFault lentFault markFault kindFault wordFault tailFault faultOf recordFault zipped played marked bodyA bodyB run lineStores recordStores halfFault halvesFault playFault counted playResult filter insert sorted isRecord keyIn weight greatest topmost count nextVersion decider valueIn valueAt mapOf decidingPut live spare liveCount sharedVersion allLive rankOf slotNumbers ordered chainOf reuseOf start ahead setNext setStart setLast link firstOf lastOf after nextIn chained takeFirst linkNew append putNew putHeld removeHeld roomFault versionFault reuseFault walk search chainFault slotsFault recoverFault chainsOf placeOf recoveredIndex recoveredState recovered recoverResult formatted noStores unchanged changed putLentFault putLaterFault putFault putDone putResult heldFault removeLaterFault removeFault removeDone removeResult lengthFault getLaterFault getFault getDone getResult toPlay calledChange calledGet called wordNumbers values playing finished noState worldAfter recoveredWorld cutImage step answers outputs small oneHead twoSlots cutAt fresh session expected expectedOutputs
+session-computed = (refl, refl, refl, refl)
+
+pub session-answers : answers 1 fresh session ≡ expected
+session-answers = session-computed .0
+
+pub session-outputs : outputs 1 fresh session ≡ expectedOutputs
+session-outputs = session-computed .1
+
+-- ---- the hypotheses of the cut rule
+
+right-size : indexFault 2 (length oneHead) (length twoSlots) ≡ 0
+unfolding indexFault say oneHead twoSlots
+right-size = refl
+
+small-bytes : (n : ℕ) → n < 256 → AreBytes (small n)
+unfolding small
+small-bytes n h zero = h
+small-bytes n h (suc k) = omega (arith, zeros 7 k)
+
+key-sized : (key : ℕ) → key < 256 → key < (2 ^ 64) ^ 1
+key-sized key h = omega arith
+
+sized : (key value : ℕ) → key < 256 → value < 256 → Typed 1 (put key (small value))
+sized key value k v = put-typed (key-sized key k) (small-bytes value v)
+
+cut-fits : (a b : ℕ) → a ≤ 8 → b ≤ 8 → CutFits 2 (cutAt a b)
+unfolding cutAt
+cut-fits a b p q = record { few-a = p; few-b = q; size = right-size }
+
+session-fits : All (Fits 1 2) session
+unfolding session
+session-fits =
+    one-more (done-fits (sized 7 100 (omega arith) (omega arith))) (one-more (done-fits (sized 8 5 (omega arith) (omega arith)))
+    (one-more (done-fits (sized 7 101 (omega arith) (omega arith)))
+    (one-more (struck-fits (sized 7 102 (omega arith) (omega arith)) (cut-fits 8 3 (omega arith) (omega arith)))
+    (one-more (done-fits get-typed) (one-more (done-fits (remove-typed (key-sized 7 (omega arith)))) (one-more (done-fits get-typed)
+    (one-more (done-fits (sized 8 5 (omega arith) (omega arith))) none-left)))))))
+
+-- AN INSTANCE of the cut rule
+pub session-holds : AllRight 1 fresh (slotsMap 1 (formatted 1 384)) session
+unfolding fresh
+session-holds = cut-rule (formatted 1 384) oneHead twoSlots (session-computed .2) session (rw (session-computed .3) session-fits)

@@ -1,0 +1,54 @@
+-- Document 01's trial session as a list of events, with the answers that it gives there.
+use mathlib.Core.List.{List, [], _∷_}
+use Prim.Native.Nat.{ℕ}
+use lib.ListN.{replicate}
+use Rattle.prelude.specs.Answer.{Answer, gives, absent, refused}
+use Rattle.calls.specs.Format.{formatted}
+use Rattle.plainmap.specs.World.{World, put, remove, get, called, recoveredWorld}
+use Rattle.face.specs.Event.{Cut, Event, done, struck, callOf, step}
+
+-- what each call of a list answers
+unfoldable pub answers : (l : ℕ) → World → List Event → List Answer
+answers l w [] = []
+answers l w (event ∷ events) = called l w (callOf event) .answer ∷ answers l (step l w event) events
+
+-- and the output that each leaves; a put and a remove have none
+unfoldable pub outputs : (l : ℕ) → World → List Event → List (List ℕ)
+outputs l w [] = []
+outputs l w (event ∷ events) = called l w (callOf event) .out ∷ outputs l (step l w event) events
+
+-- the 8 bytes of a small number
+unfoldable pub small : ℕ → List ℕ
+small n = n ∷ replicate 7 0
+
+-- the heads lent to recovery: one head, with anything in it
+unfoldable pub oneHead : List ℕ
+oneHead = 9 ∷ []
+
+-- and next for two slots
+unfoldable pub twoSlots : List ℕ
+twoSlots = 9 ∷ 9 ∷ 9 ∷ []
+
+-- a cut that leaves a stores of line A and b of line B
+unfoldable pub cutAt : (a b : ℕ) → Cut
+cutAt a b = record { a = a; b = b; heads = oneHead; next = twoSlots }
+
+-- "n 2": format and recover
+unfoldable pub fresh : World
+fresh = recoveredWorld 1 (formatted 1 384) oneHead twoSlots
+
+-- "p 7 100 / p 8 5 / p 7 101 / c 8 3 / p 7 102 / g 7 / r 7 / g 7 / p 8 5"
+unfoldable pub session : List Event
+session =
+    done (put 7 (small 100)) ∷ done (put 8 (small 5)) ∷ done (put 7 (small 101)) ∷ struck (put 7 (small 102)) (cutAt 8 3)
+    ∷ done (get 7 (replicate 8 0)) ∷ done (remove 7) ∷ done (get 7 (replicate 8 0)) ∷ done (put 8 (small 5)) ∷ []
+
+-- "ok 1 1 / no 12 / ok 2 2 / cut 8 3 / ok 1 3 / found 101 / ok 1 4 / absent / ok 2 5": `c 8 3` is no call, and for `found` a get answers the length
+unfoldable pub expected : List Answer
+expected =
+    gives (1 ∷ 1 ∷ []) ∷ refused 12 ∷ gives (2 ∷ 2 ∷ []) ∷ gives (1 ∷ 3 ∷ []) ∷ gives (8 ∷ []) ∷ gives (1 ∷ 4 ∷ []) ∷ absent
+    ∷ gives (2 ∷ 5 ∷ []) ∷ []
+
+-- `found 101`: the output of the first get; absent leaves that of the second as it was
+unfoldable pub expectedOutputs : List (List ℕ)
+expectedOutputs = [] ∷ [] ∷ [] ∷ [] ∷ small 101 ∷ [] ∷ replicate 8 0 ∷ [] ∷ []

@@ -1,0 +1,114 @@
+-- THE LAWS OF THE SET, proved. Assumes nothing.
+use mathlib.Core.Path.{_≡_, refl, ap, _∙_}
+use mathlib.Core.Option.{none}
+use mathlib.Core.List.{List, []}
+use Prim.Native.Nat.{ℕ, _^_, _≤_, _<_}
+use native.Mathlib.Omega.{arith}
+use lib.ListN.{length}
+use Rattle.words.specs.Word.{word}
+use Rattle.layout.specs.Size.{slotsOf, slotsIn}
+use Rattle.layout.specs.Record.{Layout}
+use Rattle.layout.specs.Header.{indexFault}
+use Rattle.layout.proofs.Size.{sized}
+use Rattle.layout.proofs.Lents.{index-sized}
+use Rattle.stores.specs.Play.{wordNumbers, playFault}
+use Rattle.recovery.specs.Recover.{recoverFault}
+use Rattle.calls.specs.Change.{changed}
+use Rattle.calls.specs.Format.{formatted}
+use Rattle.calls.proofs.Formats.{formatted-length}
+use Rattle.plainmap.specs.World.{World, Call, Called, toPlay, calledChange, called, recoveredWorld}
+use Rattle.plainmap.specs.Plain.{PlainMap}
+use Rattle.plainmap.specs.Accepted.{Accepted, RightSize}
+use Rattle.plainmap.specs.Claims.{Typed, slotsMap}
+use Rattle.plainmap.specs.Sound.{Agrees}
+use Rattle.plainmap.proofs.AcceptedImages.{accepted-recovers, recovers-accepted, accepted-slots, accepted-long}
+use Rattle.plainmap.proofs.Afters.{after-list}
+use Rattle.plainmap.proofs.CallLists.{agrees-right, agrees-reads, agrees-with, recovered-agrees, formatted-empty, formatted-fine}
+use Rattle.plainmap.proofs.CallSteps.{Stepped, stored-none, stored-record, call-stepped}
+use Rattle.plainmap.proofs.Playing.{record-passes, playing-none}
+use Rattle.face.specs.Laws.{Lengths, SetLaws}
+use Rattle.face.proofs.Images.{accepted-gives, passed-size, state-answered}
+use Rattle.face.proofs.Events.{event-agrees, event-slots, struck-accepted}
+use Rattle.face.proofs.Stored.{few-given, some-stores, refusal-still}
+use Rattle.face.proofs.Heads.{called-heads, recovered-heads}
+
+module _ (l : ℕ) (lay : Layout l) where
+  the-recovered : (image heads next : List ℕ) → recoverFault l image (length heads) (length next) ≡ 0
+      → Agrees l (recoveredWorld l image heads next) (slotsMap l image)
+  the-recovered image heads next z =
+      recovered-agrees l image heads next (recovers-accepted l image (length heads) (length next) z)
+      (passed-size l image (length heads) (length next) z)
+
+  small : l < 2 ^ 64
+  small = omega (arith, lay .high)
+
+  -- a formatted image
+  module _ (len : ℕ) (heads next : List ℕ) (some : slotsOf len ≡ 0 → ⊥) (size : indexFault (slotsOf len) (length heads) (length next) ≡ 0) where
+    right-size : RightSize (formatted l len) heads next
+    right-size = ap (λ (k : ℕ). indexFault (slotsOf k) (length heads) (length next)) (formatted-length l len) ∙ size
+
+    fine : Accepted l (formatted l len)
+    fine = formatted-fine l len some small
+
+    new-accepted : recoverFault l (formatted l len) (length heads) (length next) ≡ 0
+    new-accepted = accepted-recovers l (formatted l len) (length heads) (length next) fine right-size
+
+    new-agrees : Agrees l (recoveredWorld l (formatted l len) heads next) (λ k. none)
+    new-agrees = agrees-with l _ _ (λ k. none) (recovered-agrees l (formatted l len) heads next fine right-size) (formatted-empty l len some small)
+
+  module _ (w : World) (m : PlainMap) (g : Agrees l w m) where
+    the-lengths : Lengths w (slotsIn (w .image))
+    the-lengths =
+        record {
+          slots = refl;
+          image = accepted-long l (w .image) (g .accepted) .size;
+          index = g .sound .size;
+          next = index-sized (slotsIn (w .image)) (length (w .heads)) (length (w .next)) (g .sound .size) .2;
+        }
+
+    module _ (call : Call) (typed : Typed l call) where
+      stepped : Stepped l w call
+      stepped = call-stepped l lay w (g .chains) (g .sound) call typed
+
+      -- PLAY of a call's stores, if it has any, refuses no counts up to 8
+      the-plays : (called l w call .stores ≡ [] → ⊥) → (a b : ℕ) → a ≤ 8 → b ≤ 8
+          → playFault (length (w .image)) (wordNumbers (called l w call .stores)) a b ≡ 0
+      unfolding calledChange changed toPlay
+      the-plays some a b p q = go stepped
+        where
+          go : Stepped l w call → playFault (length (w .image)) (wordNumbers (called l w call .stores)) a b ≡ 0
+          go (stored-none e sound same) = absurd (some e)
+          go (stored-record key kind value i alive d wr same) =
+              ap (λ (c : Called). playFault (length (w .image)) (wordNumbers (c .stores)) a b) d
+              ∙ record-passes l (length (w .image)) (word (w .image)) (w .state .first) key kind value (w .state .version) a b
+              (accepted-slots l (w .image) (g .accepted)) (omega (arith, wr .slot, accepted-long l (w .image) (g .accepted) .size)) p q
+
+  -- THE LAWS OF THE SET
+  pub set-laws : SetLaws l (Agrees l)
+  set-laws =
+      record {
+        recovered = the-recovered;
+        fresh = λ len heads next some size. (new-accepted len heads next some size, new-agrees len heads next some size);
+        keeps = event-agrees l lay;
+        recovers = λ w m g. accepted-gives l (w .image) m (g .accepted) (g .map);
+        reads = agrees-reads l;
+        lengths = the-lengths;
+        answers = agrees-right l lay;
+        refused-still = λ w m g call s. refusal-still l w m call (agrees-right l lay w m g call s);
+        stores = λ w m g. some-stores l lay w (g .chains) (g .sound);
+        plays = the-plays;
+        plays-list = λ w m g call s. after-list l w call (g .accepted) (g .sound .next-version) (stepped w m g call s);
+        accepts = struck-accepted l lay;
+        slots = event-slots l lay;
+        answers-state = state-answered l;
+        few-values = few-given l;
+        call-heads = called-heads l;
+        recovery-heads = recovered-heads l;
+        plays-nothing = playing-none;
+        slots-of = sized;
+        formatted-length = formatted-length l;
+      }
+
+-- in the layout of document 01
+pub first-laws : SetLaws 1 (Agrees 1)
+first-laws = set-laws 1 (record { low = omega arith; high = omega arith })

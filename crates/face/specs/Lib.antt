@@ -1,0 +1,4 @@
+pub mod Set
+pub mod Event
+pub mod Recovers
+pub mod Laws

@@ -1,0 +1,29 @@
+-- What recovery gives of an image, by the plain map. Document 01, "The plain map and the cut rule".
+use mathlib.Core.Path.{_≡_}
+use mathlib.Core.List.{List}
+use Prim.Native.Nat.{ℕ}
+use lib.ListN.{length}
+use Rattle.prelude.specs.Answer.{refusalIn}
+use Rattle.layout.specs.Size.{slotsIn}
+use Rattle.layout.specs.Content.{tableOf}
+use Rattle.table.specs.Table.{liveCount}
+use Rattle.table.specs.Keys.{Keys}
+use Rattle.recovery.specs.Recover.{recoverResult}
+use Rattle.plainmap.specs.World.{recoveredWorld}
+use Rattle.plainmap.specs.Plain.{PlainMap}
+use Rattle.plainmap.specs.Accepted.{RightSize}
+use Rattle.plainmap.specs.Claims.{slotsMap, Reads}
+
+-- "recovery refuses nothing, and both the slots and get, with that recovery's index and 80 bytes of output, give the plain map's keys and bytes";
+-- "If power fails there, recovery runs again": it gives the same, whatever the index holds by then
+pub record Recovers (l : ℕ) (image : List ℕ) (m : PlainMap) : Type 0 where
+  pub map : (key : ℕ) → slotsMap l image key ≡ m key
+  pub accepts : (heads next : List ℕ) → RightSize image heads next → refusalIn (recoverResult l image heads next .answer) ≡ 0
+  pub reads : (heads next : List ℕ) → RightSize image heads next → Reads l (recoveredWorld l image heads next) m
+  -- there is a list of the keys that the plain map holds, and the length of every such list is the live count
+  pub keys : List ℕ
+  pub held : Keys m keys
+  pub count : (ks : List ℕ) → Keys m ks → liveCount (tableOf l image) (slotsIn image) ≡ length ks
+  pub again :
+      (heads next heads′ next′ : List ℕ) → RightSize image heads next → length heads ≡ length heads′ → length next ≡ length next′
+      → recoverResult l image heads next ≡ recoverResult l image heads′ next′

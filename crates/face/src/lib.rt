@@ -1,0 +1,8 @@
+// The face of the set: what a layer above may know of it. Its types, handed on; in specs the definitions, the events and the laws.
+pub use calls::Change;
+pub use calls::Formatted;
+pub use calls::Got;
+pub use calls::Outcome;
+pub use index::State;
+pub use recovery::Recovered;
+pub use stores::Stores;
