@@ -69,13 +69,13 @@ planted: $(ARCHIVE)
 $(OUT)/gateway: examples/gateway.c $(HEADERS) $(ARCHIVE) | $(OUT)
 	$(C) examples/gateway.c $(ARCHIVE) -o $@
 
-# a new file and two starts on it: what the first one put, the second one recovers
+# a new file and two starts on it: what the first one was told, the second one recovers
 gateway: $(OUT)/gateway
 	rm -f $(OUT)/orders.img $(OUT)/orders.img.new
 	$(OUT)/gateway $(OUT)/orders.img make 1000
-	$(OUT)/gateway $(OUT)/orders.img put 7 'buy 100 at 12.50' put 8 'sell 5 at 99.00' put 7 'buy 90 at 12.50' remove 8 \
-		put 9 'buy 3 at 7.25' show
-	$(OUT)/gateway $(OUT)/orders.img show
+	$(OUT)/gateway $(OUT)/orders.img new 7 100 acknowledge 7 acknowledge 7 fill 7 40 new 8 5 fill 8 5 new 9 3 \
+		withdraw 9 new 10 2 list
+	$(OUT)/gateway $(OUT)/orders.img list
 
 bench: $(ARCHIVE)
 	$(MAKE) -f bench/Makefile run

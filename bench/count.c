@@ -1,4 +1,5 @@
-/* Instructions: the operations as functions of their own, for callgrind to count; (a) and this set, put, insert and remove with the persist.
+/* Instructions: the operations as functions of their own, for callgrind to count; (a) and this set, put, insert, remove and the book's steps with the
+ * persist.
  *     count N HEADS SIZE CALLS */
 #include <stdio.h>
 #include <stdlib.h>
@@ -54,6 +55,27 @@ MEASURED int count_set_remove(uint64_t key) {
         return 1;
     return orderset_persist(image, length, at, value, flush);
 }
+MEASURED int count_set_new(uint64_t key) {
+    if (orderset_book_new(image, length, heads, heads_length, next, next_length, state, version, key, 100, at, value, answer))
+        return 1;
+    return orderset_persist(image, length, at, value, flush);
+}
+MEASURED int count_set_acknowledge(uint64_t key) {
+    if (orderset_book_acknowledge(image, length, heads, heads_length, next, next_length, state, version, key, at, value, answer)
+        || answer[0] == ORDERSET_ALREADY)
+        return 1;
+    return orderset_persist(image, length, at, value, flush);
+}
+MEASURED int count_set_fill(uint64_t key) {
+    if (orderset_book_fill(image, length, heads, heads_length, next, next_length, state, version, key, 1, at, value, answer))
+        return 1;
+    return orderset_persist(image, length, at, value, flush);
+}
+MEASURED int count_set_withdraw(uint64_t key) {
+    if (orderset_book_withdraw(image, length, heads, heads_length, next, next_length, state, version, key, at, value, answer))
+        return 1;
+    return orderset_persist(image, length, at, value, flush);
+}
 MEASURED int count_persist(void) { return orderset_persist(image, length, at, value, flush); }
 
 static uint64_t seed = 1;
@@ -97,6 +119,8 @@ int main(int count, char **word) {
         key[k] = chance();
         bad |= count_hand_insert(key[k]) | count_set_insert(key[k]);
         bad |= count_persist();
+        uint64_t order = chance();
+        bad |= count_set_new(order) || count_set_acknowledge(order) || count_set_fill(order) || count_set_withdraw(order);
     }
     bad |= count_hand_recover() | count_set_recover();
     printf("%d\n", bad);

@@ -29,6 +29,8 @@ def main():
                     for op in ("put", "insert", "remove", "get"):
                         print(f"{n},{heads},{size},{engine},{op},{found[prefix + op] / CALLS:.1f}")
                     print(f"{n},{heads},{size},{engine},recover,{found[prefix + 'recover']}")
+                for step in ("new", "acknowledge", "fill", "withdraw"):
+                    print(f"{n},{heads},{size},this set,{step},{found['count_set_' + step] / CALLS:.1f}")
                 print(f"{n},{heads},{size},persist,persist,{found['count_persist'] / CALLS:.1f}", flush=True)
 
 

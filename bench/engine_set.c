@@ -52,7 +52,33 @@ static inline int e_get(uint64_t key, uint8_t *out) {
     return (int)answer[ORDERSET_LENGTH];
 }
 
+static inline int e_new(uint64_t key, uint64_t quantity) {
+    if (orderset_book_new(image, length, heads, heads_length, next, next_length, state, version, key, quantity, at, value, answer))
+        return 1;
+    return orderset_persist(image, length, at, value, flush);
+}
+
+static inline int e_acknowledge(uint64_t key) {
+    if (orderset_book_acknowledge(image, length, heads, heads_length, next, next_length, state, version, key, at, value, answer)
+        || answer[0] == ORDERSET_ALREADY)
+        return 1;
+    return orderset_persist(image, length, at, value, flush);
+}
+
+static inline int e_fill(uint64_t key, uint64_t quantity) {
+    if (orderset_book_fill(image, length, heads, heads_length, next, next_length, state, version, key, quantity, at, value, answer))
+        return 1;
+    return orderset_persist(image, length, at, value, flush);
+}
+
+static inline int e_withdraw(uint64_t key) {
+    if (orderset_book_withdraw(image, length, heads, heads_length, next, next_length, state, version, key, at, value, answer))
+        return 1;
+    return orderset_persist(image, length, at, value, flush);
+}
+
 #define ENGINE engine_set
+#define ENGINE_BOOK 1
 #define ENGINE_NAME "this set"
 #define ENGINE_HEADS 1
 #include "workload.inc"

@@ -6,6 +6,7 @@ import sys
 ENGINES = ("by hand", "this set", "two waits", "libpmemobj", "LMDB", "SQLite")
 SETTINGS = (("P", "0"), ("S", "0"), ("S", "200"), ("S", "800"))
 OPS = ("put", "insert", "remove")
+STEPS = {"new": "insert", "acknowledge": "put", "fill": "put", "withdraw": "remove"}  # a step of the book, and what the set does for it
 COLOURS = ("#999999", "#c0392b", "#d9822b", "#2e7d6b", "#3b6ea5", "#7a5ba6")
 
 
@@ -67,6 +68,17 @@ def times_table(figures):
     return lines
 
 
+def book_table(figures):
+    lines = ["", "### The book, this set, ns an operation (ratio to what the set does for it)", ""]
+    lines += ["| N | B | wait | " + " | ".join(OPS + tuple(STEPS)) + " |", "|---" * (3 + len(OPS) + len(STEPS)) + "|"]
+    for config in figures.configs:
+        for setting in SETTINGS if config[2] == "24" else ():
+            ns = {op: figures.time(setting, config, "this set", op) for op in OPS + tuple(STEPS)}
+            cells = [f"{ns[op]:,.0f}" for op in OPS] + [f"{ns[step]:,.0f} ({ns[step] / ns[op]:.2f})" for step, op in STEPS.items()]
+            lines.append(f"| {number(config[0])} | {number(config[1])} | {' '.join(setting)} | " + " | ".join(cells) + " |")
+    return lines
+
+
 def counts_table(figures):
     ops = OPS + ("get", "recover")
     head = " | ".join(f"{op}: by hand | this set" for op in ops)
@@ -76,6 +88,13 @@ def counts_table(figures):
         lines.append(f"| {number(config[0])} | {number(config[1])} | {config[2]} | " + " | ".join(cells) + " |")
     config = figures.configs[0]
     lines += ["", f"Of these the persist is {figures.instructions[(*config, 'persist', 'persist')]:.0f}."]
+    lines += ["", "### Instructions of the book's steps, this set (ratio to what the set does for them)", ""]
+    lines += ["| N | B | " + " | ".join(STEPS) + " |", "|---" * (2 + len(STEPS)) + "|"]
+    for config in figures.configs:
+        if config[2] == "24":
+            found = {op: figures.instructions[(*config, "this set", op)] for op in OPS + tuple(STEPS)}
+            cells = [f"{found[step]:,.0f} ({found[step] / found[op]:.2f})" for step, op in STEPS.items()]
+            lines.append(f"| {number(config[0])} | {number(config[1])} | " + " | ".join(cells) + " |")
     return lines
 
 
@@ -118,8 +137,9 @@ def goals(figures):
     )
     rows.append(("ahead of every other engine in every writing call", f"{value:.2f} × this set ({engine}, {place(op, config)}, {' '.join(setting)})", value > 1))
     keys = [k for k in figures.waits if k[5] == "this set"]
-    counted = all(figures.waits[k] == (1 if k[6] in OPS else 0) and figures.flushes[k] == (2 if k[6] in OPS else 0) for k in keys)
-    rows.append(("one fence and two line flushes for each put, insert and remove, none for get and recover", "counted", counted))
+    writing = OPS + tuple(STEPS)
+    counted = all(figures.waits[k] == (1 if k[6] in writing else 0) and figures.flushes[k] == (2 if k[6] in writing else 0) for k in keys)
+    rows.append(("one fence and two line flushes for each put, insert, remove and step of the book, none for get and recover", "counted", counted))
     lines = ["", "### Goals", "", "| Goal | Worst figure | |", "|---|---|---|"]
     return lines + [f"| {goal} | {figure} | {'met' if met else 'MISSED'} |" for goal, figure, met in rows]
 
@@ -196,7 +216,7 @@ def main():
     times, counts, table, picture = sys.argv[1:]
     figures = Figures(times, counts)
     lines = [f"Measured on {processor()}. P: sfence. S: sfence, mfence, lfence, then the delay in ns."]
-    lines += goals(figures) + times_table(figures) + counts_table(figures) + waits_table(figures)
+    lines += goals(figures) + times_table(figures) + book_table(figures) + counts_table(figures) + waits_table(figures)
     text = "\n".join(lines) + "\n"
     print(text)
     with open(table, "w") as out:

@@ -1,20 +1,26 @@
-/* gateway: open orders in a file that is mapped into memory.
+/* gateway: an order book in a file that is mapped into memory.
  *
  *     gateway FILE make N        a new file of N slots, 2 to 65535: room for N - 1 open orders
- *     gateway FILE COMMAND...    put KEY TEXT, get KEY, remove KEY, show; all are read before the first is carried out
- *     gateway FILE               the same commands from standard input, one a line; a put's text is the line's rest
+ *     gateway FILE COMMAND...    the commands; all are read before the first is carried out
+ *     gateway FILE               the same commands from standard input, one a line
  *
- * KEY is any 64-bit number in decimal digits, TEXT has up to 80 bytes. Each command is answered on standard output, and
- * what it changed is durable before the answer is written. A refused line of standard input is answered by its number
- * and its words, and the next one is read; of commands that are arguments, none is carried out after a refused one.
- * Status 0: all done. 1: something was refused or failed. 2: the arguments are no commands, and nothing was done.
+ *     new KEY QUANTITY           an order is sent
+ *     acknowledge KEY            the exchange has acknowledged it; once is enough, and again stores nothing
+ *     fill KEY QUANTITY          so much of it is filled; when nothing is open, the order is gone
+ *     withdraw KEY               the rest of it is withdrawn, and the order is gone
+ *     show KEY, list             an order, all orders
+ *
+ * KEY and QUANTITY are 64-bit numbers in decimal digits. Each command is answered on standard output, and what it
+ * changed is durable before the answer is written. A refused line of standard input is answered by its number and its
+ * words, and the next one is read; of commands that are arguments, none is carried out after a refused one. Status 0:
+ * all done. 1: something was refused or failed. 2: the arguments are no commands, and nothing was done.
  *
  * On a file system on non-volatile memory (DAX) a write is two line flushes and one fence; on any other it is msync,
- * the fallback. One gateway writes at a time, alone; those that only read (get and show as arguments) open the file
+ * the fallback. One gateway writes at a time, alone; those that only read (show and list as arguments) open the file
  * read-only, and several of them may run. What they show was perhaps not durable yet if the last writer was killed.
  *
  * The calls of the archive are proved; this program, the headers and what lies below them are not. It is made so that a
- * power cut, a kill, a full disk and a failed msync lose nothing that was acknowledged. Each start that writes makes
+ * power cut, a kill, a full disk and a failed msync lose nothing that was answered. Each start that writes makes
  * the directory of FILE durable too, and not the directories above it. The lock is one that other programs can ignore.
  * A mapped page that cannot be read ends the program as a kill does. */
 #define _GNU_SOURCE
@@ -47,18 +53,22 @@ struct set {
     enum orderset_flush flush;
 };
 
-enum kind { PUT, GET, REMOVE, SHOW, KINDS };
+enum kind { NEW, ACKNOWLEDGE, FILL, WITHDRAW, SHOW, LIST, KINDS };
+enum { KEY, QUANTITY, NUMBERS };
 
 static const struct {
     const char *name;
-    int words; /* that follow the name */
-} forms[KINDS] = {{"put", 2}, {"get", 1}, {"remove", 1}, {"show", 0}};
+    int numbers; /* that follow the name */
+    int writes;
+} forms[KINDS] = {
+    {"new", 2, 1}, {"acknowledge", 1, 1}, {"fill", 2, 1}, {"withdraw", 1, 1}, {"show", 1, 0}, {"list", 0, 0},
+};
+
+static const char *const numbers[NUMBERS] = {"key", "quantity"};
 
 struct command {
     enum kind kind;
-    uint64_t key;
-    const char *text;
-    size_t length;
+    uint64_t number[NUMBERS];
 };
 
 /* ---- what is said */
@@ -75,15 +85,20 @@ static const char *const refusals[] = {
     "no slot is spare",
     "the next version is 2^63 or more",
     "the value exceeds 80 bytes",
-    "the key's chain or the reuse chain is not one of this image, or the live count is zero in a remove",
+    "the key's chain or the reuse chain is not one of this image, or the live count is zero where an order is removed",
     "the key is new and only one slot is spare",
     "the output is shorter than the value",
     "a count exceeds 8",
     "the stores are not those of two lines of the image",
+    NULL,
+    "the key of a new order is held",
+    "the key is not held, or holds no order",
+    "the quantity is zero, or more than is open",
 };
 
 static const char *words_of(uint32_t number) {
-    return number < sizeof refusals / sizeof *refusals ? refusals[number] : "a number that is not defined";
+    const char *words = number < sizeof refusals / sizeof *refusals ? refusals[number] : NULL;
+    return words ? words : "a number that is not defined";
 }
 
 /* Says why on standard error and ends. */
@@ -104,11 +119,11 @@ static _Noreturn void fail(const char *what) {
 /* The answers so far are with the reader; without that the program ends. */
 static void answered(void) {
     if (fflush(stdout) || ferror(stdout))
-        stop(FAILED, "standard output: %s; what was carried out is durable, and was perhaps not acknowledged",
+        stop(FAILED, "standard output: %s; what was carried out is durable, and was perhaps not answered",
              strerror(errno));
 }
 
-/* An answer is one line, whatever a text holds. */
+/* An answer is one line, whatever a line of the input holds. */
 static void print_text(const char *text, size_t length) {
     for (size_t i = 0; i < length; i++) {
         unsigned char byte = (unsigned char)text[i];
@@ -244,7 +259,7 @@ static void start(struct set *s, const char *path, int writing) {
     uint32_t number = load(s, file, path, writing);
     if (number)
         stop(FAILED, "%s: recovery says no %" PRIu32 ": %s", path, number, words_of(number));
-    printf("recovered %" PRIu32 " open orders; next version %" PRIu64 "; %s\n", s->state[ORDERSET_LIVE], s->version[0],
+    printf("recovered %" PRIu32 " held keys; next version %" PRIu64 "; %s\n", s->state[ORDERSET_LIVE], s->version[0],
            !writing ? "reading only" : s->flushes ? "flush and fence" : "msync (fallback)");
     answered();
 }
@@ -252,7 +267,7 @@ static void start(struct set *s, const char *path, int writing) {
 /* ---- a new file */
 
 /* A new file is made durable under another name first, so that a cut while it is made leaves no half of it. */
-static int fill(int file, size_t length) {
+static int format_file(int file, size_t length) {
     uint64_t answer[ORDERSET_ANSWER];
     if ((errno = posix_fallocate(file, 0, (off_t)length)))
         return -1;
@@ -276,7 +291,7 @@ static _Noreturn void left_over(const char *fresh, const char *path) {
     if (number)
         stop(FAILED, "%s is there already and holds no set (no %" PRIu32 ": %s); if nobody needs it, remove it", fresh,
              number, words_of(number));
-    stop(FAILED, "%s is there already and holds a set with %" PRIu32 " open orders; to use it, rename it to %s", fresh,
+    stop(FAILED, "%s is there already and holds a set with %" PRIu32 " held keys; to use it, rename it to %s", fresh,
          s.state[ORDERSET_LIVE], path);
 }
 
@@ -294,7 +309,7 @@ static void make(const char *path, uint64_t slots) {
     if (file < 0)
         fail(fresh);
     lock(file, fresh, LOCK_EX);
-    if (fill(file, ORDERSET_IMAGE_BYTES(slots)) || renameat2(AT_FDCWD, fresh, AT_FDCWD, path, RENAME_NOREPLACE)) {
+    if (format_file(file, ORDERSET_IMAGE_BYTES(slots)) || renameat2(AT_FDCWD, fresh, AT_FDCWD, path, RENAME_NOREPLACE)) {
         int error = errno;
         unlink(fresh);
         stop(FAILED, "%s: %s; nothing was made", path, strerror(error));
@@ -306,90 +321,110 @@ static void make(const char *path, uint64_t slots) {
 
 /* ---- the commands; each answers 0, or the number of its refusal, and then nothing was changed */
 
-/* Without this a change is not acknowledged. */
+/* Without this a change is not answered. */
 static void persist(const struct set *s, const struct command *c, const uint32_t at[ORDERSET_STORES],
                     const uint64_t value[ORDERSET_STORES]) {
     if (s->flushes ? orderset_persist(s->image, s->length, at, value, s->flush)
                    : orderset_persist_file(s->image, s->length, at, value))
         stop(FAILED,
-             "%s %" PRIu64 ": %s; this is not acknowledged. The next start writes the whole image again, and then it "
-             "is there or not",
-             forms[c->kind].name, c->key, strerror(errno));
+             "%s %" PRIu64 ": %s; this is not answered. The next start writes the whole image again, and then it is "
+             "there or not",
+             forms[c->kind].name, c->number[KEY], strerror(errno));
 }
 
 static void print_change(const struct command *c, const uint64_t answer[ORDERSET_CHANGE_ANSWER]) {
-    printf("%s %" PRIu64 ": slot %" PRIu64 " version %" PRIu64 "\n", forms[c->kind].name, c->key, answer[ORDERSET_SLOT],
-           answer[ORDERSET_VERSION]);
+    printf("%s %" PRIu64 ": slot %" PRIu64 " version %" PRIu64 "%s\n", forms[c->kind].name, c->number[KEY],
+           answer[ORDERSET_SLOT], answer[ORDERSET_VERSION], answer[0] == ORDERSET_ALREADY ? ", already" : "");
 }
 
-static uint32_t put(struct set *s, const struct command *c) {
-    uint32_t at[ORDERSET_STORES];
-    uint64_t value[ORDERSET_STORES], answer[ORDERSET_CHANGE_ANSWER];
-    uint32_t number = orderset_put(s->image, s->length, s->heads, s->heads_length, s->next, s->next_length, s->state,
-                                   s->version, c->key, (const uint8_t *)c->text, c->length, at, value, answer);
-    if (number)
-        return number;
-    persist(s, c, at, value);
-    print_change(c, answer);
-    return 0;
-}
-
-static uint32_t drop(struct set *s, const struct command *c) {
-    uint32_t at[ORDERSET_STORES];
-    uint64_t value[ORDERSET_STORES], answer[ORDERSET_CHANGE_ANSWER];
-    uint32_t number = orderset_remove(s->image, s->length, s->heads, s->heads_length, s->next, s->next_length, s->state,
-                                      s->version, c->key, at, value, answer);
-    if (number)
-        return number;
-    if (answer[0] == ORDERSET_ABSENT) {
-        printf("remove %" PRIu64 ": absent\n", c->key);
-        return 0;
+static uint32_t step(struct set *s, const struct command *c, uint32_t at[ORDERSET_STORES],
+                     uint64_t value[ORDERSET_STORES], uint64_t answer[ORDERSET_CHANGE_ANSWER]) {
+    const uint64_t key = c->number[KEY], quantity = c->number[QUANTITY];
+    switch (c->kind) {
+    case NEW:
+        return orderset_book_new(s->image, s->length, s->heads, s->heads_length, s->next, s->next_length, s->state,
+                                 s->version, key, quantity, at, value, answer);
+    case ACKNOWLEDGE:
+        return orderset_book_acknowledge(s->image, s->length, s->heads, s->heads_length, s->next, s->next_length,
+                                         s->state, s->version, key, at, value, answer);
+    case FILL:
+        return orderset_book_fill(s->image, s->length, s->heads, s->heads_length, s->next, s->next_length, s->state,
+                                  s->version, key, quantity, at, value, answer);
+    default:
+        return orderset_book_withdraw(s->image, s->length, s->heads, s->heads_length, s->next, s->next_length, s->state,
+                                      s->version, key, at, value, answer);
     }
-    persist(s, c, at, value);
+}
+
+/* A second acknowledge has nothing to store: the first one is durable. */
+static uint32_t change(struct set *s, const struct command *c) {
+    uint32_t at[ORDERSET_STORES];
+    uint64_t value[ORDERSET_STORES], answer[ORDERSET_CHANGE_ANSWER];
+    uint32_t number = step(s, c, at, value, answer);
+    if (number)
+        return number;
+    if (answer[0] == ORDERSET_GIVEN)
+        persist(s, c, at, value);
     print_change(c, answer);
     return 0;
 }
 
-static uint32_t get(const struct set *s, uint64_t key) {
-    uint8_t text[ORDERSET_VALUE_MAX];
+static uint64_t word_of(const uint8_t *bytes) {
+    uint64_t word = 0;
+    for (int i = 7; i >= 0; i--)
+        word = word << 8 | bytes[i];
+    return word;
+}
+
+/* A value that no step wrote is perhaps no order. */
+static void print_order(const uint8_t *bytes, uint64_t length) {
+    const uint64_t state = word_of(bytes), ordered = word_of(bytes + 8), filled = word_of(bytes + 16);
+    const int known = state == ORDERSET_SENT || state == ORDERSET_ACKNOWLEDGED;
+    if (length == ORDERSET_ORDER_BYTES && known && filled < ordered)
+        printf("%s, ordered %" PRIu64 ", filled %" PRIu64, state == ORDERSET_SENT ? "sent" : "acknowledged", ordered,
+               filled);
+    else
+        printf("no order: %" PRIu64 " bytes", length);
+}
+
+static uint32_t show(const struct set *s, uint64_t key) {
+    uint8_t bytes[ORDERSET_VALUE_MAX] = {0};
     uint64_t answer[ORDERSET_ANSWER];
-    uint32_t number = orderset_get(s->image, s->length, s->heads, s->heads_length, s->next, s->next_length, key, text,
-                                   sizeof text, answer);
+    uint32_t number = orderset_get(s->image, s->length, s->heads, s->heads_length, s->next, s->next_length, key, bytes,
+                                   sizeof bytes, answer);
     if (number)
         return number;
     printf("%" PRIu64 ": ", key);
     if (answer[0] == ORDERSET_ABSENT)
         printf("absent");
     else
-        print_text((const char *)text, answer[ORDERSET_LENGTH]);
+        print_order(bytes, answer[ORDERSET_LENGTH]);
     putchar('\n');
     return 0;
 }
 
 /* Every chain from its head: word 1 of a slot is its key. */
-static uint32_t show(const struct set *s) {
+static uint32_t list(const struct set *s) {
     for (size_t head = 0; head < s->heads_length; head++)
         for (uint32_t slot = s->heads[head]; slot; slot = s->next[slot]) {
             uint64_t key;
             memcpy(&key, s->image + (size_t)ORDERSET_SLOT_BYTES * slot + 8, sizeof key);
-            uint32_t number = get(s, key);
+            uint32_t number = show(s, key);
             if (number)
                 return number;
         }
-    printf("%" PRIu32 " open\n", s->state[ORDERSET_LIVE]);
+    printf("%" PRIu32 " held\n", s->state[ORDERSET_LIVE]);
     return 0;
 }
 
 static uint32_t carry_out(struct set *s, const struct command *c) {
     switch (c->kind) {
-    case PUT:
-        return put(s, c);
-    case REMOVE:
-        return drop(s, c);
-    case GET:
-        return get(s, c->key);
+    case SHOW:
+        return show(s, c->number[KEY]);
+    case LIST:
+        return list(s);
     default:
-        return show(s);
+        return change(s, c);
     }
 }
 
@@ -421,36 +456,37 @@ static int command_of_words(char **word, int count, struct command *c) {
     int kind = kind_of(word[0], strlen(word[0]));
     if (kind == KINDS)
         stop(USAGE, "not a command: %s", word[0]);
-    if (count <= forms[kind].words)
+    if (count <= forms[kind].numbers)
         stop(USAGE, "not a command, words are missing: %s", word[0]);
     *c = (struct command){.kind = (enum kind)kind};
-    if (kind != SHOW && number_of(word[1], strlen(word[1]), &c->key))
-        stop(USAGE, "not a key: %s", word[1]);
-    if (kind == PUT) {
-        c->text = word[2];
-        c->length = strlen(word[2]);
-    }
-    return 1 + forms[kind].words;
+    for (int i = 0; i < forms[kind].numbers; i++)
+        if (number_of(word[1 + i], strlen(word[1 + i]), &c->number[i]))
+            stop(USAGE, "not a %s: %s", numbers[i], word[1 + i]);
+    return 1 + forms[kind].numbers;
 }
 
-/* One space between the words of a line and none after them, except in a put's text. Answers 0, or -1. */
+/* The word at the front of a line, without the space after it; NULL where no word is left. */
+static const char *next_word(const char **line, const char *end, size_t *length) {
+    const char *word = *line, *space = word ? memchr(word, ' ', (size_t)(end - word)) : NULL;
+    *length = word ? (size_t)((space ? space : end) - word) : 0;
+    *line = space ? space + 1 : NULL;
+    return word;
+}
+
+/* One space between the words of a line and none after them. Answers 0, or -1. */
 static int command_of_line(const char *line, size_t length, struct command *c) {
-    const char *end = line + length, *space = memchr(line, ' ', length);
-    const char *name_end = space ? space : end, *rest = space ? space + 1 : end;
-    int kind = kind_of(line, (size_t)(name_end - line));
+    const char *end = line + length;
+    const char *word = next_word(&line, end, &length);
+    int kind = kind_of(word, length);
     if (kind == KINDS)
         return -1;
     *c = (struct command){.kind = (enum kind)kind};
-    if (kind == SHOW)
-        return space ? -1 : 0;
-    const char *key_end = kind == PUT ? memchr(rest, ' ', (size_t)(end - rest)) : end;
-    if (!key_end || number_of(rest, (size_t)(key_end - rest), &c->key))
-        return -1;
-    if (kind == PUT) {
-        c->text = key_end + 1;
-        c->length = (size_t)(end - c->text);
+    for (int i = 0; i < forms[kind].numbers; i++) {
+        word = next_word(&line, end, &length);
+        if (!word || number_of(word, length, &c->number[i]))
+            return -1;
     }
-    return 0;
+    return line ? -1 : 0;
 }
 
 /* ---- the three ways to be called */
@@ -463,14 +499,14 @@ static int run_words(const char *path, char **word, int count) {
         fail("memory");
     for (int i = 0; i < count; commands++) {
         i += command_of_words(word + i, count - i, c + commands);
-        writing |= c[commands].kind == PUT || c[commands].kind == REMOVE;
+        writing |= forms[c[commands].kind].writes;
     }
     start(&set, path, writing);
     for (int i = 0; i < commands; i++) {
         uint32_t number = carry_out(&set, c + i);
         answered();
         if (number)
-            stop(FAILED, "%s %" PRIu64 ": no %" PRIu32 ": %s", forms[c[i].kind].name, c[i].key, number,
+            stop(FAILED, "%s %" PRIu64 ": no %" PRIu32 ": %s", forms[c[i].kind].name, c[i].number[KEY], number,
                  words_of(number));
     }
     free(c);
@@ -536,7 +572,8 @@ int main(int count, char **word) {
     signal(SIGPIPE, SIG_IGN); /* a reader that is gone is a failed write */
     hold_streams();
     if (count < 2)
-        stop(USAGE, "usage: gateway FILE [make N | put KEY TEXT | get KEY | remove KEY | show]...");
+        stop(USAGE, "usage: gateway FILE [make N | new KEY QUANTITY | acknowledge KEY | fill KEY QUANTITY | "
+                    "withdraw KEY | show KEY | list]...");
     if (count == 2)
         return run_lines(word[1]);
     if (!strcmp(word[2], "make"))

@@ -11,36 +11,45 @@
  *   state    three numbers: the reuse chain's first and last slot and the live count (ORDERSET_FIRST, ORDERSET_LAST,
  *            ORDERSET_LIVE)
  *   version  one number: the next version
- * heads, next, state and version are the index. orderset_recover fills them; put and remove keep them up to date. They
- * are never persisted.
+ * heads, next, state and version are the index. orderset_recover fills them; put, remove and the book's steps keep them
+ * up to date. They are never persisted.
  *
- * How to write: orderset_put and orderset_remove change the index and hand out 16 stores, eight for each of two lines,
- * and leave the image as it is. The caller makes all 16, in order within each line, flushes both lines and fences once
- * (orderset_persist), or makes them with orderset_play(..., 8, 8). Only then may the next put, remove or get follow. If
- * that was not finished, orderset_recover comes next.
+ * How to write: orderset_put, orderset_remove and the book's steps change the index and hand out 16 stores, eight for
+ * each of two lines, and leave the image as it is. The caller makes all 16, in order within each line, flushes both
+ * lines and fences once (orderset_persist), or makes them with orderset_play(..., 8, 8). Only then may the next call
+ * follow. If that was not finished, orderset_recover comes next.
  *
  * How to start: recovery takes what it reads as what stands in the memory. After a power cut that is so. After anything
  * else (the process was killed, a call of orderset_persist.h failed, or nobody knows) stores may be seen that are not
  * durable; then orderset_recover comes after the whole image was made durable (orderset_persist_image), or a later
- * power cut can take an acknowledged order. Do so at every start that will write.
+ * power cut can take an order that was answered. Do so at every start that will write.
  *
  * What a call returns: 0, or the number of its refusal (enum orderset_refusal). A refused call leaves everything that
- * it was lent as it was. A key that is not held is no refusal: the call returns 0 and answer[0] is ORDERSET_ABSENT.
+ * it was lent as it was. In get, locate and remove a key that is not held is no refusal: the call returns 0 and
+ * answer[0] is ORDERSET_ABSENT.
+ *
+ * The order book is a layer above the set: orders in the place of bytes. An order is a value of 24 bytes, three words
+ * of 8 bytes, low byte first: its state (ORDERSET_SENT or ORDERSET_ACKNOWLEDGED), the ordered quantity and the filled
+ * quantity, and filled is below ordered. Any other value is no order. The steps are orderset_book_new,
+ * orderset_book_acknowledge, orderset_book_fill and orderset_book_withdraw; orderset_get reads an order. An order that
+ * is filled in full or withdrawn is removed. Over any history of steps since an empty set, with no put and no remove
+ * among them, all that was ordered is filled, withdrawn or open.
  *
  * Pointers: none may be null, also where a length is 0, and each is aligned for its type. What a function writes
  * through one pointer must not overlap what it is lent through any other; two regions that are only read may overlap.
  * So in every call image, heads, next, state, version, the value or the output, at, value and answer are separate
  * pieces of memory.
  *
- * Threads: the set has no locks. Gets may run beside gets, each with an output and an answer of its own, and beside
- * nothing else: from the start of a put, a remove, a recovery or a play until its stores are made, no other call runs.
+ * Threads: the set has no locks. Gets and locates may run beside each other, each with an output and an answer of its
+ * own, and beside nothing else: from the start of a put, a remove, a step of the book, a recovery or a play until its
+ * stores are made, no other call runs.
  *
  * How many heads: a call walks along the chain of its key's head, so with B near N chains are short. Keys k * B all
  * have one head, and are one chain: with N = 65,535, B = 65,536 and 60,000 keys k * 65,536 a get took 280 microseconds,
  * and 0.2 with B = 65,521. Take a prime near N for B, unless the keys step by a multiple of it.
  *
- * Versions: the version of a put or remove is above those of all records that stand, and no more is said of it. It is
- * no sequence number: after a cut the version of the struck call can come again, with another call, or be left out.
+ * Versions: the version of a call that stores is above those of all records that stand, and no more is said of it. It
+ * is no sequence number: after a cut the version of the struck call can come again, with another call, or be left out.
  */
 #ifndef ORDERSET_H
 #define ORDERSET_H
@@ -65,7 +74,7 @@ extern "C" {
 #define ORDERSET_VALUE_MAX 80u
 #define ORDERSET_LINE_BYTES 64u
 #define ORDERSET_SLOT_BYTES 128u
-#define ORDERSET_STORES 16u /* the stores of a put or a remove, the first half for line A and the second for line B */
+#define ORDERSET_STORES 16u /* the stores of a call, the first half for line A and the second for line B */
 #define ORDERSET_LINE_STORES 8u
 
 /* the bytes of an image of n slots, and the numbers of its next */
@@ -78,11 +87,12 @@ extern "C" {
 #define ORDERSET_LIVE 2
 #define ORDERSET_STATE 3
 
-/* answer[0] of a call that returned 0; where it is ORDERSET_GIVEN, the values follow */
+/* answer[0] of a call that returned 0; where it is not ORDERSET_ABSENT, the values follow */
 #define ORDERSET_ABSENT 0u
 #define ORDERSET_GIVEN 1u
+#define ORDERSET_ALREADY 2u /* the order was acknowledged before: there is nothing to store */
 
-/* places in the answer of put and remove */
+/* places in the answer of put, remove, locate and the book's steps */
 #define ORDERSET_SLOT 1
 #define ORDERSET_VERSION 2
 #define ORDERSET_CHANGE_ANSWER 3
@@ -91,6 +101,11 @@ extern "C" {
 #define ORDERSET_LENGTH 1
 #define ORDERSET_SLOTS 1
 #define ORDERSET_ANSWER 2
+
+/* an order: its bytes, and the states in its first word */
+#define ORDERSET_ORDER_BYTES 24u
+#define ORDERSET_SENT 1u
+#define ORDERSET_ACKNOWLEDGED 2u
 
 /* The refusals, in the numbers of the definition. They are tested in the order that each function names. */
 enum orderset_refusal {
@@ -107,12 +122,15 @@ enum orderset_refusal {
     ORDERSET_NO_VERSION = 9,        /* the next version is 2^63 or more */
     ORDERSET_VALUE_TOO_LONG = 10,   /* the value exceeds 80 bytes */
     ORDERSET_BAD_INDEX = 11,        /* the key's chain or the reuse chain is not one of this image, or the live count is
-                                       zero in a remove */
+                                       zero where a key is removed */
     ORDERSET_FULL = 12,             /* the key is new and only one slot is spare */
     ORDERSET_OUTPUT_TOO_SHORT = 13, /* the output is shorter than the value */
     ORDERSET_BAD_COUNT = 14,        /* a count exceeds 8 */
-    ORDERSET_BAD_STORES = 15        /* the stores are not those of two lines of the image; in play_list: a word is
+    ORDERSET_BAD_STORES = 15,       /* the stores are not those of two lines of the image; in play_list: a word is
                                        outside, or the lengths differ */
+    ORDERSET_KEY_HELD = 17,         /* the key of a new order is held, by an order or by another value */
+    ORDERSET_NO_ORDER = 18,         /* the key is not held, or holds no order */
+    ORDERSET_BAD_QUANTITY = 19      /* the quantity of a new order is zero; in fill: it is zero or more than is open */
 };
 
 /* Makes an empty image of the bytes. answer: {ORDERSET_GIVEN, N}. Refusals: 1. A cut during format is not covered:
@@ -151,6 +169,46 @@ ORDERSET_CALL uint32_t orderset_remove(const uint8_t *image, size_t image_length
 ORDERSET_CALL uint32_t orderset_get(const uint8_t *image, size_t image_length, const uint32_t *heads,
                                     size_t heads_length, const uint32_t *next, size_t next_length, uint64_t key,
                                     uint8_t *output, size_t output_length, uint64_t answer[ORDERSET_ANSWER]);
+
+/* Tells where the key stands. answer: {ORDERSET_GIVEN, slot, version of its line A} or {ORDERSET_ABSENT, 0, 0}.
+ * Refusals: 1, 2, 3, 4, 11 (chain). */
+ORDERSET_CALL uint32_t orderset_locate(const uint8_t *image, size_t image_length, const uint32_t *heads,
+                                       size_t heads_length, const uint32_t *next, size_t next_length, uint64_t key,
+                                       uint64_t answer[ORDERSET_CHANGE_ANSWER]);
+
+/* Gives the key, which is not held, a sent order of the quantity, nothing of it filled. answer and stores as in put.
+ * Refusals: 1, 2, 3, 4, 11 (chain), 17, 19, 12, 9, 11 (reuse). */
+ORDERSET_CALL uint32_t orderset_book_new(const uint8_t *image, size_t image_length, uint32_t *heads,
+                                         size_t heads_length, uint32_t *next, size_t next_length,
+                                         uint32_t state[ORDERSET_STATE], uint64_t version[1], uint64_t key,
+                                         uint64_t quantity, uint32_t at[ORDERSET_STORES],
+                                         uint64_t value[ORDERSET_STORES], uint64_t answer[ORDERSET_CHANGE_ANSWER]);
+
+/* Makes the key's sent order an acknowledged one. answer and stores as in put. If it is acknowledged already, answer is
+ * {ORDERSET_ALREADY, slot, version of its line A} and nothing is to be stored: all but answer stays as it was.
+ * Refusals: 1, 2, 3, 4, 11 (chain), 18, and for a sent order 9, 11 (reuse). */
+ORDERSET_CALL uint32_t orderset_book_acknowledge(const uint8_t *image, size_t image_length, uint32_t *heads,
+                                                 size_t heads_length, uint32_t *next, size_t next_length,
+                                                 uint32_t state[ORDERSET_STATE], uint64_t version[1], uint64_t key,
+                                                 uint32_t at[ORDERSET_STORES], uint64_t value[ORDERSET_STORES],
+                                                 uint64_t answer[ORDERSET_CHANGE_ANSWER]);
+
+/* Adds the quantity to what is filled of the key's order, sent or acknowledged, and keeps its state. What is open is
+ * ordered less filled; a fill of all of it removes the order. answer and stores as in put. Refusals: 1, 2, 3, 4, 11
+ * (chain), 18, 19, 9, 11 (reuse, or a live count of zero where the order is removed). */
+ORDERSET_CALL uint32_t orderset_book_fill(const uint8_t *image, size_t image_length, uint32_t *heads,
+                                          size_t heads_length, uint32_t *next, size_t next_length,
+                                          uint32_t state[ORDERSET_STATE], uint64_t version[1], uint64_t key,
+                                          uint64_t quantity, uint32_t at[ORDERSET_STORES],
+                                          uint64_t value[ORDERSET_STORES], uint64_t answer[ORDERSET_CHANGE_ANSWER]);
+
+/* Withdraws all that is open of the key's order, sent or acknowledged: the order is removed. answer and stores as in
+ * put. Refusals: 1, 2, 3, 4, 11 (chain), 18, 9, 11 (reuse, or a live count of zero). */
+ORDERSET_CALL uint32_t orderset_book_withdraw(const uint8_t *image, size_t image_length, uint32_t *heads,
+                                              size_t heads_length, uint32_t *next, size_t next_length,
+                                              uint32_t state[ORDERSET_STATE], uint64_t version[1], uint64_t key,
+                                              uint32_t at[ORDERSET_STORES], uint64_t value[ORDERSET_STORES],
+                                              uint64_t answer[ORDERSET_CHANGE_ANSWER]);
 
 /* Makes the first a stores of the first half and the first b of the second: with 8 and 8 a whole call, with less what a
  * cut leaves of it. Plain writes: nothing is flushed. Refusals: 1, 14, 15. */

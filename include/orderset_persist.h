@@ -7,25 +7,25 @@
  *     if (orderset_recover(image, length, ...)) ...stop
  *     if (orderset_put(image, length, ..., at, value, answer) == ORDERSET_OK &&
  *         orderset_persist(image, length, at, value, flush) == 0)
- *         ...acknowledge the order
+ *         ...answer the client
  *
  * The image is mapped from non-volatile memory and 64-byte aligned, so that the eight words of a line are one cache
  * line. What mmap gives is; of other memory orderset_aligned tells it, and orderset_persist_image tests it. at and
- * value are as put or remove handed them out for this image. A refused call and a remove that answers absent hand out
- * nothing, and nothing is to be persisted.
+ * value are as a put, a remove or a step of the book handed them out for this image. A refused call, a remove that
+ * answers absent and a second acknowledge hand out nothing, and nothing is to be persisted.
  *
  * The order (section 2 of Cohen, Friedman and Larus, Efficient Logging in Non-Volatile Memory by Exploiting Coherency
  * Protocols, OOPSLA 2017). Each store is one aligned word, atomic and with release order: no compiler and no processor
  * lets it reach the cache before the stores ahead of it. A cache line goes to memory whole. So whenever power fails,
  * each line holds some number of its stores, counted from the first. Between the two lines there is no order and none
  * is needed. A flush begins to write its line back, and the fence is the one wait: every store after it, so also the
- * one that sends an acknowledgement, comes after the call is durable.
+ * one that sends an answer, comes after the call is durable.
  *
  * Why a start makes the whole image durable. Recovery has to read what stands in the memory. After a power cut it does.
  * After a kill, or a call that failed, the caches or the kernel may still hold stores that every process sees and that
- * are not durable. Say that key 7 is in slot 1, acknowledged, and that the process is killed in a put of key 7 to slot
+ * are not durable. Say that key 7 is in slot 1, answered, and that the process is killed in a put of key 7 to slot
  * 2. Recovery sees slot 2, takes that put as done and gives slot 1 to the next call. That call is made durable and
- * acknowledged. Then power fails: slot 2 was never durable, slot 1 is overwritten, and the acknowledged order of key 7
+ * answered. Then power fails: slot 2 was never durable, slot 1 is overwritten, and the answered order of key 7
  * is lost. So every start that will write calls orderset_persist_image, or orderset_persist_image_file, before it
  * recovers. A program that only reads may leave it out; what it shows is then perhaps not durable yet.
  */
@@ -118,7 +118,7 @@ static inline int orderset_two_lines(size_t image_length, uint32_t a, uint32_t b
     return (a | b) % ORDERSET_LINE_STORES == 0 && a < words && b < words && a != b;
 }
 
-/* Makes the stores of an accepted put or remove durable: 16 stores, two line flushes, one fence. Returns 0; or -1 with
+/* Makes the stores that a call handed out durable: 16 stores, two line flushes, one fence. Returns 0; or -1 with
  * errno EINVAL where at does not begin two different whole lines of the image, and then nothing is stored. */
 ORDERSET_CALL static inline int orderset_persist(void *image, size_t image_length, const uint32_t at[ORDERSET_STORES],
                                                  const uint64_t value[ORDERSET_STORES], enum orderset_flush flush) {
@@ -153,14 +153,14 @@ ORDERSET_CALL static inline int orderset_persist_image(void *image, size_t image
  * fence. Slow (a system call and a device write), and as good as the device: it must not tear a 64-byte line. For
  * machines without non-volatile memory, and for trying things out.
  *
- * When msync fails, the call is NOT to be acknowledged, and it is not known to be absent: other processes see it, and
- * it may be there after a power cut or not. No put, remove or get may follow. A later msync that returns 0 proves
+ * When msync fails, the call is NOT to be answered, and it is not known to be absent: other processes see it, and
+ * it may be there after a power cut or not. No call of the set may follow. A later msync that returns 0 proves
  * nothing: after a failed write the kernel may take the page as clean and not write it again. So stop. The next start
  * calls orderset_persist_image_file, which writes every page again, then recovers, and asks by a get whether the call
  * was done. As long as that fails too, the image is not durable and nothing may be written to it; a file for which it
  * goes on failing is given up. */
 
-/* Makes the stores of an accepted put or remove durable in the file. Returns 0, or -1 with errno: EINVAL as in
+/* Makes the stores that a call handed out durable in the file. Returns 0, or -1 with errno: EINVAL as in
  * orderset_persist, with nothing stored; any other is msync's. */
 ORDERSET_CALL static inline int orderset_persist_file(void *image, size_t image_length,
                                                       const uint32_t at[ORDERSET_STORES],

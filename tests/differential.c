@@ -1,6 +1,7 @@
-/* The archive against the model of document 01, call by call: every return code, answer, state, store, index number,
- * output and image byte is compared, and after a cut the recovered set is compared with a plain map. Ends with status 1
- * at the first difference and prints the case.
+/* The archive against the model of document 01 and of the order book, call by call: every return code, answer, state,
+ * store, index number, output and image byte is compared, and after a cut the recovered set is compared with a plain
+ * map. In histories that are book steps only, total ordered is total filled plus total withdrawn plus what is open.
+ * Ends with status 1 at the first difference and prints the case.
  *
  *     differential [SEED [CALLS]]
  */
@@ -16,7 +17,7 @@
 #include "model.h"
 #include "orderset.h"
 
-enum { GUARD = 64, FILL = 0xa5, SMALL = 40, LARGE = 5, CALLS = 3000000 };
+enum { GUARD = 64, GUARD_BYTE = 0xa5, SMALL = 40, LARGE = 5, CALLS = 3000000 };
 
 /* ---- lent memory with a guard on both sides */
 
@@ -24,7 +25,7 @@ static void *lend(size_t length) {
     uint8_t *memory = malloc(length + 2 * GUARD);
     if (!memory)
         abort();
-    memset(memory, FILL, length + 2 * GUARD);
+    memset(memory, GUARD_BYTE, length + 2 * GUARD);
     return memory + GUARD;
 }
 
@@ -35,7 +36,7 @@ static void give_back(void *lent) {
 static int guarded(const void *lent, size_t length) {
     const uint8_t *p = lent;
     for (size_t i = 0; i < GUARD; i++)
-        if (p[-1 - (ptrdiff_t)i] != FILL || p[length + i] != FILL)
+        if (p[-1 - (ptrdiff_t)i] != GUARD_BYTE || p[length + i] != GUARD_BYTE)
             return 0;
     return 1;
 }
@@ -55,10 +56,12 @@ struct set {
     uint64_t since; /* calls since everything was compared */
 };
 
-enum which { FORMAT, RECOVER, PUT, REMOVE, GET, PLAY, PLAY_LIST, WHICH };
-static const char *const name[WHICH] = {"format", "recover", "put", "remove", "get", "play", "play_list"};
+enum which { FORMAT, RECOVER, PUT, REMOVE, GET, LOCATE, NEW, ACKNOWLEDGE, FILL, WITHDRAW, PLAY, PLAY_LIST, WHICH };
+static const char *const name[WHICH] = {"format", "recover",     "put",  "remove",   "get",  "locate",
+                                        "new",    "acknowledge", "fill", "withdraw", "play", "play_list"};
 
-static uint64_t calls, strikes, met[WHICH][17]; /* met: answers by number, 0 done, 16 absent */
+enum { DONE = 0, ABSENT = 20, ALREADY = 21, ANSWERS }; /* answers that are no refusal */
+static uint64_t calls, strikes, met[WHICH][ANSWERS];  /* met: by the answer */
 static const char *phase = "";
 static enum which call;
 static const struct set *now;
@@ -67,8 +70,9 @@ static size_t call_size, call_a, call_b;
 
 static void show_case(void) {
     printf("seed %" PRIu64 ", call %" PRIu64 ", %s\n", seed, calls, phase);
-    printf("%s: N %u, length %zu, B %zu, next %zu, key %" PRIu64 ", size or room %zu, counts %zu %zu\n", name[call],
-           now->n, now->length, now->model.heads_length, now->model.next_length, call_key, call_size, call_a, call_b);
+    printf("%s: N %u, length %zu, B %zu, next %zu, key %" PRIu64 ", size, room or quantity %zu, counts %zu %zu\n",
+           name[call], now->n, now->length, now->model.heads_length, now->model.next_length, call_key, call_size,
+           call_a, call_b);
     printf("state: archive %u %u %u %" PRIu64 ", model %u %u %u %" PRIu64 "\n", now->state[0], now->state[1],
            now->state[2], now->version[0], now->model.state.first, now->model.state.last, now->model.state.live,
            now->model.state.version);
@@ -117,9 +121,12 @@ static void begin(const struct set *s, enum which which, uint64_t key, size_t si
     calls++;
 }
 
-static void same_code(uint32_t archive, int model, int absent) {
+/* done: what the call answers if it is not refused */
+static unsigned same_code(uint32_t archive, int model, unsigned done) {
+    unsigned answer = model ? (unsigned)model : done;
     same_number("the code", archive, (uint64_t)model);
-    met[call][absent ? 16 : model]++;
+    met[call][answer]++;
+    return answer;
 }
 
 /* Everything that is lent for longer than a call, bytes and guards. */
@@ -190,7 +197,7 @@ static int try_format(struct set *s) {
         expected[0] = 1;
         expected[1] = s->n;
     }
-    same_code(code, refusal, 0);
+    same_code(code, refusal, DONE);
     same_bytes("the answer", answer, expected, sizeof answer);
     compare(s);
     return refusal;
@@ -201,55 +208,108 @@ static int try_recover(struct set *s) {
     uint32_t code = orderset_recover(s->image, s->length, s->heads, s->model.heads_length, s->next,
                                      s->model.next_length, s->state, s->version);
     int refusal = m_recover(s->model_image, s->length, &s->model);
-    same_code(code, refusal, 0);
+    same_code(code, refusal, DONE);
     compare(s);
     if (s->n > SMALL)
         compare_all(s);
     return refusal;
 }
 
-/* What a put or a remove left: 1 if it stored, 0 if not. */
-static int compare_change(struct set *s, uint32_t code, const uint64_t *answer, const uint64_t *answer_lent,
-                          const uint32_t *at_lent, const uint64_t *value_lent, struct m_change c) {
-    uint64_t expected[ORDERSET_CHANGE_ANSWER] = {ORDERSET_GIVEN, c.slot, c.version};
+/* A call that stores, if it is not refused. quantity: of new and fill; bytes and size: of put. */
+struct request {
+    enum which which;
+    uint64_t key, quantity;
+    const uint8_t *bytes;
+    size_t size;
+};
+
+static uint32_t archive_change(const struct set *s, const struct request *r, uint64_t answer[ORDERSET_CHANGE_ANSWER]) {
+    const size_t heads = s->model.heads_length, next = s->model.next_length;
+    switch (r->which) {
+    case PUT:
+        return orderset_put(s->image, s->length, s->heads, heads, s->next, next, s->state, s->version, r->key, r->bytes,
+                            r->size, s->at, s->value, answer);
+    case REMOVE:
+        return orderset_remove(s->image, s->length, s->heads, heads, s->next, next, s->state, s->version, r->key, s->at,
+                               s->value, answer);
+    case NEW:
+        return orderset_book_new(s->image, s->length, s->heads, heads, s->next, next, s->state, s->version, r->key,
+                                 r->quantity, s->at, s->value, answer);
+    case ACKNOWLEDGE:
+        return orderset_book_acknowledge(s->image, s->length, s->heads, heads, s->next, next, s->state, s->version,
+                                         r->key, s->at, s->value, answer);
+    case FILL:
+        return orderset_book_fill(s->image, s->length, s->heads, heads, s->next, next, s->state, s->version, r->key,
+                                  r->quantity, s->at, s->value, answer);
+    default:
+        return orderset_book_withdraw(s->image, s->length, s->heads, heads, s->next, next, s->state, s->version, r->key,
+                                      s->at, s->value, answer);
+    }
+}
+
+static struct m_change model_change(struct set *s, const struct request *r) {
+    switch (r->which) {
+    case PUT: return m_put(s->model_image, s->length, &s->model, r->key, r->bytes, r->size);
+    case REMOVE: return m_remove(s->model_image, s->length, &s->model, r->key);
+    case NEW: return m_new(s->model_image, s->length, &s->model, r->key, r->quantity);
+    case ACKNOWLEDGE: return m_acknowledge(s->model_image, s->length, &s->model, r->key);
+    case FILL: return m_fill(s->model_image, s->length, &s->model, r->key, r->quantity);
+    default: return m_withdraw(s->model_image, s->length, &s->model, r->key);
+    }
+}
+
+/* What it left. Returns the answer: DONE if there are stores. */
+static unsigned compare_change(struct set *s, uint32_t code, const uint64_t *answer, const uint64_t *answer_lent,
+                               const uint32_t *at_lent, const uint64_t *value_lent, struct m_change c) {
+    uint64_t expected[ORDERSET_CHANGE_ANSWER] = {c.already ? ORDERSET_ALREADY : ORDERSET_GIVEN, c.slot, c.version};
     uint32_t at[ORDERSET_STORES];
     uint64_t value[ORDERSET_STORES];
-    int stored = !c.refusal && !c.absent;
-    same_code(code, c.refusal, c.absent);
+    unsigned answered = same_code(code, c.refusal, c.absent ? ABSENT : c.already ? ALREADY : DONE);
     if (c.absent)
         memset(expected, 0, sizeof expected);
     same_bytes("the answer", answer, c.refusal ? answer_lent : expected, sizeof expected);
     for (size_t i = 0; i < ORDERSET_STORES; i++) {
-        at[i] = stored ? c.store[i].at : at_lent[i];
-        value[i] = stored ? c.store[i].value : value_lent[i];
+        at[i] = answered == DONE ? c.store[i].at : at_lent[i];
+        value[i] = answered == DONE ? c.store[i].value : value_lent[i];
     }
     same_bytes("the stores' words", s->at, at, sizeof at);
     same_bytes("the stores' values", s->value, value, sizeof value);
     compare(s);
-    return stored;
+    return answered;
 }
 
-static int try_change(struct set *s, int put, uint64_t key, const uint8_t *bytes, size_t size) {
+static unsigned try_change(struct set *s, const struct request *r) {
     uint64_t answer[ORDERSET_CHANGE_ANSWER], answer_lent[ORDERSET_CHANGE_ANSWER], value_lent[ORDERSET_STORES];
-    uint32_t at_lent[ORDERSET_STORES], code;
-    struct m_change c;
+    uint32_t at_lent[ORDERSET_STORES];
     fill(answer_lent, sizeof answer_lent);
     memcpy(answer, answer_lent, sizeof answer);
     fill(at_lent, sizeof at_lent);
     fill(value_lent, sizeof value_lent);
     memcpy(s->at, at_lent, sizeof at_lent);
     memcpy(s->value, value_lent, sizeof value_lent);
-    begin(s, put ? PUT : REMOVE, key, size, 0, 0);
-    if (put) {
-        code = orderset_put(s->image, s->length, s->heads, s->model.heads_length, s->next, s->model.next_length,
-                            s->state, s->version, key, bytes, size, s->at, s->value, answer);
-        c = m_put(s->model_image, s->length, &s->model, key, bytes, size);
-    } else {
-        code = orderset_remove(s->image, s->length, s->heads, s->model.heads_length, s->next, s->model.next_length,
-                               s->state, s->version, key, s->at, s->value, answer);
-        c = m_remove(s->model_image, s->length, &s->model, key);
-    }
+    begin(s, r->which, r->key, r->which == PUT ? r->size : r->quantity, 0, 0);
+    uint32_t code = archive_change(s, r, answer);
+    struct m_change c = model_change(s, r);
     return compare_change(s, code, answer, answer_lent, at_lent, value_lent, c);
+}
+
+static unsigned try_locate(struct set *s, uint64_t key) {
+    uint64_t answer[ORDERSET_CHANGE_ANSWER], expected[ORDERSET_CHANGE_ANSWER];
+    fill(answer, sizeof answer);
+    memcpy(expected, answer, sizeof answer);
+    begin(s, LOCATE, key, 0, 0, 0);
+    uint32_t code = orderset_locate(s->image, s->length, s->heads, s->model.heads_length, s->next, s->model.next_length,
+                                    key, answer);
+    struct m_place place = m_locate(s->model_image, s->length, &s->model, key);
+    if (!place.refusal) {
+        expected[0] = place.absent ? ORDERSET_ABSENT : ORDERSET_GIVEN;
+        expected[ORDERSET_SLOT] = place.slot;
+        expected[ORDERSET_VERSION] = place.version;
+    }
+    unsigned answered = same_code(code, place.refusal, place.absent ? ABSENT : DONE);
+    same_bytes("the answer", answer, expected, sizeof answer);
+    compare(s);
+    return answered;
 }
 
 /* The answer of the archive's get, after it was compared: the refusal's number, 100 for absent, 200 and the length. */
@@ -266,7 +326,7 @@ static unsigned try_get(struct set *s, uint64_t key, uint8_t *out, size_t room) 
         expected[0] = !got.absent;
         expected[1] = got.length;
     }
-    same_code(code, got.refusal, got.absent);
+    same_code(code, got.refusal, got.absent ? ABSENT : DONE);
     same_bytes("the answer", answer, expected, sizeof answer);
     same_bytes("the output", lent, model_out, room);
     if (!guarded(lent, room))
@@ -282,7 +342,7 @@ static int try_play(struct set *s, size_t a, size_t b) {
     begin(s, PLAY, 0, 0, a, b);
     uint32_t code = orderset_play(s->image, s->length, s->at, s->value, a, b);
     int refusal = m_play(s->model_image, s->length, s->at, s->value, a, b);
-    same_code(code, refusal, 0);
+    same_code(code, refusal, DONE);
     compare(s);
     return refusal;
 }
@@ -290,11 +350,13 @@ static int try_play(struct set *s, size_t a, size_t b) {
 static void try_play_list(struct set *s, const uint32_t *at, size_t places, const uint64_t *value, size_t values) {
     begin(s, PLAY_LIST, 0, 0, places, values);
     uint32_t code = orderset_play_list(s->image, s->length, at, places, value, values);
-    same_code(code, m_play_list(s->model_image, s->length, at, places, value, values), 0);
+    same_code(code, m_play_list(s->model_image, s->length, at, places, value, values), DONE);
     compare(s);
 }
 
 /* ---- the plain map: a value, or none, for each key of a small universe */
+
+typedef unsigned __int128 total;
 
 struct plain {
     uint32_t keys;
@@ -302,6 +364,17 @@ struct plain {
     uint8_t (*bytes)[ORDERSET_VALUE_MAX];
     int16_t *size; /* -1: absent */
     uint32_t held;
+    int book_only;                   /* nothing but book steps since it was empty */
+    total ordered, filled, withdrawn; /* by the accepted steps that no cut made absent */
+};
+
+/* What a call does when all its stores stand. */
+struct effect {
+    uint32_t i;
+    int put; /* the key has the bytes; otherwise it is dropped */
+    uint8_t bytes[128];
+    size_t size;
+    uint64_t ordered, filled, withdrawn;
 };
 
 static struct plain *open_plain(uint32_t keys) {
@@ -325,27 +398,95 @@ static void close_plain(struct plain *p) {
     free(p);
 }
 
-static void plain_set(struct plain *p, uint32_t i, int put, const uint8_t *bytes, size_t size) {
-    p->held += (uint32_t)(put - (p->size[i] >= 0));
-    p->size[i] = put ? (int16_t)size : -1;
-    if (put)
-        memcpy(p->bytes[i], bytes, size);
+static void plain_take(struct plain *p, const struct effect *e) {
+    p->held += (uint32_t)(e->put - (p->size[e->i] >= 0));
+    p->size[e->i] = e->put ? (int16_t)e->size : -1;
+    if (e->put)
+        memcpy(p->bytes[e->i], e->bytes, e->size);
+    p->ordered += e->ordered;
+    p->filled += e->filled;
+    p->withdrawn += e->withdrawn;
+}
+
+/* What is open of an order, or 0 where the bytes are no order. */
+static uint64_t open_of(const uint8_t *bytes, int size) {
+    if (size != ORDERSET_ORDER_BYTES)
+        return 0;
+    uint64_t state = m_word(bytes, 0), ordered = m_word(bytes, 1), filled = m_word(bytes, 2);
+    return (state == ORDERSET_SENT || state == ORDERSET_ACKNOWLEDGED) && filled < ordered ? ordered - filled : 0;
+}
+
+/* Total ordered is total filled plus total withdrawn plus what is open. */
+static void same_totals(const struct plain *p, total open) {
+    total missing = p->ordered - p->filled - p->withdrawn - open;
+    if (missing)
+        differ("in the totals: ordered less filled, withdrawn and open is %" PRIu64 " * 2^64 + %" PRIu64,
+               (uint64_t)(missing >> 64), (uint64_t)missing);
 }
 
 static void same_map(struct set *s, const struct plain *p) {
     uint8_t out[ORDERSET_VALUE_MAX];
+    total open = 0;
     same_number("the plain map's count", s->state[ORDERSET_LIVE], p->held);
     for (uint32_t i = 0; i < p->keys; i++) {
         unsigned got = try_get(s, p->key[i], out, sizeof out);
         same_number("the plain map's answer", got, p->size[i] < 0 ? 100u : 200u + (unsigned)p->size[i]);
         if (p->size[i] > 0)
             same_bytes("the plain map's value", out, p->bytes[i], (size_t)p->size[i]);
+        if (p->book_only && p->size[i] >= 0 && !open_of(out, p->size[i]))
+            differ("in a book's history: key %" PRIu64 " holds no order", p->key[i]);
+        open += p->size[i] < 0 ? 0 : open_of(out, p->size[i]);
     }
+    if (p->book_only)
+        same_totals(p, open);
 }
 
-/* The rules' refusal of a put by the plain map alone. */
-static int plain_refuses(const struct set *s, const struct plain *p, uint32_t i, size_t size) {
-    return size > 80 ? 10 : p->size[i] < 0 && p->held + 1 >= s->n ? 12 : s->version[0] >> 63 ? 9 : 0;
+static void order_later(struct effect *e, uint64_t state, uint64_t ordered, uint64_t filled) {
+    e->put = 1;
+    e->size = ORDERSET_ORDER_BYTES;
+    m_set_word(e->bytes, 0, state);
+    m_set_word(e->bytes, 1, ordered);
+    m_set_word(e->bytes, 2, filled);
+}
+
+/* The rules' answer for a step on an order of the plain map, before the set is asked, and what it does. */
+static unsigned plain_step(const uint8_t *order, uint64_t open, const struct request *r, struct effect *e) {
+    uint64_t state = m_word(order, 0), ordered = m_word(order, 1), filled = m_word(order, 2);
+    if (r->which == ACKNOWLEDGE) {
+        order_later(e, ORDERSET_ACKNOWLEDGED, ordered, filled);
+        return state == ORDERSET_ACKNOWLEDGED ? ALREADY : DONE;
+    }
+    if (r->which == WITHDRAW) {
+        e->withdrawn = open;
+        return DONE;
+    }
+    e->filled = r->quantity;
+    if (r->quantity < open)
+        order_later(e, state, ordered, filled + r->quantity);
+    return r->quantity == 0 || r->quantity > open ? ORDERSET_BAD_QUANTITY : DONE;
+}
+
+/* The rules' answer by the plain map alone, and what the call does if it is done. */
+static unsigned plain_answer(const struct set *s, const struct plain *p, const struct request *r, struct effect *e) {
+    const int size = p->size[e->i];
+    const uint64_t open = open_of(p->bytes[e->i], size);
+    unsigned answer = DONE;
+    if (r->which == PUT) {
+        e->put = 1;
+        e->size = r->size;
+        answer = r->size > ORDERSET_VALUE_MAX ? ORDERSET_VALUE_TOO_LONG : DONE;
+    } else if (r->which == REMOVE) {
+        answer = size < 0 ? ABSENT : DONE;
+    } else if (r->which == NEW) {
+        order_later(e, ORDERSET_SENT, r->quantity, 0);
+        e->ordered = r->quantity;
+        answer = size >= 0 ? ORDERSET_KEY_HELD : r->quantity == 0 ? ORDERSET_BAD_QUANTITY : DONE;
+    } else {
+        answer = open == 0 ? ORDERSET_NO_ORDER : plain_step(p->bytes[e->i], open, r, e);
+    }
+    if (answer)
+        return answer;
+    return e->put && size < 0 && p->held + 1 >= s->n ? ORDERSET_FULL : s->version[0] >> 63 ? ORDERSET_NO_VERSION : DONE;
 }
 
 /* ---- phases */
@@ -387,19 +528,22 @@ static struct plain *copy_plain(const struct plain *p) {
     memcpy(q->bytes, p->bytes, p->keys * sizeof *p->bytes);
     memcpy(q->size, p->size, p->keys * sizeof *p->size);
     q->held = p->held;
+    q->book_only = p->book_only;
+    q->ordered = p->ordered;
+    q->filled = p->filled;
+    q->withdrawn = p->withdrawn;
     return q;
 }
 
-/* After an accepted put or remove: all stores are played, or a cut leaves some and recovery comes next with an index of
- * another size. Returns the set. */
-static struct set *finish(struct set *s, struct plain *p, uint32_t i, int put, const uint8_t *bytes, size_t size,
-                          unsigned cuts) {
+/* After a call with stores: all are played, or a cut leaves some and recovery comes next with an index of another size.
+ * Returns the set. */
+static struct set *finish(struct set *s, struct plain *p, const struct effect *e, unsigned cuts) {
     size_t a = 8, b = 8;
     int cut = cuts && below(cuts) == 0;
     if (cut) {
         if (s->n <= SMALL && below(s->n <= 6 ? 3 : 20) == 0) {
             struct plain *later = copy_plain(p);
-            plain_set(later, i, put, bytes, size);
+            plain_take(later, e);
             strike_all(s, p, later);
             close_plain(later);
         }
@@ -408,7 +552,7 @@ static struct set *finish(struct set *s, struct plain *p, uint32_t i, int put, c
     }
     same_number("play", (uint64_t)try_play(s, a, b), 0);
     if (a == 8 && b == 8)
-        plain_set(p, i, put, bytes, size);
+        plain_take(p, e);
     if (!cut)
         return s;
     struct set *t = open_set(s->length, heads_after_cut(s->n), s->model.next_length);
@@ -420,37 +564,71 @@ static struct set *finish(struct set *s, struct plain *p, uint32_t i, int put, c
     return t;
 }
 
-/* A call of a history, refused exactly where the rules refuse it, answered as the plain map does. */
-static struct set *step(struct set *s, struct plain *p, unsigned cuts) {
-    uint8_t bytes[128], out[ORDERSET_VALUE_MAX];
-    uint32_t i = (uint32_t)below(p->keys), kind = (uint32_t)below(8);
-    size_t size = any_size();
-    if (kind == 0) {
-        size_t room = below(3) ? sizeof out : below(sizeof out + 1);
-        unsigned want = p->size[i] < 0 ? 100 : room < (size_t)p->size[i] ? 13 : 200u + (unsigned)p->size[i];
-        same_number("get by the plain map", try_get(s, p->key[i], out, room), want);
-        return s;
+/* A quantity: of what is open, or around it, or any. */
+static uint64_t quantity_near(uint64_t open) {
+    switch (below(6)) {
+    case 0: return open;
+    case 1: return open + 1;
+    case 2: return open ? 1 + below(open) : 0;
+    default: return any_quantity();
     }
-    if (kind < 5) {
-        fill(bytes, sizeof bytes);
-        int stored = try_change(s, 1, p->key[i], bytes, size);
-        same_number("put by the plain map", (uint64_t)stored, plain_refuses(s, p, i, size) == 0);
-        return stored ? finish(s, p, i, 1, bytes, size, cuts) : s;
-    }
-    int stored = try_change(s, 0, p->key[i], bytes, 0);
-    same_number("remove by the plain map", (uint64_t)stored, p->size[i] >= 0);
-    return stored ? finish(s, p, i, 0, bytes, 0, cuts) : s;
 }
 
-/* A formatted set and a long row of calls. */
-static void history(uint32_t n, size_t heads, uint32_t keys, unsigned steps, unsigned cuts) {
+/* A call of a history, refused exactly where the rules refuse it, answered as the plain map does. */
+static struct set *step(struct set *s, struct plain *p, unsigned cuts) {
+    static const enum which any[] = {GET, LOCATE, PUT,    PUT, PUT, PUT,         PUT,  REMOVE,
+                                     GET, REMOVE, REMOVE, NEW, NEW, ACKNOWLEDGE, FILL, WITHDRAW},
+                            book[] = {GET,  LOCATE,      NEW,         NEW,         NEW,  NEW,  NEW,  NEW,
+                                      FILL, ACKNOWLEDGE, ACKNOWLEDGE, ACKNOWLEDGE, FILL, FILL, FILL, WITHDRAW};
+    struct effect e = {.i = (uint32_t)below(p->keys)};
+    struct request r = {(p->book_only ? book : any)[below(16)], p->key[e.i], 0, e.bytes, any_size()};
+    const int size = p->size[e.i];
+    if (r.which == GET) {
+        size_t room = below(3) ? ORDERSET_VALUE_MAX : below(ORDERSET_VALUE_MAX + 1);
+        unsigned want = size < 0 ? 100 : room < (size_t)size ? 13 : 200u + (unsigned)size;
+        same_number("get by the plain map", try_get(s, r.key, e.bytes, room), want);
+        return s;
+    }
+    if (r.which == LOCATE) {
+        same_number("locate by the plain map", try_locate(s, r.key), size < 0 ? ABSENT : DONE);
+        return s;
+    }
+    r.quantity = quantity_near(open_of(p->bytes[e.i], size));
+    fill(e.bytes, sizeof e.bytes);
+    if (below(2)) {
+        r.size = ORDERSET_ORDER_BYTES;
+        order_bytes(e.bytes);
+    }
+    unsigned want = plain_answer(s, p, &r, &e);
+    same_number("the answer by the plain map", try_change(s, &r), want);
+    return want == DONE ? finish(s, p, &e, cuts) : s;
+}
+
+/* An accepted image whose map is empty: for each key the last record is a remove; some slots are broken. */
+static void emptied_image(uint8_t *image, uint32_t n, const struct plain *p) {
+    for (uint32_t i = 1; i < n; i += 2) {
+        uint64_t key = p->key[below(p->keys)];
+        put_record(image, i, 1, key, i, ORDERSET_ORDER_BYTES);
+        put_record(image, i + 1, 2, key, i + 1, 0);
+        if (below(4) == 0)
+            m_set_word(image, 16 * (size_t)i + 8 * below(2), !m_word(image, 16 * (size_t)i));
+    }
+}
+
+/* An empty set and a long row of calls. */
+static void history(uint32_t n, size_t heads, uint32_t keys, unsigned steps, unsigned cuts, int book_only) {
     struct set *s = open_set(ORDERSET_IMAGE_BYTES(n), heads, ORDERSET_NEXT_LENGTH(n));
     struct plain *p = open_plain(keys);
+    p->book_only = book_only;
     fill(s->model_image, s->length < 4096 ? s->length : 4096);
     lend_garbage(s);
     now = s;
     same_number("format", (uint64_t)try_format(s), 0);
-    same_number("recovery of a formatted image", (uint64_t)try_recover(s), 0);
+    if (below(2)) {
+        emptied_image(s->model_image, n, p);
+        lend_same(s);
+    }
+    same_number("recovery of an empty set", (uint64_t)try_recover(s), 0);
     same_map(s, p);
     for (unsigned k = 0; k < steps; k++)
         s = step(s, p, cuts);
@@ -463,14 +641,18 @@ static void history(uint32_t n, size_t heads, uint32_t keys, unsigned steps, uns
 
 /* Calls on whatever stands there, with whatever index. */
 static void any_calls(struct set *s, uint64_t keys, unsigned count) {
+    static const enum which any[] = {GET, GET, GET, LOCATE, PUT, PUT, REMOVE, REMOVE, NEW, ACKNOWLEDGE, FILL, WITHDRAW};
     uint8_t bytes[128], out[96];
     for (unsigned k = 0; k < count; k++) {
         uint64_t key = below(4) ? any_key(keys) : m_word(s->model_image, s->n ? 16 * (1 + below(s->n)) + 1 : 0);
+        struct request r = {any[below(sizeof any / sizeof *any)], key, any_quantity(), bytes, any_size()};
         fill(bytes, sizeof bytes);
         fill(out, sizeof out);
-        if (below(3) == 0)
+        if (r.which == GET)
             try_get(s, key, out, below(sizeof out + 1));
-        else if (try_change(s, (int)below(2), key, bytes, any_size()) && below(2))
+        else if (r.which == LOCATE)
+            try_locate(s, key);
+        else if (try_change(s, &r) == DONE && below(2))
             try_play(s, below(10), below(10));
     }
 }
@@ -540,44 +722,47 @@ static void lengths(void) {
 static void small_history(void) {
     phase = "history of a small set";
     uint32_t n = 2 + (uint32_t)below(below(4) ? 6 : 30), keys = 1 + (uint32_t)below(n + 3);
-    history(n, any_heads(n), keys, 60, (unsigned)below(3) * 8);
+    history(n, any_heads(n), keys, 60, (unsigned)below(3) * 8, (int)below(2));
 }
 
 static void medium_history(void) {
     phase = "history of a medium set";
     uint32_t n = (uint32_t)spread(30, 3000), keys = 1 + (uint32_t)below(n + 30);
-    history(n, any_heads(n), keys, 3 * n > 3000 ? 3000 : 3 * n, n);
+    history(n, any_heads(n), keys, 3 * n > 3000 ? 3000 : 3 * n, n, (int)below(2));
 }
 
 static void large_history(unsigned k) {
     static const uint32_t n[] = {65535, 65535, 65535, 65534, 32768}, heads[] = {65536, 16383, 1, 65535, 65536},
                           keys[] = {65535, 40000, 300, 70000, 32768}, steps[] = {60000, 30000, 20000, 60000, 40000};
     phase = "history of a large set";
-    history(n[k], heads[k], keys[k], steps[k], steps[k] / 3);
+    history(n[k], heads[k], keys[k], steps[k], steps[k] / 3, k % 2);
 }
 
 /* ---- directed cases: each answer of the rules is met, whatever the seed */
 
 enum fault {
     SOUND, BAD_LENGTH, UNFORMATTED, BAD_HEADER, NO_HEADS, MANY_HEADS, BAD_NEXT, BAD_MARK, BAD_KIND, SAME_VERSION,
-    ALL_LIVE, ABOVE_N, ROUND, FULL, LAST_VERSION, NO_FIRST, NO_LAST, FIRST_NEXT, NO_LIVE, LONG_RECORD, ORDER, OUTSIDE,
-    ONE_LINE, TWO_LENGTHS
+    ALL_LIVE, ABOVE_N, ROUND, FULL, LAST_VERSION, NO_FIRST, NO_LAST, FIRST_NEXT, NO_LIVE, LONG_RECORD, OUT_OF_ORDER, OUTSIDE,
+    ONE_LINE, TWO_LENGTHS, OTHER_STATE, ALL_FILLED, OTHER_SIZE, LARGE_ORDER
 };
 
 /* the calls of a case */
 enum { IN_FORMAT = 1 << FORMAT, IN_RECOVER = 1 << RECOVER, IN_PUT = 1 << PUT, IN_REMOVE = 1 << REMOVE };
-enum { IN_GET = 1 << GET, IN_PLAY = 1 << PLAY, IN_PLAY_LIST = 1 << PLAY_LIST };
-enum { IN_CHANGE = IN_PUT | IN_REMOVE, IN_WALK = IN_CHANGE | IN_GET, IN_ALL = IN_WALK | IN_RECOVER };
+enum { IN_GET = 1 << GET, IN_LOCATE = 1 << LOCATE, IN_PLAY = 1 << PLAY, IN_PLAY_LIST = 1 << PLAY_LIST };
+enum { IN_NEW = 1 << NEW, IN_ACKNOWLEDGE = 1 << ACKNOWLEDGE, IN_FILL = 1 << FILL, IN_WITHDRAW = 1 << WITHDRAW };
+enum { IN_CHANGE = IN_PUT | IN_REMOVE, IN_STEP = IN_ACKNOWLEDGE | IN_FILL | IN_WITHDRAW };
+enum { IN_WALK = IN_CHANGE | IN_GET | IN_LOCATE | IN_NEW | IN_STEP, IN_ALL = IN_WALK | IN_RECOVER };
 
-/* Four slots: key 7 in slot 1 with 20 bytes, key 8 in slot 2 with 80; key 10 has the head of key 7 and is not held.
- * size: of a put, room of a get, both counts of a play. */
+/* Six slots: key 7 in slot 1 with 20 bytes, key 8 in slot 2 with 80; in slot 3 key 11 with a sent order and in slot 4
+ * key 12 with an acknowledged one, of each 100 ordered and 40 filled; key 10 has the head of key 7 and is not held.
+ * size: of a put, room of a get, both counts of a play, quantity of a new order or a fill. */
 static const struct directed {
     unsigned calls, answer;
     enum fault fault;
     uint64_t key;
     size_t size;
 } cases[] = {
-    {IN_FORMAT | IN_RECOVER, 0, SOUND, 0, 0},
+    {IN_FORMAT | IN_RECOVER, DONE, SOUND, 0, 0},
     {IN_FORMAT | IN_ALL | IN_PLAY, 1, BAD_LENGTH, 7, 5},
     {IN_ALL, 2, UNFORMATTED, 7, 5},
     {IN_ALL, 3, BAD_HEADER, 7, 5},
@@ -589,31 +774,94 @@ static const struct directed {
     {IN_RECOVER, 6, LONG_RECORD, 0, 0},
     {IN_RECOVER, 7, SAME_VERSION, 0, 0},
     {IN_RECOVER, 8, ALL_LIVE, 0, 0},
-    {IN_CHANGE | IN_GET, 0, SOUND, 7, 33},
-    {IN_PUT | IN_GET, 0, SOUND, 8, 80},
-    {IN_PUT, 0, SOUND, 10, 0},
-    {IN_REMOVE | IN_GET, 16, SOUND, 10, 0},
+    {IN_CHANGE | IN_GET | IN_LOCATE, DONE, SOUND, 7, 33},
+    {IN_PUT | IN_GET, DONE, SOUND, 8, 80},
+    {IN_PUT, DONE, SOUND, 10, 0},
+    {IN_REMOVE | IN_GET | IN_LOCATE, ABSENT, SOUND, 10, 0},
     {IN_PUT, 10, SOUND, 7, 81},
     {IN_WALK, 11, ABOVE_N, 7, 80},
     {IN_WALK, 11, ROUND, 10, 80},
+    {IN_WALK, 11, ABOVE_N, 7, 0},
+    {IN_WALK, 11, ROUND, 10, 0},
     {IN_PUT, 12, FULL, 9, 5},
-    {IN_PUT, 0, FULL, 7, 5},
+    {IN_PUT, DONE, FULL, 7, 5},
     {IN_CHANGE, 9, LAST_VERSION, 7, 5},
-    {IN_REMOVE, 16, LAST_VERSION, 10, 0},
+    {IN_REMOVE, ABSENT, LAST_VERSION, 10, 0},
     {IN_CHANGE, 11, NO_FIRST, 7, 5},
     {IN_CHANGE, 11, NO_LAST, 7, 5},
     {IN_CHANGE, 11, FIRST_NEXT, 8, 5},
     {IN_REMOVE, 11, NO_LIVE, 8, 0},
     {IN_GET, 6, LONG_RECORD, 7, 90},
-    {IN_GET, 0, SOUND, 7, 20},
+    {IN_LOCATE, DONE, LONG_RECORD, 7, 0},
+    {IN_GET, DONE, SOUND, 7, 20},
     {IN_GET, 13, SOUND, 7, 19},
-    {IN_PLAY | IN_PLAY_LIST, 0, SOUND, 0, 8},
+    {IN_PLAY | IN_PLAY_LIST, DONE, SOUND, 0, 8},
     {IN_PLAY, 14, SOUND, 0, 9},
-    {IN_PLAY, 15, ORDER, 0, 0},
+    {IN_PLAY, 15, OUT_OF_ORDER, 0, 0},
     {IN_PLAY | IN_PLAY_LIST, 15, OUTSIDE, 0, 8},
     {IN_PLAY, 15, ONE_LINE, 0, 8},
     {IN_PLAY_LIST, 15, TWO_LENGTHS, 0, 0},
+    /* the book */
+    {IN_NEW, DONE, SOUND, 10, 1},
+    {IN_NEW, DONE, SOUND, 10, SIZE_MAX},
+    {IN_NEW, DONE, NO_LIVE, 10, 1},
+    {IN_NEW, 17, SOUND, 7, 1},
+    {IN_NEW, 17, SOUND, 11, 0},
+    {IN_NEW, 17, LONG_RECORD, 7, 1},
+    {IN_NEW, 17, FULL, 12, 1},
+    {IN_NEW, 19, SOUND, 10, 0},
+    {IN_NEW, 19, FULL, 10, 0},
+    {IN_NEW, 19, LAST_VERSION, 10, 0},
+    {IN_NEW, 19, NO_FIRST, 10, 0},
+    {IN_NEW, 12, FULL, 9, 1},
+    {IN_NEW, 9, LAST_VERSION, 10, 1},
+    {IN_NEW, 11, NO_FIRST, 10, 1},
+    {IN_NEW, 11, NO_LAST, 10, 1},
+    {IN_NEW, 11, FIRST_NEXT, 10, 1},
+    {IN_STEP, DONE, SOUND, 11, 59},
+    {IN_STEP, DONE, SOUND, 11, 60},
+    {IN_FILL | IN_WITHDRAW, DONE, SOUND, 12, 59},
+    {IN_FILL | IN_WITHDRAW, DONE, SOUND, 12, 60},
+    {IN_STEP, DONE, FULL, 11, 1},
+    {IN_ACKNOWLEDGE, ALREADY, SOUND, 12, 0},
+    {IN_ACKNOWLEDGE, ALREADY, LAST_VERSION, 12, 0},
+    {IN_ACKNOWLEDGE, ALREADY, NO_FIRST, 12, 0},
+    {IN_ACKNOWLEDGE, ALREADY, NO_LAST, 12, 0},
+    {IN_ACKNOWLEDGE, ALREADY, FIRST_NEXT, 12, 0},
+    {IN_STEP, 18, SOUND, 10, 0},
+    {IN_STEP, 18, SOUND, 7, 0},
+    {IN_STEP, 18, SOUND, 8, 1},
+    {IN_STEP, 18, LONG_RECORD, 7, 1},
+    {IN_STEP, 18, OTHER_STATE, 11, 1},
+    {IN_STEP, 18, ALL_FILLED, 11, 1},
+    {IN_STEP, 18, OTHER_SIZE, 11, 1},
+    {IN_STEP, 18, LAST_VERSION, 10, 0},
+    {IN_STEP, 18, NO_FIRST, 7, 0},
+    {IN_STEP, 18, NO_LIVE, 10, 0},
+    {IN_FILL, 19, SOUND, 11, 0},
+    {IN_FILL, 19, SOUND, 11, 61},
+    {IN_FILL, 19, SOUND, 12, SIZE_MAX},
+    {IN_FILL, 19, SOUND, 12, SIZE_MAX - 39},
+    {IN_FILL, 19, LAST_VERSION, 11, 0},
+    {IN_FILL, 19, NO_LAST, 12, 61},
+    {IN_FILL, 19, NO_LIVE, 11, 0},
+    {IN_STEP, DONE, LARGE_ORDER, 11, 1},
+    {IN_FILL, 19, LARGE_ORDER, 11, 2},
+    {IN_FILL, 19, LARGE_ORDER, 11, 3},
+    {IN_STEP, 9, LAST_VERSION, 11, 59},
+    {IN_STEP, 9, LAST_VERSION, 11, 60},
+    {IN_STEP, 11, NO_FIRST, 11, 59},
+    {IN_STEP, 11, NO_LAST, 11, 60},
+    {IN_STEP, 11, FIRST_NEXT, 11, 59},
+    {IN_FILL | IN_WITHDRAW, 11, NO_LIVE, 11, 60},
+    {IN_FILL | IN_ACKNOWLEDGE, DONE, NO_LIVE, 11, 59},
 };
+
+static void set_order(uint8_t *image, uint32_t slot, uint64_t state, uint64_t ordered, uint64_t filled) {
+    m_set_word(image, 16 * (size_t)slot + 3, state);
+    m_set_word(image, 16 * (size_t)slot + 4, ordered);
+    m_set_word(image, 16 * (size_t)slot + 5, filled);
+}
 
 static void plant(struct set *s, enum fault fault) {
     struct m_index *index = &s->model;
@@ -621,34 +869,42 @@ static void plant(struct set *s, enum fault fault) {
     switch (fault) {
     case UNFORMATTED: m_set_word(image, 0, 0); break;
     case BAD_HEADER: m_set_word(image, 1 + below(7), 2); break;
-    case BAD_MARK: m_set_word(image, 16 * (1 + below(4)) + 8 * below(2), 2 + below(1000)); break;
-    case BAD_KIND: put_record(image, 3, 3, 9, 3, 0); break;
+    case BAD_MARK: m_set_word(image, 16 * (1 + below(6)) + 8 * below(2), 2 + below(1000)); break;
+    case BAD_KIND: put_record(image, 5, 3, 9, 5, 0); break;
     case LONG_RECORD: image[128 + 17] = (uint8_t)(81 + below(175)); break;
-    case SAME_VERSION: put_record(image, 3, 1, 9, 2, 5); break;
-    case ALL_LIVE: put_record(image, 3, 1, 9, 3, 5), put_record(image, 4, 1, 10, 4, 5); break;
-    case ABOVE_N: index->heads[7 % 3] = 5 + (uint32_t)below(1000); break;
+    case SAME_VERSION: put_record(image, 5, 1, 9, 2, 5); break;
+    case ALL_LIVE: put_record(image, 5, 1, 9, 5, 5), put_record(image, 6, 1, 10, 6, 5); break;
+    case ABOVE_N: index->heads[7 % 3] = 7 + (uint32_t)below(1000); break;
     case ROUND: index->next[1] = 1; break;
-    case FULL: index->state.live = 3; break;
+    case FULL: index->state.live = 5; break;
     case LAST_VERSION: index->state.version = 1ull << 63; break;
-    case NO_FIRST: index->state.first = below(2) ? 0 : 5; break;
-    case NO_LAST: index->state.last = below(2) ? 0 : 5; break;
-    case FIRST_NEXT: index->next[index->state.first] = 5; break;
+    case NO_FIRST: index->state.first = below(2) ? 0 : 7; break;
+    case NO_LAST: index->state.last = below(2) ? 0 : 7; break;
+    case FIRST_NEXT: index->next[index->state.first] = 7; break;
     case NO_LIVE: index->state.live = 0; break;
-    case ORDER: s->at[1] = 16 + 2, s->at[2] = 16 + 1; break;
+    case OUT_OF_ORDER: s->at[1] = 16 + 2, s->at[2] = 16 + 1; break;
     case OUTSIDE: s->at[7] = (uint32_t)(s->length / 8); break;
     case ONE_LINE: memcpy(s->at + 8, s->at, 8 * sizeof *s->at); break;
+    case OTHER_STATE: set_order(image, 3, below(2) ? 3 * below(2) : below(3) + (4ull << below(62)), 100, 40); break;
+    case ALL_FILLED: set_order(image, 3, 1 + below(2), 100, 100 + below(2) * below(1000)); break;
+    case OTHER_SIZE: image[3 * 128 + 17] = (uint8_t)(below(2) ? 23 - below(24) : 25 + below(56)); break;
+    case LARGE_ORDER: set_order(image, 3, 1, UINT64_MAX, UINT64_MAX - 1); break;
     default: break;
     }
 }
 
 static struct set *directed_set(enum fault fault) {
-    size_t length = ORDERSET_IMAGE_BYTES(4), heads = fault == NO_HEADS ? 0 : fault == MANY_HEADS ? 65537 : 3;
-    struct set *s = open_set(length - (fault == BAD_LENGTH), heads, fault == BAD_NEXT ? 6 : 5);
+    size_t length = ORDERSET_IMAGE_BYTES(6), heads = fault == NO_HEADS ? 0 : fault == MANY_HEADS ? 65537 : 3;
+    struct set *s = open_set(length - (fault == BAD_LENGTH), heads, fault == BAD_NEXT ? 8 : 7);
     lend_garbage(s);
     if (fault != BAD_LENGTH) {
         m_format(s->model_image, length);
         put_record(s->model_image, 1, 1, 7, 1, 20);
         put_record(s->model_image, 2, 1, 8, 2, 80);
+        put_record(s->model_image, 3, 1, 11, 3, ORDERSET_ORDER_BYTES);
+        put_record(s->model_image, 4, 1, 12, 4, ORDERSET_ORDER_BYTES);
+        set_order(s->model_image, 3, ORDERSET_SENT, 100, 40);
+        set_order(s->model_image, 4, ORDERSET_ACKNOWLEDGED, 100, 40);
     }
     m_recover(s->model_image, s->length, &s->model);
     for (uint32_t i = 0; i < ORDERSET_STORES; i++) {
@@ -663,15 +919,17 @@ static struct set *directed_set(enum fault fault) {
 static void directed(const struct directed *c, enum which which) {
     uint8_t bytes[128];
     struct set *s = directed_set(c->fault);
+    const struct request r = {which, c->key, c->size, bytes, c->size};
     uint64_t before = met[which][c->answer];
     fill(bytes, sizeof bytes);
     switch (which) {
     case FORMAT: try_format(s); break;
     case RECOVER: try_recover(s); break;
     case GET: try_get(s, c->key, bytes, c->size); break;
+    case LOCATE: try_locate(s, c->key); break;
     case PLAY: try_play(s, below(2) ? c->size : c->size == 9, c->size); break;
     case PLAY_LIST: try_play_list(s, s->at, c->fault == TWO_LENGTHS ? 15 : 16, s->value, 16); break;
-    default: try_change(s, which == PUT, c->key, bytes, c->size); break;
+    default: try_change(s, &r); break;
     }
     if (met[which][c->answer] != before + 1)
         differ("in directed case %td: the answer is not %u", c - cases, c->answer);
@@ -686,14 +944,19 @@ static void all_directed(void) {
                 directed(&cases[i], (enum which)which);
 }
 
-/* How often the answer of the rules was met that was met least. */
+/* How often the answer of the rules was met that was met least; 20 is absent, 21 already. */
 static uint64_t least_met(void) {
     static const char *const rules[WHICH] = {
         [FORMAT] = "0 1",
         [RECOVER] = "0 1 2 3 4 5 6 7 8",
         [PUT] = "0 1 2 3 4 9 10 11 12",
-        [REMOVE] = "0 16 1 2 3 4 9 11",
-        [GET] = "0 16 1 2 3 4 6 11 13",
+        [REMOVE] = "0 20 1 2 3 4 9 11",
+        [GET] = "0 20 1 2 3 4 6 11 13",
+        [LOCATE] = "0 20 1 2 3 4 11",
+        [NEW] = "0 1 2 3 4 9 11 12 17 19",
+        [ACKNOWLEDGE] = "0 21 1 2 3 4 9 11 18",
+        [FILL] = "0 1 2 3 4 9 11 18 19",
+        [WITHDRAW] = "0 1 2 3 4 9 11 18",
         [PLAY] = "0 1 14 15",
         [PLAY_LIST] = "0 15",
     };

@@ -21,10 +21,11 @@
 #include "orderset.h"
 
 enum { CALLS = 5000000, PAGE = 4096, NEAR = 64 };
-enum which { FORMAT, RECOVER, PUT, REMOVE, GET, PLAY, PLAY_LIST, WHICH };
-static const char *const name[WHICH] = {"format", "recover", "put", "remove", "get", "play", "play_list"};
+enum which { FORMAT, RECOVER, PUT, REMOVE, NEW, ACKNOWLEDGE, FILL, WITHDRAW, GET, LOCATE, PLAY, PLAY_LIST, WHICH };
+static const char *const name[WHICH] = {"format", "recover",  "put", "remove", "new",  "acknowledge",
+                                        "fill",   "withdraw", "get", "locate", "play", "play_list"};
 
-static uint64_t calls, answers[WHICH][2]; /* [0] not refused, [1] refused */
+static uint64_t calls, already, answers[WHICH][2]; /* [0] not refused, [1] refused; already: second acknowledges */
 static enum which call;
 
 /* ---- pieces of memory */
@@ -181,23 +182,41 @@ static void call_play(size_t a, size_t b) {
     end(orderset_play(w(IMAGE), piece[IMAGE].length, r(AT), r(VALUE), a, b), writable);
 }
 
+static uint32_t change(uint64_t key, uint64_t quantity) {
+    const size_t length = piece[IMAGE].length;
+    switch (call) {
+    case PUT:
+        return orderset_put(r(IMAGE), length, w(HEADS), heads_length, w(NEXT), next_length, w(STATE), w(VERSION), key,
+                            r(BYTES), piece[BYTES].length, w(AT), w(VALUE), w(ANSWER));
+    case REMOVE:
+        return orderset_remove(r(IMAGE), length, w(HEADS), heads_length, w(NEXT), next_length, w(STATE), w(VERSION),
+                               key, w(AT), w(VALUE), w(ANSWER));
+    case NEW:
+        return orderset_book_new(r(IMAGE), length, w(HEADS), heads_length, w(NEXT), next_length, w(STATE), w(VERSION),
+                                 key, quantity, w(AT), w(VALUE), w(ANSWER));
+    case ACKNOWLEDGE:
+        return orderset_book_acknowledge(r(IMAGE), length, w(HEADS), heads_length, w(NEXT), next_length, w(STATE),
+                                         w(VERSION), key, w(AT), w(VALUE), w(ANSWER));
+    case FILL:
+        return orderset_book_fill(r(IMAGE), length, w(HEADS), heads_length, w(NEXT), next_length, w(STATE), w(VERSION),
+                                  key, quantity, w(AT), w(VALUE), w(ANSWER));
+    default:
+        return orderset_book_withdraw(r(IMAGE), length, w(HEADS), heads_length, w(NEXT), next_length, w(STATE),
+                                      w(VERSION), key, w(AT), w(VALUE), w(ANSWER));
+    }
+}
+
 /* 1 if there are stores to be made */
-static int call_change(int put, uint64_t key) {
+static int call_change(uint64_t key) {
     static const enum what writable[] = {HEADS, NEXT, STATE, VERSION, AT, VALUE, ANSWER, PIECES};
     uint64_t answer;
-    uint32_t code;
-    begin(put ? PUT : REMOVE, writable);
-    if (put)
-        code = orderset_put(r(IMAGE), piece[IMAGE].length, w(HEADS), heads_length, w(NEXT), next_length, w(STATE),
-                            w(VERSION), key, r(BYTES), piece[BYTES].length, w(AT), w(VALUE), w(ANSWER));
-    else
-        code = orderset_remove(r(IMAGE), piece[IMAGE].length, w(HEADS), heads_length, w(NEXT), next_length, w(STATE),
-                               w(VERSION), key, w(AT), w(VALUE), w(ANSWER));
-    end(code, writable);
+    begin(call, writable);
+    uint32_t code = end(change(key, any_quantity()), writable);
     memcpy(&answer, w(ANSWER), sizeof answer);
-    if (code == 0 && answer == ORDERSET_ABSENT)
+    if (code == 0 && answer != ORDERSET_GIVEN)
         for (const enum what *p = writable; *p != ANSWER; p++)
-            same(&piece[*p], piece[*p].at, piece[*p].at + piece[*p].length, "by a call that answers absent");
+            same(&piece[*p], piece[*p].at, piece[*p].at + piece[*p].length, "by a call that stores nothing");
+    already += code == 0 && answer == ORDERSET_ALREADY;
     return code == 0 && answer == ORDERSET_GIVEN;
 }
 
@@ -212,6 +231,13 @@ static void call_get(uint64_t key) {
     memcpy(answer, w(ANSWER), sizeof answer);
     if (code == 0)
         same(out, out->at + answer[ORDERSET_LENGTH], out->at + out->length, "past the value");
+}
+
+static void call_locate(uint64_t key) {
+    static const enum what writable[] = {ANSWER, PIECES};
+    begin(LOCATE, writable);
+    end(orderset_locate(r(IMAGE), piece[IMAGE].length, r(HEADS), heads_length, r(NEXT), next_length, key, w(ANSWER)),
+        writable);
 }
 
 static void call_play_list(void) {
@@ -287,7 +313,7 @@ static void any_stores(void) {
 static void lend_for_one_call(void) {
     place(AT, 4 * ORDERSET_STORES);
     place(VALUE, 8 * ORDERSET_STORES);
-    place(ANSWER, 8 * (call == PUT || call == REMOVE ? ORDERSET_CHANGE_ANSWER : ORDERSET_ANSWER));
+    place(ANSWER, 8 * (call == FORMAT || call == GET ? ORDERSET_ANSWER : ORDERSET_CHANGE_ANSWER));
     place(BYTES, any_size());
     place(OUTPUT, below(3) ? below(ORDERSET_VALUE_MAX + 17) : ORDERSET_VALUE_MAX);
     fill(w(AT), piece[AT].length);
@@ -298,21 +324,22 @@ static void lend_for_one_call(void) {
 }
 
 static void any_call(uint64_t keys) {
-    static const enum which often[] = {RECOVER, RECOVER, PUT, PUT, PUT, PUT, PUT,  REMOVE,
-                                       REMOVE,  REMOVE,  GET, GET, GET, GET, PLAY, PLAY_LIST};
+    static const enum which often[] = {RECOVER, RECOVER, PUT,         PUT,         PUT,  PUT,  REMOVE, REMOVE,
+                                       NEW,     NEW,     ACKNOWLEDGE, ACKNOWLEDGE, FILL, FILL, FILL,   WITHDRAW,
+                                       GET,     GET,     GET,         LOCATE,      PLAY, PLAY_LIST};
     call = below(40) ? often[below(sizeof often / sizeof *often)] : FORMAT;
     lend_for_one_call();
     switch (call) {
     case FORMAT: call_format(); break;
     case RECOVER: call_recover(); break;
-    case PUT:
-    case REMOVE:
-        if (call_change(call == PUT, key_of_image(keys)) && below(4))
+    case GET: call_get(key_of_image(keys)); break;
+    case LOCATE: call_locate(key_of_image(keys)); break;
+    case PLAY: any_stores(), call_play(below(10), below(10)); break;
+    case PLAY_LIST: call_play_list(); break;
+    default:
+        if (call_change(key_of_image(keys)) && below(4))
             call_play(below(4) ? 8 : below(10), below(4) ? 8 : below(10));
         break;
-    case GET: call_get(key_of_image(keys)); break;
-    case PLAY: any_stores(), call_play(below(10), below(10)); break;
-    default: call_play_list(); break;
     }
 }
 
@@ -320,7 +347,7 @@ static int all_met(void) {
     for (int i = 0; i < WHICH; i++)
         if (answers[i][0] == 0 || answers[i][1] == 0)
             return 0;
-    return 1;
+    return already > 0;
 }
 
 int main(int count, char **word) {
@@ -339,6 +366,6 @@ int main(int count, char **word) {
     printf("%" PRIu64 " calls, %" PRIu64 " of them refused: no fault, nothing changed that may not be (%.0f s)\n",
            calls, refused, seconds());
     if (!all_met())
-        printf("a function was always refused, or never\n");
+        printf("a function was always refused, or never, or no order was acknowledged twice\n");
     return !all_met();
 }

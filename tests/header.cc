@@ -1,5 +1,5 @@
-// The headers in C++: an image is made durable, an order is put, made durable, found, removed and not found; a refused
-// call stores nothing.
+// The headers in C++: an image is made durable, a value is put, made durable, found, removed and not found; a refused
+// call stores nothing; an order is sent, acknowledged, acknowledged again and filled.
 #include <cstdio>
 #include <cstring>
 #include <vector>
@@ -58,12 +58,35 @@ bool refused_stores_nothing() {
            && !std::memcmp(image, before.data(), sizeof image);
 }
 
+uint32_t acknowledge(uint64_t key) {
+    return orderset_book_acknowledge(image, sizeof image, heads.data(), heads.size(), next.data(), next.size(), state,
+                                     version, key, at, value, answer);
+}
+
+uint32_t fill(uint64_t key, uint64_t quantity) {
+    return orderset_book_fill(image, sizeof image, heads.data(), heads.size(), next.data(), next.size(), state, version,
+                              key, quantity, at, value, answer);
+}
+
+bool keeps_book(uint64_t key) {
+    return made_durable(orderset_book_new(image, sizeof image, heads.data(), heads.size(), next.data(), next.size(),
+                                          state, version, key, 100, at, value, answer))
+           && made_durable(acknowledge(key)) && acknowledge(key) == ORDERSET_OK && answer[0] == ORDERSET_ALREADY
+           && fill(key, 101) == ORDERSET_BAD_QUANTITY && made_durable(fill(key, 100))
+           && orderset_book_withdraw(image, sizeof image, heads.data(), heads.size(), next.data(), next.size(), state,
+                                     version, key, at, value, answer)
+                  == ORDERSET_NO_ORDER
+           && orderset_locate(image, sizeof image, heads.data(), heads.size(), next.data(), next.size(), key, answer)
+                  == ORDERSET_OK
+           && answer[0] == ORDERSET_ABSENT;
+}
+
 }
 
 int main() {
     const bool good = start() && made_durable(put(7, "buy", 3)) && finds(7, "buy") && refused_stores_nothing()
                       && made_durable(drop(7)) && finds(7, nullptr) && drop(7) == ORDERSET_OK
-                      && answer[0] == ORDERSET_ABSENT;
+                      && answer[0] == ORDERSET_ABSENT && keeps_book(9);
     std::printf("header: a set through the headers in C++: %s\n", good ? "as it should be" : "NOT SO");
     return good ? 0 : 1;
 }

@@ -19,6 +19,19 @@ void put_record(uint8_t *image, uint32_t slot, unsigned kind, uint64_t key, uint
     m_set_word(record, 15, version * 2 + bit2);
 }
 
+void order_bytes(uint8_t bytes[24]) {
+    uint64_t state = 1 + below(2), ordered = any_quantity(), filled = ordered ? below(ordered) : 0;
+    if (below(8) == 0)
+        switch (below(3)) {
+        case 0: state = below(2) ? 3 * below(2) : state + (1ull << (2 + below(62))); break;
+        case 1: filled = ordered; break;
+        default: filled = chance(); break;
+        }
+    m_set_word(bytes, 0, state);
+    m_set_word(bytes, 1, ordered);
+    m_set_word(bytes, 2, filled);
+}
+
 uint64_t any_key(uint64_t keys) {
     return below(keys) * (below(2) ? 1 : 65536);
 }
@@ -53,6 +66,8 @@ void any_image(uint8_t *image, uint32_t n, uint64_t keys) {
             put_record(image, i, kind < 4 || spares == 3 ? 1 : 2, key, base + gap * rank[i], 0);
         if (kind < 4 || (kind < 6 && spares == 3))
             put_record(image, i, 1, key, base + gap * rank[i], below(81));
+        if (kind < 4 && below(2))
+            put_record(image, i, 1, key, base + gap * rank[i], 24), order_bytes(slot + 24);
         if (kind == 5 && spares >= 2 && below(2))
             m_set_word(slot, below(2) ? 7 : 15, 2 * below(gap * n) + below(2));
     }
@@ -105,4 +120,8 @@ uint32_t any_heads(uint32_t n) {
 
 size_t any_size(void) {
     return below(20) ? below(81) : 80 + below(4);
+}
+
+uint64_t any_quantity(void) {
+    return below(4) ? below(6) : below(2) ? chance() : UINT64_MAX - below(3);
 }

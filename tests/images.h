@@ -8,8 +8,11 @@
 /* A valid record of that kind (1 put, 2 remove) with random bytes. */
 void put_record(uint8_t *image, uint32_t slot, unsigned kind, uint64_t key, uint64_t version, size_t size);
 
-/* An image slot by slot: put and remove records of a few keys with distinct versions, empty slots, slots that a cut
- * broke. Usually accepted. */
+/* The 24 bytes of an order of the book, mostly a small one; sometimes of something near an order. */
+void order_bytes(uint8_t bytes[24]);
+
+/* An image slot by slot: put and remove records of a few keys with distinct versions, half of the puts orders of the
+ * book, empty slots, slots that a cut broke. Usually accepted. */
 void any_image(uint8_t *image, uint32_t n, uint64_t keys);
 
 /* One fault, of any kind that the rules name, or a word of garbage. */
@@ -21,8 +24,9 @@ uint64_t any_key(uint64_t keys);
 /* Numbers that are mostly slots; n may be 0. */
 void garbage_index(struct m_index *index, uint32_t n);
 
-/* A number of heads for n slots; a value's size, sometimes more than 80. */
+/* A number of heads for n slots; a value's size, sometimes more than 80; a quantity, mostly small. */
 uint32_t any_heads(uint32_t n);
 size_t any_size(void);
+uint64_t any_quantity(void);
 
 #endif

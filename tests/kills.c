@@ -1,8 +1,8 @@
-/* The gateway under load, killed with kill -9 at any moment and started again: every acknowledged order is there, the
- * command that was under way is there wholly or not at all, and nothing else is. Twice: with the gateway as it is, on
- * the disk of this machine; and with the gateway on the simulated disk of disk.c, where syncs fail and power cuts
- * strike too. A cut leaves in the file what was synced, and of what was not each line keeps some number of its words,
- * counted from the first.
+/* The gateway under load, killed with kill -9 at any moment and started again: every order is there as the answered
+ * commands left it, the command that was under way is there wholly or not at all, and nothing else is. Twice: with the
+ * gateway as it is, on the disk of this machine; and with the gateway on the simulated disk of disk.c, where syncs fail
+ * and power cuts strike too. A cut leaves in the file what was synced, and of what was not each line keeps some number
+ * of its words, counted from the first.
  *
  *     kills GATEWAY GATEWAY_ON_DISK FILE [SEED]
  */
@@ -18,26 +18,26 @@
 #include "child.h"
 #include "orderset.h"
 
-enum { KILLS = 200, STRIKES = 400, SLOTS = 12, KEYS = 15, BATCH = 40, TEXT = ORDERSET_VALUE_MAX + 1, PATH = 1024 };
+enum { KILLS = 200, STRIKES = 400, SLOTS = 12, KEYS = 15, BATCH = 40, TEXT = 80, PATH = 1024 };
 
 static const char *gateway, *file;
 static char shadow[PATH], log_file[PATH];
-static uint64_t acknowledged, cuts, kills, failures, unanswered, in_start;
+static uint64_t stored, cuts, kills, failures, unanswered, in_start; /* stored: changes that were answered */
 static int failing; /* the syncs of this run will fail */
 
-/* ---- what was acknowledged, and the commands of one run */
+/* ---- the orders by what was answered, and the commands of one run */
 
 static struct order {
-    int held;
-    char text[TEXT];
+    int state; /* 0: none; then ORDERSET_SENT or ORDERSET_ACKNOWLEDGED */
+    uint64_t ordered, filled;
 } map[KEYS];
 
 static struct command {
-    enum { PUT, REMOVE, GET } kind;
+    enum { NEW, ACKNOWLEDGE, FILL, WITHDRAW, SHOW } kind;
     int key;
-    char text[TEXT];
+    uint64_t quantity;
 } batch[BATCH];
-static int sent, done; /* commands of the batch that were sent, and that were acknowledged */
+static int sent, done; /* commands of the batch that were sent, and that were answered */
 
 static uint64_t number_of(int key) {
     return key % 3 ? (uint64_t)key : UINT64_MAX - (uint64_t)key;
@@ -46,51 +46,83 @@ static uint64_t number_of(int key) {
 static int held(void) {
     int count = 0;
     for (int i = 0; i < KEYS; i++)
-        count += map[i].held;
+        count += map[i].state != 0;
     return count;
 }
 
-static void any_text(char text[TEXT]) {
-    size_t length = below(TEXT);
-    for (size_t i = 0; i < length; i++)
-        text[i] = (char)('a' + below(26));
-    text[length] = 0;
+/* as the gateway shows it */
+static const char *text_of(const struct order *o, char text[TEXT]) {
+    snprintf(text, TEXT, "%s, ordered %" PRIu64 ", filled %" PRIu64,
+             o->state == ORDERSET_SENT ? "sent" : "acknowledged", o->ordered, o->filled);
+    return o->state ? text : "absent";
 }
 
-/* A command is acknowledged by the answer that the map asks for, and the map takes its step. */
+/* The order after the command. Answers its refusal, or 0. */
+static int carry_out(const struct command *c, struct order *o) {
+    uint64_t open = o->ordered - o->filled;
+    if (c->kind == NEW ? o->state != 0 : c->kind != SHOW && o->state == 0)
+        return c->kind == NEW ? 17 : 18;
+    if (c->kind == NEW || c->kind == FILL)
+        if (c->quantity == 0 || (c->kind == FILL && c->quantity > open))
+            return 19;
+    if (c->kind == NEW && held() + 1 >= SLOTS)
+        return 12;
+    if (c->kind == NEW)
+        *o = (struct order){ORDERSET_SENT, c->quantity, 0};
+    else if (c->kind == ACKNOWLEDGE)
+        o->state = ORDERSET_ACKNOWLEDGED;
+    else if (c->kind == WITHDRAW || (c->kind == FILL && c->quantity == open))
+        *o = (struct order){0, 0, 0};
+    else if (c->kind == FILL)
+        o->filled += c->quantity;
+    return 0;
+}
+
+static const char *const name[] = {"new", "acknowledge", "fill", "withdraw", "show"};
+
+/* A command is answered as the map asks for, and the map takes its step. */
 static void take(const struct command *c, const char *answer) {
-    char wanted[LINE];
-    struct order *order = &map[c->key];
+    char wanted[LINE], text[TEXT];
+    struct order later = map[c->key];
     uint64_t key = number_of(c->key);
-    int stored = c->kind == REMOVE ? order->held : c->kind == PUT && (order->held || held() + 1 < SLOTS);
-    if (c->kind == GET)
-        snprintf(wanted, sizeof wanted, "%" PRIu64 ": %s", key, order->held ? order->text : "absent");
-    else if (stored)
-        snprintf(wanted, sizeof wanted, "%s %" PRIu64 ": slot ", c->kind == PUT ? "put" : "remove", key);
+    int refusal = carry_out(c, &later), again = c->kind == ACKNOWLEDGE && map[c->key].state == ORDERSET_ACKNOWLEDGED;
+    if (c->kind == SHOW)
+        snprintf(wanted, sizeof wanted, "%" PRIu64 ": %s", key, text_of(&later, text));
+    else if (refusal)
+        snprintf(wanted, sizeof wanted, "no %d: ", refusal);
     else
-        snprintf(wanted, sizeof wanted, c->kind == PUT ? "no 12: " : "remove %" PRIu64 ": absent", key);
-    expect(c->kind == GET ? !strcmp(answer, wanted) : !strncmp(answer, wanted, strlen(wanted)),
+        snprintf(wanted, sizeof wanted, "%s %" PRIu64 ": slot ", name[c->kind], key);
+    expect(c->kind == SHOW ? !strcmp(answer, wanted) : !strncmp(answer, wanted, strlen(wanted)),
            "the answer is '%s': '%s'", wanted, answer);
-    if (stored) {
-        order->held = c->kind == PUT;
-        strcpy(order->text, c->text);
-        acknowledged++;
-    }
+    expect(again == (strstr(answer, ", already") != NULL), "a second acknowledge says so, and nothing else: '%s'",
+           answer);
+    stored += c->kind != SHOW && !refusal && !again;
+    map[c->key] = later;
 }
 
 /* ---- one run of the gateway */
 
+static uint64_t any_quantity(void) {
+    return below(8) ? below(5) : UINT64_MAX - below(3);
+}
+
 static void send_batch(struct child *child) {
-    static const char *const name[] = {"put", "remove", "get"};
     char all[BATCH * LINE] = "", *end = all;
     sent = 1 + (int)below(BATCH);
     for (done = 0; done < sent; done++) {
         struct command *c = &batch[done];
-        *c = (struct command){.kind = below(8) ? below(5) < 3 ? PUT : REMOVE : GET, .key = (int)below(KEYS)};
-        if (c->kind == PUT)
-            any_text(c->text);
-        end += sprintf(end, "%s %" PRIu64 "%s%s\n", name[c->kind], number_of(c->key), c->kind == PUT ? " " : "",
-                       c->text);
+        unsigned kind = (unsigned)below(16);
+        *c = (struct command){.kind = kind < 7    ? NEW
+                                      : kind < 9  ? ACKNOWLEDGE
+                                      : kind < 12 ? FILL
+                                      : kind < 15 ? WITHDRAW
+                                                  : SHOW,
+                              .key = (int)below(KEYS),
+                              .quantity = any_quantity()};
+        end += sprintf(end, "%s %" PRIu64, name[c->kind], number_of(c->key));
+        if (c->kind == NEW || c->kind == FILL)
+            end += sprintf(end, " %" PRIu64, c->quantity);
+        end += sprintf(end, "\n");
     }
     done = 0;
     say(child, all);
@@ -103,30 +135,32 @@ static int key_of(uint64_t number) {
     return key;
 }
 
-/* What the gateway shows after its start against what was acknowledged. The map goes on with what the command that was
+/* What the gateway lists after its start against what was answered. The map goes on with what the command that was
  * under way left. */
 static void check(struct child *child) {
-    struct order found[KEYS] = {{0, ""}};
-    char line[LINE], *text;
+    char found[KEYS][LINE], line[LINE], earlier[TEXT], later[TEXT], *text;
     int count = 0;
-    say(child, "show\n");
-    while (expect(hear(child, line), "show ends"), strchr(line, ':')) {
+    for (int i = 0; i < KEYS; i++)
+        strcpy(found[i], "absent");
+    say(child, "list\n");
+    while (expect(hear(child, line), "list ends"), strchr(line, ':')) {
         int key = key_of(strtoull(line, &text, 10));
-        expect(key < KEYS && !found[key].held && !strncmp(text, ": ", 2), "an order that was never put: '%s'", line);
-        found[key].held = 1;
-        strcpy(found[key].text, text + 2);
+        expect(key < KEYS && !strcmp(found[key], "absent") && !strncmp(text, ": ", 2),
+               "an order that was never sent: '%s'", line);
+        strcpy(found[key], text + 2);
         count++;
     }
-    expect(atoi(line) == count && strstr(line, " open"), "%d orders shown, '%s'", count, line);
-    const struct command *c = done < sent && batch[done].kind != GET ? &batch[done] : NULL;
+    expect(atoi(line) == count && strstr(line, " held"), "%d orders listed, '%s'", count, line);
+    const struct command *c = done < sent && batch[done].kind != SHOW ? &batch[done] : NULL;
     for (int i = 0; i < KEYS; i++) {
-        int earlier = found[i].held == map[i].held && !strcmp(found[i].text, map[i].text);
-        int later = c && i == c->key && found[i].held == (c->kind == PUT) && !strcmp(found[i].text, c->text);
-        expect(earlier || later,
-               "key %" PRIu64 " after %" PRIu64 " kills and %" PRIu64 " cuts: acknowledged '%s', found '%s'",
-               number_of(i), kills, cuts, map[i].held ? map[i].text : "absent",
-               found[i].held ? found[i].text : "absent");
-        map[i] = found[i];
+        struct order after = map[i];
+        int struck = c && i == c->key && carry_out(c, &after) == 0;
+        int is_earlier = !strcmp(found[i], text_of(&map[i], earlier));
+        expect(is_earlier || (struck && !strcmp(found[i], text_of(&after, later))),
+               "key %" PRIu64 " after %" PRIu64 " kills and %" PRIu64 " cuts: answered '%s', found '%s'", number_of(i),
+               kills, cuts, text_of(&map[i], earlier), found[i]);
+        if (!is_earlier)
+            map[i] = after;
     }
     unanswered += c != NULL;
     sent = done = 0;
@@ -143,10 +177,10 @@ static int recovers(struct child *child) {
     return 1;
 }
 
-/* Whether there is an answer to the next command, which is then acknowledged. */
+/* Whether there is an answer to the next command. */
 static int hears_answer(struct child *child) {
     char line[LINE];
-    if (!hear(child, line) || (failing && !strncmp(line, "gateway: ", 9) && strstr(line, "not acknowledged")))
+    if (!hear(child, line) || (failing && !strncmp(line, "gateway: ", 9) && strstr(line, "not answered")))
         return 0;
     expect(done < sent, "an answer to nothing: '%s'", line);
     take(&batch[done++], line);
@@ -154,7 +188,7 @@ static int hears_answer(struct child *child) {
 }
 
 /* Starts the gateway, checks what is there, sends commands and kills it: in its start, or after a number of answers, or
- * after a time. What it answered before it was killed is acknowledged. */
+ * after a time. What it said before it was killed is heard. */
 static void run_and_kill(void) {
     struct child child = start_child((const char *const[]){gateway, file, NULL});
     uint64_t when = below(8);
@@ -278,7 +312,7 @@ int main(int count, char **word) {
     expect(finish() == 0, "the last run ends with status 0");
     on_simulated_disk(word[2]);
     printf("%" PRIu64 " kills, %" PRIu64 " cuts and %" PRIu64 " failed syncs, %" PRIu64 " in a start and %" PRIu64
-           " before a command was answered, %" PRIu64 " commands acknowledged: nothing lost (%.0f s)\n",
-           kills, cuts, failures, in_start, unanswered, acknowledged, seconds());
+           " before a command was answered, %" PRIu64 " changes answered: nothing lost (%.0f s)\n",
+           kills, cuts, failures, in_start, unanswered, stored, seconds());
     return 0;
 }

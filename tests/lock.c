@@ -1,5 +1,5 @@
 /* Two gateways on one file: the second says so and ends with status 1, whatever it was to do, and the first goes on.
- * When the first has ended, or was killed, the next one runs. Of several that start at once, what one acknowledged is
+ * When the first has ended, or was killed, the next one runs. Of several that start at once, what one answered is
  * there.
  *
  *     lock GATEWAY FILE [SEED]
@@ -16,7 +16,7 @@
 enum { ROUNDS = 40, AT_ONCE = 4 };
 
 static const char *gateway, *file;
-static uint64_t orders; /* acknowledged: keys 1 to 4, and one for each that won a round */
+static uint64_t orders; /* sent: keys 1 to 4, and one for each that won a round */
 
 /* Its exit status; line is the last that it says. */
 static int hear_all(struct child *child, char line[LINE]) {
@@ -38,10 +38,10 @@ static int run(const char *a, const char *b, const char *c, char line[LINE]) {
 
 static void works(const char *key) {
     char line[LINE], wanted[LINE];
-    int status = run("put", key, "an order", line);
-    snprintf(wanted, sizeof wanted, "put %s: slot ", key);
-    expect(status == 0 && !strncmp(line, wanted, strlen(wanted)), "a gateway alone puts key %s; status %d, '%s'", key,
-           status, line);
+    int status = run("new", key, "100", line);
+    snprintf(wanted, sizeof wanted, "new %s: slot ", key);
+    expect(status == 0 && !strncmp(line, wanted, strlen(wanted)), "a gateway alone sends order %s; status %d, '%s'",
+           key, status, line);
     orders++;
 }
 
@@ -62,24 +62,24 @@ static struct child first_one(void) {
 static void second_is_refused(void) {
     char line[LINE];
     struct child first = first_one();
-    is_refused("put", "100", "never");
-    is_refused("remove", "1", NULL);
-    is_refused("show", NULL, NULL);
+    is_refused("new", "100", "1");
+    is_refused("withdraw", "1", NULL);
+    is_refused("list", NULL, NULL);
     is_refused(NULL, NULL, NULL);
-    say(&first, "put 2 an order\n");
-    expect(hear(&first, line) && !strncmp(line, "put 2: slot ", 12), "the first gateway goes on: '%s'", line);
+    say(&first, "new 2 100\n");
+    expect(hear(&first, line) && !strncmp(line, "new 2: slot ", 12), "the first gateway goes on: '%s'", line);
     orders++;
     expect(end_of(&first) == 0, "the first gateway ends with status 0");
 }
 
 static void killed_one_leaves_no_lock(void) {
     struct child first = first_one();
-    is_refused("put", "100", "never");
+    is_refused("new", "100", "1");
     kill_child(&first);
     expect(end_of(&first) == -1, "the first gateway is killed");
 }
 
-/* Several at once: one or more put their order, one after the other, and the others are refused. */
+/* Several at once: one or more send their order, one after the other, and the others are refused. */
 static void at_once(int round) {
     struct child child[AT_ONCE];
     char key[AT_ONCE][24], line[LINE];
@@ -87,23 +87,23 @@ static void at_once(int round) {
     for (int i = 0; i < AT_ONCE; i++) {
         snprintf(key[i], sizeof key[i], "%d", 1000 + round * AT_ONCE + i);
         usleep((useconds_t)below(1u << below(12)));
-        child[i] = start_child((const char *const[]){gateway, file, "put", key[i], "an order", NULL});
+        child[i] = start_child((const char *const[]){gateway, file, "new", key[i], "100", NULL});
     }
     for (int i = 0; i < AT_ONCE; i++) {
-        int status = hear_all(&child[i], line), acknowledged = !strncmp(line, "put ", 4);
-        expect(acknowledged ? status == 0 : status == 1 && strstr(line, "another gateway has it open"),
-               "one of several puts its order or is refused; status %d, '%s'", status, line);
-        won += acknowledged;
+        int status = hear_all(&child[i], line), answered = !strncmp(line, "new ", 4);
+        expect(answered ? status == 0 : status == 1 && strstr(line, "another gateway has it open"),
+               "one of several sends its order or is refused; status %d, '%s'", status, line);
+        won += answered;
     }
-    expect(won > 0, "one of several puts its order");
+    expect(won > 0, "one of several sends its order");
     orders += (uint64_t)won;
 }
 
 static void all_there(void) {
     char line[LINE], wanted[LINE];
-    snprintf(wanted, sizeof wanted, "%" PRIu64 " open", orders);
-    expect(run("show", NULL, NULL, line) == 0 && !strcmp(line, wanted),
-           "every acknowledged order is there: %s, found '%s'", wanted, line);
+    snprintf(wanted, sizeof wanted, "%" PRIu64 " held", orders);
+    expect(run("list", NULL, NULL, line) == 0 && !strcmp(line, wanted),
+           "every order that was answered is there: %s, found '%s'", wanted, line);
 }
 
 int main(int count, char **word) {
@@ -125,7 +125,7 @@ int main(int count, char **word) {
     for (int round = 0; round < ROUNDS; round++)
         at_once(round);
     all_there();
-    printf("the second gateway is refused, %d times %d at once, %" PRIu64 " orders acknowledged: all there (%.0f s)\n",
+    printf("the second gateway is refused, %d times %d at once, %" PRIu64 " orders answered: all there (%.0f s)\n",
            ROUNDS, AT_ONCE, orders, seconds());
     return 0;
 }

@@ -1,4 +1,4 @@
-/* The order set of document 01 as a plain program. The quotations are its sentences. */
+/* The order set of document 01 and the order book of document 02 (A.1) as a plain program. The quotations are their sentences. */
 #include "model.h"
 
 #include <stdlib.h>
@@ -370,6 +370,93 @@ struct m_got m_get(const uint8_t *image, size_t length, const struct m_index *in
     for (size_t i = 0; i < size; i++)
         out[i] = value_byte(slot, i);
     return (struct m_got){.length = size};
+}
+
+struct m_place m_locate(const uint8_t *image, size_t length, const struct m_index *index, uint64_t key) {
+    int refusal = refuse_lent(image, length, index->heads_length, index->next_length);
+    if (refusal)
+        return (struct m_place){.refusal = refusal};
+    struct walk walk = follow(image, m_slots(length), index, key);
+    if (walk.refusal)
+        return (struct m_place){.refusal = 11};
+    if (!walk.slot)
+        return (struct m_place){.absent = 1};
+    return (struct m_place){.slot = walk.slot, .version = m_word(image, 16 * (size_t)walk.slot + 7) / 2};
+}
+
+/* ---- the order book: "a layer above the set" that "knows the set only by what the set promises" */
+
+/* "Its record is 24 bytes: state (1 sent, 2 acknowledged), ordered quantity and filled quantity, a word each, filled below ordered" */
+struct order {
+    int refusal;
+    uint64_t state, ordered, filled;
+};
+
+/* "18 when another step's key is not held or holds no book record"; a length over 80, which only a foreign index leads to, is no book record */
+static struct order order_of(const uint8_t *image, size_t length, const struct m_index *index, uint64_t key) {
+    uint8_t bytes[80];
+    struct m_got got = m_get(image, length, index, key, bytes, sizeof bytes);
+    if (got.refusal && got.refusal != 6)
+        return (struct order){.refusal = got.refusal};
+    if (got.refusal || got.absent || got.length != 24)
+        return (struct order){.refusal = 18};
+    struct order o = {0, m_word(bytes, 0), m_word(bytes, 1), m_word(bytes, 2)};
+    if ((o.state != 1 && o.state != 2) || o.filled >= o.ordered)
+        o.refusal = 18;
+    return o;
+}
+
+static struct m_change put_order(const uint8_t *image, size_t length, struct m_index *index, uint64_t key, struct order o) {
+    uint8_t bytes[24];
+    m_set_word(bytes, 0, o.state);
+    m_set_word(bytes, 1, o.ordered);
+    m_set_word(bytes, 2, o.filled);
+    return m_put(image, length, index, key, bytes, sizeof bytes);
+}
+
+/* "17 when a new order's key is held", "19 when a new quantity is zero" */
+struct m_change m_new(const uint8_t *image, size_t length, struct m_index *index, uint64_t key, uint64_t quantity) {
+    struct m_place place = m_locate(image, length, index, key);
+    if (place.refusal)
+        return refuse(place.refusal);
+    if (!place.absent)
+        return refuse(17);
+    if (quantity == 0)
+        return refuse(19);
+    return put_order(image, length, index, key, (struct order){0, 1, quantity, 0});
+}
+
+/* "A second acknowledge stores nothing and, before any later check, answers the order's present slot and its line A's version" */
+struct m_change m_acknowledge(const uint8_t *image, size_t length, struct m_index *index, uint64_t key) {
+    struct order o = order_of(image, length, index, key);
+    if (o.refusal)
+        return refuse(o.refusal);
+    if (o.state == 2) {
+        struct m_place place = m_locate(image, length, index, key);
+        return (struct m_change){.already = 1, .slot = place.slot, .version = place.version};
+    }
+    o.state = 2;
+    return put_order(image, length, index, key, o);
+}
+
+/* "19 when .. a fill is zero or more than is open", "Fill and withdraw serve either state and keep it", "A .. fully filled order is removed" */
+struct m_change m_fill(const uint8_t *image, size_t length, struct m_index *index, uint64_t key, uint64_t quantity) {
+    struct order o = order_of(image, length, index, key);
+    if (o.refusal)
+        return refuse(o.refusal);
+    uint64_t open = o.ordered - o.filled;
+    if (quantity == 0 || quantity > open)
+        return refuse(19);
+    if (quantity == open)
+        return m_remove(image, length, index, key);
+    o.filled += quantity;
+    return put_order(image, length, index, key, o);
+}
+
+/* "A withdrawn .. order is removed" */
+struct m_change m_withdraw(const uint8_t *image, size_t length, struct m_index *index, uint64_t key) {
+    struct order o = order_of(image, length, index, key);
+    return o.refusal ? refuse(o.refusal) : m_remove(image, length, index, key);
 }
 
 /* ---- play */

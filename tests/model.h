@@ -1,4 +1,4 @@
-/* model.h: the order set of document 01, written from its sentences for the tests. Plain and slow, and nothing of the archive is used in it. */
+/* model.h: the order set of document 01 and the order book of document 02, written from their sentences for the tests. Plain and slow, and nothing of the archive is used in it. */
 #ifndef MODEL_H
 #define MODEL_H
 
@@ -23,10 +23,11 @@ struct m_store {
     uint64_t value;
 };
 
-/* What put and remove answer: a refusal, or absent, or slot, version and stores. */
+/* What put, remove and the book's steps answer: a refusal, or absent, or slot, version and stores; of an order that was acknowledged already no stores. */
 struct m_change {
     int refusal;
     int absent;
+    int already;
     uint32_t slot;
     uint64_t version;
     struct m_store store[16];
@@ -38,12 +39,24 @@ struct m_got {
     size_t length;
 };
 
+struct m_place {
+    int refusal;
+    int absent;
+    uint32_t slot;
+    uint64_t version; /* of its line A */
+};
+
 uint32_t m_slots(size_t length); /* N, or 0 where no image has that length */
 int m_format(uint8_t *image, size_t length);
 int m_recover(const uint8_t *image, size_t length, struct m_index *index);
 struct m_change m_put(const uint8_t *image, size_t length, struct m_index *index, uint64_t key, const uint8_t *bytes, size_t size);
 struct m_change m_remove(const uint8_t *image, size_t length, struct m_index *index, uint64_t key);
 struct m_got m_get(const uint8_t *image, size_t length, const struct m_index *index, uint64_t key, uint8_t *out, size_t room);
+struct m_place m_locate(const uint8_t *image, size_t length, const struct m_index *index, uint64_t key);
+struct m_change m_new(const uint8_t *image, size_t length, struct m_index *index, uint64_t key, uint64_t quantity);
+struct m_change m_acknowledge(const uint8_t *image, size_t length, struct m_index *index, uint64_t key);
+struct m_change m_fill(const uint8_t *image, size_t length, struct m_index *index, uint64_t key, uint64_t quantity);
+struct m_change m_withdraw(const uint8_t *image, size_t length, struct m_index *index, uint64_t key);
 int m_play(uint8_t *image, size_t length, const uint32_t at[16], const uint64_t value[16], size_t a, size_t b);
 int m_play_list(uint8_t *bytes, size_t length, const uint32_t *at, size_t places, const uint64_t *value, size_t values);
 

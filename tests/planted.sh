@@ -88,17 +88,18 @@ fault storm 'the first and the last store change places' $header "$exchange" 'LO
 fault storm 'a call is acknowledged before it is persisted' tests/storm.c \
     's|^    if \(orderset_persist\(visible|    map[i] = call.later, call.under_way = 0;\n&|' 'LOST key'
 
-fault kills 'a put is acknowledged before it is durable' $gateway \
-    '/^static uint32_t put/,/^}/{/persist\(s, c, at, value\);/d
-     s/print_change\(c, answer\);/&answered(); persist(s, c, at, value);/}' 'NOT SO: key'
-fault kills 'a remove is acknowledged, and stored later' $gateway \
-    '/^static uint32_t drop/,/^}/{/persist\(s, c, at, value\);/d
-     s/print_change\(c, answer\);/&answered(); usleep(3000); persist(s, c, at, value);/}' 'NOT SO: key'
+fault kills 'a new order is answered before it is durable' $gateway \
+    '/^static uint32_t change/,/^}/{s/if \(answer\[0\] == ORDERSET_GIVEN\)/if (answer[0] == 1 \&\& c->kind != NEW)/
+     s/print_change\(c, answer\);/&if (c->kind == NEW) answered(), persist(s, c, at, value);/}' 'NOT SO: key'
+fault kills 'a withdraw is answered, and stored later' $gateway \
+    '/^static uint32_t change/,/^}/{s/if \(answer\[0\] == ORDERSET_GIVEN\)/if (answer[0] == 1 \&\& c->kind != WITHDRAW)/
+     s/print_change\(c, answer\);/&if (c->kind == WITHDRAW) answered(), usleep(3000), persist(s, c, at, value);/}' \
+    'NOT SO: key'
 fault kills 'a start does not make the image durable' $gateway 's/^( +make_durable)\(s, file, path\);/(void)\1;/' \
     'NOT SO: (key|the gateway recovers)'
 fault kills 'a call is not synced' $header 's/if \(msync\(\(void \*\)a, page, MS_SYNC\)\)/if (0)/' \
     'NOT SO: (key|the gateway recovers)'
-fault kills 'a failed sync is acknowledged' $gateway \
+fault kills 'a failed sync is answered' $gateway \
     's/(: orderset_persist_file\(s->image, s->length, at, value\))\)/\1 \&\& 0)/' \
     'NOT SO: (key|the gateway recovers)'
 fault kills 'the directory of a new file is not synced' $gateway '/^static void make\(/,/^}/s/sync_name\(path\);//' \
@@ -128,6 +129,23 @@ fault differential '9 is tested before 12' tests/model.c \
     's/if \(!walk.slot \&\& /if (!(index->state.version >> 63) \&\& !walk.slot \&\& /' 'DIFFERENCE'
 fault differential 'a struck call counts as done with 8 and 7 stores' tests/differential.c \
     's/a == 8 \&\& b == 8/a == 8 \&\& b >= 7/' 'DIFFERENCE in the plain map'
+
+fault differential 'a fill of more than is open is taken' tests/model.c 's/ \|\| quantity > open//' \
+    'DIFFERENCE in the code'
+fault differential 'a fill is added before it is compared' tests/model.c \
+    's/quantity > open/o.filled + quantity > o.ordered/' 'DIFFERENCE in the code'
+fault differential 'a last fill stores the order' tests/model.c 's/if \(quantity == open\)/if (0)/' 'DIFFERENCE'
+fault differential 'a second acknowledge stores' tests/model.c 's/if \(o.state == 2\)/if (0)/' 'DIFFERENCE'
+fault differential 'a withdraw keeps the order' tests/model.c \
+    '/^struct m_change m_withdraw/,/^}/s/m_remove\((.*)\);/put_order(\1, o);/' 'DIFFERENCE'
+fault differential '19 is tested before 18' tests/model.c \
+    '/^struct m_change m_fill/,/^}/s/if \(o.refusal\)/if (o.refusal == 18 \&\& !quantity) return refuse(19);\n    &/' \
+    'DIFFERENCE in the code: archive 18, model 19'
+fault differential 'a withdraw counts the ordered quantity' tests/differential.c \
+    's/e->withdrawn = open;/e->withdrawn = ordered;/' 'DIFFERENCE in the totals'
+fault differential 'a step that a cut made absent counts' tests/differential.c \
+    's/^    if \(a == 8 \&\& b == 8\)$/    p->ordered += a == 8 \&\& b == 8 ? 0 : e->ordered;\n&/' \
+    'DIFFERENCE in the totals'
 
 echo "$count faults planted, $((count - unseen)) seen"
 [ $unseen -eq 0 ]

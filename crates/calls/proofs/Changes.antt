@@ -26,7 +26,7 @@ use Rattle.calls.specs.Change.{ChangeResult, changeSays, changeEnd, noSt
 use Rattle.calls.specs.inner.Lookup.{Writable, StoredBy}
 use Rattle.calls.specs.declared.Change.{Change}
 
--- the key of one word
+-- a key whose high word is 0 is its low word
 pub key-alone : (key : ℕ) → keyWith key 0 ≡ key
 key-alone key = omega arith
 

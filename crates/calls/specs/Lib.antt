@@ -1,4 +1,5 @@
 pub mod Change
 pub mod Get
+pub mod Locate
 pub mod Format
 pub mod inner

@@ -23,6 +23,13 @@ pub enum Got {
     Refused(u32),
 }
 
+// Locate's answer: the slot that holds the key and the version on its line A, absent, or a refusal.
+pub enum Located {
+    At { slot: u32, version: u64 },
+    Absent,
+    Refused(u32),
+}
+
 // What a call reads before it writes: its refusal; the key's slot, with the slot before it (0 for the head); or that no slot has the key, with
 // the chain's last slot (0 for the head). Each has the count of slots compared, 0 for a call refused before or by its chain.
 pub enum Lookup {

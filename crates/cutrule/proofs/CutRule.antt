@@ -1,44 +1,77 @@
--- THE CUT RULE, proved from the laws of the set by the one induction over lists. Assumes nothing.
+-- THE CUT RULE, proved from the laws of the set and of the book by the one induction over lists. Assumes nothing.
 use mathlib.Core.Path.{_≡_, refl, sym, subst, _∙_}
 use mathlib.Core.List.{List}
 use Prim.Native.Nat.{ℕ}
 use Rattle.prelude.specs.Members.{All}
 use Rattle.prelude.proofs.Histories.{throughout}
-use Rattle.face.specs.Set.{World, PlainMap, slotsIn, Typed, worldAfter, recoveredWorld}
-use Rattle.face.specs.Event.{Event, done, struck, callOf, Fits, done-fits, struck-fits}
+use Rattle.face.specs.Set.{World, PlainMap, Layout, slotsIn, worldAfter, recoveredWorld}
+use Rattle.face.specs.Event.{Event, done, struck, imageCut, requestOf, stepBy, allStand, FitsBy, done-fits, struck-fits}
 use Rattle.face.specs.Laws.{SetLaws}
-use Rattle.face.proofs.SetLaws.{first-laws}
+use Rattle.face.proofs.SetLaws.{layout-1, set-laws}
+use Rattle.book.proofs.Steps.{step-right}
+use Rattle.book.proofs.StepEvents.{step-event-keeps, step-event-slots}
+use Rattle.cutrule.specs.Request.{Request, a-call, a-step, requestLeaves, requestFault, requestOperation, RequestRight, TypedRequest, worldAfterRequest, mapAfterRequest}
 use Rattle.cutrule.specs.Rule.{AllRight, CutRuleIn, CutRule}
 
-typed-call : (l n : ℕ) (event : Event) → Fits l n event → Typed l (callOf event)
-typed-call l n (done call) (done-fits t) = t
-typed-call l n (struck call cut) (struck-fits t c) = t
+typed-request : (l n : ℕ) (event : Event Request) → FitsBy (TypedRequest l) n event → TypedRequest l (requestOf event)
+typed-request l n (done request) (done-fits t) = t
+typed-request l n (struck request cut) (struck-fits t c) = t
 
 module _ (l : ℕ) (Inv : World → PlainMap → Type 0) (laws : SetLaws l Inv) where
+  -- ---- one event
+
+  module _ (w : World) (m : PlainMap) (i : Inv w m) where
+    right : (request : Request) → TypedRequest l request → RequestRight l w m request
+    right (a-call call) t = laws .answers w m i call t
+    right (a-step step) t = step-right l Inv laws w m i step t
+
+    keeps : (event : Event Request) → FitsBy (TypedRequest l) (slotsIn (w .image)) event
+        → Inv (worldAfterRequest l w event) (mapAfterRequest l w m event)
+    unfolding stepBy imageCut allStand requestLeaves requestFault requestOperation
+    keeps (done (a-call call)) (done-fits t) = laws .keeps w m i (done call) (done-fits t)
+    keeps (done (a-step step)) (done-fits t) = step-event-keeps l Inv laws w m i (done step) (done-fits t)
+    keeps (struck (a-call call) cut) (struck-fits t c) = laws .keeps w m i (struck call cut) (struck-fits t c)
+    keeps (struck (a-step step) cut) (struck-fits t c) = step-event-keeps l Inv laws w m i (struck step cut) (struck-fits t c)
+
+    same-slots : (event : Event Request) → FitsBy (TypedRequest l) (slotsIn (w .image)) event
+        → slotsIn (worldAfterRequest l w event .image) ≡ slotsIn (w .image)
+    unfolding stepBy imageCut requestLeaves
+    same-slots (done (a-call call)) (done-fits t) = laws .keeps-slots w m i (done call) (done-fits t)
+    same-slots (done (a-step step)) (done-fits t) = step-event-slots l Inv laws w m i (done step) (done-fits t)
+    same-slots (struck (a-call call) cut) (struck-fits t c) = laws .keeps-slots w m i (struck call cut) (struck-fits t c)
+    same-slots (struck (a-step step) cut) (struck-fits t c) = step-event-slots l Inv laws w m i (struck step cut) (struck-fits t c)
+
+  -- ---- every list
+
   -- the invariant of a set of n slots
   abbrev InvOf : (n : ℕ) → World → PlainMap → Type 0
   InvOf n w m = Inv w m × (slotsIn (w .image) ≡ n)
 
-  fits-here : (n : ℕ) (w : World) (m : PlainMap) (event : Event) → InvOf n w m → Fits l n event → Fits l (slotsIn (w .image)) event
-  fits-here n w m event i f = subst (λ (k : ℕ). Fits l k event) (sym (i .1)) f
+  fits-here : (n : ℕ) (w : World) (m : PlainMap) (event : Event Request) → InvOf n w m → FitsBy (TypedRequest l) n event
+      → FitsBy (TypedRequest l) (slotsIn (w .image)) event
+  fits-here n w m event i f = subst (λ (k : ℕ). FitsBy (TypedRequest l) k event) (sym (i .1)) f
 
   -- EVERY LIST OF EVENTS is right
-  pub all-right : (w : World) (m : PlainMap) (events : List Event) → Inv w m → All (Fits l (slotsIn (w .image))) events → AllRight l w m events
+  pub all-right : (w : World) (m : PlainMap) (events : List (Event Request)) → Inv w m → All (FitsBy (TypedRequest l) (slotsIn (w .image))) events
+      → AllRight l w m events
   all-right w m events i fit =
-      throughout _ _ _ _ (InvOf (slotsIn (w .image))) (Fits l (slotsIn (w .image)))
+      throughout _ _ _ _ (InvOf (slotsIn (w .image))) (FitsBy (TypedRequest l) (slotsIn (w .image)))
       (λ v p j. laws .recovers v p (j .0))
-      (λ v p j event f. laws .answers v p (j .0) (callOf event) (typed-call l _ event f))
+      (λ v p j event f. right v p (j .0) (requestOf event) (typed-request l _ event f))
       (λ v p j event f.
       let here = fits-here (slotsIn (w .image)) v p event j f in
-      (laws .keeps v p (j .0) event here, laws .slots v p (j .0) event here ∙ j .1))
+      (keeps v p (j .0) event here, same-slots v p (j .0) event here ∙ j .1))
       w m events (i, refl) fit
 
-  -- THE CUT RULE in layout l
-  pub cut-rule-in : CutRuleIn l
+  from-recovery : CutRuleIn l
   unfolding recoveredWorld worldAfter
-  cut-rule-in image heads next z events fit =
-      all-right (recoveredWorld l image heads next) _ events (laws .recovered image heads next z) fit
+  from-recovery image heads next z events fit =
+      all-right (recoveredWorld l image heads next) _ events (laws .after-recovery image heads next z) fit
+
+-- THE CUT RULE in layout l
+pub cut-rule-in : (l : ℕ) → Layout l → CutRuleIn l
+cut-rule-in l layout = from-recovery l _ (set-laws l layout)
 
 -- THE CUT RULE
 pub cut-rule : CutRule
-cut-rule = cut-rule-in 1 _ first-laws
+cut-rule = cut-rule-in 1 layout-1

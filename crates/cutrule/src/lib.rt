@@ -1,1 +1,1 @@
-// The cut rule: definitions and one theorem over the public calls.
+// The cut rule: one theorem over the face of the set and the order book.

@@ -6,7 +6,8 @@ use lib.ListN.{length}
 use Rattle.words.specs.Word.{AreBytes, word, setWord}
 use Rattle.plainmap.specs.World.{put, toPlay, calledChange, calledGet, called, playing, finished, worldAfter, recoveredWorld}
 use Rattle.plainmap.specs.Claims.{Typed, put-typed, remove-typed, get-typed, slotsMap}
-use Rattle.face.specs.Event.{CutFits, done-fits, struck-fits, cutImage, step, Fits}
+use Rattle.face.specs.Event.{CutFits, done-fits, struck-fits, FitsBy, stepBy, imageCut}
+use Rattle.cutrule.specs.Request.{TypedRequest}
 use Rattle.prelude.specs.Members.{All, none-left, one-more, slotNumbers}
 use Rattle.cutrule.specs.Rule.{AllRight}
 use Rattle.cutrule.proofs.CutRule.{cut-rule}
@@ -34,13 +35,13 @@ use Rattle.recovery.specs.Recover.{slotsFault, recoverFault, chainsOf, placeOf,
 use Rattle.calls.specs.Format.{formatted}
 use Rattle.calls.specs.Change.{noStores, unchanged, changed, putLentFault, putLaterFault, putFault, putDone, putResult, heldFault, removeLaterFault, removeFault, removeDone, removeResult}
 use Rattle.calls.specs.Get.{lengthFault, getLaterFault, getFault, getDone, getResult}
-use Rattle.examples.specs.Trial.{answers, outputs, small, oneHead, twoSlots, cutAt, fresh, session, expected, expectedOutputs}
+use Rattle.examples.specs.Trial.{answers, outputs, small, oneHead, twoSlots, cutAt, fresh, session, asRequests, expected, expectedOutputs}
 use Rattle.prelude.proofs.Fills.{zeros}
 
 -- THE SESSION answers as document 01 says, with the outputs of its gets; recovery accepts its formatted image, which has two slots
 session-computed : (answers 1 fresh session ≡ expected) × (outputs 1 fresh session ≡ expectedOutputs)
     × (recoverFault 1 (formatted 1 384) (length oneHead) (length twoSlots) ≡ 0) × (slotsIn (formatted 1 384) ≡ 2)
-unfolding word setWord say orElse unlessRefused anyOf tabulate slotsOf lineTop paired slotTop verdictOf lineVerdict isValid keyFrom keyOf valueWord valueByte valueFront valueOf made contentBy contentOf content topOf headerWord headerFault imageFault indexFault lentFault markFault kindFault wordFault tailFault faultOf recordFault zipped played marked bodyA bodyB run lineStores recordStores halfFault halvesFault playFault counted playResult filter insert sorted isRecord keyIn weight greatest topmost count nextVersion decider valueIn valueAt mapOf decidingPut live spare liveCount sharedVersion allLive rankOf slotNumbers ordered chainOf reuseOf start ahead setNext setStart setLast link firstOf lastOf after nextIn chained takeFirst linkNew append putNew putHeld removeHeld roomFault versionFault reuseFault walk search chainFault slotsFault recoverFault chainsOf placeOf recoveredIndex recoveredState recovered recoverResult formatted noStores unchanged changed putLentFault putLaterFault putFault putDone putResult heldFault removeLaterFault removeFault removeDone removeResult lengthFault getLaterFault getFault getDone getResult toPlay calledChange calledGet called wordNumbers values playing finished noState worldAfter recoveredWorld cutImage step answers outputs small oneHead twoSlots cutAt fresh session expected expectedOutputs
+unfolding word setWord say orElse unlessRefused anyOf tabulate slotsOf lineTop paired slotTop verdictOf lineVerdict isValid keyFrom keyOf valueWord valueByte valueFront valueOf made contentBy contentOf content topOf headerWord headerFault imageFault indexFault lentFault markFault kindFault wordFault tailFault faultOf recordFault zipped played marked bodyA bodyB run lineStores recordStores halfFault halvesFault playFault counted playResult filter insert sorted isRecord keyIn weight greatest topmost count nextVersion decider valueIn valueAt mapOf decidingPut live spare liveCount sharedVersion allLive rankOf slotNumbers ordered chainOf reuseOf start ahead setNext setStart setLast link firstOf lastOf after nextIn chained takeFirst linkNew append putNew putHeld removeHeld roomFault versionFault reuseFault walk search chainFault slotsFault recoverFault chainsOf placeOf recoveredIndex recoveredState recovered recoverResult formatted noStores unchanged changed putLentFault putLaterFault putFault putDone putResult heldFault removeLaterFault removeFault removeDone removeResult lengthFault getLaterFault getFault getDone getResult toPlay calledChange calledGet called wordNumbers values playing finished noState worldAfter recoveredWorld imageCut stepBy answers outputs small oneHead twoSlots cutAt fresh session expected expectedOutputs
 session-computed = (refl, refl, refl, refl)
 
 pub session-answers : answers 1 fresh session ≡ expected
@@ -70,8 +71,8 @@ cut-fits : (a b : ℕ) → a ≤ 8 → b ≤ 8 → CutFits 2 (cutAt a b)
 unfolding cutAt
 cut-fits a b p q = record { few-a = p; few-b = q; size = right-size }
 
-session-fits : All (Fits 1 2) session
-unfolding session
+session-fits : All (FitsBy (TypedRequest 1) 2) (asRequests session)
+unfolding session asRequests
 session-fits =
     one-more (done-fits (sized 7 100 (omega arith) (omega arith))) (one-more (done-fits (sized 8 5 (omega arith) (omega arith)))
     (one-more (done-fits (sized 7 101 (omega arith) (omega arith)))
@@ -80,6 +81,6 @@ session-fits =
     (one-more (done-fits (sized 8 5 (omega arith) (omega arith))) none-left)))))))
 
 -- AN INSTANCE of the cut rule
-pub session-holds : AllRight 1 fresh (slotsMap 1 (formatted 1 384)) session
+pub session-holds : AllRight 1 fresh (slotsMap 1 (formatted 1 384)) (asRequests session)
 unfolding fresh
-session-holds = cut-rule (formatted 1 384) oneHead twoSlots (session-computed .2) session (rw (session-computed .3) session-fits)
+session-holds = cut-rule (formatted 1 384) oneHead twoSlots (session-computed .2) (asRequests session) (rw (session-computed .3) session-fits)

@@ -4,18 +4,19 @@ use Prim.Native.Nat.{ℕ}
 use lib.ListN.{replicate}
 use Rattle.prelude.specs.Answer.{Answer, gives, absent, refused}
 use Rattle.calls.specs.Format.{formatted}
-use Rattle.plainmap.specs.World.{World, put, remove, get, called, recoveredWorld}
-use Rattle.face.specs.Event.{Cut, Event, done, struck, callOf, step}
+use Rattle.plainmap.specs.World.{World, Call, put, remove, get, called, recoveredWorld}
+use Rattle.cutrule.specs.Request.{Request, a-call}
+use Rattle.face.specs.Event.{Cut, Event, done, struck, requestOf, step}
 
 -- what each call of a list answers
-unfoldable pub answers : (l : ℕ) → World → List Event → List Answer
+unfoldable pub answers : (l : ℕ) → World → List (Event Call) → List Answer
 answers l w [] = []
-answers l w (event ∷ events) = called l w (callOf event) .answer ∷ answers l (step l w event) events
+answers l w (event ∷ events) = called l w (requestOf event) .answer ∷ answers l (step l w event) events
 
 -- and the output that each leaves; a put and a remove have none
-unfoldable pub outputs : (l : ℕ) → World → List Event → List (List ℕ)
+unfoldable pub outputs : (l : ℕ) → World → List (Event Call) → List (List ℕ)
 outputs l w [] = []
-outputs l w (event ∷ events) = called l w (callOf event) .out ∷ outputs l (step l w event) events
+outputs l w (event ∷ events) = called l w (requestOf event) .out ∷ outputs l (step l w event) events
 
 -- the 8 bytes of a small number
 unfoldable pub small : ℕ → List ℕ
@@ -38,10 +39,16 @@ unfoldable pub fresh : World
 fresh = recoveredWorld 1 (formatted 1 384) oneHead twoSlots
 
 -- "p 7 100 / p 8 5 / p 7 101 / c 8 3 / p 7 102 / g 7 / r 7 / g 7 / p 8 5"
-unfoldable pub session : List Event
+unfoldable pub session : List (Event Call)
 session =
     done (put 7 (small 100)) ∷ done (put 8 (small 5)) ∷ done (put 7 (small 101)) ∷ struck (put 7 (small 102)) (cutAt 8 3)
     ∷ done (get 7 (replicate 8 0)) ∷ done (remove 7) ∷ done (get 7 (replicate 8 0)) ∷ done (put 8 (small 5)) ∷ []
+
+-- the same as requests of the cut rule
+unfoldable pub asRequests : List (Event Call) → List (Event Request)
+asRequests [] = []
+asRequests (done call ∷ events) = done (a-call call) ∷ asRequests events
+asRequests (struck call cut ∷ events) = struck (a-call call) cut ∷ asRequests events
 
 -- "ok 1 1 / no 12 / ok 2 2 / cut 8 3 / ok 1 3 / found 101 / ok 1 4 / absent / ok 2 5": `c 8 3` is no call, and for `found` a get answers the length
 unfoldable pub expected : List Answer

@@ -105,3 +105,17 @@ getLeft code answer out = record { returns = code; answer = answer; out = out }
 -- the same, by the result of get and the lent answer
 unfoldable pub getCall : GetResult → (answer : List ℕ) → GetCall
 getCall r answer = record { returns = refusalIn (r .answer); answer = answered 2 (r .answer) answer; out = r .out }
+
+-- ---- locate
+
+pub record LocateCall : Type 0 where
+  pub returns : ℕ
+  pub answer : List ℕ
+
+-- what a call of locate with this code left
+abbrev pub locateLeft : (code : ℕ) → (answer : List ℕ) → LocateCall
+locateLeft code answer = record { returns = code; answer = answer }
+
+-- the code, and the answer: 1, slot and version, or zeros for absent
+unfoldable pub locateCall : Answer → (answer : List ℕ) → LocateCall
+locateCall r answer = record { returns = refusalIn r; answer = answered 3 r answer }

@@ -8,18 +8,17 @@ use Rattle.layout.specs.Header.{indexFault}
 use Rattle.layout.specs.Record.{Layout}
 use Rattle.layout.specs.Size.{slotsIn}
 use Rattle.stores.specs.Cut.{bothStand}
-use Rattle.recovery.specs.Recover.{recoverFault}
 use Rattle.plainmap.specs.World.{World, Call, finished, worldAfter, recoveredWorld}
 use Rattle.plainmap.specs.Plain.{PlainMap, operation}
 use Rattle.plainmap.specs.Accepted.{RightSize}
 use Rattle.plainmap.specs.Claims.{Typed, slotsMap}
 use Rattle.plainmap.specs.Sound.{Agrees}
-use Rattle.plainmap.proofs.AcceptedImages.{accepted-recovers}
 use Rattle.plainmap.proofs.Afters.{After, after-call}
 use Rattle.plainmap.proofs.CallLists.{agrees-right, agrees-with, agrees-next, recovered-agrees}
 use Rattle.plainmap.proofs.CallSteps.{call-stepped}
 use Rattle.plainmap.proofs.Rights.{right-refuses}
-use Rattle.face.specs.Event.{Cut, Event, done, struck, cutImage, step, allStand, plainEvent, mapAfterEvent, CutFits, Fits, done-fits, struck-fits}
+use Rattle.face.proofs.defs.CutImage.{cutImage}
+use Rattle.face.specs.Event.{Cut, Event, done, struck, step, allStand, plainEvent, mapAfterEvent, CutFits, Fits, done-fits, struck-fits, stepBy, imageCut}
 
 module _ (l : ℕ) (lay : Layout l) (w : World) (m : PlainMap) (g : Agrees l w m) where
   -- a call with a and b of its stores played
@@ -30,7 +29,7 @@ module _ (l : ℕ) (lay : Layout l) (w : World) (m : PlainMap) (g : Agrees l w m
   -- a struck call: the plain map's step where all stores stand, and nothing where not
   struck-map : (call : Call) (cut : Cut) → Typed l call → CutFits (slotsIn (w .image)) cut → (k : ℕ)
       → slotsMap l (cutImage l w call cut) k ≡ mapAfterEvent l w m (struck call cut) k
-  unfolding cutImage plainEvent allStand
+  unfolding imageCut plainEvent allStand
   struck-map call cut s c k =
       after call (cut .a) (cut .b) s (c .few-a) (c .few-b) .map k
       ∙ ap₂ (λ (b : Bool) (x : PlainMap). plainEvent (bothStand (cut .a) (cut .b)) (operation call) b x k)
@@ -38,21 +37,13 @@ module _ (l : ℕ) (lay : Layout l) (w : World) (m : PlainMap) (g : Agrees l w m
 
   -- the index lent to the recovery after a cut has the size for the image that the cut leaves
   struck-size : (call : Call) (cut : Cut) → Typed l call → CutFits (slotsIn (w .image)) cut → RightSize (cutImage l w call cut) (cut .heads) (cut .next)
-  unfolding cutImage
+  unfolding imageCut
   struck-size call cut s c =
       ap (λ (n : ℕ). indexFault n (length (cut .heads)) (length (cut .next))) (after call (cut .a) (cut .b) s (c .few-a) (c .few-b) .slot-count) ∙ c .size
 
-  -- that image is accepted
-  pub struck-accepted : (call : Call) (cut : Cut) → Fits l (slotsIn (w .image)) (struck call cut)
-      → recoverFault l (cutImage l w call cut) (length (cut .heads)) (length (cut .next)) ≡ 0
-  unfolding cutImage
-  struck-accepted call cut (struck-fits s c) =
-      accepted-recovers l (cutImage l w call cut) (length (cut .heads)) (length (cut .next))
-      (after call (cut .a) (cut .b) s (c .few-a) (c .few-b) .accepted) (struck-size call cut s c)
-
   -- ONE EVENT keeps the set and the plain map together
-  pub event-agrees : (event : Event) → Fits l (slotsIn (w .image)) event → Agrees l (step l w event) (mapAfterEvent l w m event)
-  unfolding step cutImage plainEvent allStand
+  pub event-agrees : (event : Event Call) → Fits l (slotsIn (w .image)) event → Agrees l (step l w event) (mapAfterEvent l w m event)
+  unfolding stepBy imageCut plainEvent allStand finished
   event-agrees (done call) (done-fits s) = agrees-next l lay w m g call s
   event-agrees (struck call cut) (struck-fits s c) =
       agrees-with l _ _ _
@@ -60,7 +51,7 @@ module _ (l : ℕ) (lay : Layout l) (w : World) (m : PlainMap) (g : Agrees l w m
       (struck-size call cut s c)) (struck-map call cut s c)
 
   -- and the number of slots
-  pub event-slots : (event : Event) → Fits l (slotsIn (w .image)) event → slotsIn (step l w event .image) ≡ slotsIn (w .image)
-  unfolding step cutImage finished recoveredWorld worldAfter
+  pub event-slots : (event : Event Call) → Fits l (slotsIn (w .image)) event → slotsIn (step l w event .image) ≡ slotsIn (w .image)
+  unfolding stepBy imageCut finished recoveredWorld worldAfter
   event-slots (done call) (done-fits s) = after call 8 8 s (omega arith) (omega arith) .slot-count
   event-slots (struck call cut) (struck-fits s c) = after call (cut .a) (cut .b) s (c .few-a) (c .few-b) .slot-count

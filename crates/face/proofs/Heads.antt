@@ -13,7 +13,7 @@ use Rattle.index.specs.declared.Found.the-variants.{At, Missing, BadChain}
 use Rattle.index.proofs.CallWrites.{new-heads, held-heads, remove-heads}
 use Rattle.recovery.specs.Recover.{Result, recoveredIndex, recovered, recoverResult}
 use Rattle.calls.specs.Change.{ChangeResult, changed, unchanged, putDone, putResult, removeDone, removeResult}
-use Rattle.plainmap.specs.World.{World, Call, put, remove, get, calledChange, calledGet, called, worldAfter, recoveredWorld}
+use Rattle.plainmap.specs.World.{World, Call, put, remove, get, locate, calledChange, calledGet, calledLocate, called, worldAfter, recoveredWorld}
 
 module _ (l : ℕ) (image heads next : List ℕ) (s : State) (key : ℕ) where
   put-heads : (value : List ℕ) (found : Found) → length (putDone l image heads next s key value found .heads) ≡ length heads
@@ -29,12 +29,13 @@ module _ (l : ℕ) (image heads next : List ℕ) (s : State) (key : ℕ) where
   removed-heads BadChain = refl
 
 pub called-heads : (l : ℕ) (w : World) (call : Call) → length (called l w call .heads) ≡ length (w .heads)
-unfolding called calledChange calledGet putResult removeResult unchanged
+unfolding called calledChange calledGet calledLocate putResult removeResult unchanged
 called-heads l w (put key value) =
     by-refusal (λ (c : ChangeResult). length (c .heads) ≡ length (w .heads)) _ _ _ (put-heads l (w .image) (w .heads) (w .next) (w .state) key value _) refl
 called-heads l w (remove key) =
     by-refusal (λ (c : ChangeResult). length (c .heads) ≡ length (w .heads)) _ _ _ (removed-heads l (w .image) (w .heads) (w .next) (w .state) key _) refl
 called-heads l w (get key out) = refl
+called-heads l w (locate key) = refl
 
 pub recovered-heads : (l : ℕ) (image heads next : List ℕ) → length (recoveredWorld l image heads next .heads) ≡ length heads
 unfolding recoveredWorld worldAfter recoverResult recovered recoveredIndex chained

@@ -1,74 +1,207 @@
--- A refusal's number is not 0, so a call that returns 0 was not refused. Assumes nothing.
+-- The numbers with which each call is refused, whatever it is given. Assumes nothing.
+use mathlib.Core.Path.{_≡_, refl, sym, subst}
+use mathlib.Core.Bool.{Bool, true, false}
+use mathlib.Core.Logic.{_⊎_, inl, inr}
 use mathlib.Core.List.{List}
-use Prim.Native.Nat.{ℕ, zero, suc, _<_}
+use Prim.Native.Nat.{ℕ, zero, suc, _≤_}
 use native.Mathlib.Omega.{arith}
+use lib.Dec.{ltb}
 use lib.ListN.{length}
-use Rattle.prelude.specs.Refusal.{unlessRefused}
-use Rattle.prelude.specs.Answer.{Answer, gives, absent, refused}
-use Rattle.index.specs.Walk.{search}
+use borrow.Author.Tests.{le-ltb, ltb-false}
+use Rattle.prelude.specs.Members.{In}
+use Rattle.prelude.specs.Refusal.{say, orElse, unlessRefused}
+use Rattle.prelude.specs.Answer.{Answer, refused}
+use Rattle.prelude.proofs.defs.Among.{isOne}
+use Rattle.prelude.proofs.Among.{one-of}
+use Rattle.prelude.proofs.Refusals.{say-false}
+use Rattle.layout.specs.Record.{limit}
+use Rattle.layout.specs.Line.{versionFault}
+use Rattle.layout.specs.Header.{headerFault, imageFault, indexFault, lentFault}
+use Rattle.index.specs.Walk.{chainFault}
+use Rattle.index.specs.Change.{roomFault, reuseFault}
 use Rattle.index.specs.declared.State.{State}
 use Rattle.index.specs.declared.Found.{Found}
 use Rattle.index.specs.declared.Found.the-variants.{At, Missing, BadChain}
-use Rattle.recovery.specs.Recover.{Result, recovered, recoverFault, recoverResult, refusedResult}
+use Rattle.recovery.specs.Recover.{Result, slotsFault, recovered, recoverFault, refusedResult, recoverResult}
 use Rattle.calls.specs.Format.{FormatResult, formatFault, formatResult}
-use Rattle.calls.specs.Change.{ChangeResult, unchanged, changed, putFault, putDone, putResult, removeFault, removeDone, removeResult}
-use Rattle.calls.specs.Get.{GetResult, getFault, getDone, getResult}
+use Rattle.calls.specs.Change.{ChangeResult, unchanged, changed, putLentFault, putLaterFault, putFault, putDone, putResult, heldFault, removeLaterFault, removeFault, removeDone, removeResult}
+use Rattle.calls.specs.Get.{GetResult, lengthFault, getLaterFault, getFault, getDone, getResult}
+use Rattle.face.specs.Numbers.{Numbered, formatRefusals, recoverRefusals, putRefusals, shortPutRefusals, removeRefusals, getRefusals, roomyGetRefusals, locateRefusals}
+use Rattle.calls.specs.Locate.{locateFault, locateDone, locateResult}
 
-abbrev pub Numbered : Answer → Type 0
-Numbered (gives values) = Unit
-Numbered absent = Unit
-Numbered (refused number) = 0 < number
+-- ---- rows of refusals
+
+-- 0, or one of these numbers
+abbrev Due : List ℕ → ℕ → Type 0
+Due ks k = (k ≡ 0) ⊎ In k ks
+
+none-due : (ks : List ℕ) → Due ks 0
+none-due ks = inl refl
+
+say-due : (ks : List ℕ) (t : Bool) (k later : ℕ) → In k ks → Due ks later → Due ks (say t k later)
+unfolding say
+say-due ks true k later i d = inr i
+say-due ks false k later i d = d
+
+else-due : (ks : List ℕ) (k later : ℕ) → Due ks k → Due ks later → Due ks (orElse k later)
+unfolding orElse
+else-due ks zero later d e = e
+else-due ks (suc k) later d e = d
+
+-- ---- the refusals of document 01
+
+module _ (ks : List ℕ) (one : isOne 1 ks ≡ true) (two : isOne 2 ks ≡ true) (three : isOne 3 ks ≡ true) (four : isOne 4 ks ≡ true) where
+  lent-due : (l : ℕ) (image : List ℕ) (heads next : ℕ) → Due ks (lentFault l image heads next)
+  unfolding lentFault imageFault headerFault indexFault
+  lent-due l image heads next =
+      else-due ks _ _
+      (say-due ks _ 1 _ (one-of 1 ks one) (say-due ks _ 2 _ (one-of 2 ks two) (say-due ks _ 3 0 (one-of 3 ks three) (none-due ks))))
+      (say-due ks _ 4 _ (one-of 4 ks four) (say-due ks _ 4 _ (one-of 4 ks four) (say-due ks _ 4 0 (one-of 4 ks four) (none-due ks))))
+
+module _ (ks : List ℕ) (eleven : isOne 11 ks ≡ true) where
+  chain-due : (found : Found) → Due ks (chainFault found)
+  unfolding chainFault
+  chain-due (At slot prev compared) = none-due ks
+  chain-due (Missing prev compared) = none-due ks
+  chain-due BadChain = inr (one-of 11 ks eleven)
+
+  reuse-due : (next : List ℕ) (n first last : ℕ) → Due ks (reuseFault next n first last)
+  unfolding reuseFault
+  reuse-due next n first last =
+      let i = one-of 11 ks eleven in
+      say-due ks _ 11 _ i (say-due ks _ 11 _ i (say-due ks _ 11 _ i (say-due ks _ 11 _ i (say-due ks _ 11 0 i (none-due ks)))))
+
+version-due : (ks : List ℕ) → isOne 9 ks ≡ true → (version : ℕ) → Due ks (versionFault version)
+unfolding versionFault
+version-due ks nine version = say-due ks _ 9 0 (one-of 9 ks nine) (none-due ks)
+
+room-due : (ks : List ℕ) → isOne 12 ks ≡ true → (found : Found) (n live : ℕ) → Due ks (roomFault found n live)
+unfolding roomFault
+room-due ks twelve (At slot prev compared) n live = none-due ks
+room-due ks twelve (Missing prev compared) n live = say-due ks _ 12 0 (one-of 12 ks twelve) (none-due ks)
+room-due ks twelve BadChain n live = none-due ks
+
+-- ---- what a call answers
 
 -- a call that is refused where its fault is not 0
-module _ {A : Type 0} (answer : A → Answer) (refusing : ℕ → A) (told : (k : ℕ) → Numbered (answer (refusing (suc k)))) where
-  numbered : (fault : ℕ) → (new : A) → Numbered (answer new) → Numbered (answer (unlessRefused fault new (refusing fault)))
+module _ {A : Type 0} (ks : List ℕ) (answer : A → Answer) (refusing : ℕ → A) (told : (k : ℕ) → answer (refusing k) ≡ refused k) where
+  numbered : (fault : ℕ) → Due ks fault → (new : A) → Numbered ks (answer new) → Numbered ks (answer (unlessRefused fault new (refusing fault)))
   unfolding unlessRefused
-  numbered zero new p = p
-  numbered (suc k) new p = told k
+  numbered zero d new p = p
+  numbered (suc k) (inl e) new p = absurd (omega arith)
+  numbered (suc k) (inr i) new p = subst (Numbered ks) (sym (told (suc k))) i
 
-pub format-numbered : (l : ℕ) (image : List ℕ) → Numbered (formatResult l image .answer)
-unfolding formatResult
+-- FORMAT: 1
+pub format-numbered : (l : ℕ) (image : List ℕ) → Numbered formatRefusals (formatResult l image .answer)
+unfolding formatResult formatFault
 format-numbered l image =
-    numbered (λ (r : FormatResult). r .answer) (λ fault. record { answer = refused fault; bytes = image }) (λ k. omega arith) (formatFault (length image)) _ tt
+    numbered formatRefusals (λ (r : FormatResult). r .answer) (λ fault. record { answer = refused fault; bytes = image }) (λ k. refl) _
+    (say-due formatRefusals _ 1 0 (one-of 1 formatRefusals refl) (none-due formatRefusals)) _ tt
 
-pub recover-numbered : (l : ℕ) (image heads next : List ℕ) → Numbered (recoverResult l image heads next .answer)
-unfolding recoverResult recovered
+-- RECOVER: 1 to 8
+pub recover-numbered : (l : ℕ) (image heads next : List ℕ)
+    → Numbered recoverRefusals (recoverResult l image heads next .answer)
+unfolding recoverResult recovered recoverFault slotsFault
 recover-numbered l image heads next =
-    numbered (λ (r : Result). r .answer) (λ fault. refusedResult fault heads next) (λ k. omega arith)
-    (recoverFault l image (length heads) (length next)) _ tt
+    numbered recoverRefusals (λ (r : Result). r .answer) (λ fault. refusedResult fault heads next) (λ k. refl) _
+    (else-due recoverRefusals _ _ (lent-due recoverRefusals refl refl refl refl l image (length heads) (length next))
+    (say-due recoverRefusals _ 5 _ (one-of 5 recoverRefusals refl) (say-due recoverRefusals _ 6 _ (one-of 6 recoverRefusals refl) (say-due recoverRefusals _ 7 _ (one-of 7 recoverRefusals refl) (say-due recoverRefusals _ 8 0 (one-of 8 recoverRefusals refl) (none-due recoverRefusals)))))) _ tt
 
-put-done : (l : ℕ) (image heads next : List ℕ) (s : State) (key : ℕ) (value : List ℕ) (found : Found) → Numbered (putDone l image heads next s key value found .answer)
-unfolding putDone changed unchanged
-put-done l image heads next s key value (At old prev compared) = tt
-put-done l image heads next s key value (Missing prev compared) = tt
-put-done l image heads next s key value BadChain = omega arith
+module _ (l : ℕ) (image heads next : List ℕ) (s : State) (key : ℕ) where
+  put-done : (ks : List ℕ) → isOne 11 ks ≡ true → (value : List ℕ) (found : Found) → Numbered ks (putDone l image heads next s key value found .answer)
+  unfolding putDone changed unchanged
+  put-done ks e value (At old prev compared) = tt
+  put-done ks e value (Missing prev compared) = tt
+  put-done ks e value BadChain = one-of 11 ks e
 
-pub put-numbered : (l : ℕ) (image heads next : List ℕ) (s : State) (key : ℕ) (value : List ℕ) → Numbered (putResult l image heads next s key value .answer)
-unfolding putResult unchanged
-put-numbered l image heads next s key value =
-    numbered (λ (r : ChangeResult). r .answer) (λ fault. unchanged (refused fault) s heads next) (λ k. omega arith) (putFault l image heads next s key (length value)) _
-    (put-done l image heads next s key value (search l image heads next key))
+  put-due : (ks : List ℕ) → isOne 1 ks ≡ true → isOne 2 ks ≡ true → isOne 3 ks ≡ true → isOne 4 ks ≡ true → isOne 11 ks ≡ true → isOne 12 ks ≡ true
+      → isOne 9 ks ≡ true → (size : ℕ) → Due ks (say (ltb (limit l) size) 10 0) → Due ks (putFault l image heads next s key size)
+  unfolding putFault putLentFault putLaterFault
+  put-due ks a b c d e f g size ten =
+      else-due ks _ _ (else-due ks _ _ (lent-due ks a b c d l image (length heads) (length next)) ten)
+      (else-due ks _ _ (chain-due ks e _)
+      (else-due ks _ _ (room-due ks f _ _ _) (else-due ks _ _ (version-due ks g _) (reuse-due ks e _ _ _ _))))
 
-remove-done : (l : ℕ) (image heads next : List ℕ) (s : State) (key : ℕ) (found : Found) → Numbered (removeDone l image heads next s key found .answer)
-unfolding removeDone changed unchanged
-remove-done l image heads next s key (At old prev compared) = tt
-remove-done l image heads next s key (Missing prev compared) = tt
-remove-done l image heads next s key BadChain = omega arith
+  put-by : (ks : List ℕ) → isOne 11 ks ≡ true → (value : List ℕ) → Due ks (putFault l image heads next s key (length value))
+      → Numbered ks (putResult l image heads next s key value .answer)
+  unfolding putResult unchanged
+  put-by ks e value d =
+      numbered ks (λ (r : ChangeResult). r .answer) (λ fault. unchanged (refused fault) s heads next) (λ k. refl) _ d _ (put-done ks e value _)
 
-pub remove-numbered : (l : ℕ) (image heads next : List ℕ) (s : State) (key : ℕ) → Numbered (removeResult l image heads next s key .answer)
-unfolding removeResult unchanged
-remove-numbered l image heads next s key =
-    numbered (λ (r : ChangeResult). r .answer) (λ fault. unchanged (refused fault) s heads next) (λ k. omega arith) (removeFault l image heads next s key) _
-    (remove-done l image heads next s key (search l image heads next key))
+  -- PUT: 1, 2, 3, 4, 10, 11, 12, 9; without 10 where the value is short enough
+  pub put-numbered : (value : List ℕ) → Numbered putRefusals (putResult l image heads next s key value .answer)
+  put-numbered value = put-by putRefusals refl value (put-due putRefusals refl refl refl refl refl refl refl (length value) (say-due putRefusals _ 10 0 (one-of 10 putRefusals refl) (none-due putRefusals)))
 
-get-done : (l : ℕ) (image out : List ℕ) (found : Found) → Numbered (getDone l image out found .answer)
-unfolding getDone
-get-done l image out (At slot prev compared) = tt
-get-done l image out (Missing prev compared) = tt
-get-done l image out BadChain = omega arith
+  pub short-put-numbered : (value : List ℕ) → length value ≤ limit l → Numbered shortPutRefusals (putResult l image heads next s key value .answer)
+  short-put-numbered value h =
+      put-by shortPutRefusals refl value (put-due shortPutRefusals refl refl refl refl refl refl refl (length value) (inl (say-false _ 10 0 (le-ltb (limit l) (length value) h))))
 
-pub get-numbered : (l : ℕ) (image heads next : List ℕ) (key : ℕ) (out : List ℕ) → Numbered (getResult l image heads next key out .answer)
-unfolding getResult
-get-numbered l image heads next key out =
-    numbered (λ (r : GetResult). r .answer) (λ fault. record { answer = refused fault; out = out }) (λ k. omega arith) (getFault l image heads next key (length out)) _
-    (get-done l image out (search l image heads next key))
+  remove-done : (ks : List ℕ) → isOne 11 ks ≡ true → (found : Found) → Numbered ks (removeDone l image heads next s key found .answer)
+  unfolding removeDone changed unchanged
+  remove-done ks e (At old prev compared) = tt
+  remove-done ks e (Missing prev compared) = tt
+  remove-done ks e BadChain = one-of 11 ks e
+
+  remove-due : (ks : List ℕ) → isOne 11 ks ≡ true → isOne 9 ks ≡ true → (found : Found) (n : ℕ) → Due ks (removeLaterFault found next n s)
+  unfolding removeLaterFault heldFault
+  remove-due ks e g (At old prev compared) n =
+      else-due ks _ _ (version-due ks g _) (else-due ks _ _ (reuse-due ks e _ _ _ _) (say-due ks _ 11 0 (one-of 11 ks e) (none-due ks)))
+  remove-due ks e g (Missing prev compared) n = none-due ks
+  remove-due ks e g BadChain n = inr (one-of 11 ks e)
+
+  -- REMOVE: 1, 2, 3, 4, 11, 9
+  pub remove-numbered : Numbered removeRefusals (removeResult l image heads next s key .answer)
+  unfolding removeResult removeFault unchanged
+  remove-numbered =
+      numbered removeRefusals (λ (r : ChangeResult). r .answer) (λ fault. unchanged (refused fault) s heads next) (λ k. refl) _
+      (else-due removeRefusals _ _ (lent-due removeRefusals refl refl refl refl l image (length heads) (length next)) (remove-due removeRefusals refl refl _ _)) _ (remove-done removeRefusals refl _)
+
+module _ (l : ℕ) (image heads next : List ℕ) (key : ℕ) where
+  get-done : (ks : List ℕ) → isOne 11 ks ≡ true → (out : List ℕ) (found : Found) → Numbered ks (getDone l image out found .answer)
+  unfolding getDone
+  get-done ks e out (At slot prev compared) = tt
+  get-done ks e out (Missing prev compared) = tt
+  get-done ks e out BadChain = one-of 11 ks e
+
+  later-due : (ks : List ℕ) → isOne 11 ks ≡ true → (size : ℕ) → ((n : ℕ) → Due ks (lengthFault l n size)) → (found : Found) → Due ks (getLaterFault l image size found)
+  unfolding getLaterFault
+  later-due ks e size h (At slot prev compared) = h _
+  later-due ks e size h (Missing prev compared) = none-due ks
+  later-due ks e size h BadChain = inr (one-of 11 ks e)
+
+  get-by : (ks : List ℕ) → isOne 1 ks ≡ true → isOne 2 ks ≡ true → isOne 3 ks ≡ true → isOne 4 ks ≡ true → isOne 11 ks ≡ true → (out : List ℕ)
+      → ((n : ℕ) → Due ks (lengthFault l n (length out))) → Numbered ks (getResult l image heads next key out .answer)
+  unfolding getResult getFault
+  get-by ks a b c d e out h =
+      numbered ks (λ (r : GetResult). r .answer) (λ fault. record { answer = refused fault; out = out }) (λ k. refl) _
+      (else-due ks _ _ (lent-due ks a b c d l image (length heads) (length next)) (later-due ks e (length out) h _)) _ (get-done ks e out _)
+
+  -- GET: 1, 2, 3, 4, 11, 6, 13; without 13 where the output has room for any value
+  pub get-numbered : (out : List ℕ) → Numbered getRefusals (getResult l image heads next key out .answer)
+  unfolding lengthFault
+  get-numbered out =
+      get-by getRefusals refl refl refl refl refl out (λ n. say-due getRefusals _ 6 _ (one-of 6 getRefusals refl) (say-due getRefusals _ 13 0 (one-of 13 getRefusals refl) (none-due getRefusals)))
+
+  roomy-due : (ks : List ℕ) → isOne 6 ks ≡ true → (n size : ℕ) → limit l ≤ size → Due ks (lengthFault l n size)
+  unfolding lengthFault say
+  roomy-due ks six n size h = go (ltb (limit l) n) refl
+    where
+      go : (b : Bool) → ltb (limit l) n ≡ b → Due ks (say b 6 (say (ltb size n) 13 0))
+      go true t = inr (one-of 6 ks six)
+      go false t = inl (say-false _ 13 0 (le-ltb size n (omega (arith, ltb-false (limit l) n t))))
+
+  pub roomy-get-numbered : (out : List ℕ) → limit l ≤ length out → Numbered roomyGetRefusals (getResult l image heads next key out .answer)
+  roomy-get-numbered out h = get-by roomyGetRefusals refl refl refl refl refl out (λ n. roomy-due roomyGetRefusals refl n (length out) h)
+
+  locate-done : (ks : List ℕ) → isOne 11 ks ≡ true → (found : Found) → Numbered ks (locateDone image found)
+  unfolding locateDone
+  locate-done ks e (At slot prev compared) = tt
+  locate-done ks e (Missing prev compared) = tt
+  locate-done ks e BadChain = one-of 11 ks e
+
+  -- LOCATE: 1, 2, 3, 4, 11
+  pub locate-numbered : Numbered locateRefusals (locateResult l image heads next key)
+  unfolding locateResult locateFault
+  locate-numbered =
+      numbered locateRefusals (λ (a : Answer). a) (λ fault. refused fault) (λ k. refl) _
+      (else-due locateRefusals _ _ (lent-due locateRefusals refl refl refl refl l image (length heads) (length next)) (chain-due locateRefusals refl _)) _ (locate-done locateRefusals refl _)

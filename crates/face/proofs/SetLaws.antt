@@ -1,5 +1,5 @@
 -- THE LAWS OF THE SET, proved. Assumes nothing.
-use mathlib.Core.Path.{_≡_, refl, ap, _∙_}
+use mathlib.Core.Path.{_≡_, ap, _∙_}
 use mathlib.Core.Option.{none}
 use mathlib.Core.List.{List, []}
 use Prim.Native.Nat.{ℕ, _^_, _≤_, _<_}
@@ -26,10 +26,10 @@ use Rattle.plainmap.proofs.Afters.{after-list}
 use Rattle.plainmap.proofs.CallLists.{agrees-right, agrees-reads, agrees-with, recovered-agrees, formatted-empty, formatted-fine}
 use Rattle.plainmap.proofs.CallSteps.{Stepped, stored-none, stored-record, call-stepped}
 use Rattle.plainmap.proofs.Playing.{record-passes, playing-none}
-use Rattle.face.specs.Laws.{Lengths, SetLaws}
+use Rattle.face.specs.Laws.{Lengths, CallLaws, SetLaws}
 use Rattle.face.proofs.Images.{accepted-gives, passed-size, state-answered}
-use Rattle.face.proofs.Events.{event-agrees, event-slots, struck-accepted}
-use Rattle.face.proofs.Stored.{few-given, some-stores, refusal-still}
+use Rattle.face.proofs.Events.{event-agrees, event-slots}
+use Rattle.face.proofs.Stored.{few-given, some-stores}
 use Rattle.face.proofs.Heads.{called-heads, recovered-heads}
 
 module _ (l : ℕ) (lay : Layout l) where
@@ -57,13 +57,12 @@ module _ (l : ℕ) (lay : Layout l) where
     new-agrees = agrees-with l _ _ (λ k. none) (recovered-agrees l (formatted l len) heads next fine right-size) (formatted-empty l len some small)
 
   module _ (w : World) (m : PlainMap) (g : Agrees l w m) where
-    the-lengths : Lengths w (slotsIn (w .image))
+    the-lengths : Lengths w
     the-lengths =
         record {
-          slots = refl;
-          image = accepted-long l (w .image) (g .accepted) .size;
+          image-size = accepted-long l (w .image) (g .accepted) .size;
           index = g .sound .size;
-          next = index-sized (slotsIn (w .image)) (length (w .heads)) (length (w .next)) (g .sound .size) .2;
+          next-size = index-sized (slotsIn (w .image)) (length (w .heads)) (length (w .next)) (g .sound .size) .2;
         }
 
     module _ (call : Call) (typed : Typed l call) where
@@ -83,23 +82,10 @@ module _ (l : ℕ) (lay : Layout l) where
               ∙ record-passes l (length (w .image)) (word (w .image)) (w .state .first) key kind value (w .state .version) a b
               (accepted-slots l (w .image) (g .accepted)) (omega (arith, wr .slot, accepted-long l (w .image) (g .accepted) .size)) p q
 
-  -- THE LAWS OF THE SET
-  pub set-laws : SetLaws l (Agrees l)
-  set-laws =
+  -- WHAT HOLDS OF THE CALLS whatever the set
+  pub call-laws : CallLaws l
+  call-laws =
       record {
-        recovered = the-recovered;
-        fresh = λ len heads next some size. (new-accepted len heads next some size, new-agrees len heads next some size);
-        keeps = event-agrees l lay;
-        recovers = λ w m g. accepted-gives l (w .image) m (g .accepted) (g .map);
-        reads = agrees-reads l;
-        lengths = the-lengths;
-        answers = agrees-right l lay;
-        refused-still = λ w m g call s. refusal-still l w m call (agrees-right l lay w m g call s);
-        stores = λ w m g. some-stores l lay w (g .chains) (g .sound);
-        plays = the-plays;
-        plays-list = λ w m g call s. after-list l w call (g .accepted) (g .sound .next-version) (stepped w m g call s);
-        accepts = struck-accepted l lay;
-        slots = event-slots l lay;
         answers-state = state-answered l;
         few-values = few-given l;
         call-heads = called-heads l;
@@ -109,6 +95,24 @@ module _ (l : ℕ) (lay : Layout l) where
         formatted-length = formatted-length l;
       }
 
--- in the layout of document 01
-pub first-laws : SetLaws 1 (Agrees 1)
-first-laws = set-laws 1 (record { low = omega arith; high = omega arith })
+  -- THE LAWS OF THE SET
+  pub set-laws : SetLaws l (Agrees l)
+  set-laws =
+      record {
+        after-recovery = the-recovered;
+        fresh = λ len heads next some size. (new-accepted len heads next some size, new-agrees len heads next some size);
+        keeps = event-agrees l lay;
+        recovers = λ w m g. accepted-gives l (w .image) m (g .accepted) (g .map);
+        reads = agrees-reads l;
+        lengths = the-lengths;
+        answers = agrees-right l lay;
+        some-stores = λ w m g. some-stores l lay w (g .chains) (g .sound);
+        plays = the-plays;
+        plays-list = λ w m g call s. after-list l w call (g .accepted) (g .sound .next-version) (stepped w m g call s);
+        accepts = λ w m g heads next s. accepted-recovers l (w .image) (length heads) (length next) (g .accepted) s;
+        keeps-slots = event-slots l lay;
+      }
+
+-- the layout of document 01
+pub layout-1 : Layout 1
+layout-1 = record { low = omega arith; high = omega arith }

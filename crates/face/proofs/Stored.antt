@@ -16,7 +16,8 @@ use Rattle.index.specs.declared.Found.{Found}
 use Rattle.index.specs.declared.Found.the-variants.{At, Missing, BadChain}
 use Rattle.calls.specs.Change.{ChangeResult, changed, unchanged, putDone, putResult, removeDone, removeResult}
 use Rattle.calls.specs.Get.{GetResult, getDone, getResult}
-use Rattle.plainmap.specs.World.{World, Call, put, remove, get, Called, toPlay, calledChange, calledGet, called}
+use Rattle.calls.specs.Locate.{locateDone, locateResult}
+use Rattle.plainmap.specs.World.{World, Call, put, remove, get, locate, Called, toPlay, calledChange, calledGet, calledLocate, called}
 use Rattle.plainmap.specs.Plain.{PlainMap}
 use Rattle.plainmap.specs.Claims.{Typed, put-typed, remove-typed, Untouched, Right}
 use Rattle.plainmap.proofs.Rights.{plain-given}
@@ -57,11 +58,18 @@ module _ (l : ℕ) (w : World) where
   get-few out (Missing prev compared) = omega arith
   get-few out BadChain = omega arith
 
+  locate-few : (found : Found) → valueCount (locateDone (w .image) found) ≤ 2
+  unfolding locateDone
+  locate-few (At slot prev compared) = omega arith
+  locate-few (Missing prev compared) = omega arith
+  locate-few BadChain = omega arith
+
   called-few : (call : Call) → valueCount (called l w call .answer) ≤ 2
-  unfolding called calledChange calledGet putResult removeResult getResult unchanged
+  unfolding called calledChange calledGet calledLocate putResult removeResult getResult locateResult unchanged
   called-few (put key value) = by-refusal (λ (c : ChangeResult). valueCount (c .answer) ≤ 2) _ _ _ (put-few key value _) (omega arith)
   called-few (remove key) = by-refusal (λ (c : ChangeResult). valueCount (c .answer) ≤ 2) _ _ _ (remove-few key _) (omega arith)
   called-few (get key out) = by-refusal (λ (c : GetResult). valueCount (c .answer) ≤ 2) _ _ _ (get-few out _) (omega arith)
+  called-few (locate key) = by-refusal (λ (a : Answer). valueCount a ≤ 2) _ _ _ (locate-few _) (omega arith)
 
   pub few-given : (call : Call) (given : List ℕ) → called l w call .answer ≡ gives given → length given ≤ 2
   few-given call given e = omega (arith, called-few call, ap valueCount e)
@@ -91,4 +99,4 @@ pub refusal-still : (l : ℕ) (w : World) (m : PlainMap) (call : Call) → Right
     → Untouched w call (called l w call)
 unfolding isRefusal
 refusal-still l w m call right number e =
-    right .refused-still (λ z. true≢false (ap isRefusal (sym e ∙ right .answer z) ∙ plain-given _ _ m call))
+    right .refused-still (λ z. true≢false (ap isRefusal (sym e ∙ right .answer z) ∙ plain-given _ _ _ m call))

@@ -6,65 +6,88 @@ use mathlib.Core.List.{List}
 use Prim.Native.Nat.{ℕ, _≤_}
 use lib.ListN.{length}
 use Rattle.layout.specs.Header.{indexFault}
+use Rattle.stores.specs.Store.{Store}
 use Rattle.stores.specs.Cut.{bothStand}
-use Rattle.plainmap.specs.World.{World, Call, called, playing, finished, recoveredWorld}
+use Rattle.index.specs.declared.State.{State}
+use Rattle.plainmap.specs.World.{World, Call, Called, called, playing, recoveredWorld}
 use Rattle.plainmap.specs.Plain.{PlainMap, Operation, operation, plainStep}
 use Rattle.prelude.specs.Answer.{refuses}
 use Rattle.plainmap.specs.Claims.{Typed, dueFault}
 
--- a cut: a stores of the call's line A stand and b of its line B; heads and next are lent to the recovery after it
+-- a cut: a stores of the first line stand and b of the second; heads and next are lent to the recovery after it
 pub record Cut : Type 0 where
   pub a : ℕ
   pub b : ℕ
   pub heads : List ℕ
   pub next : List ℕ
 
--- a call with all its stores played, or a call that a cut struck
-pub data Event : Type 0 where
-  done : Call → Event
-  struck : Call → Cut → Event
+-- ---- events of any kind of request
 
--- the call of an event
-abbrev pub callOf : Event → Call
-callOf (done call) = call
-callOf (struck call cut) = call
+-- a request with all its stores played, or a request that a cut struck
+pub data Event (A : Type 0) : Type 0 where
+  done : A → Event A
+  struck : A → Cut → Event A
 
--- ---- the set
+-- what a request leaves, its stores not yet played
+pub record Leaving : Type 0 where
+  pub stores : List Store
+  pub heads : List ℕ
+  pub next : List ℕ
+  pub state : State
 
 -- the image that a cut leaves
-unfoldable pub cutImage : (l : ℕ) → World → Call → Cut → List ℕ
-cutImage l w call cut = playing (w .image) (called l w call .stores) (cut .a) (cut .b)
+unfoldable pub imageCut : World → Leaving → Cut → List ℕ
+imageCut w r cut = playing (w .image) (r .stores) (cut .a) (cut .b)
 
--- the world after an event
-unfoldable pub step : (l : ℕ) → World → Event → World
-step l w (done call) = finished l w call
-step l w (struck call cut) = recoveredWorld l (cutImage l w call cut) (cut .heads) (cut .next)
+module _ {A : Type 0} where
+  -- the request of an event
+  abbrev pub requestOf : Event A → A
+  requestOf (done request) = request
+  requestOf (struck request cut) = request
 
--- ---- the plain map
+  -- the set after an event; `leaves` is what a request leaves
+  unfoldable pub stepBy : (l : ℕ) → (leaves : World → A → Leaving) → World → Event A → World
+  stepBy l leaves w (done request) =
+      record {
+        image = playing (w .image) (leaves w request .stores) 8 8;
+        heads = leaves w request .heads;
+        next = leaves w request .next;
+        state = leaves w request .state;
+      }
+  stepBy l leaves w (struck request cut) = recoveredWorld l (imageCut w (leaves w request) cut) (cut .heads) (cut .next)
 
--- do all stores stand?
-unfoldable pub allStand : Event → Bool
-allStand (done call) = true
-allStand (struck call cut) = bothStand (cut .a) (cut .b)
+  -- do all stores stand?
+  unfoldable pub allStand : Event A → Bool
+  allStand (done request) = true
+  allStand (struck request cut) = bothStand (cut .a) (cut .b)
 
 -- "A struck put or remove that was not refused takes its step, wholly done, if all its stores stand; else it is wholly absent and changes nothing"
 unfoldable pub plainEvent : (stand : Bool) → Operation → (isRefused : Bool) → PlainMap → PlainMap
 plainEvent stand op isRefused m = cond stand (plainStep op isRefused m) m
 
--- the plain map after an event in world w: it is told whether all stores stand, the operation, and whether the rules refuse the call
-abbrev pub mapAfterEvent : (l : ℕ) → World → PlainMap → Event → PlainMap
-mapAfterEvent l w m event =
-    plainEvent (allStand event) (operation (callOf event)) (refuses (dueFault l w m (callOf event))) m
-
--- ---- what an event may be, in an image of n slots
-
--- a line has eight stores; "That index has the right size when 4 is not due; B may be another"
+-- a line has eight stores; "That index has the right size when 4 is not due; B may be another": a cut in an image of n slots
 pub record CutFits (n : ℕ) (cut : Cut) : Type 0 where
   pub few-a : cut .a ≤ 8
   pub few-b : cut .b ≤ 8
   pub size : indexFault n (length (cut .heads)) (length (cut .next)) ≡ 0
 
--- an event in an image of n slots: its call's fields are numbers of their size, and its cut fits
-pub data Fits (l n : ℕ) : Event → Type 0 where
-  done-fits : {call : Call} → Typed l call → Fits l n (done call)
-  struck-fits : {call : Call} {cut : Cut} → Typed l call → CutFits n cut → Fits l n (struck call cut)
+-- an event in an image of n slots: its request's fields are numbers of their size, and its cut fits
+pub data FitsBy {A : Type 0} (TypedRequest : A → Type 0) (n : ℕ) : Event A → Type 0 where
+  done-fits : {request : A} → TypedRequest request → FitsBy TypedRequest n (done request)
+  struck-fits : {request : A} {cut : Cut} → TypedRequest request → CutFits n cut → FitsBy TypedRequest n (struck request cut)
+
+-- ---- events of the set's calls
+
+abbrev pub leaving : Called → Leaving
+leaving r = record { stores = r .stores; heads = r .heads; next = r .next; state = r .state }
+
+abbrev pub step : (l : ℕ) → World → Event Call → World
+step l w event = stepBy l (λ v call. leaving (called l v call)) w event
+
+-- the plain map after an event in world w: it is told whether all stores stand, the operation, and whether the rules refuse the call
+abbrev pub mapAfterEvent : (l : ℕ) → World → PlainMap → Event Call → PlainMap
+mapAfterEvent l w m event =
+    plainEvent (allStand event) (operation (requestOf event)) (refuses (dueFault l w m (requestOf event))) m
+
+abbrev pub Fits : (l n : ℕ) → Event Call → Type 0
+Fits l n event = FitsBy (Typed l) n event

@@ -1,10 +1,10 @@
--- THE FACE OF THE SET: the laws by which a layer above knows it, and all that it may know.
+-- THE FACE OF THE SET: the laws by which a layer above knows it. What holds of the calls whatever the set is in CallLaws and in Numbers.
 use mathlib.Core.Path.{_≡_}
 use mathlib.Core.Option.{none}
 use mathlib.Core.List.{List, []}
 use Prim.Native.Nat.{ℕ, _+_, _*_, _≤_}
 use lib.ListN.{length}
-use Rattle.prelude.specs.Answer.{gives, refused}
+use Rattle.prelude.specs.Answer.{gives}
 use Rattle.layout.specs.Size.{slotsOf, slotsIn}
 use Rattle.layout.specs.Header.{indexFault}
 use Rattle.stores.specs.Play.{playEnd, wordNumbers, values, playFault, playListResult}
@@ -13,8 +13,8 @@ use Rattle.calls.specs.Format.{formatted}
 use Rattle.plainmap.specs.World.{World, Call, put, remove, called, playing, finished, recoveredWorld}
 use Rattle.plainmap.specs.Plain.{PlainMap}
 use Rattle.plainmap.specs.Accepted.{RightSize}
-use Rattle.plainmap.specs.Claims.{Typed, slotsMap, Untouched, Right, Reads}
-use Rattle.face.specs.Event.{Cut, Event, struck, cutImage, step, mapAfterEvent, Fits}
+use Rattle.plainmap.specs.Claims.{Typed, slotsMap, Right, Reads}
+use Rattle.face.specs.Event.{Event, step, mapAfterEvent, Fits}
 use Rattle.face.specs.Recovers.{Recovers}
 
 -- a put or a remove
@@ -22,54 +22,14 @@ pub data Writes : Call → Type 0 where
   put-writes : {key : ℕ} {value : List ℕ} → Writes (put key value)
   remove-writes : {key : ℕ} → Writes (remove key)
 
--- the lengths of a set of n slots
-pub record Lengths (w : World) (n : ℕ) : Type 0 where
-  pub slots : slotsIn (w .image) ≡ n
-  pub image : length (w .image) ≡ 128 * (n + 1)
+-- the lengths of a set's image and index
+pub record Lengths (w : World) : Type 0 where
+  pub image-size : length (w .image) ≡ 128 * (slotsIn (w .image) + 1)
+  pub next-size : length (w .next) ≡ slotsIn (w .image) + 1
   pub index : RightSize (w .image) (w .heads) (w .next)
-  pub next : length (w .next) ≡ n + 1
 
--- the laws of a set in layout l, for an invariant Inv of the world and the plain map beside it of which nothing else is known
-pub record SetLaws (l : ℕ) (Inv : World → PlainMap → Type 0) : Type 0 where
-  -- ---- where the invariant holds
-
-  -- recovery of an accepted image establishes it, with the map of the slots
-  pub recovered : (image heads next : List ℕ) → recoverFault l image (length heads) (length next) ≡ 0
-      → Inv (recoveredWorld l image heads next) (slotsMap l image)
-  -- a formatted image is accepted, and its map is empty
-  pub fresh : (len : ℕ) (heads next : List ℕ) → (slotsOf len ≡ 0 → ⊥) → indexFault (slotsOf len) (length heads) (length next) ≡ 0
-      → (recoverFault l (formatted l len) (length heads) (length next) ≡ 0) × Inv (recoveredWorld l (formatted l len) heads next) (λ k. none)
-  -- every event, struck or not, keeps it, with the plain map's next map
-  pub keeps : (w : World) (m : PlainMap) → Inv w m → (event : Event) → Fits l (slotsIn (w .image)) event
-      → Inv (step l w event) (mapAfterEvent l w m event)
-  -- ---- what it says
-
-  -- recovery refuses nothing and gives the plain map; so does get with the present index
-  pub recovers : (w : World) (m : PlainMap) → Inv w m → Recovers l (w .image) m
-  pub reads : (w : World) (m : PlainMap) → Inv w m → Reads l w m
-  -- and image and index have the lengths that belong to the number of slots
-  pub lengths : (w : World) (m : PlainMap) → Inv w m → Lengths w (slotsIn (w .image))
-  -- every call is refused exactly where the rules refuse it, and otherwise answers as the plain map does
-  pub answers : (w : World) (m : PlainMap) → Inv w m → (call : Call) → Typed l call → Right l w m call
-  -- a refused call changes nothing
-  pub refused-still : (w : World) (m : PlainMap) → Inv w m → (call : Call) → Typed l call → (number : ℕ)
-      → called l w call .answer ≡ refused number → Untouched w call (called l w call)
-  -- a put or a remove that is neither refused nor absent has stores
-  pub stores : (w : World) (m : PlainMap) → Inv w m → (call : Call) → Typed l call → Writes call → (given : List ℕ)
-      → called l w call .answer ≡ gives given → called l w call .stores ≡ [] → ⊥
-  -- play takes the stores of a call, if it has any, with any counts up to 8, and all of them as a list
-  pub plays : (w : World) (m : PlainMap) → Inv w m → (call : Call) → Typed l call → (called l w call .stores ≡ [] → ⊥)
-      → (a b : ℕ) → a ≤ 8 → b ≤ 8 → playFault (length (w .image)) (wordNumbers (called l w call .stores)) a b ≡ 0
-  pub plays-list : (w : World) (m : PlainMap) → Inv w m → (call : Call) → Typed l call
-      → playListResult (w .image) (wordNumbers (called l w call .stores)) (values (called l w call .stores)) ≡ playEnd 0 (finished l w call .image)
-  -- the image that a cut leaves is accepted
-  pub accepts : (w : World) (m : PlainMap) → Inv w m → (call : Call) (cut : Cut) → Fits l (slotsIn (w .image)) (struck call cut)
-      → recoverFault l (cutImage l w call cut) (length (cut .heads)) (length (cut .next)) ≡ 0
-  -- an event keeps the number of slots
-  pub slots : (w : World) (m : PlainMap) → Inv w m → (event : Event) → Fits l (slotsIn (w .image)) event
-      → slotsIn (step l w event .image) ≡ slotsIn (w .image)
-  -- ---- whatever the set
-
+-- what holds of the calls in layout l whatever the set
+pub record CallLaws (l : ℕ) : Type 0 where
   -- an accepted recovery answers the state that it leaves
   pub answers-state : (image heads next : List ℕ) → recoverFault l image (length heads) (length next) ≡ 0
       → recoverResult l image heads next .answer ≡ gives (stateValues (recoverResult l image heads next .state))
@@ -83,3 +43,40 @@ pub record SetLaws (l : ℕ) (Inv : World → PlainMap → Type 0) : Type 0 wher
   -- the number of slots by an image's length; format keeps that length
   pub slots-of : (n : ℕ) → 2 ≤ n → n ≤ 65535 → slotsOf (128 * (n + 1)) ≡ n
   pub formatted-length : (len : ℕ) → length (formatted l len) ≡ len
+
+-- the laws of a set in layout l, for an invariant Inv of the world and the plain map beside it of which nothing else is known
+pub record SetLaws (l : ℕ) (Inv : World → PlainMap → Type 0) : Type 0 where
+  -- ---- where the invariant holds
+
+  -- recovery of an accepted image establishes it, with the map of the slots
+  pub after-recovery : (image heads next : List ℕ) → recoverFault l image (length heads) (length next) ≡ 0
+      → Inv (recoveredWorld l image heads next) (slotsMap l image)
+  -- a formatted image is accepted, and its map is empty
+  pub fresh : (len : ℕ) (heads next : List ℕ) → (slotsOf len ≡ 0 → ⊥) → indexFault (slotsOf len) (length heads) (length next) ≡ 0
+      → (recoverFault l (formatted l len) (length heads) (length next) ≡ 0) × Inv (recoveredWorld l (formatted l len) heads next) (λ k. none)
+  -- every event, struck or not, keeps it, with the plain map's next map
+  pub keeps : (w : World) (m : PlainMap) → Inv w m → (event : Event Call) → Fits l (slotsIn (w .image)) event
+      → Inv (step l w event) (mapAfterEvent l w m event)
+  -- ---- what it says
+
+  -- recovery refuses nothing and gives the plain map; so does get with the present index
+  pub recovers : (w : World) (m : PlainMap) → Inv w m → Recovers l (w .image) m
+  pub reads : (w : World) (m : PlainMap) → Inv w m → Reads l w m
+  -- and image and index have the lengths that belong to the number of slots
+  pub lengths : (w : World) (m : PlainMap) → Inv w m → Lengths w
+  -- every call is refused exactly where the rules refuse it, and otherwise answers as the plain map does
+  pub answers : (w : World) (m : PlainMap) → Inv w m → (call : Call) → Typed l call → Right l w m call
+  -- a put or a remove that is neither refused nor absent has stores
+  pub some-stores : (w : World) (m : PlainMap) → Inv w m → (call : Call) → Typed l call → Writes call → (given : List ℕ)
+      → called l w call .answer ≡ gives given → called l w call .stores ≡ [] → ⊥
+  -- play takes the stores of a call, if it has any, with any counts up to 8, and all of them as a list
+  pub plays : (w : World) (m : PlainMap) → Inv w m → (call : Call) → Typed l call → (called l w call .stores ≡ [] → ⊥)
+      → (a b : ℕ) → a ≤ 8 → b ≤ 8 → playFault (length (w .image)) (wordNumbers (called l w call .stores)) a b ≡ 0
+  pub plays-list : (w : World) (m : PlainMap) → Inv w m → (call : Call) → Typed l call
+      → playListResult (w .image) (wordNumbers (called l w call .stores)) (values (called l w call .stores)) ≡ playEnd 0 (finished l w call .image)
+  -- the image is accepted, with every index of the right size
+  pub accepts : (w : World) (m : PlainMap) → Inv w m → (heads next : List ℕ) → RightSize (w .image) heads next
+      → recoverFault l (w .image) (length heads) (length next) ≡ 0
+  -- an event keeps the number of slots
+  pub keeps-slots : (w : World) (m : PlainMap) → Inv w m → (event : Event Call) → Fits l (slotsIn (w .image)) event
+      → slotsIn (step l w event .image) ≡ slotsIn (w .image)

@@ -2,3 +2,4 @@ pub mod Set
 pub mod Event
 pub mod Recovers
 pub mod Laws
+pub mod Numbers

@@ -2,32 +2,42 @@
 
 -- sizes, what an image holds, and the keys of a map
 pub use Rattle.layout.specs.Size.{slotsIn}
-unfoldable pub use Rattle.layout.specs.Size.{slotsOf}
+pub use Rattle.layout.specs.Size.{slotsOf}
 pub use Rattle.layout.specs.Record.{Layout, limit}
 unfoldable pub use Rattle.layout.specs.Header.{indexFault}
 pub use Rattle.layout.specs.Content.{tableOf}
-unfoldable pub use Rattle.table.specs.Table.{isHeld, liveCount, nextVersion}
-pub use Rattle.table.specs.Keys.{Keys}
+pub use Rattle.table.specs.Table.{holder, liveCount, nextVersion}
+unfoldable pub use Rattle.table.specs.Table.{isHeld}
+pub use Rattle.table.specs.Keys.{Holds, holds, Keys}
 -- stores and play
 pub use Rattle.stores.specs.Store.{Store}
 unfoldable pub use Rattle.stores.specs.Store.{zipped}
 pub use Rattle.stores.specs.Play.{Played, playEnd}
-unfoldable pub use Rattle.stores.specs.Play.{wordNumbers, values, playFault, playResult, playListResult}
+pub use Rattle.stores.specs.Play.{playFault, playResult, playListResult}
+unfoldable pub use Rattle.stores.specs.Play.{wordNumbers, values}
 pub use Rattle.stores.specs.Cut.{bothStand}
 -- the calls, each with what it answers and leaves
 pub use Rattle.index.specs.declared.State.{State}
 pub use Rattle.recovery.specs.Recover.{Result, stateValues}
-unfoldable pub use Rattle.recovery.specs.Recover.{recoverSays, noState, recoverState, recoverFault, recoverResult}
+pub use Rattle.recovery.specs.Recover.{recoverFault, recoverResult}
+unfoldable pub use Rattle.recovery.specs.Recover.{recoverSays, noState, recoverState}
 pub use Rattle.calls.specs.Format.{FormatResult}
-unfoldable pub use Rattle.calls.specs.Format.{formatSays, formatFault, formatted, formatResult}
+pub use Rattle.calls.specs.Format.{formatted}
+unfoldable pub use Rattle.calls.specs.Format.{formatSays, formatFault, formatResult}
 pub use Rattle.calls.specs.Change.{ChangeResult, changeEnd}
-unfoldable pub use Rattle.calls.specs.Change.{changeSays, noStores, putResult, removeResult}
+pub use Rattle.calls.specs.Change.{putResult, removeResult}
+unfoldable pub use Rattle.calls.specs.Change.{changeSays, noStores}
 pub use Rattle.calls.specs.Get.{GetResult}
-unfoldable pub use Rattle.calls.specs.Get.{getSays, getResult}
+pub use Rattle.calls.specs.Get.{getResult}
+unfoldable pub use Rattle.calls.specs.Get.{getSays}
+pub use Rattle.calls.specs.Locate.{locateResult}
+unfoldable pub use Rattle.calls.specs.Locate.{locateSays}
 -- the world between calls, and the plain map
-pub use Rattle.plainmap.specs.World.{World, Call, put, remove, get, Called}
-unfoldable pub use Rattle.plainmap.specs.World.{outOf, toPlay, calledChange, calledGet, called, playing, finished, worldAfter, recoveredWorld}
-pub use Rattle.plainmap.specs.Plain.{PlainMap, Operation}
-unfoldable pub use Rattle.plainmap.specs.Plain.{operation, plainNext, plainStep, sizeOf, ruleFault, lengthAnswer, filled, plainAnswer, plainOut}
+pub use Rattle.plainmap.specs.World.{World, Call, put, remove, get, locate, Called}
+pub use Rattle.plainmap.specs.World.{outOf}
+unfoldable pub use Rattle.plainmap.specs.World.{toPlay, calledChange, calledGet, calledLocate, called, playing, finished, worldAfter, recoveredWorld}
+pub use Rattle.plainmap.specs.Plain.{PlainMap, Operation, putting, removing, reading}
+pub use Rattle.plainmap.specs.Plain.{sizeOf, plainOut}
+unfoldable pub use Rattle.plainmap.specs.Plain.{operation, plainNext, plainStep, ruleFault, lengthAnswer, filled, plainAnswer}
 pub use Rattle.plainmap.specs.Accepted.{RightSize}
-pub use Rattle.plainmap.specs.Claims.{Typed, put-typed, remove-typed, get-typed, slotsMap, dueFault, Untouched, Right, Reads}
+pub use Rattle.plainmap.specs.Claims.{Typed, put-typed, remove-typed, get-typed, locate-typed, slotsMap, dueFault, dueAnswer, Untouched, Right, Reads}

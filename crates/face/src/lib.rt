@@ -2,6 +2,7 @@
 pub use calls::Change;
 pub use calls::Formatted;
 pub use calls::Got;
+pub use calls::Located;
 pub use calls::Outcome;
 pub use index::State;
 pub use recovery::Recovered;

@@ -1,2 +1,3 @@
-// The public call that reads: get.
+// The public calls that read: get and locate.
 pub mod get;
+pub mod locate;

@@ -66,7 +66,7 @@ search-in-absent key k (y ∷ xs) seen prev n =
     rw (ne-eqb (key y) k (n y (inl refl)))
     (search-in-absent key k xs (seen + 1) y (λ z m. n z (inr m)) ∙ ap (λ (c : ℕ). Missing (endOf y xs) c) (omega arith))
 
--- a list has the key at a first place, or nowhere
+-- a list has the key at a first position, or nowhere
 pub data Seen (key : ℕ → ℕ) (k : ℕ) (l : List ℕ) : Type 0 where
   hit : (xs : List ℕ) (x : ℕ) (ys : List ℕ) → l ≡ xs ++ x ∷ ys → key x ≡ k → ((y : ℕ) → In y xs → key y ≡ k → ⊥) → Seen key k l
   miss : ((y : ℕ) → In y l → key y ≡ k → ⊥) → Seen key k l

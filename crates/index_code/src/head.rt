@@ -4,7 +4,7 @@ ghost use Prim.Native.Nat.{ℕ, _<_, _≤_};
 ghost use Rattle.layout.specs.inner.Key.{keyWith};
 ghost use Rattle.index.specs.Index.{headOf};
 
-// The number of the head, of b, that a key with this low word belongs to.
+// Which of b heads a key with this low word belongs to.
 pub fn head_of(low: u64, b: usize) -> usize
     requires { ⌜ 1 ≤ b ⌝ }
     ensures { λ r. ⌜ (r < b) × ((high : ℕ) → r ≡ headOf (keyWith low high) b) ⌝ }

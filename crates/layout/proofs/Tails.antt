@@ -1,4 +1,4 @@
--- The bytes of a value past a place, word by word: a byte of a word from byte r on is not zero exactly when the word shifted by r bytes is not. Assumes nothing.
+-- The bytes of a value past a position, word by word: a byte of a word from byte r on is not zero exactly when the word shifted by r bytes is not. Assumes nothing.
 use mathlib.Core.Path.{_≡_, refl, sym, ap, ap₂, _∙_}
 use mathlib.Core.Bool.{Bool, true, false, not, cond}
 use mathlib.Core.Logic.{by-cases}

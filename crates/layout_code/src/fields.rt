@@ -32,7 +32,7 @@ pub fn slot_high(image: &[u8], l: usize, s: usize) -> u64
     read_word(image, 16 * s + 2)
 }
 
-// Is it the key in slot s?
+// Is the key with these words that of slot s?
 pub fn has_key(image: &[u8], l: usize, s: usize, low: u64, high: u64) -> bool
     requires { ⌜ SlotInside (now image) l s ⌝ }
     ensures { λ r. ⌜ r ≡ eqb (keyOf l (lineA (word (now (image .entry))) s)) (keyWith low high) ⌝ }

@@ -2,10 +2,12 @@
 pub use calls::Change;
 pub use calls::Formatted;
 pub use calls::Got;
+pub use calls::Located;
 pub use calls::Outcome;
 pub use change_code::put::put;
 pub use change_code::remove::remove;
 pub use get_code::get::get;
+pub use get_code::locate::locate;
 pub use image_code::format::format;
 pub use image_code::play::play;
 pub use image_code::play::play_list;

@@ -2,8 +2,10 @@
 mod answer;
 pub mod format;
 pub mod get;
+pub mod locate;
 pub mod play;
 pub mod put;
 pub mod recover;
 pub mod remove;
 mod state;
+pub mod steps;

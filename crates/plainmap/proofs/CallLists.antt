@@ -18,7 +18,7 @@ use Rattle.recovery.specs.Recover.{slotsFault}
 use Rattle.calls.specs.Format.{formatted}
 use Rattle.calls.proofs.Formats.{formatted-length, formatted-fault, formatted-content}
 use Rattle.plainmap.proofs.FormattedImages.{formatted-slots}
-use Rattle.plainmap.specs.World.{World, Call, put, remove, get, outOf, called, finished, worldAfter, recoveredWorld}
+use Rattle.plainmap.specs.World.{World, Call, put, remove, get, locate, outOf, called, finished, worldAfter, recoveredWorld}
 use Rattle.plainmap.specs.Plain.{PlainMap, operation, plainStep, plainAnswer, plainOut}
 use Rattle.plainmap.specs.Accepted.{Accepted, RightSize}
 use Rattle.plainmap.specs.Sound.{Sound, Agrees}
@@ -30,6 +30,7 @@ use Rattle.plainmap.proofs.Outcomes.{SomeSound, some-sound, put-runs, r
 use Rattle.plainmap.proofs.Rights.{ran-right, right-refuses}
 use Rattle.plainmap.proofs.Refuses.{put-fault, remove-fault}
 use Rattle.plainmap.proofs.GetAnswers.{sound-reads, get-right}
+use Rattle.plainmap.proofs.LocateAnswers.{locate-right}
 use Rattle.plainmap.proofs.CallSteps.{call-stepped}
 use Rattle.plainmap.proofs.Afters.{after-call, after-sound}
 
@@ -54,6 +55,7 @@ module _ (l : ℕ) (lay : Layout l) (w : World) (chains : Chain → List ℕ) (a
       (λ z m. none-answer (slotsMap l (w .image) key) _ _ m) refl refl _ _ refl
       (remove-runs l lay w chains g key k) (remove-fault l w chains a g key)
   call-right (get key out) s = get-right l w chains a g key out
+  call-right (locate key) s = locate-right l w chains a g key
 
 -- ---- every list
 

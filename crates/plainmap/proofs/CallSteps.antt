@@ -11,8 +11,8 @@ use Rattle.layout.specs.Content.{made}
 use Rattle.table.specs.Table.{valueIn}
 use Rattle.index.specs.Index.{Index, Chain}
 use Rattle.calls.specs.Change.{ChangeResult, changed, unchanged}
-use Rattle.plainmap.specs.World.{World, Call, put, remove, get, Called, toPlay, calledChange, calledGet, called}
-use Rattle.plainmap.specs.Plain.{PlainMap, operation, plainNext, plainStep}
+use Rattle.plainmap.specs.World.{World, Call, put, remove, get, locate, Called, toPlay, calledChange, calledGet, calledLocate, called}
+use Rattle.plainmap.specs.Plain.{PlainMap, reading, operation, plainNext, plainStep}
 use Rattle.prelude.proofs.defs.Answer.{isRefusal}
 use Rattle.plainmap.specs.Sound.{Sound}
 use Rattle.layout.specs.Record.{Layout}
@@ -90,17 +90,20 @@ module _
       stored-record key kind value i alive d wr (λ k. stores k ∙ taken _ d refl k)
 
 module _ (l : ℕ) (lay : Layout l) (w : World) (chains : Chain → List ℕ) (g : Sound l w chains) where
+  -- a call that reads leaves the map
+  reads-only : (key : ℕ) (x : Bool) (k : ℕ) → slotsMap l (w .image) k ≡ plainStep (reading key) x (slotsMap l (w .image)) k
+  unfolding plainStep plainNext
+  reads-only key true k = refl
+  reads-only key false k = refl
+
   -- ONE CALL
   pub call-stepped : (call : Call) → Typed l call → Stepped l w call
-  unfolding called calledGet plainStep plainNext operation
+  unfolding called calledGet calledLocate plainStep plainNext operation
   call-stepped (put key value) (put-typed k b) =
       ran-stepped l w (put key value) key 1 value (some-sound chains g) (λ j. record-stored (slotsMap l (w .image)) _ key j value)
       (λ z m j. absurd (omega arith)) _ _ refl (put-runs l lay w chains g key value k b)
   call-stepped (remove key) (remove-typed k) =
       ran-stepped l w (remove key) key 2 [] (some-sound chains g) (λ j. record-dropped (slotsMap l (w .image)) _ key j)
       (λ z m j. not-dropped (slotsMap l (w .image)) key j m) _ _ refl (remove-runs l lay w chains g key k)
-  call-stepped (get key out) s = stored-none refl (some-sound chains g) (λ k. same (isRefusal (called l w (get key out) .answer)) k)
-    where
-      same : (x : Bool) (k : ℕ) → slotsMap l (w .image) k ≡ plainStep (operation (get key out)) x (slotsMap l (w .image)) k
-      same true k = refl
-      same false k = refl
+  call-stepped (get key out) s = stored-none refl (some-sound chains g) (λ k. reads-only key (isRefusal (called l w (get key out) .answer)) k)
+  call-stepped (locate key) s = stored-none refl (some-sound chains g) (λ k. reads-only key (isRefusal (called l w (locate key) .answer)) k)

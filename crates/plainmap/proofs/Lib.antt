@@ -9,6 +9,7 @@ pub mod Afters
 pub mod SoundWrites
 pub mod Outcomes
 pub mod GetAnswers
+pub mod LocateAnswers
 pub mod CallSteps
 pub mod AcceptedImages
 pub mod CallLists

@@ -10,11 +10,11 @@ use Rattle.prelude.proofs.defs.Answer.{isRefusal}
 use Rattle.stores.specs.Store.{Store}
 use Rattle.table.specs.Table.{nextVersion, isHeld}
 use Rattle.calls.specs.Change.{ChangeResult, changed, unchanged}
-use Rattle.plainmap.specs.World.{World, Call, outOf, Called, toPlay, calledChange, called, put, remove, get}
+use Rattle.plainmap.specs.World.{World, Call, outOf, Called, toPlay, calledChange, called, put, remove, get, locate}
 use Rattle.layout.specs.Size.{slotsIn}
 use Rattle.layout.specs.Content.{tableOf}
 use Rattle.plainmap.specs.Plain.{plainAnswer, plainOut, PlainMap, lengthAnswer}
-use Rattle.plainmap.specs.Claims.{slotsMap, dueFault, Untouched, Right}
+use Rattle.plainmap.specs.Claims.{slotsMap, dueFault, dueAnswer, Untouched, Right}
 use Rattle.plainmap.proofs.Outcomes.{Ran, ran-refused, ran-absent, ran-wrote}
 use lib.Dec.{eqb}
 use borrow.Author.Tests.{eqb-true, eqb-false}
@@ -27,10 +27,10 @@ module _
     (stored :
     (kind ≡ 2 → isHeld (slotsMap l (w .image) key) ≡ true)
     → gives (w .state .first ∷ nextVersion (tableOf l (w .image)) (slotsIn (w .image)) ∷ []) ≡
-    plainAnswer (w .state .first) (nextVersion (tableOf l (w .image)) (slotsIn (w .image))) (slotsMap l (w .image)) call)
+    dueAnswer l w (slotsMap l (w .image)) call)
     (none-held :
     kind ≡ 2 → slotsMap l (w .image) key ≡ none
-    → absent ≡ plainAnswer (w .state .first) (nextVersion (tableOf l (w .image)) (slotsIn (w .image))) (slotsMap l (w .image)) call)
+    → absent ≡ dueAnswer l w (slotsMap l (w .image)) call)
     (no-out : [] ≡ plainOut (slotsMap l (w .image)) call) (none-lent : [] ≡ outOf call) where
   still : (answer : Answer) → called l w call ≡ calledChange (unchanged answer (w .state) (w .heads) (w .next)) → ((ss : List Store) → toPlay answer ss ≡ [])
       → Untouched w call (called l w call)
@@ -84,19 +84,24 @@ refused-is (gives values) ne = absurd (ne refl)
 refused-is absent ne = absurd (ne refl)
 refused-is (refused number) ne = refl
 
-pub plain-given : (slot version : ℕ) (m : PlainMap) (call : Call) → isRefusal (plainAnswer slot version m call) ≡ false
+pub plain-given : (slot version : ℕ) (holder : ℕ → List ℕ) (m : PlainMap) (call : Call) → isRefusal (plainAnswer slot version holder m call) ≡ false
 unfolding plainAnswer isRefusal lengthAnswer
-plain-given slot version m (put key value) = refl
-plain-given slot version m (remove key) = go (isHeld (m key))
+plain-given slot version holder m (put key value) = refl
+plain-given slot version holder m (remove key) = go (isHeld (m key))
   where
     go : (b : Bool) → isRefusal (cond b (gives (slot ∷ version ∷ [])) absent) ≡ false
     go true = refl
     go false = refl
-plain-given slot version m (get key out) = go (m key)
+plain-given slot version holder m (get key out) = go (m key)
   where
     go : (o : Option (List ℕ)) → isRefusal (lengthAnswer o) ≡ false
     go none = refl
     go (some value) = refl
+plain-given slot version holder m (locate key) = go (isHeld (m key))
+  where
+    go : (b : Bool) → isRefusal (cond b (gives (holder key)) absent) ≡ false
+    go true = refl
+    go false = refl
 
 pub right-refuses : (l : ℕ) (w : World) (m : PlainMap) (call : Call) → Right l w m call
     → isRefusal (called l w call .answer) ≡ refuses (dueFault l w m call)
@@ -104,5 +109,5 @@ unfolding refuses
 right-refuses l w m call r = go (eqb (dueFault l w m call) 0) refl
   where
     go : (b : Bool) → eqb (dueFault l w m call) 0 ≡ b → isRefusal (called l w call .answer) ≡ not b
-    go true e = ap isRefusal (r .answer (eqb-true _ 0 e)) ∙ plain-given _ _ m call
+    go true e = ap isRefusal (r .answer (eqb-true _ 0 e)) ∙ plain-given _ _ _ m call
     go false e = refused-is (called l w call .answer) (λ z. eqb-false _ 0 e (sym (r .refusal) ∙ z))

@@ -4,11 +4,11 @@ use mathlib.Core.List.{List, []}
 use Prim.Native.Nat.{ℕ, _^_, _≤_, _<_}
 use lib.ListN.{length}
 use Rattle.words.specs.Word.{AreBytes}
-use Rattle.prelude.specs.Answer.{absent, refusalIn, refuses}
+use Rattle.prelude.specs.Answer.{Answer, absent, refusalIn, refuses}
 use Rattle.layout.specs.Record.{limit}
-use Rattle.table.specs.Table.{mapOf, liveCount, nextVersion}
+use Rattle.table.specs.Table.{mapOf, holder, liveCount, nextVersion}
 use Rattle.calls.specs.Get.{getResult}
-use Rattle.plainmap.specs.World.{World, Call, put, remove, get, outOf, Called, called}
+use Rattle.plainmap.specs.World.{World, Call, put, remove, get, locate, outOf, Called, called}
 use Rattle.layout.specs.Size.{slotsIn}
 use Rattle.layout.specs.Content.{tableOf}
 use Rattle.plainmap.specs.Plain.{PlainMap, operation, plainStep, ruleFault, lengthAnswer, filled, plainAnswer, plainOut}
@@ -18,6 +18,7 @@ pub data Typed (l : ℕ) : Call → Type 0 where
   put-typed : {key : ℕ} {value : List ℕ} → key < (2 ^ 64) ^ l → AreBytes value → Typed l (put key value)
   remove-typed : {key : ℕ} → key < (2 ^ 64) ^ l → Typed l (remove key)
   get-typed : {key : ℕ} {out : List ℕ} → Typed l (get key out)
+  locate-typed : {key : ℕ} → Typed l (locate key)
 
 -- the map of the slots
 abbrev pub slotsMap : (l : ℕ) → (image : List ℕ) → PlainMap
@@ -31,6 +32,12 @@ dueFault l w m call =
     ruleFault l (slotsIn (w .image)) (liveCount (tableOf l (w .image)) (slotsIn (w .image)))
     (nextVersion (tableOf l (w .image)) (slotsIn (w .image))) m call
 
+-- what the rules have it answer where they do not refuse it
+abbrev pub dueAnswer : (l : ℕ) → World → PlainMap → Call → Answer
+dueAnswer l w m call =
+    plainAnswer (w .state .first) (nextVersion (tableOf l (w .image)) (slotsIn (w .image)))
+    (holder (tableOf l (w .image)) (slotsIn (w .image))) m call
+
 -- the call changes nothing: neither the output, the index nor the state, and it has no stores
 pub record Untouched (w : World) (call : Call) (r : Called) : Type 0 where
   pub out : r .out ≡ outOf call
@@ -42,9 +49,7 @@ pub record Untouched (w : World) (call : Call) (r : Called) : Type 0 where
 -- the answer is right: refused exactly where the rules refuse it, and otherwise as the plain map m answers
 pub record Right (l : ℕ) (w : World) (m : PlainMap) (call : Call) : Type 0 where
   pub refusal : refusalIn (called l w call .answer) ≡ dueFault l w m call
-  pub answer :
-      dueFault l w m call ≡ 0
-      → called l w call .answer ≡ plainAnswer (w .state .first) (nextVersion (tableOf l (w .image)) (slotsIn (w .image))) m call
+  pub answer : dueFault l w m call ≡ 0 → called l w call .answer ≡ dueAnswer l w m call
   pub out : dueFault l w m call ≡ 0 → called l w call .out ≡ plainOut m call
   -- "A refused call changes no lent byte, index number or state", nor does one that answers absent
   pub refused-still : (dueFault l w m call ≡ 0 → ⊥) → Untouched w call (called l w call)

@@ -26,7 +26,7 @@ use Rattle.stores.specs.Play.{playEnd, playListResult, wordNumbers, values}
 
 -- at each call the set is the plain map, by its slots and by get, and the call answers right; so it is at the end
 abbrev pub PlainRule : (l : ℕ) → World → PlainMap → List Call → Type 0
-PlainRule l = Throughout (λ w m call. finished l w call) (mapAfterCall l) (λ w m. Agrees l w m × Reads l w m) (Right l)
+PlainRule l = Throughout (finished l) (mapAfterCall l) (λ w m. Agrees l w m × Reads l w m) (Right l)
 
 -- together the calls are a plain map, for layout l
 pub record IsMap (l : ℕ) : Type 0 where

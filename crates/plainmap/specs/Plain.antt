@@ -10,7 +10,7 @@ use Rattle.prelude.specs.Answer.{Answer, gives, absent}
 use Rattle.layout.specs.Record.{limit}
 use Rattle.table.specs.Table.{isHeld}
 use Rattle.layout.specs.Line.{versionFault}
-use Rattle.plainmap.specs.World.{Call, put, remove, get}
+use Rattle.plainmap.specs.World.{Call, put, remove, get, locate}
 
 -- "Its state is a set of keys with a value each, perhaps of 0 bytes"
 abbrev pub PlainMap : Type 0
@@ -20,19 +20,20 @@ PlainMap = ℕ → Option (List ℕ)
 pub data Operation : Type 0 where
   putting : (key : ℕ) → (value : List ℕ) → Operation
   removing : (key : ℕ) → Operation
-  getting : (key : ℕ) → Operation
+  reading : (key : ℕ) → Operation
 
 -- of a call, what the plain map is fed; a get's output is no part of it
 unfoldable pub operation : Call → Operation
 operation (put key value) = putting key value
 operation (remove key) = removing key
-operation (get key out) = getting key
+operation (get key out) = reading key
+operation (locate key) = reading key
 
 -- "A put gives its key the value, held before or not. A remove drops a held key"
 unfoldable pub plainNext : Operation → PlainMap → PlainMap
 plainNext (putting key value) m k = cond (eqb k key) (some value) (m k)
 plainNext (removing key) m k = cond (eqb k key) none (m k)
-plainNext (getting key) m k = m k
+plainNext (reading key) m k = m k
 
 -- "A refused call changes nothing"; isRefused is "whether these rules refuse it"
 unfoldable pub plainStep : Operation → (isRefused : Bool) → PlainMap → PlainMap
@@ -45,12 +46,13 @@ unfoldable pub sizeOf : Option (List ℕ) → ℕ
 sizeOf none = 0
 sizeOf (some value) = length value
 
--- where the rules refuse a call on an image with its own index: n slots, `count` keys held, the next version. A put with 10, 12 or 9, a remove with 9, a get with 13
+-- where the rules refuse a call on an image with its own index: n slots, `count` keys held, the next version. A put with 10, 12 or 9, a remove with 9, a get with 13, a locate never
 unfoldable pub ruleFault : (l n count version : ℕ) → PlainMap → Call → ℕ
 ruleFault l n count version m (put key value) =
     say (ltb (limit l) (length value)) 10 (say (not (isHeld (m key)) && leb n (count + 1)) 12 (versionFault version))
 ruleFault l n count version m (remove key) = cond (isHeld (m key)) (versionFault version) 0
 ruleFault l n count version m (get key out) = say (ltb (length out) (sizeOf (m key))) 13 0
+ruleFault l n count version m (locate key) = 0
 
 -- "A get answers the value and its length, or absent"
 unfoldable pub lengthAnswer : Option (List ℕ) → Answer
@@ -62,14 +64,17 @@ unfoldable pub filled : Option (List ℕ) → (out : List ℕ) → List ℕ
 filled none out = out
 filled (some value) out = value ++ drop (length value) out
 
--- a call that is not refused: put and remove answer the slot taken and the version; "A remove drops a held key; for another it answers absent"
-unfoldable pub plainAnswer : (slot version : ℕ) → PlainMap → Call → Answer
-plainAnswer slot version m (put key value) = gives (slot ∷ version ∷ [])
-plainAnswer slot version m (remove key) = cond (isHeld (m key)) (gives (slot ∷ version ∷ [])) absent
-plainAnswer slot version m (get key out) = lengthAnswer (m key)
+-- a call that is not refused: put and remove answer the slot taken and the version; "A remove drops a held key; for another it answers absent".
+-- A locate answers the slot that holds the key and its version: `holder` gives both
+unfoldable pub plainAnswer : (slot version : ℕ) → (holder : ℕ → List ℕ) → PlainMap → Call → Answer
+plainAnswer slot version holder m (put key value) = gives (slot ∷ version ∷ [])
+plainAnswer slot version holder m (remove key) = cond (isHeld (m key)) (gives (slot ∷ version ∷ [])) absent
+plainAnswer slot version holder m (get key out) = lengthAnswer (m key)
+plainAnswer slot version holder m (locate key) = cond (isHeld (m key)) (gives (holder key)) absent
 
 -- the output that a call leaves; a put and a remove have none
 unfoldable pub plainOut : PlainMap → Call → List ℕ
 plainOut m (put key value) = []
 plainOut m (remove key) = []
 plainOut m (get key out) = filled (m key) out
+plainOut m (locate key) = []

@@ -8,6 +8,7 @@ use Rattle.index.specs.declared.State.{State}
 use Rattle.recovery.specs.Recover.{Result, recoverResult}
 use Rattle.calls.specs.Change.{ChangeResult, putResult, removeResult}
 use Rattle.calls.specs.Get.{GetResult, getResult}
+use Rattle.calls.specs.Locate.{locateResult}
 
 -- "Each call gets the image with all stores played so far and the index and state the last one left"
 pub record World : Type 0 where
@@ -23,12 +24,14 @@ pub data Call : Type 0 where
   put : (key : ℕ) → (value : List ℕ) → Call
   remove : (key : ℕ) → Call
   get : (key : ℕ) → (out : List ℕ) → Call
+  locate : (key : ℕ) → Call
 
--- the output that a call is lent; a put and a remove have none
+-- the output that a call is lent; a get alone has one
 unfoldable pub outOf : Call → List ℕ
 outOf (put key value) = []
 outOf (remove key) = []
 outOf (get key out) = out
+outOf (locate key) = []
 
 -- what a call answers and leaves, its stores not yet played
 pub record Called : Type 0 where
@@ -63,11 +66,16 @@ unfoldable pub calledGet : World → GetResult → Called
 calledGet w r =
     record { answer = r .answer; out = r .out; stores = []; heads = w .heads; next = w .next; state = w .state }
 
+unfoldable pub calledLocate : World → Answer → Called
+calledLocate w answer =
+    record { answer = answer; out = []; stores = []; heads = w .heads; next = w .next; state = w .state }
+
 -- the call by its contract
 unfoldable pub called : (l : ℕ) → World → Call → Called
 called l w (put key value) = calledChange (putResult l (w .image) (w .heads) (w .next) (w .state) key value)
 called l w (remove key) = calledChange (removeResult l (w .image) (w .heads) (w .next) (w .state) key)
 called l w (get key out) = calledGet w (getResult l (w .image) (w .heads) (w .next) key out)
+called l w (locate key) = calledLocate w (locateResult l (w .image) (w .heads) (w .next) key)
 
 -- ---- play
 

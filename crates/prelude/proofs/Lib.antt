@@ -7,5 +7,7 @@ pub mod Fills
 pub mod Count
 pub mod Most
 pub mod Lists
+pub mod Sums
 pub mod defs
 pub mod Histories
+pub mod Among

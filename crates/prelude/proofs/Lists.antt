@@ -10,6 +10,7 @@ use borrow.Author.Tests.{eqb-true, eqb-false}
 use lib.ListN.{length, take}
 use lib.Seq.{length-take-le}
 use Rattle.prelude.specs.Members.{In, Once, slotNumbers, Slot}
+use Rattle.prelude.proofs.defs.Members.{without}
 use Rattle.prelude.proofs.Fills.{length-slots}
 
 pub in-append : (t : ℕ) (l m : List ℕ) → In t (l ++ m) → In t l ⊎ In t m
@@ -74,12 +75,9 @@ pub record AllSlots (n : ℕ) (l : List ℕ) : Type 0 where
 pub whole-slots : (n : ℕ) → AllSlots n (slotNumbers n)
 whole-slots n = record { size = length-slots n; once = once-slots n; within = slots-in n; all = in-slots n }
 
--- a list without the first x in it
-unfoldable without : (x : ℕ) → List ℕ → List ℕ
-without x [] = []
-without x (y ∷ l) = cond (eqb x y) l (y ∷ without x l)
+-- ---- a list without an element
 
-in-without : (x t : ℕ) (l : List ℕ) → In t l → (t ≡ x → ⊥) → In t (without x l)
+pub in-without : (x t : ℕ) (l : List ℕ) → In t l → (t ≡ x → ⊥) → In t (without x l)
 unfolding without
 in-without x t [] i ne = absurd i
 in-without x t (y ∷ l) i ne = go (eqb x y) refl i (in-without x t l)
@@ -89,6 +87,37 @@ in-without x t (y ∷ l) i ne = go (eqb x y) refl i (in-without x t l)
     go true e (inr j) ih = j
     go false e (inl q) ih = inl q
     go false e (inr j) ih = inr (ih j ne)
+
+-- what is left was there
+pub without-in : (x t : ℕ) (l : List ℕ) → In t (without x l) → In t l
+unfolding without
+without-in x t [] i = absurd i
+without-in x t (y ∷ l) i = go (eqb x y) i (without-in x t l)
+  where
+    go : (b : Bool) → In t (cond b l (y ∷ without x l)) → (In t (without x l) → In t l) → In t (y ∷ l)
+    go true i ih = inr i
+    go false (inl e) ih = inl e
+    go false (inr i) ih = inr (ih i)
+
+pub once-without : (x : ℕ) (l : List ℕ) → Once l → Once (without x l)
+unfolding without
+once-without x [] o = tt
+once-without x (y ∷ l) o = go (eqb x y) (once-without x l (o .1))
+  where
+    go : (b : Bool) → Once (without x l) → Once (cond b l (y ∷ without x l))
+    go true ih = o .1
+    go false ih = ((λ i. o .0 (without-in x y l i)), ih)
+
+-- x is not left where it stood once
+pub without-gone : (x : ℕ) (l : List ℕ) → Once l → In x (without x l) → ⊥
+unfolding without
+without-gone x [] o i = i
+without-gone x (y ∷ l) o i = go (eqb x y) refl i (without-gone x l (o .1))
+  where
+    go : (b : Bool) → eqb x y ≡ b → In x (cond b l (y ∷ without x l)) → (In x (without x l) → ⊥) → ⊥
+    go true e i ih = o .0 (rw (eqb-true x y e) at i)
+    go false e (inl q) ih = eqb-false x y e q
+    go false e (inr i) ih = ih i
 
 without-length : (x : ℕ) (l : List ℕ) → In x l → length l ≡ suc (length (without x l))
 unfolding without

@@ -1,4 +1,4 @@
--- The greatest of g 1 to g n and the first place that has it. Assumes nothing.
+-- The greatest of g 1 to g n and the first number at which it is. Assumes nothing.
 use mathlib.Core.Path.{_≡_, refl, ap}
 use mathlib.Core.Bool.{Bool, true, false, cond}
 use Prim.Native.Nat.{ℕ, zero, suc, _≤_, _<_, max}

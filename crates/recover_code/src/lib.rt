@@ -2,6 +2,7 @@
 mod scratch;
 
 ghost use mathlib.Core.Path.{_≡_};
+ghost use Rattle.layout.specs.Record.{Layout};
 ghost use Rattle.recovery.specs.Recover.{recoverResult, recoverEnd};
 use crate::scratch::recover_64;
 use crate::scratch::recover_256;
@@ -13,29 +14,37 @@ use layout_code::header::lent_fault;
 use layout_code::header::slot_count;
 use recovery::Recovered;
 
-// The index of the image: the state beside the rebuilt heads and next, or a refusal, which changes neither.
-pub fn recover(image: &[u8], heads: &mut [u32], next: &mut [u32]) -> Recovered
-    ensures { λ r. ⌜ recoverEnd r (now (heads .exit)) (now (next .exit)) ≡ recoverResult 1 (now (image .entry)) (now (heads .entry)) (now (next .entry)) ⌝ }
+// Recover, in layout l.
+fn recover_in(image: &[u8], l: usize, heads: &mut [u32], next: &mut [u32]) -> Recovered
+    requires { ⌜ Layout l ⌝ }
+    ensures { λ r. ⌜ recoverEnd r (now (heads .exit)) (now (next .exit)) ≡ recoverResult l (now (image .entry)) (now (heads .entry)) (now (next .entry)) ⌝ }
 {
-    let fault = lent_fault(image, 1, heads.len(), next.len());
+    let fault = lent_fault(image, l, heads.len(), next.len());
     if fault != 0 {
         return Recovered::Refused(fault);
     }
     let n = slot_count(image.len());
     if n < 64 {
-        return recover_64(image, 1, heads, next, n);
+        return recover_64(image, l, heads, next, n);
     }
     if n < 256 {
-        return recover_256(image, 1, heads, next, n);
+        return recover_256(image, l, heads, next, n);
     }
     if n < 1024 {
-        return recover_1024(image, 1, heads, next, n);
+        return recover_1024(image, l, heads, next, n);
     }
     if n < 4096 {
-        return recover_4096(image, 1, heads, next, n);
+        return recover_4096(image, l, heads, next, n);
     }
     if n < 16384 {
-        return recover_16384(image, 1, heads, next, n);
+        return recover_16384(image, l, heads, next, n);
     }
-    recover_65536(image, 1, heads, next, n)
+    recover_65536(image, l, heads, next, n)
+}
+
+// The index of the image: the state beside the rebuilt heads and next, or a refusal, which changes neither.
+pub fn recover(image: &[u8], heads: &mut [u32], next: &mut [u32]) -> Recovered
+    ensures { λ r. ⌜ recoverEnd r (now (heads .exit)) (now (next .exit)) ≡ recoverResult 1 (now (image .entry)) (now (heads .entry)) (now (next .entry)) ⌝ }
+{
+    recover_in(image, 1, heads, next)
 }

@@ -7,7 +7,7 @@ use recovery::Recovered;
 use recovery_code::rebuilding::recover_with;
 
 // With scratch lists that are long enough: their fronts are used, and in layout 1 none of highs.
-fn recover_in(
+fn recover_on_fronts(
     image: &[u8],
     l: usize,
     heads: &mut [u32],
@@ -60,7 +60,7 @@ pub fn recover_64(
     let mut order = [0u32; 64];
     let mut by_key = [0u32; 64];
     let mut scratch = [0u32; 64];
-    recover_in(
+    recover_on_fronts(
         image,
         l,
         heads,
@@ -94,7 +94,7 @@ pub fn recover_256(
     let mut order = [0u32; 256];
     let mut by_key = [0u32; 256];
     let mut scratch = [0u32; 256];
-    recover_in(
+    recover_on_fronts(
         image,
         l,
         heads,
@@ -128,7 +128,7 @@ pub fn recover_1024(
     let mut order = [0u32; 1024];
     let mut by_key = [0u32; 1024];
     let mut scratch = [0u32; 1024];
-    recover_in(
+    recover_on_fronts(
         image,
         l,
         heads,
@@ -162,7 +162,7 @@ pub fn recover_4096(
     let mut order = [0u32; 4096];
     let mut by_key = [0u32; 4096];
     let mut scratch = [0u32; 4096];
-    recover_in(
+    recover_on_fronts(
         image,
         l,
         heads,
@@ -196,7 +196,7 @@ pub fn recover_16384(
     let mut order = [0u32; 16384];
     let mut by_key = [0u32; 16384];
     let mut scratch = [0u32; 16384];
-    recover_in(
+    recover_on_fronts(
         image,
         l,
         heads,
@@ -230,7 +230,7 @@ pub fn recover_65536(
     let mut order = [0u32; 65536];
     let mut by_key = [0u32; 65536];
     let mut scratch = [0u32; 65536];
-    recover_in(
+    recover_on_fronts(
         image,
         l,
         heads,

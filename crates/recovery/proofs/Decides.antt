@@ -28,7 +28,7 @@ use Rattle.recovery.specs.inner.Decide.{followed, decided, placedCount, 
 use Rattle.sorting.proofs.Positions.{Stands, stands, once-at, rising-at, RisingByKey, by-key-at, sorted-by-key}
 use Rattle.table.proofs.Recovery.{rank-weight}
 
--- a place that is followed, and one that is not
+-- a position that is followed, and one that is not
 
 followed-inside : (key : ℕ → ℕ) (l : List ℕ) (i : ℕ) → followed key l i ≡ true → i + 1 < length l
 unfolding followed
@@ -77,7 +77,7 @@ decided-other key l (suc i) p s h = go (followed key l i) (decided-other key l i
     go true ih = getD-set-other (decided key l i p) (getD l i 0) s 0 0 (λ e. h i (omega arith) (sym e)) ∙ ih
     go false ih = ih
 
--- and one that it has met is 0 where its place is followed
+-- and one that it has met is 0 where its position is followed
 pub decided-at : (key : ℕ → ℕ) (l : List ℕ) (i : ℕ) (p : List ℕ) (j : ℕ) → Once l → i ≤ length l → j < i → getD l j 0 < length p
     → getD (decided key l i p) (getD l j 0) 0 ≡ cond (followed key l j) 0 (getD p (getD l j 0) 0)
 unfolding decided

@@ -3,13 +3,16 @@ use mathlib.Core.Path.{_≡_, refl, sym, ap, ap₂, _∙_, subst}
 use mathlib.Core.List.{List, [], _∷_}
 use Prim.Native.Nat.{ℕ, _^_, _<_, _≤_}
 use native.Mathlib.Omega.{arith}
-use lib.ListN.{replicate}
+use lib.ListN.{length, replicate}
 use Rattle.words.specs.Word.{AreBytes}
 use Rattle.words.proofs.Laws.{setWord-bytes}
 use Rattle.prelude.specs.Answer.{Answer, gives, absent, refused}
 use Rattle.prelude.proofs.Fills.{zeros}
-use Rattle.face.specs.Set.{State, Store, ChangeResult, World, Call, put, remove, get, Called, toPlay, calledChange, calledGet, called, playing, finished, worldAfter, recoveredWorld, slotsIn, PlainMap, Typed, put-typed, remove-typed, Untouched}
-use Rattle.face.specs.Event.{Cut, done, struck, cutImage, step, Fits}
+use Rattle.face.proofs.defs.CutImage.{cutImage}
+use Rattle.face.proofs.SetLaws.{layout-1, call-laws}
+use Rattle.face.specs.Set.{recoverFault, indexFault, State, Store, ChangeResult, World, Call, put, remove, get, Called, toPlay, calledChange, calledGet, called, playing, finished, worldAfter, recoveredWorld, slotsIn, PlainMap, Typed, put-typed, remove-typed, Untouched}
+use Rattle.face.specs.Event.{Cut, done, struck, step, Fits, stepBy, imageCut}
+use Rattle.face.proofs.Stored.{refusal-still}
 use Rattle.face.specs.Laws.{Writes, put-writes, remove-writes, SetLaws}
 use Rattle.text.specs.Output.{Printed, ok}
 use Rattle.session.specs.Step.{StepResult, leaves, recoverStep, storedWith, changedAs, changeStep, wordBytes, gotBy, wordFound, lineStep}
@@ -19,7 +22,7 @@ use Rattle.session.specs.declared.Waiting.the-variants.{Nothing, Counts}
 use Rattle.session.specs.declared.Session.{Session}
 use Rattle.session.specs.Lines.{sessionOf, struckWith, eventIn, waitsOn, changePrints, printedFor}
 use Rattle.session.specs.Rule.{FewWait, none-waits, few-wait}
-use Rattle.session.proofs.Events.{event-fits}
+use Rattle.session.proofs.Events.{left-size, event-fits}
 use Rattle.session.proofs.Fronts.{leftBy, LeftBehind}
 use Rattle.session.proofs.Recovered.{goesOn, recover-step}
 
@@ -52,7 +55,7 @@ module _ (Inv : World → PlainMap → Type 0) (laws : SetLaws 1 Inv) where
   idle-event w (Counts a b) call e = ap (struckWith call a b (called 1 w call .heads) (called 1 w call .next)) e
 
   idle-step : (w : World) (waiting : Waiting) (call : Call) → Still w (called 1 w call) → w ≡ step 1 w (eventIn w waiting call)
-  unfolding step finished
+  unfolding stepBy finished
   idle-step w waiting call u =
       sym
       (ap (step 1 w) (idle-event w waiting call (u .stores))
@@ -60,7 +63,7 @@ module _ (Inv : World → PlainMap → Type 0) (laws : SetLaws 1 Inv) where
       ∙ ap (λ (h : List ℕ). after (w .image) [] h (called 1 w call .next) (called 1 w call .state)) (u .heads)
       ∙ ap (λ (x : List ℕ). after (w .image) [] (w .heads) x (called 1 w call .state)) (u .next)
       ∙ ap (λ (s : State). after (w .image) [] (w .heads) (w .next) s) (u .state)
-      ∙ ap (λ (t : List ℕ). record { image = t; heads = w .heads; next = w .next; state = w .state }) (laws .plays-nothing (w .image) 8 8))
+      ∙ ap (λ (t : List ℕ). record { image = t; heads = w .heads; next = w .next; state = w .state }) (call-laws 1 layout-1 .plays-nothing (w .image) 8 8))
 
   -- ---- a call that stores
 
@@ -97,13 +100,21 @@ module _ (Inv : World → PlainMap → Type 0) (laws : SetLaws 1 Inv) where
       struck-fits : Fits 1 (slotsIn (w .image)) (struck call (cutBy a b))
       struck-fits = subst (Fits 1 (slotsIn (w .image))) struck-event (event-fits Inv laws w call m i typed (Counts a b) (few-wait p q))
 
+      struck-accepted : recoverFault 1 (cutImage 1 w call (cutBy a b)) (length heads) (length next) ≡ 0
+      unfolding stepBy recoveredWorld worldAfter
+      struck-accepted =
+          let kept = laws .keeps w m i (struck call (cutBy a b)) struck-fits in
+          laws .accepts (step 1 w (struck call (cutBy a b))) _ kept heads next
+          (ap (λ (k : ℕ). indexFault k (length heads) (length next)) (laws .keeps-slots w m i (struck call (cutBy a b)) struck-fits)
+          ∙ ap (λ (c : Called). indexFault (slotsIn (w .image)) (length (c .heads)) (length (c .next))) (sym d) ∙ left-size Inv laws w call m i typed)
+
       -- A STRUCK CALL: its counted stores are played, and recovery accepts
       recovers : recoverStep (ok given) n (playing (w .image) stores a b) heads next ≡
           goesOn (ok given) n (recoveredWorld 1 (cutImage 1 w call (cutBy a b)) heads next)
-      unfolding cutImage
+      unfolding imageCut
       recovers =
           ap (λ (c : Called). recoverStep (ok given) n (playing (w .image) (c .stores) a b) heads next) (sym d)
-          ∙ recover-step Inv laws (ok given) n (cutImage 1 w call (cutBy a b)) heads next (laws .accepts w m i call (cutBy a b) struck-fits)
+          ∙ recover-step Inv laws (ok given) n (cutImage 1 w call (cutBy a b)) heads next struck-accepted
 
     -- the call takes a waiting cut
     taken : (waiting : Waiting) → waitsOn waiting (called 1 w call .stores) ≡ Nothing
@@ -118,7 +129,7 @@ module _ (Inv : World → PlainMap → Type 0) (laws : SetLaws 1 Inv) where
     }
 
     stored : (waiting : Waiting) → FewWait waiting → Carried n waiting w call (storedWith n given state stores (w .image) heads next waiting)
-    unfolding storedWith eventIn step recoveredWorld worldAfter
+    unfolding storedWith eventIn stepBy recoveredWorld worldAfter finished
     stored Nothing none-waits = carried Nothing _ all-played
     stored (Counts a b) (few-wait p q) =
         subst (Carried n (Counts a b) w call) (sym (recovers a b p q))
@@ -171,7 +182,7 @@ module _ (Inv : World → PlainMap → Type 0) (laws : SetLaws 1 Inv) (s : Sessi
             → called 1 w call ≡ calledChange (record { answer = answer; state = c .state; stores = ss; heads = c .heads; next = c .next })
             → Carried (s .n) (s .waiting) w call (changedAs s (c .state) ss image (c .heads) (c .next) answer)
         go (gives given) [] e =
-            absurd (laws .stores w m i call typed writes given (ap (λ (r : Called). r .answer) e) (ap (λ (r : Called). r .stores) e))
+            absurd (laws .some-stores w m i call typed writes given (ap (λ (r : Called). r .answer) e) (ap (λ (r : Called). r .stores) e))
         go (gives given) (x ∷ rest) e =
             stored Inv laws (s .n) w m i call typed says given x rest (c .heads) (c .next) (c .state) e (s .waiting) few
         go absent ss e =
@@ -179,7 +190,7 @@ module _ (Inv : World → PlainMap → Type 0) (laws : SetLaws 1 Inv) (s : Sessi
             (laws .answers w m i call typed .absent-still (ap (λ (r : Called). r .answer) e))
         go (refused number) ss e =
             kept (refused number) (c .heads) (c .next) (ap (λ (r : Called). r .answer) e) (ap (λ (r : Called). r .heads) e)
-            (ap (λ (r : Called). r .next) e) (laws .refused-still w m i call typed number (ap (λ (r : Called). r .answer) e))
+            (ap (λ (r : Called). r .next) e) (refusal-still 1 w m call (laws .answers w m i call typed) number (ap (λ (r : Called). r .answer) e))
 
   pub put-carried : (key x : ℕ) → key < 2 ^ 64
       → Carried (s .n) (s .waiting) w (put key (wordBytes x)) (lineStep (Put key x) s image heads next)

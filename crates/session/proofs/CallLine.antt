@@ -12,7 +12,8 @@ use Rattle.session.specs.Stream.{stepAfter}
 use Rattle.text.specs.declared.Line.{Line}
 use Rattle.session.specs.declared.Waiting.{Waiting}
 use Rattle.session.specs.Lines.{worldOf, callIn, eventIn, waitsOn}
-use Rattle.session.specs.Rule.{faultAt, plainPrints, mapByLine, mapAfter, FewWait, none-waits, SetKeeps, Keeps, LineRight, call-line}
+use Rattle.session.specs.Rule.{faultAt, plainPrints, mapByLine, mapAfter, FewWait, none-waits, LineRight, call-line}
+use Rattle.session.proofs.defs.Keeps.{SetKeeps, Keeps}
 use Rattle.session.proofs.Sizes.{OneHead, one-head}
 use Rattle.session.proofs.Events.{event-heads, event-fits}
 use Rattle.session.proofs.Prints.{right-prints}
@@ -31,7 +32,7 @@ module _ (Inv : World → PlainMap → Type 0) (laws : SetLaws 1 Inv) (r : StepR
   abbrev w : World
   w = worldOf r
 
-  abbrev event : Event
+  abbrev event : Event Call
   event = eventIn w (r .session .waiting) call
 
   abbrev map : PlainMap
@@ -49,7 +50,7 @@ module _ (Inv : World → PlainMap → Type 0) (laws : SetLaws 1 Inv) (r : StepR
   sizes : OneHead n (step 1 w event)
   unfolding worldOf
   sizes =
-      one-head Inv laws n (step 1 w event) map after (laws .slots w m (k .set) event fits ∙ slots-front r n (k .size) Inv laws)
+      one-head Inv laws n (step 1 w event) map after (laws .keeps-slots w m (k .set) event fits ∙ slots-front r n (k .size) Inv laws)
       (event-heads Inv laws w call (r .session .waiting) ∙ heads-front r n (k .size))
 
   pub call-goes : (line : Line) → faultAt r line ≡ 0 → slotsFor line (r .session) ≡ n → callIn line ≡ some call

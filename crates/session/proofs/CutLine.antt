@@ -12,7 +12,8 @@ use Rattle.session.specs.Stream.{stepAfter}
 use Rattle.text.specs.declared.Line.the-variants.{Cut}
 use Rattle.session.specs.declared.Waiting.the-variants.{Counts}
 use Rattle.session.specs.Lines.{worldOf}
-use Rattle.session.specs.Rule.{faultAt, mapByLine, mapAfter, FewWait, few-wait, SetKeeps, Keeps, LineRight, cut-line}
+use Rattle.session.specs.Rule.{faultAt, mapByLine, mapAfter, FewWait, few-wait, LineRight, cut-line}
+use Rattle.session.proofs.defs.Keeps.{SetKeeps, Keeps}
 use Rattle.session.proofs.Sizes.{OneHead}
 use Rattle.session.proofs.Fronts.{image-front, heads-front, next-front, line-leaves}
 

@@ -3,8 +3,9 @@ use mathlib.Core.Path.{_≡_, sym, ap, _∙_}
 use mathlib.Core.List.{List, [], _∷_}
 use Prim.Native.Nat.{ℕ, _≤_}
 use lib.ListN.{length}
+use Rattle.face.proofs.SetLaws.{layout-1, call-laws}
 use Rattle.face.specs.Set.{World, Call, PlainMap, Store, Typed, called, finished, indexFault, slotsIn}
-use Rattle.face.specs.Event.{done, step, Fits, done-fits, struck-fits}
+use Rattle.face.specs.Event.{done, step, Fits, done-fits, struck-fits, stepBy}
 use Rattle.face.specs.Laws.{SetLaws}
 use Rattle.session.specs.declared.Waiting.{Waiting}
 use Rattle.session.specs.declared.Waiting.the-variants.{Nothing, Counts}
@@ -14,22 +15,22 @@ use Rattle.session.specs.Rule.{FewWait, none-waits, few-wait}
 module _ (Inv : World → PlainMap → Type 0) (laws : SetLaws 1 Inv) (w : World) (call : Call) where
   struck-heads : (a b : ℕ) (ss : List Store)
       → length (step 1 w (struckWith call a b (called 1 w call .heads) (called 1 w call .next) ss) .heads) ≡ length (w .heads)
-  unfolding step finished struckWith
-  struck-heads a b [] = laws .call-heads w call
-  struck-heads a b (s ∷ ss) = laws .recovery-heads _ (called 1 w call .heads) (called 1 w call .next) ∙ laws .call-heads w call
+  unfolding stepBy finished struckWith
+  struck-heads a b [] = call-laws 1 layout-1 .call-heads w call
+  struck-heads a b (s ∷ ss) = call-laws 1 layout-1 .recovery-heads _ (called 1 w call .heads) (called 1 w call .next) ∙ call-laws 1 layout-1 .call-heads w call
 
   pub event-heads : (waiting : Waiting) → length (step 1 w (eventIn w waiting call) .heads) ≡ length (w .heads)
-  unfolding step finished eventIn
-  event-heads Nothing = laws .call-heads w call
+  unfolding stepBy finished eventIn
+  event-heads Nothing = call-laws 1 layout-1 .call-heads w call
   event-heads (Counts a b) = struck-heads a b (called 1 w call .stores)
 
   module _ (m : PlainMap) (i : Inv w m) (s : Typed 1 call) where
     -- the index that the call leaves has the right size
     pub left-size : indexFault (slotsIn (w .image)) (length (called 1 w call .heads)) (length (called 1 w call .next)) ≡ 0
-    unfolding step finished
+    unfolding stepBy finished
     left-size =
         ap (λ (n : ℕ). indexFault n (length (called 1 w call .heads)) (length (called 1 w call .next)))
-        (sym (laws .slots w m i (done call) (done-fits s)))
+        (sym (laws .keeps-slots w m i (done call) (done-fits s)))
         ∙ laws .lengths (step 1 w (done call)) _ (laws .keeps w m i (done call) (done-fits s)) .index
 
     struck-fit : (a b : ℕ) (ss : List Store) → a ≤ 8 → b ≤ 8

@@ -15,7 +15,7 @@ use Rattle.session.specs.declared.Waiting.{Waiting}
 use Rattle.session.specs.declared.Waiting.the-variants.{Nothing, Counts}
 use Rattle.session.specs.declared.Session.{Session}
 use Rattle.prelude.proofs.Refusals.{by-refusal}
-use Rattle.face.proofs.SetLaws.{first-laws}
+use Rattle.face.proofs.SetLaws.{layout-1, call-laws}
 
 -- ---- the calls
 
@@ -67,7 +67,7 @@ got-few out (refused number) = tt
 -- a call on an image and an index of its set's size, by the face of the set
 call-few : (s : Session) (image heads next : List ℕ) (call : Call)
     → Few (called 1 (record { image = image; heads = heads; next = next; state = s .state }) call .answer)
-call-few s image heads next call = few-by _ (first-laws .few-values _ call)
+call-few s image heads next call = few-by _ (call-laws 1 layout-1 .few-values _ call)
 
 line-few : (line : Line) (s : Session) (image heads next : List ℕ) → FewNumbers (lineStep line s image heads next .answer)
 unfolding lineStep makeStep madeBy formatResult changeStep wordFound gotBy called calledChange

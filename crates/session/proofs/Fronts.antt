@@ -5,6 +5,7 @@ use Prim.Native.Nat.{ℕ, _+_, _*_}
 use native.Mathlib.Omega.{arith}
 use lib.ListN.{length, take, drop}
 use lib.Seq.{length-take-le, length-front, take-at}
+use Rattle.face.proofs.SetLaws.{layout-1, call-laws}
 use Rattle.face.specs.Laws.{SetLaws}
 use Rattle.face.specs.Set.{slotsOf, slotsIn, World, PlainMap}
 use Rattle.prelude.proofs.Refusals.{orElse-zero, taken-leaves}
@@ -16,7 +17,8 @@ use Rattle.session.specs.declared.Waiting.{Waiting}
 use Rattle.session.specs.declared.Session.{Session}
 use Rattle.session.proofs.Steps.{room}
 use Rattle.session.specs.Lines.{worldOf, sessionOf}
-use Rattle.session.specs.Rule.{faultAt, mapByLine, mapAfter, FewWait, SetKeeps, Keeps, a-set, Leaves}
+use Rattle.session.specs.Rule.{faultAt, mapByLine, mapAfter, FewWait, Leaves}
+use Rattle.session.proofs.defs.Keeps.{SetKeeps, Keeps, kept}
 use Rattle.session.proofs.Sizes.{OneHead}
 
 -- ---- a step on an image and an index of the set's size
@@ -50,7 +52,7 @@ module _ (r : StepResult) (n : ℕ) (z : sizeFault n (length (r .image)) (length
   pub slots-front : (Inv : World → PlainMap → Type 0) → SetLaws 1 Inv → slotsIn (take (128 * (n + 1)) (r .image)) ≡ n
   slots-front Inv laws =
       let q = room n (length (r .image)) (length (r .heads)) (length (r .next)) z in
-      ap slotsOf image-front ∙ laws .slots-of n (q .some) (omega (arith, q .few))
+      ap slotsOf image-front ∙ call-laws 1 layout-1 .slots-of n (q .some) (omega (arith, q .few))
 
   -- a step on the fronts that left a set of n slots
   module _ (t : StepResult) (e : t .session .n ≡ n) (o : OneHead n (leftBy t)) where
@@ -132,7 +134,7 @@ module _ (r : StepResult) (m : PlainMap) (line : Line) (n : ℕ) (same : slotsFo
       session = ap (λ (x : StepResult). x .session) step-taken ∙ l .session;
       world = ap worldOf step-taken ∙ there;
     },
-    a-set
+    kept
         (subst (SetKeeps Inv (stepAfter r line)) (sym (map-taken ∙ e))
         (subst (λ (x : StepResult). SetKeeps Inv x m′) (sym step-taken)
         (record {

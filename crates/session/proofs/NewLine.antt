@@ -4,6 +4,7 @@ use mathlib.Core.Option.{some, none}
 use mathlib.Core.List.{List, [], _∷_}
 use Prim.Native.Nat.{ℕ, _+_, _*_}
 use lib.ListN.{length, take}
+use Rattle.face.proofs.SetLaws.{layout-1, call-laws}
 use Rattle.face.specs.Laws.{SetLaws}
 use Rattle.face.specs.Set.{slotsOf, slotsIn, formatted, World, worldAfter, recoveredWorld, PlainMap}
 use Rattle.text.specs.Output.{ok}
@@ -12,7 +13,8 @@ use Rattle.session.specs.Stream.{stepAfter}
 use Rattle.text.specs.declared.Line.the-variants.{New}
 use Rattle.session.specs.declared.Waiting.the-variants.{Nothing}
 use Rattle.session.proofs.Steps.{FitsLent, room}
-use Rattle.session.specs.Rule.{faultAt, mapByLine, mapAfter, none-waits, Keeps, newWorld, LineRight, new-line}
+use Rattle.session.specs.Rule.{faultAt, mapByLine, mapAfter, none-waits, newWorld, LineRight, new-line}
+use Rattle.session.proofs.defs.Keeps.{Keeps}
 use Rattle.session.proofs.Sizes.{OneHead, one-head}
 use Rattle.session.proofs.Recovered.{goesOn, new-step, new-keeps}
 use Rattle.session.proofs.Fronts.{LeftBehind, image-front, heads-front, next-front, slots-front, line-size, line-leaves}
@@ -47,11 +49,11 @@ module _ (Inv : World → PlainMap → Type 0) (laws : SetLaws 1 Inv) (r : StepR
 
   fresh-slots : slotsIn (fresh .image) ≡ n
   unfolding recoveredWorld worldAfter
-  fresh-slots = ap slotsOf (laws .formatted-length (length image)) ∙ slots-front r n size Inv laws
+  fresh-slots = ap slotsOf (call-laws 1 layout-1 .formatted-length (length image)) ∙ slots-front r n size Inv laws
 
   fresh-sizes : OneHead n fresh
   fresh-sizes =
-      one-head Inv laws n fresh (λ k. none) fresh-keeps fresh-slots (laws .recovery-heads (formatted 1 (length image)) heads next ∙ heads-front r n size)
+      one-head Inv laws n fresh (λ k. none) fresh-keeps fresh-slots (call-laws 1 layout-1 .recovery-heads (formatted 1 (length image)) heads next ∙ heads-front r n size)
 
   made : LeftBehind n (ok (n ∷ [])) (newWorld r n) Nothing (makeStep n (r .session) image heads next)
   made =

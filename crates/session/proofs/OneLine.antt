@@ -17,7 +17,8 @@ use Rattle.text.specs.declared.Line.the-variants.{New, Put, Remove, Get, Cut, B
 use Rattle.session.specs.declared.Session.{Session}
 use Rattle.session.proofs.Steps.{roomy}
 use Rattle.session.specs.Lines.{worldOf, callIn}
-use Rattle.session.specs.Rule.{faultAt, mapByCall, mapByLine, mapAfter, SetKeeps, Keeps, no-set, a-set, LineRight, refused-line, SizedLine, sized-put, sized-remove}
+use Rattle.session.specs.Rule.{faultAt, mapByCall, mapByLine, mapAfter, LineRight, refused-line, SizedLine, sized-put, sized-remove}
+use Rattle.session.proofs.defs.Keeps.{SetKeeps, Keeps, none-yet, kept}
 use Rattle.session.proofs.CallEvents.{word-bytes, put-carried, remove-carried, get-carried}
 use Rattle.session.proofs.NewLine.{new-goes}
 use Rattle.session.proofs.CutLine.{cut-goes}
@@ -36,8 +37,8 @@ step-refused r line ne = refused-keeps _ _ (faultAt r line) ne
 
 still-keeps : (Inv : World → PlainMap → Type 0) (r : StepResult) (m : PlainMap) (p : Printed) → Keeps Inv r m → Keeps Inv (leaves p (r .session) (r .image) (r .heads) (r .next)) m
 unfolding worldOf
-still-keeps Inv r m p (no-set e) = no-set e
-still-keeps Inv r m p (a-set k) = a-set (record { size = k .size; waits = k .waits; set = k .set })
+still-keeps Inv r m p (none-yet e) = none-yet e
+still-keeps Inv r m p (kept k) = kept (record { size = k .size; waits = k .waits; set = k .set })
 
 refused-goes : (Inv : World → PlainMap → Type 0) (r : StepResult) (m : PlainMap) (line : Line) → Keeps Inv r m → (faultAt r line ≡ 0 → ⊥) → Goes Inv r m line
 unfolding mapAfter
@@ -59,8 +60,8 @@ module _ (Inv : World → PlainMap → Type 0) (laws : SetLaws 1 Inv) where
   -- a line that is carried out on a set has one
   has-set : (r : StepResult) (m : PlainMap) (line : Line) → slotsFor line (r .session) ≡ r .session .n → faultAt r line ≡ 0 → Keeps Inv r m → SetKeeps Inv r m
   unfolding noSet
-  has-set r m line e z (a-set k) = k
-  has-set r m line e z (no-set q) =
+  has-set r m line e z (kept k) = k
+  has-set r m line e z (none-yet q) =
       absurd
       (let none-there : r .session .n ≡ 0 = ap (λ (s : Session). s .n) q in
       omega (arith, e, none-there, roomy line (r .session) _ _ _ _ _ refl z refl .some))

@@ -7,8 +7,6 @@ use Prim.Native.Nat.{ℕ, _≤_}
 use native.Mathlib.Omega.{arith}
 use lib.ListN.{length}
 use Rattle.prelude.proofs.Refusals.{taken-leaves, refused-keeps}
-use Rattle.face.specs.Laws.{SetLaws}
-use Rattle.face.proofs.SetLaws.{first-laws}
 use Rattle.face.specs.Set.{World, Call, PlainMap}
 use Rattle.text.specs.Forms.{lineOf}
 use Rattle.text.specs.Output.{Printed, text}
@@ -21,9 +19,10 @@ use Rattle.text.specs.declared.Parse.the-variants.{Start}
 use Rattle.session.proofs.Streams.{output-of-lines}
 use Rattle.session.proofs.StreamResults.{output-of-results}
 use Rattle.session.specs.Lines.{worldOf, callIn}
-use Rattle.session.specs.Rule.{faultAt, plainPrints, mapAfter, Keeps, no-set, LineRight, refused-line, new-line, cut-line, call-line}
+use Rattle.session.specs.Rule.{SizedLine, SessionHolds, faultAt, plainPrints, mapAfter, LineRight, refused-line, new-line, cut-line, call-line}
 use Rattle.session.specs.Printed.{callPrints, linePrints, duePrints, dueOutput}
-use Rattle.session.proofs.OneLine.{line-goes}
+use Rattle.session.proofs.SessionRule.{session-rule}
+use Rattle.prelude.specs.Members.{All, none-left, one-more}
 use Rattle.session.proofs.Numbers.{sized-line}
 
 -- ---- one line
@@ -54,13 +53,21 @@ module _ (r : StepResult) (m : PlainMap) where
 
 -- ---- every input
 
-pub output-due : (Inv : World → PlainMap → Type 0) → SetLaws 1 Inv → (r : StepResult) (m : PlainMap) (lines : List (List ℕ)) → Keeps Inv r m → outputOf r lines ≡ dueOutput r m lines
+-- the lines of an input, read
+abbrev linesRead : List (List ℕ) → List Line
+linesRead [] = []
+linesRead (line ∷ lines) = lineOf line ∷ linesRead lines
+
+all-sized : (lines : List (List ℕ)) → All SizedLine (linesRead lines)
+all-sized [] = none-left
+all-sized (line ∷ lines) = one-more (sized-line line) (all-sized lines)
+
+output-due : (r : StepResult) (m : PlainMap) (lines : List (List ℕ)) → SessionHolds r m (linesRead lines) → outputOf r lines ≡ dueOutput r m lines
 unfolding outputOf dueOutput
-output-due Inv laws r m [] k = refl
-output-due Inv laws r m (line ∷ lines) k =
-    let g = line-goes Inv laws r m (lineOf line) (sized-line line) k in
-    ap₂ (λ (p : Printed) (rest : List ℕ). text p ++ rest) (right-due r m (lineOf line) (g .0))
-    (output-due Inv laws (stepAfter r (lineOf line)) (mapAfter r m (lineOf line)) lines (g .1))
+output-due r m [] h = refl
+output-due r m (line ∷ lines) h =
+    ap₂ (λ (p : Printed) (rest : List ℕ). text p ++ rest) (right-due r m (lineOf line) (h .1))
+    (output-due (stepAfter r (lineOf line)) (mapAfter r m (lineOf line)) lines (h .2))
 
 module _ (p : Printed) (image heads next : List ℕ) (m : PlainMap) (bytes : List ℕ) where
   -- before the first line: no set, whatever the lent image and index hold
@@ -69,7 +76,7 @@ module _ (p : Printed) (image heads next : List ℕ) (m : PlainMap) (bytes : Lis
 
   -- THE OUTPUT of any input, byte by byte, is what the plain map gives
   pub input-output : byteOutput (leaves p noSet image heads next) Start false bytes ≡ dueOutput (leaves p noSet image heads next) m (linesOf bytes)
-  input-output = output-of-lines beforeLines bytes ∙ output-due _ first-laws beforeLines m (linesOf bytes) (no-set refl)
+  input-output = output-of-lines beforeLines bytes ∙ output-due beforeLines m (linesOf bytes) (session-rule p image heads next m (linesRead (linesOf bytes)) (all-sized (linesOf bytes)))
 
   -- THE OUTPUT of any input by what the contracts of take_byte and end_input promise, written out at least where the lent output is full
   pub results-output : (flushes : List ℕ → StreamResult → Bool) → FlushesFull flushes → (output : List ℕ) → 64 ≤ length output

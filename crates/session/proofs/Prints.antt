@@ -6,7 +6,7 @@ use Prim.Native.Nat.{ℕ}
 use native.Mathlib.Decide.{ℕ-discrete}
 use Rattle.prelude.specs.Answer.{Answer, gives, absent, refused, refusalIn}
 use Rattle.prelude.proofs.Refusals.{taken-leaves, refused-keeps}
-use Rattle.face.specs.Set.{World, Call, put, remove, get, called, PlainMap, dueFault, Right}
+use Rattle.face.specs.Set.{World, Call, put, remove, get, locate, called, PlainMap, dueFault, Right}
 use Rattle.text.specs.Output.{no}
 use Rattle.session.specs.Step.{gotAs}
 use Rattle.session.specs.Lines.{changePrints, printedFor}
@@ -19,6 +19,7 @@ unfolding printedFor changePrints gotAs
 prints-number (put key value) number out = refl
 prints-number (remove key) number out = refl
 prints-number (get key lent) number out = refl
+prints-number (locate key) number out = refl
 
 prints-refusal : (call : Call) (answer : Answer) (out : List ℕ) (k : ℕ) → refusalIn answer ≡ k → (k ≡ 0 → ⊥) → printedFor call answer out ≡ no k
 unfolding refusalIn

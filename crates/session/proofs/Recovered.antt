@@ -9,6 +9,7 @@ use lib.ListN.{length}
 use borrow.Author.Tests.{le-ltb, eq-eqb, ne-eqb}
 use Rattle.prelude.specs.Answer.{Answer, gives}
 use Rattle.prelude.proofs.Refusals.{say-false, taken-leaves}
+use Rattle.face.proofs.SetLaws.{layout-1, call-laws}
 use Rattle.face.specs.Set.{World, PlainMap, recoverFault, recoverResult, worldAfter, recoveredWorld, FormatResult, formatFault, formatted, formatResult, indexFault, slotsOf, slotsIn}
 use Rattle.face.specs.Laws.{SetLaws}
 use Rattle.text.specs.Output.{Printed, ok}
@@ -33,13 +34,13 @@ module _ (Inv : World → PlainMap → Type 0) (laws : SetLaws 1 Inv) where
       ap
       (λ (answer : Answer).
       recoveredAs p n image (recoverResult 1 image heads next .heads) (recoverResult 1 image heads next .next) (recoverResult 1 image heads next .state) answer)
-      (laws .answers-state image heads next z)
+      (call-laws 1 layout-1 .answers-state image heads next z)
 
   -- A NEW SET, on an image and an index of its size
   module _ (n : ℕ) (low : 2 ≤ n) (high : n ≤ 511) (s : Session) (image heads next : List ℕ)
       (i : length image ≡ 128 * (n + 1)) (h : length heads ≡ 1) (x : length next ≡ n + 1) where
     slots-here : slotsIn image ≡ n
-    slots-here = ap slotsOf i ∙ laws .slots-of n low (omega arith)
+    slots-here = ap slotsOf i ∙ call-laws 1 layout-1 .slots-of n low (omega arith)
 
     some-slots : slotsIn image ≡ 0 → ⊥
     some-slots e = omega (arith, slots-here)

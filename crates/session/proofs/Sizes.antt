@@ -17,7 +17,7 @@ pub one-head : (Inv : World → PlainMap → Type 0) → SetLaws 1 Inv → (n : 
 one-head Inv laws n w m i e h =
     let lengths = laws .lengths w m i in
     record {
-      image-size = omega (arith, lengths .image, e);
+      image-size = omega (arith, lengths .image-size, e);
       heads-size = h;
-      next-size = lengths .next ∙ omega (arith, e);
+      next-size = lengths .next-size ∙ omega (arith, e);
     }

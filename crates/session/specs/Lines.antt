@@ -5,7 +5,7 @@ use Prim.Native.Nat.{ℕ, _+_, _*_}
 use lib.ListN.{take, replicate}
 use Rattle.words.specs.Word.{word}
 use Rattle.prelude.specs.Answer.{Answer, gives, absent, refused}
-use Rattle.face.specs.Set.{Store, World, Call, put, remove, get, called}
+use Rattle.face.specs.Set.{Store, World, Call, put, remove, get, locate, called}
 use Rattle.face.specs.Event.{Event, done, struck}
 use Rattle.text.specs.Output.{Printed, ok, notHeld, no}
 use Rattle.session.specs.Step.{StepResult, wordBytes, gotAs}
@@ -41,12 +41,12 @@ callIn Bad = none
 -- ---- the event that a call is
 
 -- the counts strike a call that has stores; recovery is lent the index that the call left
-unfoldable pub struckWith : Call → (a b : ℕ) → (heads next : List ℕ) → List Store → Event
+unfoldable pub struckWith : Call → (a b : ℕ) → (heads next : List ℕ) → List Store → Event Call
 struckWith call a b heads next [] = done call
 struckWith call a b heads next (s ∷ ss) = struck call (record { a = a; b = b; heads = heads; next = next })
 
 -- "the next accepted p, or r that stores, plays only A and B stores, and recovery runs"
-unfoldable pub eventIn : World → Waiting → Call → Event
+unfoldable pub eventIn : World → Waiting → Call → Event Call
 eventIn w Nothing call = done call
 eventIn w (Counts a b) call = struckWith call a b (called 1 w call .heads) (called 1 w call .next) (called 1 w call .stores)
 
@@ -68,3 +68,4 @@ unfoldable pub printedFor : Call → Answer → (out : List ℕ) → Printed
 printedFor (put key value) answer out = changePrints answer
 printedFor (remove key) answer out = changePrints answer
 printedFor (get key lent) answer out = gotAs out answer
+printedFor (locate key) answer out = changePrints answer

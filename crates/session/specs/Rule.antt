@@ -5,7 +5,7 @@ use mathlib.Core.List.{List, [], _∷_}
 use Prim.Native.Nat.{ℕ, _+_, _*_, _^_, _≤_, _<_}
 use lib.ListN.{length, take}
 use Rattle.prelude.specs.Refusal.{unlessRefused}
-use Rattle.face.specs.Set.{nextVersion, formatted, World, Call, called, recoveredWorld, slotsIn, tableOf, PlainMap, plainAnswer, plainOut, dueFault, Right}
+use Rattle.face.specs.Set.{formatted, World, Call, called, recoveredWorld, PlainMap, plainOut, dueFault, dueAnswer, Right, Reads}
 use Rattle.face.specs.Event.{step, mapAfterEvent}
 use Rattle.text.specs.Output.{Printed, ok, cut, no}
 use Rattle.session.specs.Step.{StepResult, leaves, noSet, sizeFault, lineFault}
@@ -18,6 +18,7 @@ use Rattle.session.specs.declared.Session.{Session}
 use Rattle.session.specs.Lines.{worldOf, sessionOf, callIn, eventIn, waitsOn, printedFor}
 use Rattle.prelude.specs.Members.{All}
 use Rattle.prelude.specs.History.{Throughout}
+use Rattle.face.specs.Recovers.{Recovers}
 
 -- the refusal of a line before it is carried out, 0 for none
 abbrev pub faultAt : StepResult → Line → ℕ
@@ -29,7 +30,7 @@ faultAt r line = lineFault line (r .session) (length (r .image)) (length (r .hea
 unfoldable pub plainPrints : World → PlainMap → Call → Printed
 plainPrints w m call =
     unlessRefused (dueFault 1 w m call)
-    (printedFor call (plainAnswer (w .state .first) (nextVersion (tableOf 1 (w .image)) (slotsIn (w .image))) m call) (plainOut m call))
+    (printedFor call (dueAnswer 1 w m call) (plainOut m call))
     (no (dueFault 1 w m call))
 
 -- ---- the plain map beside a session
@@ -59,16 +60,17 @@ pub data FewWait : Waiting → Type 0 where
   none-waits : FewWait Nothing
   few-wait : {a b : ℕ} → a ≤ 8 → b ≤ 8 → FewWait (Counts a b)
 
--- there is a set: it fits into the lent image and index, and with the plain map m it has the invariant of sets
-pub record SetKeeps (Inv : World → PlainMap → Type 0) (r : StepResult) (m : PlainMap) : Type 0 where
+-- there is a set: it fits into the lent image and index, a waiting cut has fit counts, and recovery, the slots and get give the plain map m
+pub record SetBetween (r : StepResult) (m : PlainMap) : Type 0 where
   pub size : sizeFault (r .session .n) (length (r .image)) (length (r .heads)) (length (r .next)) ≡ 0
   pub waits : FewWait (r .session .waiting)
-  pub set : Inv (worldOf r) m
+  pub recovers : Recovers 1 (worldOf r .image) m
+  pub reads : Reads 1 (worldOf r) m
 
 -- between lines: before an accepted n there is no set
-pub data Keeps (Inv : World → PlainMap → Type 0) (r : StepResult) (m : PlainMap) : Type 0 where
-  no-set : r .session ≡ noSet → Keeps Inv r m
-  a-set : SetKeeps Inv r m → Keeps Inv r m
+pub data Between (r : StepResult) (m : PlainMap) : Type 0 where
+  no-set : r .session ≡ noSet → Between r m
+  a-set : SetBetween r m → Between r m
 
 -- ---- one line
 
@@ -112,10 +114,12 @@ pub data SizedLine : Line → Type 0 where
   sized-bad : SizedLine Bad
 
 -- before each line and after the last the set is the plain map's, and each line answers right
-abbrev pub SessionHolds : (Inv : World → PlainMap → Type 0) → StepResult → PlainMap → List Line → Type 0
-SessionHolds Inv = Throughout (λ r m line. stepAfter r line) mapAfter (Keeps Inv) LineRight
+abbrev pub SessionHolds : StepResult → PlainMap → List Line → Type 0
+SessionHolds = Throughout stepAfter mapAfter Between LineRight
 
--- from any session whose set has the invariant of sets with the plain map m, every list of lines answers right
-abbrev pub SessionRule : (Inv : World → PlainMap → Type 0) → Type 0
-SessionRule Inv =
-    (r : StepResult) (m : PlainMap) → Keeps Inv r m → (lines : List Line) → All SizedLine lines → SessionHolds Inv r m lines
+-- from the start, with no set and whatever the lent image and index hold, every list of lines answers right; the plain map may be any, as the first accepted n makes
+-- it empty
+abbrev pub SessionRule : Type 0
+SessionRule =
+    (p : Printed) (image heads next : List ℕ) (m : PlainMap) (lines : List Line) → All SizedLine lines
+    → SessionHolds (leaves p noSet image heads next) m lines

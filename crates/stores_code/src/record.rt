@@ -154,7 +154,7 @@ fn remove_word(l: usize, low: u64, high: u64, i: usize) -> u64
     0
 }
 
-// The values of a remove's stores, over lines with stamps a and b. The high key word and the kind word stand in words 2 and 3 of line A.
+// The values of a remove's stores, over lines with stamps a and b. Only words 2 and 3 of line A depend on the layout.
 fn remove_words(l: usize, a: u64, b: u64, low: u64, high: u64, version: u64) -> [u64; 16]
     requires { ⌜ Layout l × (version < 2 ^ 63) ⌝ }
     ensures { λ r. ⌜ r ≡ recordWords l a b (keyWith low high) 2 [] version ⌝ }

@@ -1,7 +1,7 @@
 -- The table of an image, f : what each of the slots 1 to n holds. Document 01, "Which record counts" and "How a call writes".
 use mathlib.Core.Bool.{Bool, true, false, cond, not, _&&_}
 use mathlib.Core.Option.{Option, some, none}
-use mathlib.Core.List.{List}
+use mathlib.Core.List.{List, [], _∷_}
 use Prim.Native.Nat.{ℕ, zero, suc, _-_}
 use lib.Dec.{eqb}
 use Rattle.prelude.specs.Range.{anyOf, greatest, topmost, count}
@@ -35,6 +35,10 @@ nextVersion f n = suc (greatest (λ s. topOf (f s)) n)
 -- "For each key the valid slot with the greatest version decides": that slot, 0 if there is none
 unfoldable pub decider : Table → (n k : ℕ) → ℕ
 decider f n k = topmost (λ s. weight k (f s)) n
+
+-- that slot and its version, for a key that is held
+unfoldable pub holder : Table → (n k : ℕ) → List ℕ
+holder f n k = decider f n k ∷ topOf (f (decider f n k)) ∷ []
 
 -- "a put gives the value, a remove means absent"
 unfoldable pub valueIn : Content → Option (List ℕ)

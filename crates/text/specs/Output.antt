@@ -44,7 +44,7 @@ unfoldable pub written : (out : List ℕ) → (at : ℕ) → List ℕ → List �
 written out at [] = out
 written out at (byte ∷ bytes) = written (set out at byte) (suc at) bytes
 
--- the place after the line, and the output with it
+-- the position after the line, and the output with it
 pub record Rendered : Type 0 where
   pub end : ℕ
   pub output : List ℕ

@@ -19,7 +19,7 @@ fn store_bytes(out: &mut [u8], at: usize, bytes: &[u8])
     }
 }
 
-// The decimal digits of n fill the end of the 20 bytes: the place of the first one.
+// The decimal digits of n fill the end of the 20 bytes: the position of the first one.
 fn store_digits(n: u64, space: &mut [u8]) -> usize
     requires { ⌜ length (now space) ≡ 20 ⌝ }
     ensures { λ r. ⌜ (r < 20) × (drop r (now (space .exit)) ≡ decimal n) ⌝ }
@@ -36,7 +36,7 @@ fn store_digits(n: u64, space: &mut [u8]) -> usize
     i
 }
 
-// A space and the number n: the place after them.
+// A space and the number n: the position after them.
 fn store_number(out: &mut [u8], at: usize, n: u64) -> usize
     requires { ⌜ at + 21 ≤ length (now out) ⌝ }
     ensures { λ r. ⌜ Wrote (now (out .entry)) (now (out .exit)) at r (32 ∷ decimal n) ⌝ }
@@ -48,7 +48,7 @@ fn store_number(out: &mut [u8], at: usize, n: u64) -> usize
     at + 1 + (20 - from)
 }
 
-// The word, each number after a space, and the end of the line: the place after them.
+// The word, each number after a space, and the end of the line: the position after them.
 fn store_line(out: &mut [u8], at: usize, word: &[u8], numbers: &[u64]) -> usize
     requires { ⌜ at + length (now word) + 21 * length (now numbers) + 1 ≤ length (now out) ⌝ }
     ensures { λ r. ⌜ Wrote (now (out .entry)) (now (out .exit)) at r (now (word .entry) ++ numbersText (now (numbers .entry))) ⌝ }

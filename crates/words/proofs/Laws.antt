@@ -6,8 +6,8 @@ use Prim.Native.Nat.{ℕ, zero, suc, _+_, _*_, _/_, _%_, _^_, _≤_, _<_}
 use native.Mathlib.Nat.{div-add-mod, pow-suc, pow-succ', div-one, div-lt-iff-lt-mul, div-div-eq-div-mul, mod-lt, zero-lt-suc}
 use native.Mathlib.Decide.{decLt, ℕ-discrete}
 use native.Mathlib.Omega.{arith}
-use lib.ListN.{length, getD, set, length-set, List·getD-eq-default}
-use lib.Seq.{getD-set-same, getD-set-other, set-out}
+use lib.ListN.{length, take, getD, set, length-set, List·getD-eq-default}
+use lib.Seq.{getD-set-same, getD-set-other, set-out, getD-take}
 use Rattle.words.specs.Word.{AreBytes, word, setWord}
 
 -- the number of the n bytes from a on
@@ -157,4 +157,20 @@ word-past s i past =
       zero-at (8 * i + 5) (omega arith),
       zero-at (8 * i + 6) (omega arith),
       zero-at (8 * i + 7) (omega arith),
+    )
+
+-- the words of a front
+pub word-take : (s : List ℕ) (n i : ℕ) → 8 * i + 8 ≤ n → word (take n s) i ≡ word s i
+unfolding word
+word-take s n i h =
+    omega (
+      arith,
+      getD-take n s (8 * i) 0 (omega arith),
+      getD-take n s (8 * i + 1) 0 (omega arith),
+      getD-take n s (8 * i + 2) 0 (omega arith),
+      getD-take n s (8 * i + 3) 0 (omega arith),
+      getD-take n s (8 * i + 4) 0 (omega arith),
+      getD-take n s (8 * i + 5) 0 (omega arith),
+      getD-take n s (8 * i + 6) 0 (omega arith),
+      getD-take n s (8 * i + 7) 0 (omega arith),
     )

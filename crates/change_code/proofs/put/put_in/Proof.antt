@@ -7,41 +7,53 @@ use Rattle.change_code.proofs.put.put_in.Statement.{statement}
 use Rattle.change_code.proofs.put.put_in.Tie as tie
 
 head-of-requires : tie.Need-head-of-requires
-head-of-requires c κs = some-head _ _ _ _ _ _ _ ((rw (c .before .lookup2 .given .1) at (c .before .before .before .put-lookup .ensures .ready)) .0)
+head-of-requires c κs =
+    let a = c .before .before .before .before .before .before .before .before .before .before .args in
+    some-head (a .image .now) (a .heads .now) (a .next .now) (a .state) _ _ _ ((rw (c .before .lookup2 .given .1) at (c .before .before .before .put-lookup .ensures .ready)) .0)
 
 put-held-requires : tie.Need-put-held-requires
 put-held-requires c κs =
-    inside _ _ _ _ _ _ _ ((rw (c .before .before .before .before .lookup2 .given .1) at (c .before .before .before .before .before .before .put-lookup .ensures .ready)) .0) _ (c .before .before .head-of .ensures .1 (c .before .before .before .before .before .before .before .before .before .before .before .before .before .args .high))
+    let a = c .before .before .before .before .before .before .before .before .before .before .before .before .before .args in
+    inside (a .image .now) (a .heads .now) (a .next .now) (a .state) _ _ _ ((rw (c .before .before .before .before .lookup2 .given .1) at (c .before .before .before .before .before .before .put-lookup .ensures .ready)) .0) _ (c .before .before .head-of .ensures .1 (a .high))
 
 put-stored-requires : tie.Need-put-stored-requires
 put-stored-requires c κs =
     let ready = rw (c .before .before .before .before .before .before .before .before .before .lookup2 .given .1) at (c .before .before .before .before .before .before .before .before .before .before .before .put-lookup .ensures .ready) in
-    recordable _ _ _ _ _ _ _ (ready .0) _ _ (c .before .before .before .before .before .before .before .before .before .before .before .before .before .before .before .before .before .before .pre) (ready .1)
+    let a = c .before .before .before .before .before .before .before .before .before .before .before .before .before .before .before .before .before .before .args in
+    recordable (a .image .now) (a .heads .now) (a .next .now) (a .state) _ _ _ (ready .0) (a .l) (a .value .now) (c .before .before .before .before .before .before .before .before .before .before .before .before .before .before .before .before .before .before .pre) (ready .1)
 
 head-of-requires-2 : tie.Need-head-of-requires-2
-head-of-requires-2 c κs = some-head _ _ _ _ _ _ _ ((rw (c .before .lookup3 .given .1) at (c .before .before .before .put-lookup .ensures .ready)) .0)
+head-of-requires-2 c κs =
+    let a = c .before .before .before .before .before .before .before .before .before .before .args in
+    some-head (a .image .now) (a .heads .now) (a .next .now) (a .state) _ _ _ ((rw (c .before .lookup3 .given .1) at (c .before .before .before .put-lookup .ensures .ready)) .0)
 
 put-new-requires : tie.Need-put-new-requires
 put-new-requires c κs =
     let ready = rw (c .before .before .before .before .lookup3 .given .1) at (c .before .before .before .before .before .before .put-lookup .ensures .ready) in
-    (inside _ _ _ _ _ _ _ (ready .0) _ (c .before .before .head-of2 .ensures .1 (c .before .before .before .before .before .before .before .before .before .before .before .before .before .args .high)), ready .2)
+    let a = c .before .before .before .before .before .before .before .before .before .before .before .before .before .args in
+    (inside (a .image .now) (a .heads .now) (a .next .now) (a .state) _ _ _ (ready .0) _ (c .before .before .head-of2 .ensures .1 (a .high)), ready .2)
 
 put-stored-requires-2 : tie.Need-put-stored-requires-2
 put-stored-requires-2 c κs =
     let ready = rw (c .before .before .before .before .before .before .before .before .before .lookup3 .given .1) at (c .before .before .before .before .before .before .before .before .before .before .before .put-lookup .ensures .ready) in
-    recordable _ _ _ _ _ _ _ (ready .0) _ _ (c .before .before .before .before .before .before .before .before .before .before .before .before .before .before .before .before .before .before .pre) (ready .1)
+    let a = c .before .before .before .before .before .before .before .before .before .before .before .before .before .before .before .before .before .before .args in
+    recordable (a .image .now) (a .heads .now) (a .next .now) (a .state) _ _ _ (ready .0) (a .l) (a .value .now) (c .before .before .before .before .before .before .before .before .before .before .before .before .before .before .before .before .before .before .pre) (ready .1)
 
 returns : tie.Need-returns
-returns c = put-refused _ _ _ _ _ _ _ _ (c .before .before .before .before .put-lookup .ensures) _ _ _ (c .before .before .lookup .given .1) (c .refusal .ensures _ _)
+returns c =
+    let a = c .before .before .before .before .before .before .before .before .before .before .before .args in
+    put-refused (a .l) (a .image .now) (a .heads .now) (a .next .now) (a .state) _ (a .value .now) _ (c .before .before .before .before .put-lookup .ensures) _ _ _ (c .before .before .lookup .given .1) (c .refusal .ensures _ _)
 
 returns-2 : tie.Need-returns-2
 returns-2 c =
-    put-held _ _ _ _ _ _ _ _ (c .before .before .before .before .before .before .before .before .before .before .before .before .put-lookup .ensures) _ _ _ _ _ (c .before .before .before .before .before .before .before .before .before .before .lookup2 .given .1) (c .before .before .before .before .before .before .before .before .head-of .ensures .1 (c .before .before .before .before .before .before .before .before .before .before .before .before .before .before .before .before .before .before .before .args .high))
+    let a = c .before .before .before .before .before .before .before .before .before .before .before .before .before .before .before .before .before .before .before .args in
+    put-held (a .l) (a .image .now) (a .heads .now) (a .next .now) (a .state) _ (a .value .now) _ (c .before .before .before .before .before .before .before .before .before .before .before .before .put-lookup .ensures) _ _ _ _ _ (c .before .before .before .before .before .before .before .before .before .before .lookup2 .given .1) (c .before .before .before .before .before .before .before .before .head-of .ensures .1 (a .high))
     (changed-end _ _ _ _ _ _ _ _ (c .put-stored .ensures) _ _ _ _ (c .before .before .before .before .before .put-held .ensures))
 
 returns-3 : tie.Need-returns-3
 returns-3 c =
-    put-not-held _ _ _ _ _ _ _ _ (c .before .before .before .before .before .before .before .before .before .before .before .before .put-lookup .ensures) _ _ _ _ (c .before .before .before .before .before .before .before .before .before .before .lookup3 .given .1) (c .before .before .before .before .before .before .before .before .head-of2 .ensures .1 (c .before .before .before .before .before .before .before .before .before .before .before .before .before .before .before .before .before .before .before .args .high))
+    let a = c .before .before .before .before .before .before .before .before .before .before .before .before .before .before .before .before .before .before .before .args in
+    put-not-held (a .l) (a .image .now) (a .heads .now) (a .next .now) (a .state) _ (a .value .now) _ (c .before .before .before .before .before .before .before .before .before .before .before .before .put-lookup .ensures) _ _ _ _ (c .before .before .before .before .before .before .before .before .before .before .lookup3 .given .1) (c .before .before .before .before .before .before .before .before .head-of2 .ensures .1 (a .high))
     (changed-end _ _ _ _ _ _ _ _ (c .put-stored2 .ensures) _ _ _ _ (c .before .before .before .before .before .put-new .ensures))
 
 pub put-in-spec : {M : Type 1} → statement M

@@ -7,12 +7,15 @@ use Rattle.change_code.proofs.remove.remove_in.Statement.{statement}
 use Rattle.change_code.proofs.remove.remove_in.Tie as tie
 
 head-of-requires : tie.Need-head-of-requires
-head-of-requires c κs = some-head _ _ _ _ _ _ _ ((rw (c .before .lookup2 .given .1) at (c .before .before .before .remove-lookup .ensures .ready)) .0)
+head-of-requires c κs =
+    let a = c .before .before .before .before .before .before .before .before .before .args in
+    some-head (a .image .now) (a .heads .now) (a .next .now) (a .state) _ _ _ ((rw (c .before .lookup2 .given .1) at (c .before .before .before .remove-lookup .ensures .ready)) .0)
 
 remove-held-requires : tie.Need-remove-held-requires
 remove-held-requires c κs =
     let ready = rw (c .before .before .before .before .lookup2 .given .1) at (c .before .before .before .before .before .before .remove-lookup .ensures .ready) in
-    (inside _ _ _ _ _ _ _ (ready .0) _ (c .before .before .head-of .ensures .1 (c .before .before .before .before .before .before .before .before .before .before .before .before .args .high)), ready .1)
+    let a = c .before .before .before .before .before .before .before .before .before .before .before .before .args in
+    (inside (a .image .now) (a .heads .now) (a .next .now) (a .state) _ _ _ (ready .0) _ (c .before .before .head-of .ensures .1 (a .high)), ready .1)
 
 remove-stored-requires : tie.Need-remove-stored-requires
 remove-stored-requires c κs =
@@ -20,11 +23,14 @@ remove-stored-requires c κs =
     (c .before .before .before .before .before .before .before .before .before .before .before .before .before .before .before .before .before .pre, w .index .version-fits, w .slot-fits, w .slot-in)
 
 returns : tie.Need-returns
-returns c = remove-refused _ _ _ _ _ _ _ (c .before .before .before .before .remove-lookup .ensures) _ _ _ (c .before .before .lookup .given .1) (c .refusal .ensures _ _)
+returns c =
+    let a = c .before .before .before .before .before .before .before .before .before .before .args in
+    remove-refused (a .l) (a .image .now) (a .heads .now) (a .next .now) (a .state) _ _ (c .before .before .before .before .remove-lookup .ensures) _ _ _ (c .before .before .lookup .given .1) (c .refusal .ensures _ _)
 
 returns-2 : tie.Need-returns-2
 returns-2 c =
-    remove-held _ _ _ _ _ _ _ (c .before .before .before .before .before .before .before .before .before .before .before .before .remove-lookup .ensures) _ _ _ _ _ (c .before .before .before .before .before .before .before .before .before .before .lookup2 .given .1) (c .before .before .before .before .before .before .before .before .head-of .ensures .1 (c .before .before .before .before .before .before .before .before .before .before .before .before .before .before .before .before .before .before .args .high))
+    let a = c .before .before .before .before .before .before .before .before .before .before .before .before .before .before .before .before .before .before .args in
+    remove-held (a .l) (a .image .now) (a .heads .now) (a .next .now) (a .state) _ _ (c .before .before .before .before .before .before .before .before .before .before .before .before .remove-lookup .ensures) _ _ _ _ _ (c .before .before .before .before .before .before .before .before .before .before .lookup2 .given .1) (c .before .before .before .before .before .before .before .before .head-of .ensures .1 (a .high))
     (changed-end _ _ _ _ _ _ _ _ (c .remove-stored .ensures) _ _ _ _ (c .before .before .before .before .before .remove-held .ensures))
 
 returns-3 : tie.Need-returns-3

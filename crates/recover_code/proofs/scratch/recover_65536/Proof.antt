@@ -4,8 +4,8 @@ use borrow.Author.Needs.{needs}
 use Rattle.recover_code.proofs.scratch.recover_65536.Statement.{statement}
 use Rattle.recover_code.proofs.scratch.recover_65536.Tie as tie
 
-recover-in-requires : tie.Need-recover-in-requires
-recover-in-requires c κs =
+recover-on-fronts-requires : tie.Need-recover-on-fronts-requires
+recover-on-fronts-requires c κs =
     let given = c .before .before .before .before .before .before .before .before .before .before .before .before .pre in (
       given .0,
       record {
@@ -25,6 +25,6 @@ recover-65536-spec =
     (tie.spec
     (λ c. search needs) (λ c. search needs) (λ c. search needs) (λ c. search needs) (λ c. search needs)
     (λ c. search needs) (λ c. search needs)
-    recover-in-requires
+    recover-on-fronts-requires
     (λ c. search needs) (λ c. search needs)
     (λ c. search needs))

@@ -1,12 +1,12 @@
--- `recover_code::scratch::recover_in` meets its contract. Assumes nothing.
+-- `recover_code::scratch::recover_on_fronts` meets its contract. Assumes nothing.
 use native.Mathlib.Omega.{arith}
 use Prim.Native.Nat.{_+_, _-_, _*_}
 use lib.Seq.{length-front}
 use borrow.Author.Needs.{needs}
 use Rattle.prelude.proofs.Lists.{front-length}
 use Rattle.recovery.proofs.Recovers.{highs-few, judgeable}
-use Rattle.recover_code.proofs.scratch.recover_in.Statement.{statement}
-use Rattle.recover_code.proofs.scratch.recover_in.Tie as tie
+use Rattle.recover_code.proofs.scratch.recover_on_fronts.Statement.{statement}
+use Rattle.recover_code.proofs.scratch.recover_on_fronts.Tie as tie
 
 sub-h : tie.Need-sub-h
 sub-h c = c .before .before .before .before .before .before .before .before .before .before .pre .0 .layout .low
@@ -110,8 +110,8 @@ same-length-9 c =
 returns : tie.Need-returns
 returns c = c .before .before .before .before .before .before .before .before .before .before .before .before .before .before .before .before .before .before .recover-with .ensures
 
-pub recover-in-spec : {M : Type 1} → statement M
-recover-in-spec =
+pub recover-on-fronts-spec : {M : Type 1} → statement M
+recover-on-fronts-spec =
     tie.close
     (tie.spec
     (λ c. search needs)

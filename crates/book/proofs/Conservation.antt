@@ -1,0 +1,268 @@
+-- CONSERVATION: a step moves quantity between the totals and what is open, and changes the plain map at its key alone. Assumes nothing.
+use mathlib.Core.Path.{_≡_, refl, sym, ap, subst, _∙_}
+use mathlib.Core.Bool.{Bool, true, false, cond, not, _&&_}
+use mathlib.Core.Option.{Option, some, none}
+use mathlib.Core.Logic.{by-cases}
+use mathlib.Core.List.{List, [], _∷_}
+use Prim.Native.Nat.{ℕ, _+_, _^_, _≤_, _<_}
+use native.Mathlib.Decide.{ℕ-discrete}
+use native.Mathlib.Omega.{arith}
+use lib.Dec.{eqb, ltb}
+use borrow.Author.Tests.{eqb-true, eqb-false, eq-eqb, ne-eqb, ltb-false}
+use Rattle.prelude.specs.Answer.{refuses}
+use Rattle.prelude.specs.Members.{All, none-left, one-more}
+use Rattle.prelude.specs.Refusal.{say}
+use Rattle.prelude.proofs.Choice.{pick-true, pick-false, true-false}
+use Rattle.prelude.proofs.Refusals.{say-zero, orElse-zero, taken-leaves}
+use Rattle.face.proofs.SetLaws.{set-laws}
+use Rattle.face.specs.Set.{Layout, worldAfter, World, Call, put, remove, PlainMap, putting, removing, operation, plainNext, plainStep, isHeld, Holds, holds, Keys, recoveredWorld, slotsIn, slotsMap}
+use Rattle.face.specs.Event.{Event, requestOf, allStand, plainEvent, FitsBy, done-fits, struck-fits}
+use Rattle.book.specs.declared.Order.{Order}
+use Rattle.book.specs.Orders.{orderBytes, orderOf, isOrder, isState, openOf, sent, acknowledged, filledBy}
+use Rattle.book.specs.Steps.{Step, new, acknowledge, fill, withdraw, quantityFault}
+use Rattle.book.specs.Plain.{stepKey, orderIn, orderFault, bookFault, callBy, stepCall, stepFault, operationBy, stepOperation, TypedStep, new-typed, acknowledge-typed, fill-typed, withdraw-typed, worldAfterStep, mapAfterStep}
+use Rattle.book.specs.Totals.{openHeld, ofHeld, orderedIn, filledIn, withdrawnIn, counts, totalOf, mapAtEnd, openTotal, Conservation}
+use Rattle.book.proofs.OrderBytes.{BookOrder, BookRecord, order-back, order-record, record-order}
+use Rattle.book.proofs.StepEvents.{to-end}
+use Rattle.book.proofs.Sums.{some-none, Listed, listed, open-same, open-but-one, next-listed}
+
+-- every value of the map is a book record
+abbrev pub Records : PlainMap → Type 0
+Records m = (key : ℕ) (value : List ℕ) → m key ≡ some value → BookRecord value
+
+-- ordered, filled and withdrawn by these quantities, the map m becomes m′, at one key
+pub record Moved (key ordered filled withdrawn : ℕ) (m m′ : PlainMap) : Type 0 where
+  pub elsewhere : (k : ℕ) → (k ≡ key → ⊥) → m′ k ≡ m k
+  pub records : (value : List ℕ) → m′ key ≡ some value → BookRecord value
+  pub balance : ordered + openHeld (m key) ≡ filled + withdrawn + openHeld (m′ key)
+
+same-value : {u v : List ℕ} {held : Option (List ℕ)} → held ≡ some u → held ≡ some v → u ≡ v
+same-value {u} {v} {held} p q = cc
+
+-- ---- what a call makes of the map
+
+-- no call
+stays : (m : PlainMap) → Records m → (key : ℕ) → Moved key 0 0 0 m m
+stays m r key = record { elsewhere = λ k ne. refl; records = r key; balance = refl }
+
+module _ (m : PlainMap) (key ordered filled withdrawn : ℕ) where
+  put-moves : (o : Order) → BookOrder o → ordered + openHeld (m key) ≡ filled + withdrawn + openOf o
+      → Moved key ordered filled withdrawn m (plainNext (putting key (orderBytes o)) m)
+  unfolding plainNext ofHeld
+  put-moves o s q =
+      record {
+        elsewhere = λ k ne. pick-false (eqb k key) _ _ (ne-eqb k key ne);
+        records = λ value h. subst BookRecord (same-value here h) (order-record o s);
+        balance = omega (arith, ap openHeld here, ap openOf (order-back o s));
+      }
+    where
+      here : cond (eqb key key) (some (orderBytes o)) (m key) ≡ some (orderBytes o)
+      here = pick-true (eqb key key) _ _ (eq-eqb key key refl)
+
+  remove-moves : ordered + openHeld (m key) ≡ filled + withdrawn → Moved key ordered filled withdrawn m (plainNext (removing key) m)
+  unfolding plainNext ofHeld
+  remove-moves q =
+      record {
+        elsewhere = λ k ne. pick-false (eqb k key) _ _ (ne-eqb k key ne);
+        records = λ value h. absurd (some-none h here);
+        balance = omega (arith, ap openHeld here);
+      }
+    where
+      here : cond (eqb key key) none (m key) ≡ none
+      here = pick-true (eqb key key) _ _ (eq-eqb key key refl)
+
+-- ---- what a step that is not refused makes of it
+
+-- the map after the call that a step comes to
+abbrev after : PlainMap → (key : ℕ) → Option Call → PlainMap
+after m key call = plainNext (operationBy key call) m
+
+quantity-fits : (quantity left : ℕ) → quantityFault quantity left ≡ 0 → (0 < quantity) × (quantity ≤ left)
+unfolding quantityFault
+quantity-fits quantity left z =
+    let first = say-zero (eqb quantity 0) 19 _ z (omega arith) in
+    let second = say-zero (ltb left quantity) 19 0 (first .1) (omega arith) in
+    (omega (arith, eqb-false quantity 0 (first .0)), ltb-false left quantity (second .0))
+
+module _ (m : PlainMap) (r : Records m) (key : ℕ) where
+  -- a new order, whose key is not held
+  new-moves : (quantity : ℕ) → quantity < 2 ^ 64 → m key ≡ none → say (eqb quantity 0) 19 0 ≡ 0
+      → Moved key quantity 0 0 m (after m key (some (put key (orderBytes (sent quantity)))))
+  unfolding operationBy operation sent ofHeld isState
+  new-moves quantity h e z =
+      put-moves m key quantity 0 0 (sent quantity)
+      (record { state = refl; part = omega (arith, eqb-false quantity 0 (say-zero (eqb quantity 0) 19 0 z (omega arith) .0)); size = h })
+      (omega (arith, ap openHeld e))
+
+  -- the order o that the key holds
+  module _ (o : Order) (s : BookOrder o) (e : openHeld (m key) ≡ openOf o) where
+    acknowledge-moves : Moved key 0 0 0 m (after m key (callBy (some o) (acknowledge key)))
+    unfolding callBy operationBy operation plainNext acknowledged isState
+    acknowledge-moves = go (eqb (o .state) 2)
+      where
+        go : (b : Bool) → Moved key 0 0 0 m (after m key (cond b none (some (put key (orderBytes (acknowledged o))))))
+        go true = stays m r key
+        go false = put-moves m key 0 0 0 (acknowledged o) (record { state = refl; part = s .part; size = s .size }) (omega arith)
+
+    fill-moves : (quantity : ℕ) → quantityFault quantity (openOf o) ≡ 0
+        → Moved key 0 quantity 0 m (after m key (callBy (some o) (fill key quantity)))
+    unfolding callBy operationBy operation filledBy
+    fill-moves quantity z = go (eqb quantity (openOf o)) refl (quantity-fits quantity (openOf o) z)
+      where
+        go : (b : Bool) → eqb quantity (openOf o) ≡ b → (0 < quantity) × (quantity ≤ openOf o)
+            → Moved key 0 quantity 0 m (after m key (cond b (some (remove key)) (some (put key (orderBytes (filledBy quantity o))))))
+        go true d h = remove-moves m key 0 quantity 0 (omega (arith, eqb-true quantity (openOf o) d))
+        go false d h =
+            put-moves m key 0 quantity 0 (filledBy quantity o)
+            (record { state = s .state; part = omega (arith, s .part, eqb-false quantity (openOf o) d, h .1); size = s .size })
+            (omega (arith, s .part, h .1))
+
+    withdraw-moves : Moved key 0 0 (openHeld (m key)) m (after m key (callBy (some o) (withdraw key)))
+    unfolding callBy operationBy operation
+    withdraw-moves = remove-moves m key 0 0 (openHeld (m key)) refl
+
+  -- by a fault with number 18 where there is no order: the key holds one
+  by-order : (fault : Option Order → ℕ) → fault none ≡ 18 → fault (orderIn (m key)) ≡ 0 → (P : Option Order → Type 0)
+      → ((o : Order) → BookOrder o → openHeld (m key) ≡ openOf o → fault (some o) ≡ 0 → P (some o)) → P (orderIn (m key))
+  unfolding orderIn ofHeld
+  by-order fault none-18 z P h = go (m key) refl
+    where
+      go : (held : Option (List ℕ)) → m key ≡ held → P (orderIn (m key))
+      go none e = absurd (let n : _≡_ {A = ℕ} 0 18 = sym z ∙ ap (λ (x : Option (List ℕ)). fault (orderIn x)) e ∙ none-18 in omega arith)
+      go (some value) e =
+          let b = r key value e in
+          let d : orderIn (m key) ≡ some (orderOf value) = ap orderIn e ∙ pick-true (isOrder value) _ _ (b .order) in
+          subst P (sym d) (h (orderOf value) (record-order value b) (ap openHeld e) (sym (ap fault d) ∙ z))
+
+-- a step moves the quantities that it adds to the totals
+abbrev Moves : PlainMap → Step → PlainMap → Type 0
+Moves m step m′ = Moved (stepKey step) (orderedIn m step) (filledIn m step) (withdrawnIn m step) m m′
+
+not-held : (held : Option (List ℕ)) → isHeld held ≡ false → held ≡ none
+unfolding isHeld
+not-held none e = refl
+not-held (some value) e = absurd (true-false refl e)
+
+module _ (l : ℕ) (m : PlainMap) (r : Records m) where
+  by-call : (step : Step) → TypedStep l step → bookFault m step ≡ 0
+      → Moves m step (after m (stepKey step) (callBy (orderIn (m (stepKey step))) step))
+  unfolding bookFault orderFault callBy orderedIn filledIn withdrawnIn
+  by-call (new key quantity) (new-typed k h) z =
+      let free = say-zero (isHeld (m key)) 17 _ z (omega arith) in
+      new-moves m r key quantity h (not-held (m key) (free .0)) (free .1)
+  by-call (acknowledge key) (acknowledge-typed k) z =
+      by-order m r key (λ o. orderFault o (acknowledge key)) refl z
+      (λ o. Moved key 0 0 0 m (after m key (callBy o (acknowledge key)))) (λ o s e q. acknowledge-moves m r key o s e)
+  by-call (fill key quantity) (fill-typed k h) z =
+      by-order m r key (λ o. orderFault o (fill key quantity)) refl z
+      (λ o. Moved key 0 quantity 0 m (after m key (callBy o (fill key quantity)))) (λ o s e q. fill-moves m r key o s e quantity q)
+  by-call (withdraw key) (withdraw-typed k) z =
+      by-order m r key (λ o. orderFault o (withdraw key)) refl z
+      (λ o. Moved key 0 0 (openHeld (m key)) m (after m key (callBy o (withdraw key)))) (λ o s e q. withdraw-moves m r key o s e)
+
+  -- a step that the book's rules do not refuse
+  step-moves : (step : Step) → TypedStep l step → bookFault m step ≡ 0 → Moves m step (plainNext (stepOperation m step) m)
+  unfolding stepOperation stepCall
+  step-moves step typed z =
+      subst (λ call. Moves m step (after m (stepKey step) call)) (sym (taken-leaves _ _ (bookFault m step) z)) (by-call step typed z)
+
+  -- ---- an event
+
+  module _ (w : World) (step : Step) (typed : TypedStep l step) where
+    abbrev fault : ℕ
+    fault = stepFault l w m step
+
+    -- what the step adds to a total
+    abbrev adds : (stand : Bool) → ℕ → ℕ
+    adds stand quantity = cond (stand && not (refuses fault)) quantity 0
+
+    -- an event of the step, whose stores all stand or not
+    event-moves : (stand : Bool)
+        → Moved (stepKey step) (adds stand (orderedIn m step)) (adds stand (filledIn m step)) (adds stand (withdrawnIn m step)) m
+        (plainEvent stand (stepOperation m step) (refuses fault) m)
+    unfolding plainEvent plainStep refuses stepFault
+    event-moves false = stays m r (stepKey step)
+    event-moves true = go (eqb fault 0) refl
+      where
+        go : (b : Bool) → eqb fault 0 ≡ b
+            → Moved (stepKey step) (cond (not (not b)) (orderedIn m step) 0) (cond (not (not b)) (filledIn m step) 0)
+            (cond (not (not b)) (withdrawnIn m step) 0) m (plainStep (stepOperation m step) (not b) m)
+        go true e = step-moves step typed (orElse-zero (bookFault m step) _ (eqb-true fault 0 e) .0)
+        go false e = stays m r (stepKey step)
+
+typed-request : {l n : ℕ} {event : Event Step} → FitsBy (TypedStep l) n event → TypedStep l (requestOf event)
+typed-request (done-fits t) = t
+typed-request (struck-fits t c) = t
+
+-- ---- a list of events
+
+-- quantities that are moved before those of a list that balances
+moved-before : (key ordered filled withdrawn : ℕ) (m m′ : PlainMap) → Moved key ordered filled withdrawn m m′ → (ks : List ℕ) → Keys m ks
+    → (later-ordered later-filled later-withdrawn end : ℕ)
+    → ((js : List ℕ) → Keys m′ js → later-ordered + openTotal m′ js ≡ later-filled + later-withdrawn + end)
+    → ordered + later-ordered + openTotal m ks ≡ filled + later-filled + (withdrawn + later-withdrawn) + end
+moved-before key ordered filled withdrawn m m′ v ks a later-ordered later-filled later-withdrawn end later =
+    go (next-listed m m′ key (v .elsewhere) ks a)
+  where
+    go : Listed m′ → ordered + later-ordered + openTotal m ks ≡ filled + later-filled + (withdrawn + later-withdrawn) + end
+    go (listed js b) = omega (arith, v .balance, later js b, open-but-one m m′ key (v .elsewhere) ks js a b)
+
+moved-records : (key ordered filled withdrawn : ℕ) (m m′ : PlainMap) → Records m → Moved key ordered filled withdrawn m m′ → Records m′
+moved-records key ordered filled withdrawn m m′ r v k value e =
+    by-cases (ℕ-discrete k key) (λ q. v .records value (ap m′ (sym q) ∙ e)) (λ ne. r k value (sym (v .elsewhere k ne) ∙ e))
+
+module _ (l n : ℕ) where
+  pub records-at-end : (w : World) (m : PlainMap) → Records m → (events : List (Event Step)) → All (FitsBy (TypedStep l) n) events
+      → Records (mapAtEnd l w m events)
+  unfolding mapAtEnd
+  records-at-end w m r [] none-left = r
+  records-at-end w m r (event ∷ events) (one-more f fs) =
+      records-at-end (worldAfterStep l w event) (mapAfterStep l w m event)
+      (moved-records _ _ _ _ m _ r (event-moves l m r w (requestOf event) (typed-request f) (allStand event))) events fs
+
+  -- a key that no step names keeps its value
+  pub others-stay : (w : World) (m : PlainMap) → Records m → (events : List (Event Step)) → All (FitsBy (TypedStep l) n) events → (key : ℕ)
+      → All (λ event. key ≡ stepKey (requestOf event) → ⊥) events → mapAtEnd l w m events key ≡ m key
+  unfolding mapAtEnd
+  others-stay w m r [] none-left key none-left = refl
+  others-stay w m r (event ∷ events) (one-more f fs) key (one-more ne nes) =
+      let v = event-moves l m r w (requestOf event) (typed-request f) (allStand event) in
+      others-stay (worldAfterStep l w event) (mapAfterStep l w m event) (moved-records _ _ _ _ m _ r v) events fs key nes ∙ v .elsewhere key ne
+
+  -- THE BALANCE from any map of book records, with what is open at the start
+  pub balanced : (w : World) (m : PlainMap) → Records m → (events : List (Event Step)) → All (FitsBy (TypedStep l) n) events
+      → (ks js : List ℕ) → Keys m ks → Keys (mapAtEnd l w m events) js
+      → totalOf orderedIn l w m events + openTotal m ks
+      ≡ totalOf filledIn l w m events + totalOf withdrawnIn l w m events + openTotal (mapAtEnd l w m events) js
+  unfolding mapAtEnd totalOf counts
+  balanced w m r [] none-left ks js a b = omega (arith, open-same m ks js a b)
+  balanced w m r (event ∷ events) (one-more f fs) ks js a b =
+      let v = event-moves l m r w (requestOf event) (typed-request f) (allStand event) in
+      moved-before _ _ _ _ m (mapAfterStep l w m event) v ks a _ _ _ _
+      (λ is c. balanced (worldAfterStep l w event) (mapAfterStep l w m event) (moved-records _ _ _ _ m _ r v) events fs is js c b)
+
+-- ---- since an empty set
+
+pub none-held : (m : PlainMap) → ((key : ℕ) → m key ≡ none) → Records m
+none-held m empty key value e = absurd (some-none e (empty key))
+
+-- CONSERVATION
+pub conservation : (l : ℕ) → Layout l → Conservation l
+unfolding openTotal recoveredWorld worldAfter
+conservation l layout image heads next z empty events fits = record {
+  recovers = set-laws l layout .recovers _ _ (to-end l _ (set-laws l layout) (slotsIn image) w (slotsMap l image) events (set-laws l layout .after-recovery image heads next z) refl fits);
+  orders = λ key value e. records-at-end l (slotsIn image) w (slotsMap l image) none-there events fits key value e .order;
+  balance = λ keys held. omega (arith, balanced l (slotsIn image) w (slotsMap l image) none-there events fits [] keys no-keys held);
+}
+  where
+    w : World
+    w = recoveredWorld l image heads next
+
+    none-there : Records (slotsMap l image)
+    none-there = none-held (slotsMap l image) empty
+
+    no-keys : Keys (slotsMap l image) []
+    no-keys = record { once = tt; held = λ k i. absurd i; all = λ k h. nothing k h }
+      where
+        nothing : (k : ℕ) → Holds (slotsMap l image) k → ⊥
+        nothing k (holds value e) = some-none e (empty k)

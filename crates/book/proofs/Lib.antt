@@ -1,0 +1,11 @@
+pub mod OrderBytes
+pub mod Lookups
+pub mod StepWays
+pub mod Steps
+pub mod StepEvents
+pub mod Seeks
+pub mod Courses
+pub mod defs
+pub mod Numbers
+pub mod Sums
+pub mod Conservation

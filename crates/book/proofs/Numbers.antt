@@ -1,0 +1,133 @@
+-- The numbers of a book step: 10, 13 and 6 never show. Assumes nothing.
+use mathlib.Core.Path.{_≡_, refl}
+use mathlib.Core.Bool.{Bool, true, false, cond}
+use mathlib.Core.Logic.{inl, inr}
+use mathlib.Core.List.{List, [], _∷_}
+use Prim.Native.Nat.{ℕ}
+use native.Mathlib.Omega.{arith}
+use lib.Dec.{eqb, ltb}
+use lib.ListN.{replicate, take, length-replicate}
+use Rattle.prelude.specs.Members.{In}
+use Rattle.prelude.specs.Refusal.{say, unlessRefused}
+use Rattle.prelude.specs.Answer.{Answer, gives, absent, refused}
+use Rattle.prelude.proofs.defs.Among.{areAmong}
+use Rattle.prelude.proofs.Among.{one-of, among}
+use Rattle.book.proofs.OrderBytes.{order-length}
+use Rattle.face.specs.Set.{World, State, ChangeResult, putResult, removeResult, getResult, locateResult, limit, Layout}
+use Rattle.face.specs.Numbers.{Numbered, locateRefusals, shortPutRefusals, removeRefusals, roomyGetRefusals}
+use Rattle.face.proofs.Numbers.{short-put-numbered, remove-numbered, roomy-get-numbered, locate-numbered}
+use Rattle.book.specs.Orders.{orderBytes, orderOf, isOrder, openOf, sent, acknowledged, filledBy}
+use Rattle.book.specs.Steps.{Step, new, acknowledge, fill, withdraw, declined, idle, changeAnswers, asChange, Sought, order, none-there, soughtIn, soughtBy, seek, newAt, newResult, alreadyAt, acknowledgeAt, acknowledgeResult, quantityFault, fillBy, fillAt, fillResult, withdrawAt, withdrawResult, booked}
+use Rattle.book.specs.Numbers.{stepRefusals, StepNumbered}
+use Rattle.book.specs.declared.Order.{Order}
+
+-- ---- lists of numbers
+
+-- 6 becomes 18
+get-in : (k : ℕ) → In k roomyGetRefusals → In (cond (eqb k 6) 18 k) stepRefusals
+get-in k (inl e) = rw e (one-of 1 stepRefusals refl)
+get-in k (inr (inl e)) = rw e (one-of 2 stepRefusals refl)
+get-in k (inr (inr (inl e))) = rw e (one-of 3 stepRefusals refl)
+get-in k (inr (inr (inr (inl e)))) = rw e (one-of 4 stepRefusals refl)
+get-in k (inr (inr (inr (inr (inl e))))) = rw e (one-of 11 stepRefusals refl)
+get-in k (inr (inr (inr (inr (inr (inl e)))))) = rw e (one-of 18 stepRefusals refl)
+
+-- where there is no order the number is one of them
+abbrev StepFound : Sought → Type 0
+StepFound (order o) = Unit
+StepFound (none-there number) = In number stepRefusals
+
+-- ---- the calls that a step makes
+
+module _ (l : ℕ) (lay : Layout l) (image heads next : List ℕ) (s : State) (key : ℕ) where
+  change-in : (ks : List ℕ) → areAmong ks stepRefusals ≡ true → (c : ChangeResult) → Numbered ks (c .answer) → StepNumbered (asChange c .answer)
+  unfolding asChange changeAnswers
+  change-in ks e c n = go (c .answer) n
+    where
+      go : (a : Answer) → Numbered ks a → StepNumbered (changeAnswers a)
+      go (gives values) h = tt
+      go absent h = one-of 18 stepRefusals refl
+      go (refused k) h = among ks stepRefusals e k h
+
+  put-step : (o : Order) → StepNumbered (asChange (putResult l image heads next s key (orderBytes o)) .answer)
+  put-step o =
+      change-in shortPutRefusals refl (putResult l image heads next s key (orderBytes o))
+      (short-put-numbered l image heads next s key (orderBytes o) (omega (arith, order-length o, lay .high)))
+
+  remove-step : StepNumbered (asChange (removeResult l image heads next s key) .answer)
+  remove-step = change-in removeRefusals refl (removeResult l image heads next s key) (remove-numbered l image heads next s key)
+
+  -- what a step on an order finds
+  sought-in : StepFound (seek l image heads next key)
+  unfolding seek soughtBy soughtIn
+  sought-in =
+      go _ (getResult l image heads next key (replicate (limit l) 0) .answer)
+      (roomy-get-numbered l image heads next key (replicate (limit l) 0) (omega (arith, length-replicate {A = ℕ} (limit l) 0)))
+    where
+      found : (b : Bool) (o : Order) → StepFound (cond b (order o) (none-there 18))
+      found true o = tt
+      found false o = one-of 18 stepRefusals refl
+
+      go : (out : List ℕ) (a : Answer) → Numbered roomyGetRefusals a → StepFound (soughtIn out a)
+      go out (gives []) h = one-of 18 stepRefusals refl
+      go out (gives (n ∷ values)) h = found (isOrder (take n out)) (orderOf (take n out))
+      go out absent h = one-of 18 stepRefusals refl
+      go out (refused k) h = get-in k h
+
+  -- ---- each step
+
+  located-in : (a : Answer) → Numbered locateRefusals a → (quantity : ℕ) → StepNumbered (newAt l image heads next s key quantity a .answer)
+  unfolding newAt idle
+  located-in (gives values) h quantity = one-of 17 stepRefusals refl
+  located-in absent h quantity = go (eqb quantity 0)
+    where
+      go : (b : Bool) → StepNumbered (cond b (idle (declined 19) s heads next) (asChange (putResult l image heads next s key (orderBytes (sent quantity)))) .answer)
+      go true = one-of 19 stepRefusals refl
+      go false = put-step (sent quantity)
+  located-in (refused k) h quantity = among locateRefusals stepRefusals refl k h
+
+  already-in : (a : Answer) → Numbered locateRefusals a → StepNumbered (alreadyAt s heads next a .answer)
+  unfolding alreadyAt idle
+  already-in (gives values) h = tt
+  already-in absent h = one-of 18 stepRefusals refl
+  already-in (refused k) h = among locateRefusals stepRefusals refl k h
+
+  acknowledge-in : (sought : Sought) → StepFound sought → StepNumbered (acknowledgeAt l image heads next s key sought .answer)
+  unfolding acknowledgeAt idle
+  acknowledge-in (order o) h = go (eqb (o .state) 2)
+    where
+      go : (b : Bool) → StepNumbered (cond b (alreadyAt s heads next (locateResult l image heads next key)) (asChange (putResult l image heads next s key (orderBytes (acknowledged o)))) .answer)
+      go true = already-in _ (locate-numbered l image heads next key)
+      go false = put-step (acknowledged o)
+  acknowledge-in (none-there k) h = h
+
+  fill-in : (quantity : ℕ) (sought : Sought) → StepFound sought → StepNumbered (fillAt l image heads next s key quantity sought .answer)
+  unfolding fillAt fillBy quantityFault say unlessRefused idle
+  fill-in quantity (order o) h = go (eqb quantity 0) (ltb (openOf o) quantity) (eqb quantity (openOf o))
+    where
+      go : (a b c : Bool)
+          → StepNumbered
+          (unlessRefused (say a 19 (say b 19 0))
+          (cond c (asChange (removeResult l image heads next s key)) (asChange (putResult l image heads next s key (orderBytes (filledBy quantity o)))))
+          (idle (declined (say a 19 (say b 19 0))) s heads next) .answer)
+      go true b c = one-of 19 stepRefusals refl
+      go false true c = one-of 19 stepRefusals refl
+      go false false true = remove-step
+      go false false false = put-step (filledBy quantity o)
+  fill-in quantity (none-there k) h = h
+
+  withdraw-in : (sought : Sought) → StepFound sought → StepNumbered (withdrawAt l image heads next s key sought .answer)
+  unfolding withdrawAt idle
+  withdraw-in (order o) h = remove-step
+  withdraw-in (none-there k) h = h
+
+-- THE NUMBERS of a step
+pub step-numbered : (l : ℕ) → Layout l → (w : World) (step : Step) → StepNumbered (booked l w step .answer)
+unfolding booked newResult acknowledgeResult fillResult withdrawResult
+step-numbered l lay w (new key quantity) = located-in l lay (w .image) (w .heads) (w .next) (w .state) key _ (locate-numbered l _ _ _ key) quantity
+step-numbered l lay w (acknowledge key) =
+    acknowledge-in l lay (w .image) (w .heads) (w .next) (w .state) key _ (sought-in l lay (w .image) (w .heads) (w .next) (w .state) key)
+step-numbered l lay w (fill key quantity) =
+    fill-in l lay (w .image) (w .heads) (w .next) (w .state) key quantity _ (sought-in l lay (w .image) (w .heads) (w .next) (w .state) key)
+step-numbered l lay w (withdraw key) =
+    withdraw-in l lay (w .image) (w .heads) (w .next) (w .state) key _ (sought-in l lay (w .image) (w .heads) (w .next) (w .state) key)

@@ -1,0 +1,139 @@
+-- An event of a book step is an event of the set's call that the step comes to. Assumes nothing.
+use mathlib.Core.Path.{_≡_, refl, sym, ap, _∙_, subst}
+use mathlib.Core.Logic.{by-cases}
+use mathlib.Core.Bool.{Bool, true, false, cond, not}
+use mathlib.Core.Option.{Option, some, none}
+use mathlib.Core.List.{List, [], _∷_}
+use Prim.Native.Nat.{ℕ}
+use native.Mathlib.Decide.{ℕ-discrete}
+use lib.Dec.{eqb}
+use borrow.Author.Tests.{ne-eqb}
+use Rattle.prelude.specs.Answer.{refuses}
+use Rattle.prelude.specs.Members.{All, none-left, one-more}
+use Rattle.prelude.proofs.Choice.{pick-true}
+use Rattle.prelude.proofs.Refusals.{orElse-zero, taken-leaves, refused-keeps, by-refusal}
+use Rattle.face.specs.Set.{World, Call, put, remove, locate, PlainMap, Operation, operation, plainNext, plainStep, ruleFault, Typed, put-typed, remove-typed, locate-typed, dueFault, slotsIn, bothStand, recoveredWorld}
+use Rattle.face.specs.Event.{Event, done, struck, Leaving, stepBy, imageCut, step, allStand, plainEvent, mapAfterEvent, FitsBy, done-fits, struck-fits, Fits}
+use Rattle.face.specs.Laws.{SetLaws}
+use Rattle.book.specs.Orders.{orderBytes, acknowledged, filledBy, openOf, sent}
+use Rattle.book.specs.Steps.{Step, new, acknowledge, fill, withdraw}
+use Rattle.book.specs.Plain.{stepKey, orderIn, bookFault, callBy, stepCall, callFault, stepFault, operationBy, stepOperation, callOr, callFor, TypedStep, new-typed, acknowledge-typed, fill-typed, withdraw-typed, worldAfterStep, mapAfterStep}
+use Rattle.book.specs.Totals.{worldAtEnd, mapAtEnd}
+use Rattle.book.specs.declared.Order.{Order}
+use Rattle.book.proofs.defs.CallEvent.{callEvent}
+use Rattle.book.proofs.OrderBytes.{order-bytes}
+use Rattle.book.proofs.Steps.{step-right}
+
+-- ---- the call is typed
+
+module _ (l : ℕ) where
+  either : (key : ℕ) (b : Bool) (p q : Option Call) → Typed l (callOr key p) → Typed l (callOr key q) → Typed l (callOr key (cond b p q))
+  either key true p q x y = x
+  either key false p q x y = y
+
+  by-typed : (held : Option Order) (step : Step) → TypedStep l step → Typed l (callOr (stepKey step) (callBy held step))
+  unfolding callBy callOr
+  by-typed none (new key quantity) (new-typed k q) = put-typed k (order-bytes (sent quantity))
+  by-typed none (acknowledge key) (acknowledge-typed k) = locate-typed
+  by-typed none (fill key quantity) (fill-typed k q) = locate-typed
+  by-typed none (withdraw key) (withdraw-typed k) = locate-typed
+  by-typed (some o) (new key quantity) (new-typed k q) = put-typed k (order-bytes (sent quantity))
+  by-typed (some o) (acknowledge key) (acknowledge-typed k) =
+      either key (eqb (o .state) 2) none (some (put key (orderBytes (acknowledged o)))) locate-typed (put-typed k (order-bytes (acknowledged o)))
+  by-typed (some o) (fill key quantity) (fill-typed k q) =
+      either key (eqb quantity (openOf o)) (some (remove key)) (some (put key (orderBytes (filledBy quantity o)))) (remove-typed k)
+      (put-typed k (order-bytes (filledBy quantity o)))
+  by-typed (some o) (withdraw key) (withdraw-typed k) = remove-typed k
+
+  call-typed : (w : World) (m : PlainMap) (step : Step) → TypedStep l step → Typed l (callFor l w m step)
+  unfolding callFor stepCall callOr
+  call-typed w m step t =
+      by-refusal (Typed l) (stepFault l w m step) _ _
+      (by-refusal (λ (c : Option Call). Typed l (callOr (stepKey step) c)) (bookFault m step) _ _
+      (by-typed (orderIn (m (stepKey step))) step t) locate-typed)
+      locate-typed
+
+-- ---- the plain map
+
+module _ (l : ℕ) (w : World) (m : PlainMap) (step : Step) where
+  -- a locate keeps the plain map
+  located-map : (call : Call) (key : ℕ) → call ≡ locate key → m ≡ plainStep (operation call) (refuses (dueFault l w m call)) m
+  unfolding plainStep operation plainNext ruleFault refuses
+  located-map call key e = sym (ap (λ (c : Call). plainStep (operation c) (refuses (dueFault l w m c)) m) e)
+
+  by-map : (call : Option Call) → callFault l w m call ≡ 0
+      → plainStep (operationBy (stepKey step) call) (refuses 0) m ≡
+      plainStep (operation (callOr (stepKey step) call)) (refuses (dueFault l w m (callOr (stepKey step) call))) m
+  unfolding callFault operationBy callOr operation ruleFault
+  by-map none z = refl
+  by-map (some call) z = ap (λ (k : ℕ). plainStep (operation call) (refuses k) m) (sym z)
+
+  -- a step that is refused keeps it too
+  refused-map : (op : Operation) (k : ℕ) → (k ≡ 0 → ⊥) → plainStep op (refuses k) m ≡ m
+  unfolding plainStep refuses
+  refused-map op k nz = pick-true _ _ _ (ap not (ne-eqb k 0 nz))
+
+  call-zero : stepFault l w m step ≡ 0 → callFault l w m (stepCall m step) ≡ 0
+  unfolding stepFault
+  call-zero z = orElse-zero (bookFault m step) _ z .1
+
+  step-map : plainStep (stepOperation m step) (refuses (stepFault l w m step)) m ≡
+      plainStep (operation (callFor l w m step)) (refuses (dueFault l w m (callFor l w m step))) m
+  unfolding stepOperation callFor
+  step-map =
+      by-cases (ℕ-discrete (stepFault l w m step) 0)
+      (λ z. ap (λ (k : ℕ). plainStep (stepOperation m step) (refuses k) m) z
+      ∙ by-map (stepCall m step) (call-zero z)
+      ∙ sym (ap (λ (c : Call). plainStep (operation c) (refuses (dueFault l w m c)) m) (taken-leaves _ _ (stepFault l w m step) z)))
+      (λ nz. refused-map _ (stepFault l w m step) nz ∙ located-map _ _ (refused-keeps _ _ (stepFault l w m step) nz))
+
+-- ---- events
+
+-- the plain map after an event of a step is that after its call's event
+pub step-event-map : (l : ℕ) (w : World) (m : PlainMap) (event : Event Step) → mapAfterStep l w m event ≡ mapAfterEvent l w m (callEvent l w m event)
+unfolding callEvent plainEvent allStand
+step-event-map l w m (done step) = step-map l w m step
+step-event-map l w m (struck step cut) = ap (λ (p : PlainMap). cond (bothStand (cut .a) (cut .b)) p m) (step-map l w m step)
+
+-- its call's event fits
+pub step-event-fits : (l : ℕ) (w : World) (m : PlainMap) (event : Event Step) → FitsBy (TypedStep l) (slotsIn (w .image)) event
+    → Fits l (slotsIn (w .image)) (callEvent l w m event)
+unfolding callEvent
+step-event-fits l w m (done step) (done-fits t) = done-fits (call-typed l w m step t)
+step-event-fits l w m (struck step cut) (struck-fits t f) = struck-fits (call-typed l w m step t) f
+
+module _ (l : ℕ) (Inv : World → PlainMap → Type 0) (laws : SetLaws l Inv) (w : World) (m : PlainMap) (i : Inv w m) (event : Event Step)
+    (fits : FitsBy (TypedStep l) (slotsIn (w .image)) event) where
+  -- the set after it is that after its call's event
+  pub step-event-world : worldAfterStep l w event ≡ step l w (callEvent l w m event)
+  unfolding callEvent stepBy imageCut
+  step-event-world = go event fits
+    where
+      go : (e : Event Step) → FitsBy (TypedStep l) (slotsIn (w .image)) e → worldAfterStep l w e ≡ step l w (callEvent l w m e)
+      go (done request) (done-fits t) =
+          ap (λ (r : Leaving). stepBy l (λ v x. r) w (done request)) (step-right l Inv laws w m i request t .leaves)
+      go (struck request cut) (struck-fits t f) =
+          ap (λ (r : Leaving). recoveredWorld l (imageCut w r cut) (cut .heads) (cut .next)) (step-right l Inv laws w m i request t .leaves)
+
+  -- an event of a step keeps the invariant, with the plain map's next map
+  pub step-event-keeps : Inv (worldAfterStep l w event) (mapAfterStep l w m event)
+  step-event-keeps =
+      subst (λ (v : World). Inv v (mapAfterStep l w m event)) (sym step-event-world)
+      (subst (Inv (step l w (callEvent l w m event))) (sym (step-event-map l w m event))
+      (laws .keeps w m i (callEvent l w m event) (step-event-fits l w m event fits)))
+
+  -- and the number of slots
+  pub step-event-slots : slotsIn (worldAfterStep l w event .image) ≡ slotsIn (w .image)
+  step-event-slots =
+      ap (λ (v : World). slotsIn (v .image)) step-event-world ∙ laws .keeps-slots w m i (callEvent l w m event) (step-event-fits l w m event fits)
+
+-- every list of events of steps keeps the invariant, with the plain map at the end
+module _ (l : ℕ) (Inv : World → PlainMap → Type 0) (laws : SetLaws l Inv) (n : ℕ) where
+  pub to-end : (w : World) (m : PlainMap) (events : List (Event Step)) → Inv w m → slotsIn (w .image) ≡ n
+      → All (FitsBy (TypedStep l) n) events → Inv (worldAtEnd l w events) (mapAtEnd l w m events)
+  unfolding worldAtEnd mapAtEnd
+  to-end w m [] i e none-left = i
+  to-end w m (event ∷ events) i e (one-more f rest) =
+      let here = subst (λ (k : ℕ). FitsBy (TypedStep l) k event) (sym e) f in
+      to-end (worldAfterStep l w event) (mapAfterStep l w m event) events (step-event-keeps l Inv laws w m i event here)
+      (step-event-slots l Inv laws w m i event here ∙ e) rest

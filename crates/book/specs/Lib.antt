@@ -1,0 +1,6 @@
+pub mod Orders
+pub mod Steps
+pub mod Plain
+pub mod Totals
+pub mod Numbers
+pub mod inner

@@ -1,0 +1,90 @@
+-- CONSERVATION. Document 02, A.1: "Over any history of book steps since an empty set, total ordered equals total filled plus total withdrawn plus what is open,
+-- the first three summed from the accepted steps that no cut made absent."
+use mathlib.Core.Path.{_≡_}
+use mathlib.Core.Bool.{Bool, true, cond, not, _&&_}
+use mathlib.Core.Option.{Option, some, none}
+use mathlib.Core.List.{List, [], _∷_}
+use Prim.Native.Nat.{ℕ, _+_}
+use lib.ListN.{length}
+use Rattle.prelude.specs.Answer.{refuses}
+use Rattle.prelude.specs.Members.{All}
+use Rattle.face.specs.Set.{World, PlainMap, Keys, recoverFault, recoveredWorld, slotsIn, slotsMap}
+use Rattle.face.specs.Recovers.{Recovers}
+use Rattle.face.specs.Event.{Event, requestOf, allStand, FitsBy}
+use Rattle.book.specs.Orders.{orderOf, isOrder, openOf}
+use Rattle.book.specs.declared.Order.{Order}
+use Rattle.book.specs.Steps.{Step, new, acknowledge, fill, withdraw}
+use Rattle.book.specs.Plain.{stepFault, TypedStep, worldAfterStep, mapAfterStep}
+
+-- a quantity of the order in a key's value, 0 where the key is not held
+unfoldable pub ofHeld : (Order → ℕ) → Option (List ℕ) → ℕ
+ofHeld f none = 0
+ofHeld f (some value) = f (orderOf value)
+
+-- what is open of it
+abbrev pub openHeld : Option (List ℕ) → ℕ
+openHeld held = ofHeld openOf held
+
+-- what a step adds to each total, by the plain map before it
+unfoldable pub orderedIn : PlainMap → Step → ℕ
+orderedIn m (new key quantity) = quantity
+orderedIn m (acknowledge key) = 0
+orderedIn m (fill key quantity) = 0
+orderedIn m (withdraw key) = 0
+
+unfoldable pub filledIn : PlainMap → Step → ℕ
+filledIn m (new key quantity) = 0
+filledIn m (acknowledge key) = 0
+filledIn m (fill key quantity) = quantity
+filledIn m (withdraw key) = 0
+
+-- a withdraw takes all that is open
+unfoldable pub withdrawnIn : PlainMap → Step → ℕ
+withdrawnIn m (new key quantity) = 0
+withdrawnIn m (acknowledge key) = 0
+withdrawnIn m (fill key quantity) = 0
+withdrawnIn m (withdraw key) = openHeld (m key)
+
+-- an accepted step that no cut made absent
+unfoldable pub counts : (l : ℕ) → World → PlainMap → Event Step → Bool
+counts l w m event = allStand event && not (refuses (stepFault l w m (requestOf event)))
+
+-- the sum over a list of events of what each step that counts adds
+unfoldable pub totalOf : (adds : PlainMap → Step → ℕ) → (l : ℕ) → World → PlainMap → List (Event Step) → ℕ
+totalOf adds l w m [] = 0
+totalOf adds l w m (event ∷ events) =
+    cond (counts l w m event) (adds m (requestOf event)) 0 + totalOf adds l (worldAfterStep l w event) (mapAfterStep l w m event) events
+
+-- the set after the events
+unfoldable pub worldAtEnd : (l : ℕ) → World → List (Event Step) → World
+worldAtEnd l w [] = w
+worldAtEnd l w (event ∷ events) = worldAtEnd l (worldAfterStep l w event) events
+
+-- the plain map after the events
+unfoldable pub mapAtEnd : (l : ℕ) → World → PlainMap → List (Event Step) → PlainMap
+mapAtEnd l w m [] = m
+mapAtEnd l w m (event ∷ events) = mapAtEnd l (worldAfterStep l w event) (mapAfterStep l w m event) events
+
+-- "what is open", summed over a list of keys
+unfoldable pub openTotal : PlainMap → (keys : List ℕ) → ℕ
+openTotal m [] = 0
+openTotal m (key ∷ keys) = openHeld (m key) + openTotal m keys
+
+-- every value is a book record
+abbrev pub AllOrders : PlainMap → Type 0
+AllOrders m = (key : ℕ) (value : List ℕ) → m key ≡ some value → isOrder value ≡ true
+
+-- from a world with the plain map m: the totals balance with what is open in every list of the keys that are held at the end
+pub record Conserves (l : ℕ) (w : World) (m : PlainMap) (events : List (Event Step)) : Type 0 where
+  -- the map is that of the set: what recovery and get then give, with a list of the held keys
+  pub recovers : Recovers l (worldAtEnd l w events .image) (mapAtEnd l w m events)
+  pub orders : AllOrders (mapAtEnd l w m events)
+  pub balance : (keys : List ℕ) → Keys (mapAtEnd l w m events) keys
+      → totalOf orderedIn l w m events ≡ totalOf filledIn l w m events + totalOf withdrawnIn l w m events + openTotal (mapAtEnd l w m events) keys
+
+-- "since an empty set": an accepted image whose map is empty
+abbrev pub Conservation : (l : ℕ) → Type 0
+Conservation l =
+    (image heads next : List ℕ) → recoverFault l image (length heads) (length next) ≡ 0
+    → ((key : ℕ) → slotsMap l image key ≡ none) → (events : List (Event Step)) → All (FitsBy (TypedStep l) (slotsIn image)) events
+    → Conserves l (recoveredWorld l image heads next) (slotsMap l image) events

@@ -1,0 +1,13 @@
+-- `book_code::steps::fill` meets its contract. Assumes nothing.
+use borrow.Author.Needs.{needs}
+use Rattle.book.proofs.Courses.{fill-result}
+use Rattle.book_code.proofs.steps.fill.Statement.{statement}
+use Rattle.book_code.proofs.steps.fill.Tie as tie
+
+returns : tie.Need-returns
+returns c = fill-result _ _ _ _ _ _ _ _ (c .before .before .before .before .carry-out .ensures) _ (c .before .before .before .before .before .before .before .fill-plan .ensures)
+
+pub fill-spec : {M : Type 1} → statement M
+fill-spec =
+    tie.close
+    (tie.spec (λ c κs. search needs) (λ c κs. search needs) (λ c. search needs) (λ c. search needs) returns)

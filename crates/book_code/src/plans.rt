@@ -1,0 +1,142 @@
+// What each step is to do, by what it reads. Nothing is written here.
+ghost use mathlib.Core.Path.{_≡_};
+ghost use Prim.Native.Nat.{_<_};
+ghost use Rattle.face.specs.Set.{locateSays, locateResult};
+ghost use Rattle.book.specs.Steps.{seek};
+ghost use Rattle.book.specs.inner.Courses.{seekSays, soughtNumber, planSays, newCourse, alreadyCourse, acknowledgeCourse, fillOrder, fillCourse, withdrawCourse};
+use crate::orders::order_in;
+use book::Order;
+use book::Plan;
+use book::Seek;
+use orderset::Got;
+use orderset::Located;
+use orderset::get;
+use orderset::locate;
+
+// The number of a get's refusal, as a step says it.
+fn sought_number(number: u32) -> u32
+    ensures { λ r. ⌜ r ≡ soughtNumber number ⌝ }
+{
+    if number == 6 {
+        return 18;
+    }
+    number
+}
+
+// The order of the key, or a refusal.
+fn seek_order(image: &[u8], heads: &[u32], next: &[u32], key: u64) -> Seek
+    ensures { λ r. ⌜ seekSays r ≡ seek 1 (now (image .entry)) (now (heads .entry)) (now (next .entry)) key ⌝ }
+{
+    let mut out = [0u8; 80];
+    let got = get(image, heads, next, key, &mut out);
+    match got {
+        Got::Length(n) => order_in(&out, n),
+        Got::Absent => Seek::Missing(18),
+        Got::Refused(number) => Seek::Missing(sought_number(number)),
+    }
+}
+
+// A new order, by what locate answers for its key.
+fn new_located(located: Located, quantity: u64) -> Plan
+    ensures { λ r. ⌜ planSays r ≡ newCourse quantity (locateSays located) ⌝ }
+{
+    match located {
+        Located::At {
+            slot: _,
+            version: _,
+        } => Plan::Refused(17),
+        Located::Absent => {
+            if quantity == 0 {
+                return Plan::Refused(19);
+            }
+            Plan::Put(Order {
+                state: 1,
+                ordered: quantity,
+                filled: 0,
+            })
+        }
+        Located::Refused(number) => Plan::Refused(number),
+    }
+}
+
+// A new order.
+pub fn new_plan(image: &[u8], heads: &[u32], next: &[u32], key: u64, quantity: u64) -> Plan
+    ensures { λ r. ⌜ planSays r ≡ newCourse quantity (locateResult 1 (now (image .entry)) (now (heads .entry)) (now (next .entry)) key) ⌝ }
+{
+    new_located(locate(image, heads, next, key), quantity)
+}
+
+// An acknowledge of an order that was acknowledged before, by what locate answers for its key.
+fn already_located(located: Located) -> Plan
+    ensures { λ r. ⌜ planSays r ≡ alreadyCourse (locateSays located) ⌝ }
+{
+    match located {
+        Located::At { slot, version } => Plan::Already { slot, version },
+        Located::Absent => Plan::Refused(18),
+        Located::Refused(number) => Plan::Refused(number),
+    }
+}
+
+// An acknowledge.
+pub fn acknowledge_plan(image: &[u8], heads: &[u32], next: &[u32], key: u64) -> Plan
+    ensures { λ r. ⌜ planSays r ≡ acknowledgeCourse (locateResult 1 (now (image .entry)) (now (heads .entry)) (now (next .entry)) key) (seek 1 (now (image .entry)) (now (heads .entry)) (now (next .entry)) key) ⌝ }
+{
+    let sought = seek_order(image, heads, next, key);
+    match sought {
+        Seek::Found(order) => {
+            if order.state == 2 {
+                return already_located(locate(image, heads, next, key));
+            }
+            Plan::Put(Order {
+                state: 2,
+                ordered: order.ordered,
+                filled: order.filled,
+            })
+        }
+        Seek::Missing(number) => Plan::Refused(number),
+    }
+}
+
+// A fill of this order.
+fn fill_order(order: Order, quantity: u64) -> Plan
+    requires { ⌜ order .filled < order .ordered ⌝ }
+    ensures { λ r. ⌜ planSays r ≡ fillOrder quantity order ⌝ }
+{
+    let open = order.ordered - order.filled;
+    if quantity == 0 {
+        return Plan::Refused(19);
+    }
+    if open < quantity {
+        return Plan::Refused(19);
+    }
+    if quantity == open {
+        return Plan::Remove;
+    }
+    Plan::Put(Order {
+        state: order.state,
+        ordered: order.ordered,
+        filled: order.filled + quantity,
+    })
+}
+
+// A fill.
+pub fn fill_plan(image: &[u8], heads: &[u32], next: &[u32], key: u64, quantity: u64) -> Plan
+    ensures { λ r. ⌜ planSays r ≡ fillCourse quantity (seek 1 (now (image .entry)) (now (heads .entry)) (now (next .entry)) key) ⌝ }
+{
+    let sought = seek_order(image, heads, next, key);
+    match sought {
+        Seek::Found(order) => fill_order(order, quantity),
+        Seek::Missing(number) => Plan::Refused(number),
+    }
+}
+
+// A withdraw.
+pub fn withdraw_plan(image: &[u8], heads: &[u32], next: &[u32], key: u64) -> Plan
+    ensures { λ r. ⌜ planSays r ≡ withdrawCourse (seek 1 (now (image .entry)) (now (heads .entry)) (now (next .entry)) key) ⌝ }
+{
+    let sought = seek_order(image, heads, next, key);
+    match sought {
+        Seek::Found(_) => Plan::Remove,
+        Seek::Missing(number) => Plan::Refused(number),
+    }
+}

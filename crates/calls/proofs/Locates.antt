@@ -1,0 +1,53 @@
+-- Locate: the slot and the version of a key. Assumes nothing.
+use mathlib.Core.Path.{_≡_, refl, sym, ap, _∙_}
+use mathlib.Core.List.{List, [], _∷_}
+use Prim.Native.Nat.{ℕ, _+_, _*_, _/_}
+use native.Mathlib.Omega.{arith}
+use lib.ListN.{length}
+use Rattle.words.specs.Word.{word}
+use Rattle.prelude.specs.Refusal.{unlessRefused}
+use Rattle.prelude.specs.Answer.{gives, absent, refused}
+use Rattle.prelude.proofs.Refusals.{orElse-first, orElse-later, refused-keeps}
+use Rattle.layout.specs.Line.{versionOf}
+use Rattle.layout.specs.Header.{lentFault}
+use Rattle.index.specs.Walk.{search, chainFault}
+use Rattle.index.specs.declared.Found.{Found}
+use Rattle.index.specs.declared.Found.the-variants.{At, Missing, BadChain}
+use Rattle.calls.specs.Locate.{locateFault, locateDone, locateResult}
+
+-- a bad chain is refused with 11 either way
+done-unless : (image : List ℕ) (found : Found)
+    → locateDone image found ≡ unlessRefused (chainFault found) (locateDone image found) (refused (chainFault found))
+unfolding locateDone chainFault unlessRefused
+done-unless image (At slot prev compared) = refl
+done-unless image (Missing prev compared) = refl
+done-unless image BadChain = refl
+
+-- f is the refusal before the chain is followed, found what the chain has
+module _ (l : ℕ) (image heads next : List ℕ) (key f : ℕ) (e : f ≡ lentFault l image (length heads) (length next)) where
+  pub locate-refused : (f ≡ 0 → ⊥) → refused f ≡ locateResult l image heads next key
+  unfolding locateResult locateFault
+  locate-refused ne =
+      let q = orElse-first _ (chainFault (search l image heads next key)) (λ z. ne (e ∙ z)) in
+      ap refused (e ∙ sym q) ∙ sym (refused-keeps _ _ _ (λ z. ne (e ∙ sym q ∙ z)))
+
+  module _ (z : f ≡ 0) (found : Found) (d : found ≡ search l image heads next key) where
+    located : (known : Found) → found ≡ known → locateDone image known ≡ locateResult l image heads next key
+    unfolding locateResult locateFault
+    located known q =
+        ap (locateDone image) (sym q ∙ d) ∙ done-unless image (search l image heads next key)
+        ∙ ap (λ (k : ℕ). unlessRefused k (locateDone image (search l image heads next key)) (refused k)) (sym (orElse-later _ _ (sym e ∙ z)))
+
+    pub locate-held : (slot prev compared stamp : ℕ) → found ≡ At slot prev compared → stamp ≡ word image (16 * slot + 7)
+        → gives (slot ∷ stamp / 2 ∷ []) ≡ locateResult l image heads next key
+    unfolding locateDone
+    locate-held slot prev compared stamp q h =
+        ap (λ (k : ℕ). gives (slot ∷ versionOf k ∷ [])) (h ∙ ap (word image) (omega arith)) ∙ located (At slot prev compared) q
+
+    pub locate-not-held : (prev compared : ℕ) → found ≡ Missing prev compared → absent ≡ locateResult l image heads next key
+    unfolding locateDone
+    locate-not-held prev compared q = located (Missing prev compared) q
+
+    pub locate-bad : found ≡ BadChain → refused 11 ≡ locateResult l image heads next key
+    unfolding locateDone
+    locate-bad q = located BadChain q

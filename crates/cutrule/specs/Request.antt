@@ -1,0 +1,44 @@
+-- What the cut rule's lists are made of: calls of the set and steps of the order book. Document 02, A.1: "The cut rule now speaks of book steps too."
+use Prim.Native.Nat.{ℕ}
+use Rattle.prelude.specs.Answer.{refuses}
+use Rattle.face.specs.Set.{World, Call, called, PlainMap, Operation, operation, Typed, dueFault, Right}
+use Rattle.face.specs.Event.{Event, Leaving, leaving, requestOf, stepBy, allStand, plainEvent}
+use Rattle.book.specs.Steps.{Step, booked}
+use Rattle.book.specs.Plain.{bookLeaving, stepFault, stepOperation, StepRight, TypedStep}
+
+-- a put, a remove, a get or a locate; or a book step
+pub data Request : Type 0 where
+  a-call : Call → Request
+  a-step : Step → Request
+
+-- what it leaves, its stores not yet played
+unfoldable pub requestLeaves : (l : ℕ) → World → Request → Leaving
+requestLeaves l w (a-call call) = leaving (called l w call)
+requestLeaves l w (a-step step) = bookLeaving (booked l w step)
+
+-- the rules' number for it, and what it makes of the plain map
+unfoldable pub requestFault : (l : ℕ) → World → PlainMap → Request → ℕ
+requestFault l w m (a-call call) = dueFault l w m call
+requestFault l w m (a-step step) = stepFault l w m step
+
+unfoldable pub requestOperation : PlainMap → Request → Operation
+requestOperation m (a-call call) = operation call
+requestOperation m (a-step step) = stepOperation m step
+
+-- its answer is right by the plain map m
+abbrev pub RequestRight : (l : ℕ) → World → PlainMap → Request → Type 0
+RequestRight l w m (a-call call) = Right l w m call
+RequestRight l w m (a-step step) = StepRight l w m step
+
+-- its fields are numbers of their size
+abbrev pub TypedRequest : (l : ℕ) → Request → Type 0
+TypedRequest l (a-call call) = Typed l call
+TypedRequest l (a-step step) = TypedStep l step
+
+-- the set and the plain map after an event
+abbrev pub worldAfterRequest : (l : ℕ) → World → Event Request → World
+worldAfterRequest l w event = stepBy l (requestLeaves l) w event
+
+abbrev pub mapAfterRequest : (l : ℕ) → World → PlainMap → Event Request → PlainMap
+mapAfterRequest l w m event =
+    plainEvent (allStand event) (requestOperation m (requestOf event)) (refuses (requestFault l w m (requestOf event))) m

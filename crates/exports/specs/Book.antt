@@ -1,0 +1,30 @@
+-- What the exported book steps return and leave in the lent numbers, by the results that the steps promise. Document 02, A.1.
+use mathlib.Core.List.{List, _∷_}
+use Prim.Native.Nat.{ℕ}
+use Rattle.face.specs.Set.{Store}
+use Rattle.book.specs.Steps.{BookAnswer, taken, already, declined, BookResult}
+use Rattle.book.specs.Plain.{refusalNumber}
+use Rattle.exports.specs.Call.{ChangeCall}
+
+-- the lent answer: 1, the slot taken and the version; 2, the slot and the version of an order that was acknowledged before; a refusal changes nothing lent
+unfoldable pub bookAnswered : BookAnswer → (lent : List ℕ) → List ℕ
+bookAnswered (taken values) lent = 1 ∷ values
+bookAnswered (already values) lent = 2 ∷ values
+bookAnswered (declined number) lent = lent
+
+-- stores are handed out by a step that stores; the lent ones stay as they were in any other
+unfoldable pub bookHandedOut : BookAnswer → (stores lent : List Store) → List Store
+bookHandedOut (taken values) stores lent = stores
+bookHandedOut (already values) stores lent = lent
+bookHandedOut (declined number) stores lent = lent
+
+unfoldable pub bookCall : BookResult → (answer : List ℕ) → (stores : List Store) → ChangeCall
+bookCall r answer stores =
+    record {
+      returns = refusalNumber (r .answer);
+      answer = bookAnswered (r .answer) answer;
+      state = r .state;
+      stores = bookHandedOut (r .answer) (r .stores) stores;
+      heads = r .heads;
+      next = r .next;
+    }
