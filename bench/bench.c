@@ -93,7 +93,7 @@ struct runs {
 };
 
 static void print_runs(const struct config *c, unsigned setting, unsigned e, struct runs *r) {
-    static const char *const op[OPS] = {"put", "insert", "remove", "get", "recover", "new", "acknowledge", "fill", "withdraw"};
+    static const char *const op[OPS] = {"insert", "replace", "remove", "get", "recover", "new", "acknowledge", "fill", "withdraw"};
     for (int o = 0; o < OPS; o++) {
         struct sum s = r->counted[o];
         if (!r->count[o])

@@ -13,7 +13,7 @@ struct config {
 };
 
 /* What one repetition of one engine took, operation by operation: the calls of the batches during which the thread was not preempted, and of all. */
-enum op { PUT, INSERT, REMOVE, GET, RECOVER, NEW, ACKNOWLEDGE, FILL, WITHDRAW, OPS };
+enum op { INSERT, REPLACE, REMOVE, GET, RECOVER, NEW, ACKNOWLEDGE, FILL, WITHDRAW, OPS };
 struct sum {
     double calls, ns, waits, flushes;
 };

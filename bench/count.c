@@ -1,5 +1,5 @@
-/* Instructions: the operations as functions of their own, for callgrind to count; (a) and this set, put, insert, remove and the book's steps with the
- * persist.
+/* Instructions: the operations as functions of their own, for callgrind to count; (a) and this set, insert, replace, remove and the book's steps with
+ * the persist.
  *     count N HEADS SIZE CALLS */
 #include <stdio.h>
 #include <stdlib.h>
@@ -18,21 +18,25 @@ static uint32_t *heads, *next, state[ORDERSET_STATE], at[ORDERSET_STORES];
 static uint64_t version[1], value[ORDERSET_STORES], answer[ORDERSET_CHANGE_ANSWER];
 static enum orderset_flush flush;
 
-static inline int hand_puts(uint64_t key) {
-    if (hand_put(&hand, key, bytes, size, &hand_out).code)
+static inline int hand_inserts(uint64_t key) {
+    if (hand_insert(&hand, key, bytes, size, &hand_out).code)
         return 1;
     return orderset_persist(hand.image, hand.length, hand_out.at, hand_out.value, flush);
 }
 
-static inline int set_puts(uint64_t key) {
-    if (orderset_put(image, length, heads, heads_length, next, next_length, state, version, key, bytes, size, at, value, answer))
+static inline int set_inserts(uint64_t key) {
+    if (orderset_insert(image, length, heads, heads_length, next, next_length, state, version, key, bytes, size, at, value, answer))
         return 1;
     return orderset_persist(image, length, at, value, flush);
 }
 
-MEASURED int count_hand_prepare(uint64_t key) { return hand_puts(key); }
-MEASURED int count_hand_put(uint64_t key) { return hand_puts(key); }
-MEASURED int count_hand_insert(uint64_t key) { return hand_puts(key); }
+MEASURED int count_hand_prepare(uint64_t key) { return hand_inserts(key); }
+MEASURED int count_hand_insert(uint64_t key) { return hand_inserts(key); }
+MEASURED int count_hand_replace(uint64_t key) {
+    if (hand_replace(&hand, key, bytes, size, &hand_out).code)
+        return 1;
+    return orderset_persist(hand.image, hand.length, hand_out.at, hand_out.value, flush);
+}
 MEASURED int count_hand_get(uint64_t key) { return hand_get(&hand, key, out, sizeof out).code != 0; }
 MEASURED int count_hand_recover(void) { return hand_recover(&hand) != 0; }
 MEASURED int count_hand_remove(uint64_t key) {
@@ -41,9 +45,13 @@ MEASURED int count_hand_remove(uint64_t key) {
     return orderset_persist(hand.image, hand.length, hand_out.at, hand_out.value, flush);
 }
 
-MEASURED int count_set_prepare(uint64_t key) { return set_puts(key); }
-MEASURED int count_set_put(uint64_t key) { return set_puts(key); }
-MEASURED int count_set_insert(uint64_t key) { return set_puts(key); }
+MEASURED int count_set_prepare(uint64_t key) { return set_inserts(key); }
+MEASURED int count_set_insert(uint64_t key) { return set_inserts(key); }
+MEASURED int count_set_replace(uint64_t key) {
+    if (orderset_replace(image, length, heads, heads_length, next, next_length, state, version, key, bytes, size, at, value, answer))
+        return 1;
+    return orderset_persist(image, length, at, value, flush);
+}
 MEASURED int count_set_get(uint64_t key) {
     return orderset_get(image, length, heads, heads_length, next, next_length, key, out, sizeof out, answer) || answer[0] == ORDERSET_ABSENT;
 }
@@ -114,7 +122,7 @@ int main(int count, char **word) {
     }
     for (uint32_t i = 0; i < calls; i++) {
         uint32_t k = (uint32_t)(chance() % held);
-        bad |= count_hand_put(key[k]) | count_set_put(key[k]) | count_hand_get(key[k]) | count_set_get(key[k]);
+        bad |= count_hand_replace(key[k]) | count_set_replace(key[k]) | count_hand_get(key[k]) | count_set_get(key[k]);
         bad |= count_hand_remove(key[k]) | count_set_remove(key[k]);
         key[k] = chance();
         bad |= count_hand_insert(key[k]) | count_set_insert(key[k]);

@@ -26,7 +26,7 @@ def main():
             for size in (24, 80):
                 found = inclusive(program, n, heads, size)
                 for engine, prefix in (("by hand", "count_hand_"), ("this set", "count_set_")):
-                    for op in ("put", "insert", "remove", "get"):
+                    for op in ("insert", "replace", "remove", "get"):
                         print(f"{n},{heads},{size},{engine},{op},{found[prefix + op] / CALLS:.1f}")
                     print(f"{n},{heads},{size},{engine},recover,{found[prefix + 'recover']}")
                 for step in ("new", "acknowledge", "fill", "withdraw"):

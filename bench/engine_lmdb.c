@@ -1,4 +1,5 @@
-/* LMDB: one write transaction for each put and remove, one renewed read transaction for each get; a writable map, which is its faster mode, synced by msync. */
+/* LMDB: one write transaction for each insert, replace and remove, one renewed read transaction for each get; a writable map, which is its faster mode,
+ * synced by msync. Of its own it has an insert of a key that is not held; a replace looks the key up with a cursor and writes there. */
 #include "bench.h"
 
 #include <lmdb.h>
@@ -37,10 +38,21 @@ static void e_close(void) {
     remove_files();
 }
 
-static NOINLINE int e_put(uint64_t key, const uint8_t *bytes, size_t size) {
+static NOINLINE int e_insert(uint64_t key, const uint8_t *bytes, size_t size) {
     MDB_txn *txn;
     MDB_val k = {sizeof key, &key}, v = {size, (void *)bytes};
-    return mdb_txn_begin(env, NULL, 0, &txn) || mdb_put(txn, dbi, &k, &v, 0) || mdb_txn_commit(txn);
+    return mdb_txn_begin(env, NULL, 0, &txn) || mdb_put(txn, dbi, &k, &v, MDB_NOOVERWRITE) || mdb_txn_commit(txn);
+}
+
+static NOINLINE int e_replace(uint64_t key, const uint8_t *bytes, size_t size) {
+    MDB_txn *txn;
+    MDB_cursor *cursor;
+    MDB_val k = {sizeof key, &key}, v = {size, (void *)bytes};
+    if (mdb_txn_begin(env, NULL, 0, &txn) || mdb_cursor_open(txn, dbi, &cursor))
+        return 1;
+    int bad = mdb_cursor_get(cursor, &k, NULL, MDB_SET) || mdb_cursor_put(cursor, &k, &v, MDB_CURRENT);
+    mdb_cursor_close(cursor);
+    return bad || mdb_txn_commit(txn);
 }
 
 static NOINLINE int e_remove(uint64_t key) {

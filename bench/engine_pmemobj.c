@@ -1,5 +1,5 @@
-/* libpmemobj: a chained hash map in a pool, one transaction for each put and remove: a held value is overwritten under an undo range, a new entry is
- * allocated and linked, a removed one is unlinked and freed. */
+/* libpmemobj: a chained hash map in a pool, one transaction for each insert, replace and remove: a new entry is allocated and linked, a held value is
+ * overwritten under an undo range, a removed entry is unlinked and freed. */
 #include "bench.h"
 
 #include <libpmemobj.h>
@@ -45,24 +45,32 @@ static void e_close(void) {
     unlink(FILE_NAME);
 }
 
-static NOINLINE int e_put(uint64_t key, const uint8_t *bytes, size_t size) {
+static NOINLINE int e_insert(uint64_t key, const uint8_t *bytes, size_t size) {
     uint64_t *link = find(key);
+    if (*link)
+        return 1;
     int bad = pmemobj_tx_begin(pool, NULL, TX_PARAM_NONE);
-    if (*link) {
-        struct node *node = node_at(*link);
-        bad |= pmemobj_tx_add_range_direct(&node->size, sizeof node->size + size);
-        node->size = size;
-        memcpy(node->bytes, bytes, size);
-    } else {
-        PMEMoid made = pmemobj_tx_alloc(sizeof(struct node) + size, 1);
-        struct node *node = node_at(made.off);
-        node->key = key;
-        node->next = 0;
-        node->size = size;
-        memcpy(node->bytes, bytes, size);
-        bad |= pmemobj_tx_add_range_direct(link, sizeof *link);
-        *link = made.off;
-    }
+    PMEMoid made = pmemobj_tx_alloc(sizeof(struct node) + size, 1);
+    struct node *node = node_at(made.off);
+    node->key = key;
+    node->next = 0;
+    node->size = size;
+    memcpy(node->bytes, bytes, size);
+    bad |= pmemobj_tx_add_range_direct(link, sizeof *link);
+    *link = made.off;
+    pmemobj_tx_commit();
+    return bad | pmemobj_tx_end();
+}
+
+static NOINLINE int e_replace(uint64_t key, const uint8_t *bytes, size_t size) {
+    uint64_t *link = find(key);
+    if (!*link)
+        return 1;
+    int bad = pmemobj_tx_begin(pool, NULL, TX_PARAM_NONE);
+    struct node *node = node_at(*link);
+    bad |= pmemobj_tx_add_range_direct(&node->size, sizeof node->size + size);
+    node->size = size;
+    memcpy(node->bytes, bytes, size);
     pmemobj_tx_commit();
     return bad | pmemobj_tx_end();
 }

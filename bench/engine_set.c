@@ -34,8 +34,14 @@ static void e_close(void) {
     free(next);
 }
 
-static inline int e_put(uint64_t key, const uint8_t *bytes, size_t size) {
-    if (orderset_put(image, length, heads, heads_length, next, next_length, state, version, key, bytes, size, at, value, answer))
+static inline int e_insert(uint64_t key, const uint8_t *bytes, size_t size) {
+    if (orderset_insert(image, length, heads, heads_length, next, next_length, state, version, key, bytes, size, at, value, answer))
+        return 1;
+    return orderset_persist(image, length, at, value, flush);
+}
+
+static inline int e_replace(uint64_t key, const uint8_t *bytes, size_t size) {
+    if (orderset_replace(image, length, heads, heads_length, next, next_length, state, version, key, bytes, size, at, value, answer))
         return 1;
     return orderset_persist(image, length, at, value, flush);
 }

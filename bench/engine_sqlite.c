@@ -1,4 +1,4 @@
-/* SQLite: write-ahead log, synchronous FULL, one statement for each call, prepared once. */
+/* SQLite: write-ahead log, synchronous FULL, one statement for each call, prepared once; a replace is an update of one row. */
 #include "bench.h"
 
 #include <sqlite3.h>
@@ -8,7 +8,7 @@
 #define FILE_NAME "/dev/shm/orderset_bench_sqlite"
 
 static sqlite3 *db;
-static sqlite3_stmt *putting, *getting, *removing;
+static sqlite3_stmt *inserting, *replacing, *getting, *removing;
 
 static void remove_files(void) {
     unlink(FILE_NAME);
@@ -23,24 +23,34 @@ static int e_open(const struct config *c) {
     remove_files();
     if (sqlite3_open(FILE_NAME, &db) || sqlite3_exec(db, start, NULL, NULL, NULL))
         return 1;
-    return sqlite3_prepare_v2(db, "insert or replace into orders values(?, ?)", -1, &putting, NULL)
+    return sqlite3_prepare_v2(db, "insert into orders values(?, ?)", -1, &inserting, NULL)
+           || sqlite3_prepare_v2(db, "update orders set value = ?2 where key = ?1", -1, &replacing, NULL)
            || sqlite3_prepare_v2(db, "select value from orders where key = ?", -1, &getting, NULL)
            || sqlite3_prepare_v2(db, "delete from orders where key = ?", -1, &removing, NULL);
 }
 
 static void e_close(void) {
-    sqlite3_finalize(putting);
+    sqlite3_finalize(inserting);
+    sqlite3_finalize(replacing);
     sqlite3_finalize(getting);
     sqlite3_finalize(removing);
     sqlite3_close(db);
     remove_files();
 }
 
-static NOINLINE int e_put(uint64_t key, const uint8_t *bytes, size_t size) {
-    sqlite3_bind_int64(putting, 1, (sqlite3_int64)key);
-    sqlite3_bind_blob(putting, 2, bytes, (int)size, SQLITE_STATIC);
-    int bad = sqlite3_step(putting) != SQLITE_DONE;
-    return bad | sqlite3_reset(putting);
+static inline int write_with(sqlite3_stmt *statement, uint64_t key, const uint8_t *bytes, size_t size) {
+    sqlite3_bind_int64(statement, 1, (sqlite3_int64)key);
+    sqlite3_bind_blob(statement, 2, bytes, (int)size, SQLITE_STATIC);
+    int bad = sqlite3_step(statement) != SQLITE_DONE || sqlite3_changes(db) != 1;
+    return bad | sqlite3_reset(statement);
+}
+
+static NOINLINE int e_insert(uint64_t key, const uint8_t *bytes, size_t size) {
+    return write_with(inserting, key, bytes, size);
+}
+
+static NOINLINE int e_replace(uint64_t key, const uint8_t *bytes, size_t size) {
+    return write_with(replacing, key, bytes, size);
 }
 
 static NOINLINE int e_remove(uint64_t key) {

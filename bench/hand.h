@@ -1,4 +1,5 @@
-/* hand.h: (a), the same method written by hand in C: document 01's layout, index, refusals and recovery, for the speed that a C programmer gets. */
+/* hand.h: (a), the same method written by hand in C: document 01's layout, index, refusals and recovery, with insert and replace as document 02 has them,
+ * for the speed that a C programmer gets. */
 #ifndef HAND_H
 #define HAND_H
 
@@ -24,13 +25,14 @@ struct hand_stores {
 enum { HAND_ABSENT = 100 };
 struct hand_answer {
     uint32_t code; /* 0, HAND_ABSENT, or a refusal */
-    uint32_t slot; /* put and remove: the slot taken; get: the length */
+    uint32_t slot; /* insert, replace and remove: the slot taken; get: the length */
     uint64_t version;
 };
 
 uint32_t hand_format(uint64_t *image, size_t length);
 uint32_t hand_recover(struct hand_set *set);
-struct hand_answer hand_put(struct hand_set *set, uint64_t key, const uint8_t *bytes, size_t size, struct hand_stores *stores);
+struct hand_answer hand_insert(struct hand_set *set, uint64_t key, const uint8_t *bytes, size_t size, struct hand_stores *stores);
+struct hand_answer hand_replace(struct hand_set *set, uint64_t key, const uint8_t *bytes, size_t size, struct hand_stores *stores);
 struct hand_answer hand_remove(struct hand_set *set, uint64_t key, struct hand_stores *stores);
 struct hand_answer hand_get(const struct hand_set *set, uint64_t key, uint8_t *out, size_t room);
 

@@ -55,13 +55,24 @@ uint32_t orderset_recover(const uint8_t *image, size_t length, uint32_t *heads, 
     return code;
 }
 
-uint32_t orderset_put(const uint8_t *image, size_t length, uint32_t *heads, size_t heads_length, uint32_t *next, size_t next_length,
-                      uint32_t state[ORDERSET_STATE], uint64_t version[1], uint64_t key, const uint8_t *bytes, size_t size, uint32_t at[ORDERSET_STORES],
-                      uint64_t value[ORDERSET_STORES], uint64_t answer[ORDERSET_CHANGE_ANSWER]) {
+uint32_t orderset_insert(const uint8_t *image, size_t length, uint32_t *heads, size_t heads_length, uint32_t *next, size_t next_length,
+                         uint32_t state[ORDERSET_STATE], uint64_t version[1], uint64_t key, const uint8_t *bytes, size_t size, uint32_t at[ORDERSET_STORES],
+                         uint64_t value[ORDERSET_STORES], uint64_t answer[ORDERSET_CHANGE_ANSWER]) {
     struct hand_set s = lend(image, length, heads, heads_length, next, next_length);
     struct hand_stores stores;
     read_state(&s, state, version);
-    struct hand_answer a = hand_put(&s, key, bytes, size, &stores);
+    struct hand_answer a = hand_insert(&s, key, bytes, size, &stores);
+    write_state(&s, state, version);
+    return answer_change(a, &stores, at, value, answer);
+}
+
+uint32_t orderset_replace(const uint8_t *image, size_t length, uint32_t *heads, size_t heads_length, uint32_t *next, size_t next_length,
+                          uint32_t state[ORDERSET_STATE], uint64_t version[1], uint64_t key, const uint8_t *bytes, size_t size, uint32_t at[ORDERSET_STORES],
+                          uint64_t value[ORDERSET_STORES], uint64_t answer[ORDERSET_CHANGE_ANSWER]) {
+    struct hand_set s = lend(image, length, heads, heads_length, next, next_length);
+    struct hand_stores stores;
+    read_state(&s, state, version);
+    struct hand_answer a = hand_replace(&s, key, bytes, size, &stores);
     write_state(&s, state, version);
     return answer_change(a, &stores, at, value, answer);
 }

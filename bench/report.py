@@ -5,8 +5,8 @@ import sys
 
 ENGINES = ("by hand", "this set", "two waits", "libpmemobj", "LMDB", "SQLite")
 SETTINGS = (("P", "0"), ("S", "0"), ("S", "200"), ("S", "800"))
-OPS = ("put", "insert", "remove")
-STEPS = {"new": "insert", "acknowledge": "put", "fill": "put", "withdraw": "remove"}  # a step of the book, and what the set does for it
+OPS = ("insert", "replace", "remove")
+STEPS = {"new": "insert", "acknowledge": "replace", "fill": "replace", "withdraw": "remove"}  # a step of the book, and what the set does for it
 COLOURS = ("#999999", "#c0392b", "#d9822b", "#2e7d6b", "#3b6ea5", "#7a5ba6")
 
 
@@ -82,7 +82,7 @@ def book_table(figures):
 def counts_table(figures):
     ops = OPS + ("get", "recover")
     head = " | ".join(f"{op}: by hand | this set" for op in ops)
-    lines = ["", "### Instructions (put, insert and remove with the persist)", "", f"| N | B | bytes | {head} |", "|---" * (3 + 2 * len(ops)) + "|"]
+    lines = ["", "### Instructions (insert, replace and remove with the persist)", "", f"| N | B | bytes | {head} |", "|---" * (3 + 2 * len(ops)) + "|"]
     for config in figures.configs:
         cells = [f"{figures.instructions[(*config, e, op)]:,.0f}" for op in ops for e in ENGINES[:2]]
         lines.append(f"| {number(config[0])} | {number(config[1])} | {config[2]} | " + " | ".join(cells) + " |")
@@ -123,13 +123,13 @@ def goals(figures):
     rows = []
     for setting, limit in ((SETTINGS[0], 1.25), (SETTINGS[1], 1.25), (SETTINGS[3], 1.10)):
         value, op, config = worst(setting, OPS)
-        rows.append((f"put, insert, remove at {' '.join(setting)}: at most {limit:.2f} × by hand", f"{value:.2f} ({place(op, config)})", value <= limit))
+        rows.append((f"insert, replace, remove at {' '.join(setting)}: at most {limit:.2f} × by hand", f"{value:.2f} ({place(op, config)})", value <= limit))
     value, op, config = worst(SETTINGS[0], ("get",))
     rows.append(("get: at most 1.25 × by hand", f"{value:.2f} ({place(op, config)})", value <= 1.25))
     value, op, config = worst(SETTINGS[0], ("recover",))
     rows.append(("recover: at most 1.50 × by hand", f"{value:.2f} ({place(op, config)})", value <= 1.5))
     value, op, config = max((figures.instructions[(*c, "this set", op)], op, c) for c in every for op in OPS)
-    rows.append(("put, insert, remove with the persist: at most 600 instructions", f"{value:.0f} ({place(op, config)})", value <= 600))
+    rows.append(("insert, replace, remove with the persist: at most 600 instructions", f"{value:.0f} ({place(op, config)})", value <= 600))
     value, config = max((figures.instructions[(*c, "this set", "get")] / figures.instructions[(*c, "by hand", "get")], c) for c in every)
     rows.append(("get: at most 1.50 × the instructions by hand", f"{value:.2f} ({place('get', config)})", value <= 1.5))
     value, setting, engine, op, config = min(
@@ -139,7 +139,7 @@ def goals(figures):
     keys = [k for k in figures.waits if k[5] == "this set"]
     writing = OPS + tuple(STEPS)
     counted = all(figures.waits[k] == (1 if k[6] in writing else 0) and figures.flushes[k] == (2 if k[6] in writing else 0) for k in keys)
-    rows.append(("one fence and two line flushes for each put, insert, remove and step of the book, none for get and recover", "counted", counted))
+    rows.append(("one fence and two line flushes for each insert, replace, remove and step of the book, none for get and recover", "counted", counted))
     lines = ["", "### Goals", "", "| Goal | Worst figure | |", "|---|---|---|"]
     return lines + [f"| {goal} | {figure} | {'met' if met else 'MISSED'} |" for goal, figure, met in rows]
 

@@ -94,6 +94,8 @@ static const char *const refusals[] = {
     "the key of a new order is held",
     "the key is not held, or holds no order",
     "the quantity is zero, or more than is open",
+    "the key of an insert is held",
+    "the key of a replace is not held",
 };
 
 static const char *words_of(uint32_t number) {

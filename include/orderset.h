@@ -11,13 +11,17 @@
  *   state    three numbers: the reuse chain's first and last slot and the live count (ORDERSET_FIRST, ORDERSET_LAST,
  *            ORDERSET_LIVE)
  *   version  one number: the next version
- * heads, next, state and version are the index. orderset_recover fills them; put, remove and the book's steps keep them
- * up to date. They are never persisted.
+ * heads, next, state and version are the index. orderset_recover fills them; insert, replace, remove and the book's
+ * steps keep them up to date. They are never persisted.
  *
- * How to write: orderset_put, orderset_remove and the book's steps change the index and hand out 16 stores, eight for
- * each of two lines, and leave the image as it is. The caller makes all 16, in order within each line, flushes both
- * lines and fences once (orderset_persist), or makes them with orderset_play(..., 8, 8). Only then may the next call
- * follow. If that was not finished, orderset_recover comes next.
+ * How to write: orderset_insert, orderset_replace, orderset_remove and the book's steps change the index and hand out
+ * 16 stores, eight for each of two lines, and leave the image as it is. The caller makes all 16, in order within each
+ * line, flushes both lines and fences once (orderset_persist), or makes them with orderset_play(..., 8, 8). Only then
+ * may the next call follow. If that was not finished, orderset_recover comes next.
+ *
+ * Insert or replace: insert is for a key that is not held and replace for one that is, and each refuses the other kind,
+ * so that a key that is used again by mistake overwrites nothing. A caller who means either asks orderset_locate first,
+ * or replaces where insert says 20.
  *
  * How to start: recovery takes what it reads as what stands in the memory. After a power cut that is so. After anything
  * else (the process was killed, a call of orderset_persist.h failed, or nobody knows) stores may be seen that are not
@@ -32,8 +36,8 @@
  * of 8 bytes, low byte first: its state (ORDERSET_SENT or ORDERSET_ACKNOWLEDGED), the ordered quantity and the filled
  * quantity, and filled is below ordered. Any other value is no order. The steps are orderset_book_new,
  * orderset_book_acknowledge, orderset_book_fill and orderset_book_withdraw; orderset_get reads an order. An order that
- * is filled in full or withdrawn is removed. Over any history of steps since an empty set, with no put and no remove
- * among them, all that was ordered is filled, withdrawn or open.
+ * is filled in full or withdrawn is removed. Over any history of steps since an empty set, with no insert, replace or
+ * remove among them, all that was ordered is filled, withdrawn or open.
  *
  * Pointers: none may be null, also where a length is 0, and each is aligned for its type. What a function writes
  * through one pointer must not overlap what it is lent through any other; two regions that are only read may overlap.
@@ -41,8 +45,8 @@
  * pieces of memory.
  *
  * Threads: the set has no locks. Gets and locates may run beside each other, each with an output and an answer of its
- * own, and beside nothing else: from the start of a put, a remove, a step of the book, a recovery or a play until its
- * stores are made, no other call runs.
+ * own, and beside nothing else: from the start of an insert, a replace, a remove, a step of the book, a recovery or a
+ * play until its stores are made, no other call runs.
  *
  * How many heads: a call walks along the chain of its key's head, so with B near N chains are short. Keys k * B all
  * have one head, and are one chain: with N = 65,535, B = 65,536 and 60,000 keys k * 65,536 a get took 280 microseconds,
@@ -92,7 +96,7 @@ extern "C" {
 #define ORDERSET_GIVEN 1u
 #define ORDERSET_ALREADY 2u /* the order was acknowledged before: there is nothing to store */
 
-/* places in the answer of put, remove, locate and the book's steps */
+/* places in the answer of insert, replace, remove, locate and the book's steps */
 #define ORDERSET_SLOT 1
 #define ORDERSET_VERSION 2
 #define ORDERSET_CHANGE_ANSWER 3
@@ -130,7 +134,9 @@ enum orderset_refusal {
                                        outside, or the lengths differ */
     ORDERSET_KEY_HELD = 17,         /* the key of a new order is held, by an order or by another value */
     ORDERSET_NO_ORDER = 18,         /* the key is not held, or holds no order */
-    ORDERSET_BAD_QUANTITY = 19      /* the quantity of a new order is zero; in fill: it is zero or more than is open */
+    ORDERSET_BAD_QUANTITY = 19,     /* the quantity of a new order is zero; in fill: it is zero or more than is open */
+    ORDERSET_INSERT_HELD = 20,      /* in insert: the key is held */
+    ORDERSET_NOT_HELD = 21          /* in replace: the key is not held */
 };
 
 /* Makes an empty image of the bytes. answer: {ORDERSET_GIVEN, N}. Refusals: 1. A cut during format is not covered:
@@ -147,17 +153,26 @@ ORDERSET_CALL uint32_t orderset_recover(const uint8_t *image, size_t image_lengt
                                         uint32_t *next, size_t next_length, uint32_t state[ORDERSET_STATE],
                                         uint64_t version[1]);
 
-/* Gives the key the value. answer: {ORDERSET_GIVEN, slot, version}; the stores are at[i], a word number counted from
- * the start of the image, and value[i]. Refusals: 1, 2, 3, 4, 10, 11 (chain), 12, 9, 11 (reuse). */
-ORDERSET_CALL uint32_t orderset_put(const uint8_t *image, size_t image_length, uint32_t *heads, size_t heads_length,
-                                    uint32_t *next, size_t next_length, uint32_t state[ORDERSET_STATE],
-                                    uint64_t version[1], uint64_t key, const uint8_t *bytes, size_t bytes_length,
-                                    uint32_t at[ORDERSET_STORES], uint64_t value[ORDERSET_STORES],
-                                    uint64_t answer[ORDERSET_CHANGE_ANSWER]);
+/* Gives the key, which is not held, the value. answer: {ORDERSET_GIVEN, slot, version}; the stores are at[i], a word
+ * number counted from the start of the image, and value[i]. Refusals: 1, 2, 3, 4, 10, 11 (chain), 20, 12, 9, 11
+ * (reuse). */
+ORDERSET_CALL uint32_t orderset_insert(const uint8_t *image, size_t image_length, uint32_t *heads, size_t heads_length,
+                                       uint32_t *next, size_t next_length, uint32_t state[ORDERSET_STATE],
+                                       uint64_t version[1], uint64_t key, const uint8_t *bytes, size_t bytes_length,
+                                       uint32_t at[ORDERSET_STORES], uint64_t value[ORDERSET_STORES],
+                                       uint64_t answer[ORDERSET_CHANGE_ANSWER]);
 
-/* Drops the key. answer and stores as in put; or {ORDERSET_ABSENT, 0, 0} where the key is not held, and then nothing is
- * to be stored: at and value stay as they were. Refusals: 1, 2, 3, 4, 11 (chain), and for a held key 9, 11 (reuse, or a
- * live count of zero). */
+/* Gives the key, which is held, the value in the place of the one that it has. answer and stores as in insert. It is
+ * never refused for room. Refusals: 1, 2, 3, 4, 10, 11 (chain), 21, 9, 11 (reuse). */
+ORDERSET_CALL uint32_t orderset_replace(const uint8_t *image, size_t image_length, uint32_t *heads, size_t heads_length,
+                                        uint32_t *next, size_t next_length, uint32_t state[ORDERSET_STATE],
+                                        uint64_t version[1], uint64_t key, const uint8_t *bytes, size_t bytes_length,
+                                        uint32_t at[ORDERSET_STORES], uint64_t value[ORDERSET_STORES],
+                                        uint64_t answer[ORDERSET_CHANGE_ANSWER]);
+
+/* Drops the key. answer and stores as in insert; or {ORDERSET_ABSENT, 0, 0} where the key is not held, and then nothing
+ * is to be stored: at and value stay as they were. Refusals: 1, 2, 3, 4, 11 (chain), and for a held key 9, 11 (reuse,
+ * or a live count of zero). */
 ORDERSET_CALL uint32_t orderset_remove(const uint8_t *image, size_t image_length, uint32_t *heads, size_t heads_length,
                                        uint32_t *next, size_t next_length, uint32_t state[ORDERSET_STATE],
                                        uint64_t version[1], uint64_t key, uint32_t at[ORDERSET_STORES],
@@ -176,16 +191,16 @@ ORDERSET_CALL uint32_t orderset_locate(const uint8_t *image, size_t image_length
                                        size_t heads_length, const uint32_t *next, size_t next_length, uint64_t key,
                                        uint64_t answer[ORDERSET_CHANGE_ANSWER]);
 
-/* Gives the key, which is not held, a sent order of the quantity, nothing of it filled. answer and stores as in put.
- * Refusals: 1, 2, 3, 4, 11 (chain), 17, 19, 12, 9, 11 (reuse). */
+/* Gives the key, which is not held, a sent order of the quantity, nothing of it filled. answer and stores as in
+ * insert. Refusals: 1, 2, 3, 4, 11 (chain), 17, 19, 12, 9, 11 (reuse). */
 ORDERSET_CALL uint32_t orderset_book_new(const uint8_t *image, size_t image_length, uint32_t *heads,
                                          size_t heads_length, uint32_t *next, size_t next_length,
                                          uint32_t state[ORDERSET_STATE], uint64_t version[1], uint64_t key,
                                          uint64_t quantity, uint32_t at[ORDERSET_STORES],
                                          uint64_t value[ORDERSET_STORES], uint64_t answer[ORDERSET_CHANGE_ANSWER]);
 
-/* Makes the key's sent order an acknowledged one. answer and stores as in put. If it is acknowledged already, answer is
- * {ORDERSET_ALREADY, slot, version of its line A} and nothing is to be stored: all but answer stays as it was.
+/* Makes the key's sent order an acknowledged one. answer and stores as in insert. If it is acknowledged already, answer
+ * is {ORDERSET_ALREADY, slot, version of its line A} and nothing is to be stored: all but answer stays as it was.
  * Refusals: 1, 2, 3, 4, 11 (chain), 18, and for a sent order 9, 11 (reuse). */
 ORDERSET_CALL uint32_t orderset_book_acknowledge(const uint8_t *image, size_t image_length, uint32_t *heads,
                                                  size_t heads_length, uint32_t *next, size_t next_length,
@@ -194,8 +209,8 @@ ORDERSET_CALL uint32_t orderset_book_acknowledge(const uint8_t *image, size_t im
                                                  uint64_t answer[ORDERSET_CHANGE_ANSWER]);
 
 /* Adds the quantity to what is filled of the key's order, sent or acknowledged, and keeps its state. What is open is
- * ordered less filled; a fill of all of it removes the order. answer and stores as in put. Refusals: 1, 2, 3, 4, 11
- * (chain), 18, 19, 9, 11 (reuse, or a live count of zero where the order is removed). */
+ * ordered less filled; a fill of all of it removes the order. answer and stores as in insert. Refusals: 1, 2, 3, 4,
+ * 11 (chain), 18, 19, 9, 11 (reuse, or a live count of zero where the order is removed). */
 ORDERSET_CALL uint32_t orderset_book_fill(const uint8_t *image, size_t image_length, uint32_t *heads,
                                           size_t heads_length, uint32_t *next, size_t next_length,
                                           uint32_t state[ORDERSET_STATE], uint64_t version[1], uint64_t key,
@@ -203,7 +218,7 @@ ORDERSET_CALL uint32_t orderset_book_fill(const uint8_t *image, size_t image_len
                                           uint64_t value[ORDERSET_STORES], uint64_t answer[ORDERSET_CHANGE_ANSWER]);
 
 /* Withdraws all that is open of the key's order, sent or acknowledged: the order is removed. answer and stores as in
- * put. Refusals: 1, 2, 3, 4, 11 (chain), 18, 9, 11 (reuse, or a live count of zero). */
+ * insert. Refusals: 1, 2, 3, 4, 11 (chain), 18, 9, 11 (reuse, or a live count of zero). */
 ORDERSET_CALL uint32_t orderset_book_withdraw(const uint8_t *image, size_t image_length, uint32_t *heads,
                                               size_t heads_length, uint32_t *next, size_t next_length,
                                               uint32_t state[ORDERSET_STATE], uint64_t version[1], uint64_t key,

@@ -1,18 +1,18 @@
-/* orderset_persist.h: makes an image durable. orderset_persist makes the 16 stores of an accepted put or remove on
- * mapped memory, flushes both lines and fences once; orderset_persist_image makes a whole image durable at a start. C11
- * and C++11, GCC or Clang, x86-64. No part of the proved archive: what it relies on is said here.
+/* orderset_persist.h: makes an image durable. orderset_persist makes the 16 stores that a call handed out on mapped
+ * memory, flushes both lines and fences once; orderset_persist_image makes a whole image durable at a start. C11 and
+ * C++11, GCC or Clang, x86-64. No part of the proved archive: what it relies on is said here.
  *
  *     flush = orderset_best_flush();                                                  once
  *     if (orderset_persist_image(image, length, flush)) ...stop                       every start, before recovery
  *     if (orderset_recover(image, length, ...)) ...stop
- *     if (orderset_put(image, length, ..., at, value, answer) == ORDERSET_OK &&
+ *     if (orderset_insert(image, length, ..., at, value, answer) == ORDERSET_OK &&
  *         orderset_persist(image, length, at, value, flush) == 0)
  *         ...answer the client
  *
  * The image is mapped from non-volatile memory and 64-byte aligned, so that the eight words of a line are one cache
  * line. What mmap gives is; of other memory orderset_aligned tells it, and orderset_persist_image tests it. at and
- * value are as a put, a remove or a step of the book handed them out for this image. A refused call, a remove that
- * answers absent and a second acknowledge hand out nothing, and nothing is to be persisted.
+ * value are as an insert, a replace, a remove or a step of the book handed them out for this image. A refused call, a
+ * remove that answers absent and a second acknowledge hand out nothing, and nothing is to be persisted.
  *
  * The order (section 2 of Cohen, Friedman and Larus, Efficient Logging in Non-Volatile Memory by Exploiting Coherency
  * Protocols, OOPSLA 2017). Each store is one aligned word, atomic and with release order: no compiler and no processor
@@ -23,10 +23,10 @@
  *
  * Why a start makes the whole image durable. Recovery has to read what stands in the memory. After a power cut it does.
  * After a kill, or a call that failed, the caches or the kernel may still hold stores that every process sees and that
- * are not durable. Say that key 7 is in slot 1, answered, and that the process is killed in a put of key 7 to slot
- * 2. Recovery sees slot 2, takes that put as done and gives slot 1 to the next call. That call is made durable and
- * answered. Then power fails: slot 2 was never durable, slot 1 is overwritten, and the answered order of key 7
- * is lost. So every start that will write calls orderset_persist_image, or orderset_persist_image_file, before it
+ * are not durable. Say that key 7 is in slot 1, answered, and that the process is killed in a replace of key 7 to
+ * slot 2. Recovery sees slot 2, takes that replace as done and gives slot 1 to the next call. That call is made durable
+ * and answered. Then power fails: slot 2 was never durable, slot 1 is overwritten, and the answered order of key 7 is
+ * lost. So every start that will write calls orderset_persist_image, or orderset_persist_image_file, before it
  * recovers. A program that only reads may leave it out; what it shows is then perhaps not durable yet.
  */
 #ifndef ORDERSET_PERSIST_H

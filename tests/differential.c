@@ -56,12 +56,14 @@ struct set {
     uint64_t since; /* calls since everything was compared */
 };
 
-enum which { FORMAT, RECOVER, PUT, REMOVE, GET, LOCATE, NEW, ACKNOWLEDGE, FILL, WITHDRAW, PLAY, PLAY_LIST, WHICH };
-static const char *const name[WHICH] = {"format", "recover",     "put",  "remove",   "get",  "locate",
-                                        "new",    "acknowledge", "fill", "withdraw", "play", "play_list"};
+enum which {
+    FORMAT, RECOVER, INSERT, REPLACE, REMOVE, GET, LOCATE, NEW, ACKNOWLEDGE, FILL, WITHDRAW, PLAY, PLAY_LIST, WHICH
+};
+static const char *const name[WHICH] = {"format", "recover",     "insert", "replace",  "remove", "get",      "locate",
+                                        "new",    "acknowledge", "fill",   "withdraw", "play",   "play_list"};
 
-enum { DONE = 0, ABSENT = 20, ALREADY = 21, ANSWERS }; /* answers that are no refusal */
-static uint64_t calls, strikes, met[WHICH][ANSWERS];  /* met: by the answer */
+enum { DONE = 0, ABSENT = 100, ALREADY = 101, ANSWERS }; /* answers that are no refusal */
+static uint64_t calls, strikes, met[WHICH][ANSWERS];     /* met: by the answer */
 static const char *phase = "";
 static enum which call;
 static const struct set *now;
@@ -215,7 +217,7 @@ static int try_recover(struct set *s) {
     return refusal;
 }
 
-/* A call that stores, if it is not refused. quantity: of new and fill; bytes and size: of put. */
+/* A call that stores, if it is not refused. quantity: of new and fill; bytes and size: of insert and replace. */
 struct request {
     enum which which;
     uint64_t key, quantity;
@@ -226,9 +228,12 @@ struct request {
 static uint32_t archive_change(const struct set *s, const struct request *r, uint64_t answer[ORDERSET_CHANGE_ANSWER]) {
     const size_t heads = s->model.heads_length, next = s->model.next_length;
     switch (r->which) {
-    case PUT:
-        return orderset_put(s->image, s->length, s->heads, heads, s->next, next, s->state, s->version, r->key, r->bytes,
-                            r->size, s->at, s->value, answer);
+    case INSERT:
+        return orderset_insert(s->image, s->length, s->heads, heads, s->next, next, s->state, s->version, r->key,
+                               r->bytes, r->size, s->at, s->value, answer);
+    case REPLACE:
+        return orderset_replace(s->image, s->length, s->heads, heads, s->next, next, s->state, s->version, r->key,
+                                r->bytes, r->size, s->at, s->value, answer);
     case REMOVE:
         return orderset_remove(s->image, s->length, s->heads, heads, s->next, next, s->state, s->version, r->key, s->at,
                                s->value, answer);
@@ -249,7 +254,8 @@ static uint32_t archive_change(const struct set *s, const struct request *r, uin
 
 static struct m_change model_change(struct set *s, const struct request *r) {
     switch (r->which) {
-    case PUT: return m_put(s->model_image, s->length, &s->model, r->key, r->bytes, r->size);
+    case INSERT: return m_insert(s->model_image, s->length, &s->model, r->key, r->bytes, r->size);
+    case REPLACE: return m_replace(s->model_image, s->length, &s->model, r->key, r->bytes, r->size);
     case REMOVE: return m_remove(s->model_image, s->length, &s->model, r->key);
     case NEW: return m_new(s->model_image, s->length, &s->model, r->key, r->quantity);
     case ACKNOWLEDGE: return m_acknowledge(s->model_image, s->length, &s->model, r->key);
@@ -287,7 +293,7 @@ static unsigned try_change(struct set *s, const struct request *r) {
     fill(value_lent, sizeof value_lent);
     memcpy(s->at, at_lent, sizeof at_lent);
     memcpy(s->value, value_lent, sizeof value_lent);
-    begin(s, r->which, r->key, r->which == PUT ? r->size : r->quantity, 0, 0);
+    begin(s, r->which, r->key, r->which == INSERT || r->which == REPLACE ? r->size : r->quantity, 0, 0);
     uint32_t code = archive_change(s, r, answer);
     struct m_change c = model_change(s, r);
     return compare_change(s, code, answer, answer_lent, at_lent, value_lent, c);
@@ -312,7 +318,7 @@ static unsigned try_locate(struct set *s, uint64_t key) {
     return answered;
 }
 
-/* The answer of the archive's get, after it was compared: the refusal's number, 100 for absent, 200 and the length. */
+/* The answer of the archive's get, after it was compared: the refusal's number, ABSENT, or 200 and the length. */
 static unsigned try_get(struct set *s, uint64_t key, uint8_t *out, size_t room) {
     uint64_t answer[ORDERSET_ANSWER] = {chance(), chance()}, expected[ORDERSET_ANSWER] = {answer[0], answer[1]};
     uint8_t *lent = lend(room), *model_out = lend(room);
@@ -335,7 +341,7 @@ static unsigned try_get(struct set *s, uint64_t key, uint8_t *out, size_t room) 
     give_back(lent);
     give_back(model_out);
     compare(s);
-    return code ? code : answer[0] ? 200 + (unsigned)answer[1] : 100;
+    return code ? code : answer[0] ? 200 + (unsigned)answer[1] : ABSENT;
 }
 
 static int try_play(struct set *s, size_t a, size_t b) {
@@ -371,7 +377,7 @@ struct plain {
 /* What a call does when all its stores stand. */
 struct effect {
     uint32_t i;
-    int put; /* the key has the bytes; otherwise it is dropped */
+    int holds; /* the key then has the bytes; otherwise it is dropped */
     uint8_t bytes[128];
     size_t size;
     uint64_t ordered, filled, withdrawn;
@@ -399,9 +405,9 @@ static void close_plain(struct plain *p) {
 }
 
 static void plain_take(struct plain *p, const struct effect *e) {
-    p->held += (uint32_t)(e->put - (p->size[e->i] >= 0));
-    p->size[e->i] = e->put ? (int16_t)e->size : -1;
-    if (e->put)
+    p->held += (uint32_t)(e->holds - (p->size[e->i] >= 0));
+    p->size[e->i] = e->holds ? (int16_t)e->size : -1;
+    if (e->holds)
         memcpy(p->bytes[e->i], e->bytes, e->size);
     p->ordered += e->ordered;
     p->filled += e->filled;
@@ -430,7 +436,7 @@ static void same_map(struct set *s, const struct plain *p) {
     same_number("the plain map's count", s->state[ORDERSET_LIVE], p->held);
     for (uint32_t i = 0; i < p->keys; i++) {
         unsigned got = try_get(s, p->key[i], out, sizeof out);
-        same_number("the plain map's answer", got, p->size[i] < 0 ? 100u : 200u + (unsigned)p->size[i]);
+        same_number("the plain map's answer", got, p->size[i] < 0 ? ABSENT : 200u + (unsigned)p->size[i]);
         if (p->size[i] > 0)
             same_bytes("the plain map's value", out, p->bytes[i], (size_t)p->size[i]);
         if (p->book_only && p->size[i] >= 0 && !open_of(out, p->size[i]))
@@ -442,7 +448,7 @@ static void same_map(struct set *s, const struct plain *p) {
 }
 
 static void order_later(struct effect *e, uint64_t state, uint64_t ordered, uint64_t filled) {
-    e->put = 1;
+    e->holds = 1;
     e->size = ORDERSET_ORDER_BYTES;
     m_set_word(e->bytes, 0, state);
     m_set_word(e->bytes, 1, ordered);
@@ -466,15 +472,24 @@ static unsigned plain_step(const uint8_t *order, uint64_t open, const struct req
     return r->quantity == 0 || r->quantity > open ? ORDERSET_BAD_QUANTITY : DONE;
 }
 
+/* The rules' answer for an insert or a replace, before the set is asked for room. */
+static unsigned plain_write(const struct request *r, int held) {
+    if (r->size > ORDERSET_VALUE_MAX)
+        return ORDERSET_VALUE_TOO_LONG;
+    if (r->which == INSERT)
+        return held ? ORDERSET_INSERT_HELD : DONE;
+    return held ? DONE : ORDERSET_NOT_HELD;
+}
+
 /* The rules' answer by the plain map alone, and what the call does if it is done. */
 static unsigned plain_answer(const struct set *s, const struct plain *p, const struct request *r, struct effect *e) {
     const int size = p->size[e->i];
     const uint64_t open = open_of(p->bytes[e->i], size);
     unsigned answer = DONE;
-    if (r->which == PUT) {
-        e->put = 1;
+    if (r->which == INSERT || r->which == REPLACE) {
+        e->holds = 1;
         e->size = r->size;
-        answer = r->size > ORDERSET_VALUE_MAX ? ORDERSET_VALUE_TOO_LONG : DONE;
+        answer = plain_write(r, size >= 0);
     } else if (r->which == REMOVE) {
         answer = size < 0 ? ABSENT : DONE;
     } else if (r->which == NEW) {
@@ -486,7 +501,9 @@ static unsigned plain_answer(const struct set *s, const struct plain *p, const s
     }
     if (answer)
         return answer;
-    return e->put && size < 0 && p->held + 1 >= s->n ? ORDERSET_FULL : s->version[0] >> 63 ? ORDERSET_NO_VERSION : DONE;
+    if (e->holds && size < 0 && p->held + 1 >= s->n)
+        return ORDERSET_FULL;
+    return s->version[0] >> 63 ? ORDERSET_NO_VERSION : DONE;
 }
 
 /* ---- phases */
@@ -574,10 +591,17 @@ static uint64_t quantity_near(uint64_t open) {
     }
 }
 
+/* Insert or replace: mostly the one that the key asks for. */
+static enum which any_write(int held) {
+    if (below(8) == 0)
+        return below(2) ? INSERT : REPLACE;
+    return held ? REPLACE : INSERT;
+}
+
 /* A call of a history, refused exactly where the rules refuse it, answered as the plain map does. */
 static struct set *step(struct set *s, struct plain *p, unsigned cuts) {
-    static const enum which any[] = {GET, LOCATE, PUT,    PUT, PUT, PUT,         PUT,  REMOVE,
-                                     GET, REMOVE, REMOVE, NEW, NEW, ACKNOWLEDGE, FILL, WITHDRAW},
+    static const enum which any[] = {GET, LOCATE, INSERT, INSERT, INSERT, REPLACE,     REPLACE, REMOVE,
+                                     GET, REMOVE, REMOVE, NEW,    NEW,    ACKNOWLEDGE, FILL,    WITHDRAW},
                             book[] = {GET,  LOCATE,      NEW,         NEW,         NEW,  NEW,  NEW,  NEW,
                                       FILL, ACKNOWLEDGE, ACKNOWLEDGE, ACKNOWLEDGE, FILL, FILL, FILL, WITHDRAW};
     struct effect e = {.i = (uint32_t)below(p->keys)};
@@ -585,7 +609,7 @@ static struct set *step(struct set *s, struct plain *p, unsigned cuts) {
     const int size = p->size[e.i];
     if (r.which == GET) {
         size_t room = below(3) ? ORDERSET_VALUE_MAX : below(ORDERSET_VALUE_MAX + 1);
-        unsigned want = size < 0 ? 100 : room < (size_t)size ? 13 : 200u + (unsigned)size;
+        unsigned want = size < 0 ? ABSENT : room < (size_t)size ? 13 : 200u + (unsigned)size;
         same_number("get by the plain map", try_get(s, r.key, e.bytes, room), want);
         return s;
     }
@@ -593,6 +617,8 @@ static struct set *step(struct set *s, struct plain *p, unsigned cuts) {
         same_number("locate by the plain map", try_locate(s, r.key), size < 0 ? ABSENT : DONE);
         return s;
     }
+    if (r.which == INSERT || r.which == REPLACE)
+        r.which = any_write(size >= 0);
     r.quantity = quantity_near(open_of(p->bytes[e.i], size));
     fill(e.bytes, sizeof e.bytes);
     if (below(2)) {
@@ -608,8 +634,8 @@ static struct set *step(struct set *s, struct plain *p, unsigned cuts) {
 static void emptied_image(uint8_t *image, uint32_t n, const struct plain *p) {
     for (uint32_t i = 1; i < n; i += 2) {
         uint64_t key = p->key[below(p->keys)];
-        put_record(image, i, 1, key, i, ORDERSET_ORDER_BYTES);
-        put_record(image, i + 1, 2, key, i + 1, 0);
+        set_record(image, i, 1, key, i, ORDERSET_ORDER_BYTES);
+        set_record(image, i + 1, 2, key, i + 1, 0);
         if (below(4) == 0)
             m_set_word(image, 16 * (size_t)i + 8 * below(2), !m_word(image, 16 * (size_t)i));
     }
@@ -641,7 +667,8 @@ static void history(uint32_t n, size_t heads, uint32_t keys, unsigned steps, uns
 
 /* Calls on whatever stands there, with whatever index. */
 static void any_calls(struct set *s, uint64_t keys, unsigned count) {
-    static const enum which any[] = {GET, GET, GET, LOCATE, PUT, PUT, REMOVE, REMOVE, NEW, ACKNOWLEDGE, FILL, WITHDRAW};
+    static const enum which any[] = {GET,     GET,    GET,    LOCATE, INSERT,      INSERT, REPLACE,
+                                     REPLACE, REMOVE, REMOVE, NEW,    ACKNOWLEDGE, FILL,   WITHDRAW};
     uint8_t bytes[128], out[96];
     for (unsigned k = 0; k < count; k++) {
         uint64_t key = below(4) ? any_key(keys) : m_word(s->model_image, s->n ? 16 * (1 + below(s->n)) + 1 : 0);
@@ -747,15 +774,17 @@ enum fault {
 };
 
 /* the calls of a case */
-enum { IN_FORMAT = 1 << FORMAT, IN_RECOVER = 1 << RECOVER, IN_PUT = 1 << PUT, IN_REMOVE = 1 << REMOVE };
+enum { IN_FORMAT = 1 << FORMAT, IN_RECOVER = 1 << RECOVER };
+enum { IN_INSERT = 1 << INSERT, IN_REPLACE = 1 << REPLACE, IN_REMOVE = 1 << REMOVE };
 enum { IN_GET = 1 << GET, IN_LOCATE = 1 << LOCATE, IN_PLAY = 1 << PLAY, IN_PLAY_LIST = 1 << PLAY_LIST };
 enum { IN_NEW = 1 << NEW, IN_ACKNOWLEDGE = 1 << ACKNOWLEDGE, IN_FILL = 1 << FILL, IN_WITHDRAW = 1 << WITHDRAW };
-enum { IN_CHANGE = IN_PUT | IN_REMOVE, IN_STEP = IN_ACKNOWLEDGE | IN_FILL | IN_WITHDRAW };
-enum { IN_WALK = IN_CHANGE | IN_GET | IN_LOCATE | IN_NEW | IN_STEP, IN_ALL = IN_WALK | IN_RECOVER };
+enum { IN_WRITE = IN_INSERT | IN_REPLACE, IN_CHANGE = IN_REPLACE | IN_REMOVE }; /* change: of a held key */
+enum { IN_STEP = IN_ACKNOWLEDGE | IN_FILL | IN_WITHDRAW };
+enum { IN_WALK = IN_WRITE | IN_REMOVE | IN_GET | IN_LOCATE | IN_NEW | IN_STEP, IN_ALL = IN_WALK | IN_RECOVER };
 
 /* Six slots: key 7 in slot 1 with 20 bytes, key 8 in slot 2 with 80; in slot 3 key 11 with a sent order and in slot 4
  * key 12 with an acknowledged one, of each 100 ordered and 40 filled; key 10 has the head of key 7 and is not held.
- * size: of a put, room of a get, both counts of a play, quantity of a new order or a fill. */
+ * size: of a value, room of a get, both counts of a play, quantity of a new order or a fill. */
 static const struct directed {
     unsigned calls, answer;
     enum fault fault;
@@ -775,24 +804,46 @@ static const struct directed {
     {IN_RECOVER, 7, SAME_VERSION, 0, 0},
     {IN_RECOVER, 8, ALL_LIVE, 0, 0},
     {IN_CHANGE | IN_GET | IN_LOCATE, DONE, SOUND, 7, 33},
-    {IN_PUT | IN_GET, DONE, SOUND, 8, 80},
-    {IN_PUT, DONE, SOUND, 10, 0},
+    {IN_REPLACE | IN_GET, DONE, SOUND, 8, 80},
+    {IN_INSERT, DONE, SOUND, 10, 0},
+    {IN_INSERT, DONE, SOUND, 10, 80},
     {IN_REMOVE | IN_GET | IN_LOCATE, ABSENT, SOUND, 10, 0},
-    {IN_PUT, 10, SOUND, 7, 81},
+    {IN_WRITE, 10, SOUND, 7, 81},
+    {IN_WRITE, 10, SOUND, 10, 81},
+    {IN_WRITE, 10, ABOVE_N, 7, 81},
     {IN_WALK, 11, ABOVE_N, 7, 80},
     {IN_WALK, 11, ROUND, 10, 80},
     {IN_WALK, 11, ABOVE_N, 7, 0},
     {IN_WALK, 11, ROUND, 10, 0},
-    {IN_PUT, 12, FULL, 9, 5},
-    {IN_PUT, DONE, FULL, 7, 5},
+    {IN_INSERT, 20, SOUND, 7, 5},
+    {IN_INSERT, 20, LONG_RECORD, 7, 5},
+    {IN_INSERT, 20, FULL, 7, 5},
+    {IN_INSERT, 20, LAST_VERSION, 7, 5},
+    {IN_INSERT, 20, NO_FIRST, 7, 5},
+    {IN_INSERT, 20, NO_LAST, 8, 5},
+    {IN_INSERT, 20, FIRST_NEXT, 8, 5},
+    {IN_REPLACE, 21, SOUND, 10, 5},
+    {IN_REPLACE, 21, FULL, 10, 5},
+    {IN_REPLACE, 21, LAST_VERSION, 10, 5},
+    {IN_REPLACE, 21, NO_FIRST, 10, 5},
+    {IN_REPLACE, 21, NO_LAST, 9, 5},
+    {IN_REPLACE, 21, FIRST_NEXT, 9, 5},
+    {IN_INSERT, 12, FULL, 9, 5},
+    {IN_REPLACE, DONE, FULL, 7, 5},
+    {IN_INSERT, 9, LAST_VERSION, 10, 5},
     {IN_CHANGE, 9, LAST_VERSION, 7, 5},
     {IN_REMOVE, ABSENT, LAST_VERSION, 10, 0},
+    {IN_INSERT, 11, NO_FIRST, 10, 5},
+    {IN_INSERT, 11, NO_LAST, 10, 5},
+    {IN_INSERT, 11, FIRST_NEXT, 10, 5},
     {IN_CHANGE, 11, NO_FIRST, 7, 5},
     {IN_CHANGE, 11, NO_LAST, 7, 5},
     {IN_CHANGE, 11, FIRST_NEXT, 8, 5},
+    {IN_INSERT, DONE, NO_LIVE, 10, 5},
+    {IN_REPLACE, DONE, NO_LIVE, 8, 5},
     {IN_REMOVE, 11, NO_LIVE, 8, 0},
     {IN_GET, 6, LONG_RECORD, 7, 90},
-    {IN_LOCATE, DONE, LONG_RECORD, 7, 0},
+    {IN_LOCATE | IN_REPLACE, DONE, LONG_RECORD, 7, 0},
     {IN_GET, DONE, SOUND, 7, 20},
     {IN_GET, 13, SOUND, 7, 19},
     {IN_PLAY | IN_PLAY_LIST, DONE, SOUND, 0, 8},
@@ -870,10 +921,10 @@ static void plant(struct set *s, enum fault fault) {
     case UNFORMATTED: m_set_word(image, 0, 0); break;
     case BAD_HEADER: m_set_word(image, 1 + below(7), 2); break;
     case BAD_MARK: m_set_word(image, 16 * (1 + below(6)) + 8 * below(2), 2 + below(1000)); break;
-    case BAD_KIND: put_record(image, 5, 3, 9, 5, 0); break;
+    case BAD_KIND: set_record(image, 5, 3, 9, 5, 0); break;
     case LONG_RECORD: image[128 + 17] = (uint8_t)(81 + below(175)); break;
-    case SAME_VERSION: put_record(image, 5, 1, 9, 2, 5); break;
-    case ALL_LIVE: put_record(image, 5, 1, 9, 5, 5), put_record(image, 6, 1, 10, 6, 5); break;
+    case SAME_VERSION: set_record(image, 5, 1, 9, 2, 5); break;
+    case ALL_LIVE: set_record(image, 5, 1, 9, 5, 5), set_record(image, 6, 1, 10, 6, 5); break;
     case ABOVE_N: index->heads[7 % 3] = 7 + (uint32_t)below(1000); break;
     case ROUND: index->next[1] = 1; break;
     case FULL: index->state.live = 5; break;
@@ -899,10 +950,10 @@ static struct set *directed_set(enum fault fault) {
     lend_garbage(s);
     if (fault != BAD_LENGTH) {
         m_format(s->model_image, length);
-        put_record(s->model_image, 1, 1, 7, 1, 20);
-        put_record(s->model_image, 2, 1, 8, 2, 80);
-        put_record(s->model_image, 3, 1, 11, 3, ORDERSET_ORDER_BYTES);
-        put_record(s->model_image, 4, 1, 12, 4, ORDERSET_ORDER_BYTES);
+        set_record(s->model_image, 1, 1, 7, 1, 20);
+        set_record(s->model_image, 2, 1, 8, 2, 80);
+        set_record(s->model_image, 3, 1, 11, 3, ORDERSET_ORDER_BYTES);
+        set_record(s->model_image, 4, 1, 12, 4, ORDERSET_ORDER_BYTES);
         set_order(s->model_image, 3, ORDERSET_SENT, 100, 40);
         set_order(s->model_image, 4, ORDERSET_ACKNOWLEDGED, 100, 40);
     }
@@ -944,17 +995,18 @@ static void all_directed(void) {
                 directed(&cases[i], (enum which)which);
 }
 
-/* How often the answer of the rules was met that was met least; 20 is absent, 21 already. */
+/* How often the answer of the rules was met that was met least; 100 is absent, 101 already. */
 static uint64_t least_met(void) {
     static const char *const rules[WHICH] = {
         [FORMAT] = "0 1",
         [RECOVER] = "0 1 2 3 4 5 6 7 8",
-        [PUT] = "0 1 2 3 4 9 10 11 12",
-        [REMOVE] = "0 20 1 2 3 4 9 11",
-        [GET] = "0 20 1 2 3 4 6 11 13",
-        [LOCATE] = "0 20 1 2 3 4 11",
+        [INSERT] = "0 1 2 3 4 9 10 11 12 20",
+        [REPLACE] = "0 1 2 3 4 9 10 11 21",
+        [REMOVE] = "0 100 1 2 3 4 9 11",
+        [GET] = "0 100 1 2 3 4 6 11 13",
+        [LOCATE] = "0 100 1 2 3 4 11",
         [NEW] = "0 1 2 3 4 9 11 12 17 19",
-        [ACKNOWLEDGE] = "0 21 1 2 3 4 9 11 18",
+        [ACKNOWLEDGE] = "0 101 1 2 3 4 9 11 18",
         [FILL] = "0 1 2 3 4 9 11 18 19",
         [WITHDRAW] = "0 1 2 3 4 9 11 18",
         [PLAY] = "0 1 14 15",

@@ -21,9 +21,11 @@
 #include "orderset.h"
 
 enum { CALLS = 5000000, PAGE = 4096, NEAR = 64 };
-enum which { FORMAT, RECOVER, PUT, REMOVE, NEW, ACKNOWLEDGE, FILL, WITHDRAW, GET, LOCATE, PLAY, PLAY_LIST, WHICH };
-static const char *const name[WHICH] = {"format", "recover",  "put", "remove", "new",  "acknowledge",
-                                        "fill",   "withdraw", "get", "locate", "play", "play_list"};
+enum which {
+    FORMAT, RECOVER, INSERT, REPLACE, REMOVE, NEW, ACKNOWLEDGE, FILL, WITHDRAW, GET, LOCATE, PLAY, PLAY_LIST, WHICH
+};
+static const char *const name[WHICH] = {"format", "recover",  "insert", "replace", "remove", "new",      "acknowledge",
+                                        "fill",   "withdraw", "get",    "locate",  "play",   "play_list"};
 
 static uint64_t calls, already, answers[WHICH][2]; /* [0] not refused, [1] refused; already: second acknowledges */
 static enum which call;
@@ -185,9 +187,12 @@ static void call_play(size_t a, size_t b) {
 static uint32_t change(uint64_t key, uint64_t quantity) {
     const size_t length = piece[IMAGE].length;
     switch (call) {
-    case PUT:
-        return orderset_put(r(IMAGE), length, w(HEADS), heads_length, w(NEXT), next_length, w(STATE), w(VERSION), key,
-                            r(BYTES), piece[BYTES].length, w(AT), w(VALUE), w(ANSWER));
+    case INSERT:
+        return orderset_insert(r(IMAGE), length, w(HEADS), heads_length, w(NEXT), next_length, w(STATE), w(VERSION),
+                               key, r(BYTES), piece[BYTES].length, w(AT), w(VALUE), w(ANSWER));
+    case REPLACE:
+        return orderset_replace(r(IMAGE), length, w(HEADS), heads_length, w(NEXT), next_length, w(STATE), w(VERSION),
+                                key, r(BYTES), piece[BYTES].length, w(AT), w(VALUE), w(ANSWER));
     case REMOVE:
         return orderset_remove(r(IMAGE), length, w(HEADS), heads_length, w(NEXT), next_length, w(STATE), w(VERSION),
                                key, w(AT), w(VALUE), w(ANSWER));
@@ -324,9 +329,9 @@ static void lend_for_one_call(void) {
 }
 
 static void any_call(uint64_t keys) {
-    static const enum which often[] = {RECOVER, RECOVER, PUT,         PUT,         PUT,  PUT,  REMOVE, REMOVE,
-                                       NEW,     NEW,     ACKNOWLEDGE, ACKNOWLEDGE, FILL, FILL, FILL,   WITHDRAW,
-                                       GET,     GET,     GET,         LOCATE,      PLAY, PLAY_LIST};
+    static const enum which often[] = {RECOVER, RECOVER, INSERT,      INSERT,      INSERT, REPLACE, REPLACE, REPLACE,
+                                       REMOVE,  REMOVE,  NEW,         NEW,         FILL,   FILL,    FILL,    WITHDRAW,
+                                       GET,     GET,     ACKNOWLEDGE, ACKNOWLEDGE, GET,    LOCATE,  PLAY,    PLAY_LIST};
     call = below(40) ? often[below(sizeof often / sizeof *often)] : FORMAT;
     lend_for_one_call();
     switch (call) {

@@ -1,5 +1,6 @@
-// The headers in C++: an image is made durable, a value is put, made durable, found, removed and not found; a refused
-// call stores nothing; an order is sent, acknowledged, acknowledged again and filled.
+// The headers in C++: an image is made durable, a value is inserted, made durable, found, replaced, found, removed and
+// not found; an insert of a held key, a replace of one that is not held and a value that is too long are refused and
+// store nothing; an order is sent, acknowledged, acknowledged again and filled.
 #include <cstdio>
 #include <cstring>
 #include <vector>
@@ -31,9 +32,14 @@ bool made_durable(uint32_t code) {
            && orderset_persist(image, sizeof image, at, value, best) == 0;
 }
 
-uint32_t put(uint64_t key, const char *text, size_t length) {
-    return orderset_put(image, sizeof image, heads.data(), heads.size(), next.data(), next.size(), state, version, key,
-                        reinterpret_cast<const uint8_t *>(text), length, at, value, answer);
+uint32_t insert(uint64_t key, const char *text, size_t length) {
+    return orderset_insert(image, sizeof image, heads.data(), heads.size(), next.data(), next.size(), state, version,
+                           key, reinterpret_cast<const uint8_t *>(text), length, at, value, answer);
+}
+
+uint32_t replace(uint64_t key, const char *text, size_t length) {
+    return orderset_replace(image, sizeof image, heads.data(), heads.size(), next.data(), next.size(), state, version,
+                            key, reinterpret_cast<const uint8_t *>(text), length, at, value, answer);
 }
 
 uint32_t drop(uint64_t key) {
@@ -51,11 +57,13 @@ bool finds(uint64_t key, const char *text) {
                : !text;
 }
 
-bool refused_stores_nothing() {
+// Key 7 is held and key 8 is not.
+bool refused_stores_nothing(const char *of_seven) {
     std::vector<uint8_t> before(image, image + sizeof image);
     const std::vector<char> text(81, 'x');
-    return put(8, text.data(), text.size()) == ORDERSET_VALUE_TOO_LONG && finds(8, nullptr)
-           && !std::memcmp(image, before.data(), sizeof image);
+    return insert(8, text.data(), text.size()) == ORDERSET_VALUE_TOO_LONG
+           && insert(7, "x", 1) == ORDERSET_INSERT_HELD && replace(8, "x", 1) == ORDERSET_NOT_HELD
+           && finds(7, of_seven) && finds(8, nullptr) && !std::memcmp(image, before.data(), sizeof image);
 }
 
 uint32_t acknowledge(uint64_t key) {
@@ -84,7 +92,8 @@ bool keeps_book(uint64_t key) {
 }
 
 int main() {
-    const bool good = start() && made_durable(put(7, "buy", 3)) && finds(7, "buy") && refused_stores_nothing()
+    const bool good = start() && made_durable(insert(7, "buy", 3)) && finds(7, "buy") && refused_stores_nothing("buy")
+                      && made_durable(replace(7, "sell", 4)) && finds(7, "sell") && refused_stores_nothing("sell")
                       && made_durable(drop(7)) && finds(7, nullptr) && drop(7) == ORDERSET_OK
                       && answer[0] == ORDERSET_ABSENT && keeps_book(9);
     std::printf("header: a set through the headers in C++: %s\n", good ? "as it should be" : "NOT SO");

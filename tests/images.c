@@ -5,7 +5,7 @@
 
 #include "chance.h"
 
-void put_record(uint8_t *image, uint32_t slot, unsigned kind, uint64_t key, uint64_t version, size_t size) {
+void set_record(uint8_t *image, uint32_t slot, unsigned kind, uint64_t key, uint64_t version, size_t size) {
     uint64_t bit = below(2), bit2 = below(2);
     uint8_t *record = image + 128 * (size_t)slot;
     memset(record, 0, 128);
@@ -63,11 +63,11 @@ void any_image(uint8_t *image, uint32_t n, uint64_t keys) {
         else if (kind == 6 && spares >= 1)
             memset(slot, 0, 128), m_set_word(slot, 1, chance());
         else
-            put_record(image, i, kind < 4 || spares == 3 ? 1 : 2, key, base + gap * rank[i], 0);
+            set_record(image, i, kind < 4 || spares == 3 ? 1 : 2, key, base + gap * rank[i], 0);
         if (kind < 4 || (kind < 6 && spares == 3))
-            put_record(image, i, 1, key, base + gap * rank[i], below(81));
+            set_record(image, i, 1, key, base + gap * rank[i], below(81));
         if (kind < 4 && below(2))
-            put_record(image, i, 1, key, base + gap * rank[i], 24), order_bytes(slot + 24);
+            set_record(image, i, 1, key, base + gap * rank[i], 24), order_bytes(slot + 24);
         if (kind == 5 && spares >= 2 && below(2))
             m_set_word(slot, below(2) ? 7 : 15, 2 * below(gap * n) + below(2));
     }

@@ -6,7 +6,7 @@
 #include "model.h"
 
 /* A valid record of that kind (1 put, 2 remove) with random bytes. */
-void put_record(uint8_t *image, uint32_t slot, unsigned kind, uint64_t key, uint64_t version, size_t size);
+void set_record(uint8_t *image, uint32_t slot, unsigned kind, uint64_t key, uint64_t version, size_t size);
 
 /* The 24 bytes of an order of the book, mostly a small one; sometimes of something near an order. */
 void order_bytes(uint8_t bytes[24]);

@@ -1,4 +1,5 @@
-/* The order set of document 01 and the order book of document 02 (A.1) as a plain program. The quotations are their sentences. */
+/* The order set of document 01, with insert and replace as document 02 (A.2) has them, and the order book of document 02 (A.1) as a plain program. The
+ * quotations are their sentences. */
 #include "model.h"
 
 #include <stdlib.h>
@@ -124,7 +125,7 @@ static int by_key(const void *x, const void *y) {
     return a->key != b->key ? (a->key > b->key) - (a->key < b->key) : by_version(x, y);
 }
 
-/* The chains as they grow: each slot is put at the end of its own. */
+/* The chains as they grow: each slot is added at the end of its own. */
 struct chain {
     uint32_t first, last;
 };
@@ -298,17 +299,25 @@ static struct m_change refuse(int number) {
     return (struct m_change){.refusal = number};
 }
 
-struct m_change m_put(const uint8_t *image, size_t length, struct m_index *index, uint64_t key, const uint8_t *bytes, size_t size) {
+/* "insert for a key not held, replace for one that is": what they test first, and where the key stands */
+static struct walk walk_for_value(const uint8_t *image, size_t length, const struct m_index *index, uint64_t key, size_t size) {
     int refusal = refuse_lent(image, length, index->heads_length, index->next_length);
     if (refusal)
-        return refuse(refusal);
+        return (struct walk){.refusal = refusal};
     if (size > 80)
-        return refuse(10);
+        return (struct walk){.refusal = 10};
+    return follow(image, m_slots(length), index, key);
+}
+
+/* "20 when insert meets a held key .. straight after the chain check" */
+struct m_change m_insert(const uint8_t *image, size_t length, struct m_index *index, uint64_t key, const uint8_t *bytes, size_t size) {
+    struct walk walk = walk_for_value(image, length, index, key, size);
     uint32_t n = m_slots(length);
-    struct walk walk = follow(image, n, index, key);
     if (walk.refusal)
-        return refuse(11);
-    if (!walk.slot && (uint64_t)index->state.live + 1 >= n)
+        return refuse(walk.refusal);
+    if (walk.slot)
+        return refuse(20);
+    if ((uint64_t)index->state.live + 1 >= n)
         return refuse(12);
     if (index->state.version >> 63)
         return refuse(9);
@@ -317,12 +326,30 @@ struct m_change m_put(const uint8_t *image, size_t length, struct m_index *index
     struct m_change c = {.version = index->state.version};
     c.slot = take(index);
     write_record(image, &c, key, 1, bytes, size);
-    index->next[c.slot] = walk.slot ? index->next[walk.slot] : 0;
+    index->next[c.slot] = 0;
     link_after(index, key, walk.before, c.slot);
-    if (walk.slot)
-        append(index, walk.slot);
-    else
-        index->state.live++;
+    index->state.live++;
+    index->state.version++;
+    return c;
+}
+
+/* "21 when replace meets an unheld one .. straight after the chain check" */
+struct m_change m_replace(const uint8_t *image, size_t length, struct m_index *index, uint64_t key, const uint8_t *bytes, size_t size) {
+    struct walk walk = walk_for_value(image, length, index, key, size);
+    if (walk.refusal)
+        return refuse(walk.refusal);
+    if (!walk.slot)
+        return refuse(21);
+    if (index->state.version >> 63)
+        return refuse(9);
+    if (reuse_is_bad(index, m_slots(length)))
+        return refuse(11);
+    struct m_change c = {.version = index->state.version};
+    c.slot = take(index);
+    write_record(image, &c, key, 1, bytes, size);
+    index->next[c.slot] = index->next[walk.slot];
+    link_after(index, key, walk.before, c.slot);
+    append(index, walk.slot);
     index->state.version++;
     return c;
 }
@@ -406,16 +433,22 @@ static struct order order_of(const uint8_t *image, size_t length, const struct m
     return o;
 }
 
-static struct m_change put_order(const uint8_t *image, size_t length, struct m_index *index, uint64_t key, struct order o) {
-    uint8_t bytes[24];
+static void set_bytes(uint8_t bytes[24], struct order o) {
     m_set_word(bytes, 0, o.state);
     m_set_word(bytes, 1, o.ordered);
     m_set_word(bytes, 2, o.filled);
-    return m_put(image, length, index, key, bytes, sizeof bytes);
+}
+
+/* "The book's steps use the one they mean": acknowledge and fill, whose key is held, replace */
+static struct m_change replace_order(const uint8_t *image, size_t length, struct m_index *index, uint64_t key, struct order o) {
+    uint8_t bytes[24];
+    set_bytes(bytes, o);
+    return m_replace(image, length, index, key, bytes, sizeof bytes);
 }
 
 /* "17 when a new order's key is held", "19 when a new quantity is zero" */
 struct m_change m_new(const uint8_t *image, size_t length, struct m_index *index, uint64_t key, uint64_t quantity) {
+    uint8_t bytes[24];
     struct m_place place = m_locate(image, length, index, key);
     if (place.refusal)
         return refuse(place.refusal);
@@ -423,7 +456,8 @@ struct m_change m_new(const uint8_t *image, size_t length, struct m_index *index
         return refuse(17);
     if (quantity == 0)
         return refuse(19);
-    return put_order(image, length, index, key, (struct order){0, 1, quantity, 0});
+    set_bytes(bytes, (struct order){0, 1, quantity, 0});
+    return m_insert(image, length, index, key, bytes, sizeof bytes);
 }
 
 /* "A second acknowledge stores nothing and, before any later check, answers the order's present slot and its line A's version" */
@@ -436,7 +470,7 @@ struct m_change m_acknowledge(const uint8_t *image, size_t length, struct m_inde
         return (struct m_change){.already = 1, .slot = place.slot, .version = place.version};
     }
     o.state = 2;
-    return put_order(image, length, index, key, o);
+    return replace_order(image, length, index, key, o);
 }
 
 /* "19 when .. a fill is zero or more than is open", "Fill and withdraw serve either state and keep it", "A .. fully filled order is removed" */
@@ -450,7 +484,7 @@ struct m_change m_fill(const uint8_t *image, size_t length, struct m_index *inde
     if (quantity == open)
         return m_remove(image, length, index, key);
     o.filled += quantity;
-    return put_order(image, length, index, key, o);
+    return replace_order(image, length, index, key, o);
 }
 
 /* "A withdrawn .. order is removed" */

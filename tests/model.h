@@ -23,7 +23,7 @@ struct m_store {
     uint64_t value;
 };
 
-/* What put, remove and the book's steps answer: a refusal, or absent, or slot, version and stores; of an order that was acknowledged already no stores. */
+/* What insert, replace, remove and the book's steps answer: a refusal, or absent, or slot, version and stores; of an order that was acknowledged already no stores. */
 struct m_change {
     int refusal;
     int absent;
@@ -49,7 +49,8 @@ struct m_place {
 uint32_t m_slots(size_t length); /* N, or 0 where no image has that length */
 int m_format(uint8_t *image, size_t length);
 int m_recover(const uint8_t *image, size_t length, struct m_index *index);
-struct m_change m_put(const uint8_t *image, size_t length, struct m_index *index, uint64_t key, const uint8_t *bytes, size_t size);
+struct m_change m_insert(const uint8_t *image, size_t length, struct m_index *index, uint64_t key, const uint8_t *bytes, size_t size);
+struct m_change m_replace(const uint8_t *image, size_t length, struct m_index *index, uint64_t key, const uint8_t *bytes, size_t size);
 struct m_change m_remove(const uint8_t *image, size_t length, struct m_index *index, uint64_t key);
 struct m_got m_get(const uint8_t *image, size_t length, const struct m_index *index, uint64_t key, uint8_t *out, size_t room);
 struct m_place m_locate(const uint8_t *image, size_t length, const struct m_index *index, uint64_t key);

@@ -1,9 +1,9 @@
 /* orderset_persist.h: what it stores is what play makes; the stores reach the memory one word at a time and in order;
- * then come the flushes of both lines and one fence, for each accepted put and remove, and none for get, absent and
- * refusals. Some calls are watched instruction by instruction, so that the flushes and the fence are those that the
- * processor executes, and not only the header's hooks. Stores that are no call's are refused. A start flushes every
- * line and fences once. The fallback stores to every page again and syncs it, and the file is as the image. Ends with
- * status 1 at the first thing that is otherwise.
+ * then come the flushes of both lines and one fence, for each accepted insert, replace and remove, and none for get,
+ * absent and refusals. Some calls are watched instruction by instruction, so that the flushes and the fence are those
+ * that the processor executes, and not only the header's hooks. Stores that are no call's are refused. A start flushes
+ * every line and fences once. The fallback stores to every page again and syncs it, and the file is as the image. Ends
+ * with status 1 at the first thing that is otherwise.
  *
  *     persist [SEED]
  */
@@ -199,14 +199,26 @@ static void persist(enum orderset_flush flush, int watching) {
     expect(is_last_fence(i, watching), "then there is one fence, and nothing more");
 }
 
-static void change(int put, uint64_t key, size_t size, enum orderset_flush flush, int watching) {
+enum kind { INSERT, REPLACE, REMOVE };
+
+static uint32_t call(enum kind kind, uint64_t key, const uint8_t *bytes, size_t size) {
+    switch (kind) {
+    case INSERT:
+        return orderset_insert(image, LENGTH, heads, HEADS, next, N + 1, state, version, key, bytes, size, at, value,
+                               answer);
+    case REPLACE:
+        return orderset_replace(image, LENGTH, heads, HEADS, next, N + 1, state, version, key, bytes, size, at, value,
+                                answer);
+    default:
+        return orderset_remove(image, LENGTH, heads, HEADS, next, N + 1, state, version, key, at, value, answer);
+    }
+}
+
+static void change(enum kind kind, uint64_t key, size_t size, enum orderset_flush flush, int watching) {
     uint8_t bytes[96];
     fill(bytes, sizeof bytes);
     memcpy(played, image, LENGTH);
-    uint32_t code =
-        put ? orderset_put(image, LENGTH, heads, HEADS, next, N + 1, state, version, key, bytes, size, at, value,
-                           answer)
-            : orderset_remove(image, LENGTH, heads, HEADS, next, N + 1, state, version, key, at, value, answer);
+    uint32_t code = call(kind, key, bytes, size);
     int accepted = code == ORDERSET_OK && answer[0] == ORDERSET_GIVEN;
     if (accepted) {
         expect(orderset_play(played, LENGTH, at, value, 8, 8) == ORDERSET_OK, "play takes the stores");
@@ -215,6 +227,16 @@ static void change(int put, uint64_t key, size_t size, enum orderset_flush flush
     expect(memcmp(image, played, LENGTH) == 0, "the image is as play leaves it");
     expect(accepted || events == 0, "a call that does not store flushes nothing");
     *(accepted ? &stored : &unstored) += 1;
+}
+
+/* A remove, an insert or a replace; of these two mostly the one that the key asks for. */
+static enum kind any_kind(uint64_t key) {
+    if (below(3) == 0)
+        return REMOVE;
+    if (below(8) == 0)
+        return below(2) ? INSERT : REPLACE;
+    expect(orderset_locate(image, LENGTH, heads, HEADS, next, N + 1, key, answer) == ORDERSET_OK, "locate");
+    return answer[0] == ORDERSET_ABSENT ? INSERT : REPLACE;
 }
 
 static void get(uint64_t key) {
@@ -234,12 +256,11 @@ static void calls(enum orderset_flush flush) {
     for (int i = 0; i < CALLS; i++) {
         uint64_t key = below(N + 10);
         size_t size = below(84);
-        int put = below(3) > 0;
         events = 0;
         if (below(4) == 0)
             get(key);
         else
-            change(put, key, size, flush, i < WATCHED);
+            change(any_kind(key), key, size, flush, i < WATCHED);
     }
 }
 
@@ -318,14 +339,14 @@ static const uint8_t *page_of(const uint8_t *mapped, uint32_t place) {
     return mapped + (size_t)place * 8 / PAGE * PAGE;
 }
 
-static void put_in_file(uint8_t *mapped, int file, uint64_t key) {
+static void insert_in_file(uint8_t *mapped, int file, uint64_t key) {
     uint8_t bytes[ORDERSET_VALUE_MAX], held[LENGTH];
     fill(bytes, sizeof bytes);
     memcpy(played, mapped, LENGTH);
-    expect(orderset_put(mapped, LENGTH, heads, HEADS, next, N + 1, state, version, key, bytes, below(81), at, value,
-                        answer)
+    expect(orderset_insert(mapped, LENGTH, heads, HEADS, next, N + 1, state, version, key, bytes, below(81), at, value,
+                           answer)
                == ORDERSET_OK,
-           "put");
+           "insert");
     expect(orderset_play(played, LENGTH, at, value, 8, 8) == ORDERSET_OK, "play takes the stores");
     events = 0;
     expect(orderset_persist_file(mapped, LENGTH, at, value) == 0, "persist_file takes the stores of a call");
@@ -375,7 +396,7 @@ static void fallback(void) {
     expect(mapped != MAP_FAILED, "a mapped file");
     make(mapped);
     for (uint64_t key = 0; key < N - 1; key++)
-        put_in_file(mapped, fileno(file), key);
+        insert_in_file(mapped, fileno(file), key);
     sync_errors(mapped);
     whole_file(mapped, fileno(file));
     fclose(file);

@@ -47,6 +47,8 @@ exchange='s/line \+ 0, value\[0\]/line + 8, value[8]/; s/line \+ 7, value\[7\]/l
     s/line \+ 8, value\[8\]/line + 7, value[7]/'
 
 fault header 'a store is left out' $header '/orderset_store\(line \+ 1,/d' 'NOT SO'
+fault header 'a held key is inserted' tests/header.cc 's/orderset_replace\(/orderset_insert(/' 'NOT SO'
+fault header 'a key that is not held is replaced' tests/header.cc 's/orderset_insert\(/orderset_replace(/' 'NOT SO'
 
 fault persist 'the second line is not flushed' $header '/orderset_flush_line\(b, flush\);/d' \
     'NOT SO: then both lines are flushed'
@@ -84,9 +86,14 @@ fault storm 'a start does not make the image durable' tests/storm.c \
     's/\(after_kill \|\| below\(2\)\) \&\& orderset_persist_image\(.*\)\)/0)/' 'LOST key'
 fault storm 'a start makes every other line durable' $header 's/i \+= ORDERSET_LINE_BYTES/i += 128/' 'LOST key'
 fault storm 'the second line is not flushed' $header '/orderset_flush_line\(b, flush\);/d' 'LOST key'
-fault storm 'the first and the last store change places' $header "$exchange" 'LOST key'
+fault storm 'the first and the last store change places' $header "$exchange" 'LOST (key|recovery refuses)'
 fault storm 'a call is acknowledged before it is persisted' tests/storm.c \
     's|^    if \(orderset_persist\(visible|    map[i] = call.later, call.under_way = 0;\n&|' 'LOST key'
+
+fault storm 'an insert of a held key should be done' tests/storm.c \
+    's/return ORDERSET_INSERT_HELD;/return ORDERSET_OK;/' 'LOST a call of key [0-9]+ answers 20'
+fault storm 'a replace of a key that is not held should be done' tests/storm.c 's/ORDERSET_NOT_HELD;/ORDERSET_OK;/' \
+    'LOST a call of key [0-9]+ answers 21'
 
 fault kills 'a new order is answered before it is durable' $gateway \
     '/^static uint32_t change/,/^}/{s/if \(answer\[0\] == ORDERSET_GIVEN\)/if (answer[0] == 1 \&\& c->kind != NEW)/
@@ -106,15 +113,23 @@ fault kills 'the directory of a new file is not synced' $gateway '/^static void 
     'NOT SO: the directory of a new file'
 
 fault guard 'an output one byte longer than lent' tests/guard.c 's/w\(OUTPUT\), out->length/& + 1/' \
-    'NOT SO: signal 11: output is touched'
+    'NOT SO: (signal 11: output is touched|output changed, after what was lent)'
 fault guard 'heads one number longer than lent' tests/guard.c 's/r\(HEADS\), heads_length/& + 1/' \
     'NOT SO: signal 11: heads is touched'
-fault guard 'a value one byte longer than lent' tests/guard.c 's/r\(BYTES\), piece\[BYTES\].length/& + 1/' \
-    'NOT SO: signal 11: bytes is touched'
+fault guard 'the value of an insert one byte longer' tests/guard.c \
+    '/case INSERT:/,/case REPLACE:/s/piece\[BYTES\].length/& + 1/' 'NOT SO: signal 11: bytes is touched'
+fault guard 'the value of a replace one byte longer' tests/guard.c \
+    '/case REPLACE:/,/case REMOVE:/s/piece\[BYTES\].length/& + 1/' 'NOT SO: signal 11: bytes is touched'
 fault guard 'a call writes what it may only read' tests/guard.c \
     's/orderset_play\(w\(IMAGE\)/orderset_play((uint8_t *)r(IMAGE)/' 'NOT SO: signal 11: image is .* lent for reading'
 fault guard 'a refused call changes the state' tests/guard.c \
     's/end\(orderset_recover\(/(++*(uint8_t *)w(STATE), end)(orderset_recover(/' 'NOT SO: state changed, by a refused'
+fault guard 'a refused insert changes the version' tests/guard.c \
+    's/return orderset_insert\(/return (++*(uint8_t *)w(VERSION), orderset_insert)(/' \
+    'NOT SO: version changed, by a refused'
+fault guard 'a refused replace changes the version' tests/guard.c \
+    's/return orderset_replace\(/return (++*(uint8_t *)w(VERSION), orderset_replace)(/' \
+    'NOT SO: version changed, by a refused'
 
 fault differential 'a remove queues its record first' tests/model.c \
     '/^struct m_change m_remove/,/^}/{s/append\(index, walk.slot\);/append(index, 0);/
@@ -126,9 +141,50 @@ fault differential 'the mark is flipped' tests/model.c \
     's/v = open;/v = 1 - m_word(image, 16 * (size_t)c->slot + (i < 8 ? 0 : 8));/' 'DIFFERENCE'
 fault differential 'the last spare slot is filled' tests/model.c 's/live \+ 1 >= n/live >= n/' 'DIFFERENCE'
 fault differential '9 is tested before 12' tests/model.c \
-    's/if \(!walk.slot \&\& /if (!(index->state.version >> 63) \&\& !walk.slot \&\& /' 'DIFFERENCE'
+    's/if \((\(uint64_t\)index->state.live \+ 1 >= n)/if (!(index->state.version >> 63) \&\& \1/' \
+    'DIFFERENCE in the code: archive 12, model 9'
 fault differential 'a struck call counts as done with 8 and 7 stores' tests/differential.c \
     's/a == 8 \&\& b == 8/a == 8 \&\& b >= 7/' 'DIFFERENCE in the plain map'
+
+given='image, length, index, key, bytes, size'
+held='follow(image, m_slots(length), index, key).slot'
+insert='/^struct m_change m_insert/,/^}/'
+replace='/^struct m_change m_replace/,/^}/'
+fault differential 'an insert overwrites' tests/model.c "s/return refuse\(20\);/return m_replace($given);/" \
+    'DIFFERENCE in the code: archive 20, model 0'
+fault differential 'a replace inserts' tests/model.c "s/return refuse\(21\);/return m_insert($given);/" \
+    'DIFFERENCE in the code: archive 21, model 0'
+fault differential '20 is tested before 10' tests/model.c \
+    "${insert}s/if \(walk.refusal\)/if (walk.refusal == 10 \&\& $held) return refuse(20);\n    &/" \
+    'DIFFERENCE in the code: archive 10, model 20'
+fault differential '12 is tested before 20' tests/model.c \
+    "${insert}s/if \(walk.slot\)/if (index->state.live + 1 >= n) return refuse(12);\n    &/" \
+    'DIFFERENCE in the code: archive 20, model 12'
+fault differential '9 is tested before 20' tests/model.c \
+    "${insert}s/if \(walk.slot\)/if (index->state.version >> 63) return refuse(9);\n    &/" \
+    'DIFFERENCE in the code: archive 20, model 9'
+fault differential '21 is tested before 10' tests/model.c \
+    "${replace}s/if \(walk.refusal\)/if (walk.refusal == 10 \&\& !$held) return refuse(21);\n    &/" \
+    'DIFFERENCE in the code: archive 10, model 21'
+fault differential '21 is tested before 11 of the chain' tests/model.c \
+    "${replace}s/if \(walk.refusal\)/if (walk.refusal == 11) return refuse(21);\n    &/" \
+    'DIFFERENCE in the code: archive 11, model 21'
+fault differential '9 is tested before 21' tests/model.c \
+    "${replace}s/if \(!walk.slot\)/if (index->state.version >> 63) return refuse(9);\n    &/" \
+    'DIFFERENCE in the code: archive 21, model 9'
+fault differential 'a replace is refused for room' tests/model.c \
+    "${replace}s/if \(index->state.version/if (index->state.live + 1 >= m_slots(length)) return refuse(12);\n    &/" \
+    'DIFFERENCE in the code: archive 0, model 12'
+fault differential 'a replace counts one more live slot' tests/model.c \
+    "${replace}s/index->state.version\+\+;/index->state.live++;\n    &/" 'DIFFERENCE in the live count'
+fault differential 'a replace does not queue the old slot' tests/model.c "${replace}{/append\(index, walk.slot\);/d}" \
+    'DIFFERENCE in the (first|last) slot'
+fault differential 'a refused insert takes a version' tests/model.c \
+    's/return refuse\(20\);/return index->state.version++, refuse(20);/' 'DIFFERENCE in the next version'
+fault differential 'the plain map lets an insert overwrite' tests/differential.c \
+    's/held \? ORDERSET_INSERT_HELD : DONE/DONE/' 'DIFFERENCE in the answer by the plain map: archive 20, model 0'
+fault differential 'the plain map lets a replace insert' tests/differential.c \
+    's/held \? DONE : ORDERSET_NOT_HELD/DONE/' 'DIFFERENCE in the answer by the plain map: archive 21, model 0'
 
 fault differential 'a fill of more than is open is taken' tests/model.c 's/ \|\| quantity > open//' \
     'DIFFERENCE in the code'
@@ -137,7 +193,7 @@ fault differential 'a fill is added before it is compared' tests/model.c \
 fault differential 'a last fill stores the order' tests/model.c 's/if \(quantity == open\)/if (0)/' 'DIFFERENCE'
 fault differential 'a second acknowledge stores' tests/model.c 's/if \(o.state == 2\)/if (0)/' 'DIFFERENCE'
 fault differential 'a withdraw keeps the order' tests/model.c \
-    '/^struct m_change m_withdraw/,/^}/s/m_remove\((.*)\);/put_order(\1, o);/' 'DIFFERENCE'
+    '/^struct m_change m_withdraw/,/^}/s/m_remove\((.*)\);/replace_order(\1, o);/' 'DIFFERENCE'
 fault differential '19 is tested before 18' tests/model.c \
     '/^struct m_change m_fill/,/^}/s/if \(o.refusal\)/if (o.refusal == 18 \&\& !quantity) return refuse(19);\n    &/' \
     'DIFFERENCE in the code: archive 18, model 19'

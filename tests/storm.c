@@ -1,8 +1,8 @@
-/* A storm of power cuts and kills. The program under test puts, removes and gets with the archive and makes its stores
- * durable with orderset_persist.h, over a simulated cache: what a process sees and what is durable are apart, and each
- * line has a list of the stores that are not durable yet. Whenever something strikes, the program starts again, makes
- * the image durable and recovers. Then every acknowledged order must be there, the call that was struck must be there
- * wholly or not at all, and nothing else may be there.
+/* A storm of power cuts and kills. The program under test inserts, replaces, removes and gets with the archive and
+ * makes its stores durable with orderset_persist.h, over a simulated cache: what a process sees and what is durable are
+ * apart, and each line has a list of the stores that are not durable yet. Whenever something strikes, the program
+ * starts again, makes the image durable and recovers. Then every acknowledged order must be there, the call that was
+ * struck must be there wholly or not at all, and nothing else may be there.
  *
  *     storm [SEED [STRIKES]]
  */
@@ -201,17 +201,45 @@ static void start(void) {
     check();
 }
 
-static void change(uint32_t i, int put) {
-    uint32_t full = !map[i].held && held() + 1 >= n, code;
+enum kind { INSERT, REPLACE, REMOVE };
+
+/* Insert or replace: mostly the one that the key asks for. */
+static enum kind any_write(uint32_t i) {
+    if (below(16) == 0)
+        return below(2) ? INSERT : REPLACE;
+    return map[i].held ? REPLACE : INSERT;
+}
+
+/* What the rules answer. */
+static uint32_t due(enum kind kind, uint32_t i) {
+    if (kind == REPLACE)
+        return map[i].held ? ORDERSET_OK : ORDERSET_NOT_HELD;
+    if (kind == INSERT && map[i].held)
+        return ORDERSET_INSERT_HELD;
+    return kind == INSERT && held() + 1 >= n ? ORDERSET_FULL : ORDERSET_OK;
+}
+
+static uint32_t carry_out(enum kind kind, uint64_t key, const struct value *v) {
+    switch (kind) {
+    case INSERT:
+        return orderset_insert(visible, length, heads, heads_length, next, n + 1, state, version, key, v->bytes,
+                               v->size, at, value, answer);
+    case REPLACE:
+        return orderset_replace(visible, length, heads, heads_length, next, n + 1, state, version, key, v->bytes,
+                                v->size, at, value, answer);
+    default:
+        return orderset_remove(visible, length, heads, heads_length, next, n + 1, state, version, key, at, value,
+                               answer);
+    }
+}
+
+static void change(uint32_t i, enum kind kind) {
     call.key = i;
-    call.later.held = put;
-    call.later.size = put ? below(ORDERSET_VALUE_MAX + 1) : 0;
+    call.later.held = kind != REMOVE;
+    call.later.size = call.later.held ? below(ORDERSET_VALUE_MAX + 1) : 0;
     fill(call.later.bytes, call.later.size);
-    code = put ? orderset_put(visible, length, heads, heads_length, next, n + 1, state, version, key_of[i],
-                              call.later.bytes, call.later.size, at, value, answer)
-               : orderset_remove(visible, length, heads, heads_length, next, n + 1, state, version, key_of[i], at,
-                                 value, answer);
-    if (code != (put && full ? ORDERSET_FULL : ORDERSET_OK))
+    uint32_t code = carry_out(kind, key_of[i], &call.later);
+    if (code != due(kind, i))
         lost("a call of key %" PRIu64 " answers %" PRIu32, key_of[i], code);
     if (code || answer[0] == ORDERSET_ABSENT)
         return;
@@ -239,7 +267,7 @@ static void run_until_struck(void) {
         uint32_t i = (uint32_t)below(keys), kind = (uint32_t)below(8);
         struct value found;
         if (kind > 0)
-            change(i, kind > 2);
+            change(i, kind > 2 ? any_write(i) : REMOVE);
         else if (found = get(i), !same(&found, &map[i]))
             lost("get of key %" PRIu64, key_of[i]);
         point();

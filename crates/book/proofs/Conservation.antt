@@ -15,12 +15,12 @@ use Rattle.prelude.specs.Refusal.{say}
 use Rattle.prelude.proofs.Choice.{pick-true, pick-false, true-false}
 use Rattle.prelude.proofs.Refusals.{say-zero, orElse-zero, taken-leaves}
 use Rattle.face.proofs.SetLaws.{set-laws}
-use Rattle.face.specs.Set.{Layout, worldAfter, World, Call, put, remove, PlainMap, putting, removing, operation, plainNext, plainStep, isHeld, Holds, holds, Keys, recoveredWorld, slotsIn, slotsMap}
+use Rattle.face.specs.Set.{Layout, worldAfter, World, Mode, Insert, Replace, Call, write, remove, PlainMap, giving, dropping, updates, updated, plainNext, plainStep, isHeld, Holds, holds, Keys, recoveredWorld, slotsIn, slotsMap}
 use Rattle.face.specs.Event.{Event, requestOf, allStand, plainEvent, FitsBy, done-fits, struck-fits}
 use Rattle.book.specs.declared.Order.{Order}
 use Rattle.book.specs.Orders.{orderBytes, orderOf, isOrder, isState, openOf, sent, acknowledged, filledBy}
 use Rattle.book.specs.Steps.{Step, new, acknowledge, fill, withdraw, quantityFault}
-use Rattle.book.specs.Plain.{stepKey, orderIn, orderFault, bookFault, callBy, stepCall, stepFault, operationBy, stepOperation, TypedStep, new-typed, acknowledge-typed, fill-typed, withdraw-typed, worldAfterStep, mapAfterStep}
+use Rattle.book.specs.Plain.{stepKey, orderIn, orderFault, bookFault, callBy, stepCall, stepFault, updatesBy, stepUpdates, TypedStep, new-typed, acknowledge-typed, fill-typed, withdraw-typed, worldAfterStep, mapAfterStep}
 use Rattle.book.specs.Totals.{openHeld, ofHeld, orderedIn, filledIn, withdrawnIn, counts, totalOf, mapAtEnd, openTotal, Conservation}
 use Rattle.book.proofs.OrderBytes.{BookOrder, BookRecord, order-back, order-record, record-order}
 use Rattle.book.proofs.StepEvents.{to-end}
@@ -46,10 +46,10 @@ stays : (m : PlainMap) → Records m → (key : ℕ) → Moved key 0 0 0 m m
 stays m r key = record { elsewhere = λ k ne. refl; records = r key; balance = refl }
 
 module _ (m : PlainMap) (key ordered filled withdrawn : ℕ) where
-  put-moves : (o : Order) → BookOrder o → ordered + openHeld (m key) ≡ filled + withdrawn + openOf o
-      → Moved key ordered filled withdrawn m (plainNext (putting key (orderBytes o)) m)
-  unfolding plainNext ofHeld
-  put-moves o s q =
+  write-moves : (o : Order) → BookOrder o → ordered + openHeld (m key) ≡ filled + withdrawn + openOf o
+      → Moved key ordered filled withdrawn m (plainNext (giving key (orderBytes o) ∷ []) m)
+  unfolding plainNext updated ofHeld
+  write-moves o s q =
       record {
         elsewhere = λ k ne. pick-false (eqb k key) _ _ (ne-eqb k key ne);
         records = λ value h. subst BookRecord (same-value here h) (order-record o s);
@@ -59,8 +59,8 @@ module _ (m : PlainMap) (key ordered filled withdrawn : ℕ) where
       here : cond (eqb key key) (some (orderBytes o)) (m key) ≡ some (orderBytes o)
       here = pick-true (eqb key key) _ _ (eq-eqb key key refl)
 
-  remove-moves : ordered + openHeld (m key) ≡ filled + withdrawn → Moved key ordered filled withdrawn m (plainNext (removing key) m)
-  unfolding plainNext ofHeld
+  remove-moves : ordered + openHeld (m key) ≡ filled + withdrawn → Moved key ordered filled withdrawn m (plainNext (dropping key ∷ []) m)
+  unfolding plainNext updated ofHeld
   remove-moves q =
       record {
         elsewhere = λ k ne. pick-false (eqb k key) _ _ (ne-eqb k key ne);
@@ -74,8 +74,8 @@ module _ (m : PlainMap) (key ordered filled withdrawn : ℕ) where
 -- ---- what a step that is not refused makes of it
 
 -- the map after the call that a step comes to
-abbrev after : PlainMap → (key : ℕ) → Option Call → PlainMap
-after m key call = plainNext (operationBy key call) m
+abbrev after : PlainMap → Option Call → PlainMap
+after m call = plainNext (updatesBy call) m
 
 quantity-fits : (quantity left : ℕ) → quantityFault quantity left ≡ 0 → (0 < quantity) × (quantity ≤ left)
 unfolding quantityFault
@@ -87,38 +87,38 @@ quantity-fits quantity left z =
 module _ (m : PlainMap) (r : Records m) (key : ℕ) where
   -- a new order, whose key is not held
   new-moves : (quantity : ℕ) → quantity < 2 ^ 64 → m key ≡ none → say (eqb quantity 0) 19 0 ≡ 0
-      → Moved key quantity 0 0 m (after m key (some (put key (orderBytes (sent quantity)))))
-  unfolding operationBy operation sent ofHeld isState
+      → Moved key quantity 0 0 m (after m (some (write Insert key (orderBytes (sent quantity)))))
+  unfolding updatesBy updates sent ofHeld isState
   new-moves quantity h e z =
-      put-moves m key quantity 0 0 (sent quantity)
+      write-moves m key quantity 0 0 (sent quantity)
       (record { state = refl; part = omega (arith, eqb-false quantity 0 (say-zero (eqb quantity 0) 19 0 z (omega arith) .0)); size = h })
       (omega (arith, ap openHeld e))
 
   -- the order o that the key holds
   module _ (o : Order) (s : BookOrder o) (e : openHeld (m key) ≡ openOf o) where
-    acknowledge-moves : Moved key 0 0 0 m (after m key (callBy (some o) (acknowledge key)))
-    unfolding callBy operationBy operation plainNext acknowledged isState
+    acknowledge-moves : Moved key 0 0 0 m (after m (callBy (some o) (acknowledge key)))
+    unfolding callBy updatesBy updates plainNext acknowledged isState
     acknowledge-moves = go (eqb (o .state) 2)
       where
-        go : (b : Bool) → Moved key 0 0 0 m (after m key (cond b none (some (put key (orderBytes (acknowledged o))))))
+        go : (b : Bool) → Moved key 0 0 0 m (after m (cond b none (some (write Replace key (orderBytes (acknowledged o))))))
         go true = stays m r key
-        go false = put-moves m key 0 0 0 (acknowledged o) (record { state = refl; part = s .part; size = s .size }) (omega arith)
+        go false = write-moves m key 0 0 0 (acknowledged o) (record { state = refl; part = s .part; size = s .size }) (omega arith)
 
     fill-moves : (quantity : ℕ) → quantityFault quantity (openOf o) ≡ 0
-        → Moved key 0 quantity 0 m (after m key (callBy (some o) (fill key quantity)))
-    unfolding callBy operationBy operation filledBy
+        → Moved key 0 quantity 0 m (after m (callBy (some o) (fill key quantity)))
+    unfolding callBy updatesBy updates filledBy
     fill-moves quantity z = go (eqb quantity (openOf o)) refl (quantity-fits quantity (openOf o) z)
       where
         go : (b : Bool) → eqb quantity (openOf o) ≡ b → (0 < quantity) × (quantity ≤ openOf o)
-            → Moved key 0 quantity 0 m (after m key (cond b (some (remove key)) (some (put key (orderBytes (filledBy quantity o))))))
+            → Moved key 0 quantity 0 m (after m (cond b (some (remove key)) (some (write Replace key (orderBytes (filledBy quantity o))))))
         go true d h = remove-moves m key 0 quantity 0 (omega (arith, eqb-true quantity (openOf o) d))
         go false d h =
-            put-moves m key 0 quantity 0 (filledBy quantity o)
+            write-moves m key 0 quantity 0 (filledBy quantity o)
             (record { state = s .state; part = omega (arith, s .part, eqb-false quantity (openOf o) d, h .1); size = s .size })
             (omega (arith, s .part, h .1))
 
-    withdraw-moves : Moved key 0 0 (openHeld (m key)) m (after m key (callBy (some o) (withdraw key)))
-    unfolding callBy operationBy operation
+    withdraw-moves : Moved key 0 0 (openHeld (m key)) m (after m (callBy (some o) (withdraw key)))
+    unfolding callBy updatesBy updates
     withdraw-moves = remove-moves m key 0 0 (openHeld (m key)) refl
 
   -- by a fault with number 18 where there is no order: the key holds one
@@ -145,26 +145,26 @@ not-held (some value) e = absurd (true-false refl e)
 
 module _ (l : ℕ) (m : PlainMap) (r : Records m) where
   by-call : (step : Step) → TypedStep l step → bookFault m step ≡ 0
-      → Moves m step (after m (stepKey step) (callBy (orderIn (m (stepKey step))) step))
+      → Moves m step (after m (callBy (orderIn (m (stepKey step))) step))
   unfolding bookFault orderFault callBy orderedIn filledIn withdrawnIn
   by-call (new key quantity) (new-typed k h) z =
       let free = say-zero (isHeld (m key)) 17 _ z (omega arith) in
       new-moves m r key quantity h (not-held (m key) (free .0)) (free .1)
   by-call (acknowledge key) (acknowledge-typed k) z =
       by-order m r key (λ o. orderFault o (acknowledge key)) refl z
-      (λ o. Moved key 0 0 0 m (after m key (callBy o (acknowledge key)))) (λ o s e q. acknowledge-moves m r key o s e)
+      (λ o. Moved key 0 0 0 m (after m (callBy o (acknowledge key)))) (λ o s e q. acknowledge-moves m r key o s e)
   by-call (fill key quantity) (fill-typed k h) z =
       by-order m r key (λ o. orderFault o (fill key quantity)) refl z
-      (λ o. Moved key 0 quantity 0 m (after m key (callBy o (fill key quantity)))) (λ o s e q. fill-moves m r key o s e quantity q)
+      (λ o. Moved key 0 quantity 0 m (after m (callBy o (fill key quantity)))) (λ o s e q. fill-moves m r key o s e quantity q)
   by-call (withdraw key) (withdraw-typed k) z =
       by-order m r key (λ o. orderFault o (withdraw key)) refl z
-      (λ o. Moved key 0 0 (openHeld (m key)) m (after m key (callBy o (withdraw key)))) (λ o s e q. withdraw-moves m r key o s e)
+      (λ o. Moved key 0 0 (openHeld (m key)) m (after m (callBy o (withdraw key)))) (λ o s e q. withdraw-moves m r key o s e)
 
   -- a step that the book's rules do not refuse
-  step-moves : (step : Step) → TypedStep l step → bookFault m step ≡ 0 → Moves m step (plainNext (stepOperation m step) m)
-  unfolding stepOperation stepCall
+  step-moves : (step : Step) → TypedStep l step → bookFault m step ≡ 0 → Moves m step (plainNext (stepUpdates m step) m)
+  unfolding stepUpdates stepCall
   step-moves step typed z =
-      subst (λ call. Moves m step (after m (stepKey step) call)) (sym (taken-leaves _ _ (bookFault m step) z)) (by-call step typed z)
+      subst (λ call. Moves m step (after m call)) (sym (taken-leaves _ _ (bookFault m step) z)) (by-call step typed z)
 
   -- ---- an event
 
@@ -179,14 +179,14 @@ module _ (l : ℕ) (m : PlainMap) (r : Records m) where
     -- an event of the step, whose stores all stand or not
     event-moves : (stand : Bool)
         → Moved (stepKey step) (adds stand (orderedIn m step)) (adds stand (filledIn m step)) (adds stand (withdrawnIn m step)) m
-        (plainEvent stand (stepOperation m step) (refuses fault) m)
+        (plainEvent stand (stepUpdates m step) (refuses fault) m)
     unfolding plainEvent plainStep refuses stepFault
     event-moves false = stays m r (stepKey step)
     event-moves true = go (eqb fault 0) refl
       where
         go : (b : Bool) → eqb fault 0 ≡ b
             → Moved (stepKey step) (cond (not (not b)) (orderedIn m step) 0) (cond (not (not b)) (filledIn m step) 0)
-            (cond (not (not b)) (withdrawnIn m step) 0) m (plainStep (stepOperation m step) (not b) m)
+            (cond (not (not b)) (withdrawnIn m step) 0) m (plainStep (stepUpdates m step) (not b) m)
         go true e = step-moves step typed (orElse-zero (bookFault m step) _ (eqb-true fault 0 e) .0)
         go false e = stays m r (stepKey step)
 

@@ -8,10 +8,10 @@ use borrow.Author.Tests.{eq-eqb, ne-eqb}
 use Rattle.prelude.proofs.Choice.{pick-true, pick-false}
 use Rattle.prelude.specs.Answer.{Answer, gives, absent, refused}
 use Rattle.prelude.specs.Refusal.{unlessRefused}
-use Rattle.face.specs.Set.{State, ChangeResult, putResult, removeResult, locateResult}
+use Rattle.face.specs.Set.{State, Store, Mode, Replace, leftIn, ChangeResult, writeResult, removeResult, locateResult}
 use Rattle.book.specs.Orders.{orderBytes, openOf, acknowledged}
-use Rattle.book.specs.Steps.{BookAnswer, BookResult, idle, changeAnswers, asChange, Sought, order, none-there, seek, newAt, newResult, alreadyAt, acknowledgeAt, acknowledgeResult, quantityFault, fillBy, fillAt, fillResult, withdrawAt, withdrawResult}
-use Rattle.book.specs.inner.Courses.{Course, puts, removes, answers, courseResult, newCourse, alreadyCourse, acknowledgeCourse, fillOrder, fillCourse, withdrawCourse}
+use Rattle.book.specs.Steps.{BookAnswer, BookResult, bookLeftIn, idle, changeAnswers, asChange, Sought, order, none-there, seek, newAt, newResult, alreadyAt, acknowledgeAt, acknowledgeResult, quantityFault, fillBy, fillAt, fillResult, withdrawAt, withdrawResult}
+use Rattle.book.specs.inner.Courses.{Course, writes, removes, answers, courseResult, newCourse, alreadyCourse, acknowledgeCourse, fillOrder, fillCourse, withdrawCourse}
 use Rattle.book.specs.declared.Order.{Order}
 
 -- a function of a choice
@@ -33,7 +33,7 @@ module _ (sought : Sought) (located : Answer) (o : Order) (e : order o ≡ sough
   acknowledge-again q answer h =
       ap alreadyCourse h ∙ sym (pick-true (eqb (o .state) 2) _ _ (eq-eqb (o .state) 2 q)) ∙ ap (acknowledgeCourse located) e
 
-  pub acknowledge-first : (o .state ≡ 2 → ⊥) → puts (acknowledged o) ≡ acknowledgeCourse located sought
+  pub acknowledge-first : (o .state ≡ 2 → ⊥) → writes Replace (acknowledged o) ≡ acknowledgeCourse located sought
   unfolding acknowledgeCourse
   acknowledge-first ne = sym (pick-false (eqb (o .state) 2) _ _ (ne-eqb (o .state) 2 ne)) ∙ ap (acknowledgeCourse located) e
 
@@ -44,6 +44,10 @@ pub answered : (c : ChangeResult) (answer : BookAnswer) → answer ≡ changeAns
 unfolding asChange
 answered c answer e =
     ap (λ (a : BookAnswer). record { answer = a; state = c .state; stores = c .stores; heads = c .heads; next = c .next }) e
+
+change-left : (lent : List Store) (c : ChangeResult) → asChange (leftIn lent c) ≡ bookLeftIn lent (asChange c)
+unfolding asChange leftIn bookLeftIn
+change-left lent c = refl
 
 -- ---- a course comes to the step's result
 
@@ -80,44 +84,51 @@ module _ (l : ℕ) (image heads next : List ℕ) (s : State) (key : ℕ) where
   withdraw-at (order o) = refl
   withdraw-at (none-there number) = refl
 
-  -- ---- what a course comes to: left is what the step leaves, c what its call leaves
+  -- ---- what a course comes to: left is what the step leaves, lent these stores, and c what its call leaves
 
-  module _ (left : BookResult) (course : Course) where
-    pub course-put : (o : Order) → course ≡ puts o → (value : List ℕ) → value ≡ orderBytes o → (c : ChangeResult)
-        → c ≡ putResult l image heads next s key value → left ≡ asChange c → left ≡ courseResult l image heads next s key course
-    unfolding courseResult
-    course-put o q value v c p e =
-        e ∙ ap asChange (p ∙ ap (putResult l image heads next s key) v) ∙ sym (ap (courseResult l image heads next s key) q)
+  module _ (lent : List Store) (left : BookResult) (course : Course) where
+    comes : (r : BookResult) → left ≡ bookLeftIn lent r → r ≡ courseResult l image heads next s key course
+        → left ≡ bookLeftIn lent (courseResult l image heads next s key course)
+    comes r e q = e ∙ ap (bookLeftIn lent) q
 
-    pub course-remove : course ≡ removes → (c : ChangeResult) → c ≡ removeResult l image heads next s key → left ≡ asChange c
-        → left ≡ courseResult l image heads next s key course
+    pub course-write : (mode : Mode) (o : Order) → course ≡ writes mode o → (value : List ℕ) → value ≡ orderBytes o → (c : ChangeResult)
+        → c ≡ leftIn lent (writeResult l image heads next s mode key value) → left ≡ asChange c
+        → left ≡ bookLeftIn lent (courseResult l image heads next s key course)
     unfolding courseResult
-    course-remove q c p e = e ∙ ap asChange p ∙ sym (ap (courseResult l image heads next s key) q)
+    course-write mode o q value v c p e =
+        comes _ (e ∙ ap asChange p ∙ change-left lent _)
+        (ap (λ (bytes : List ℕ). asChange (writeResult l image heads next s mode key bytes)) v ∙ sym (ap (courseResult l image heads next s key) q))
 
-    pub course-answer : (answer : BookAnswer) → course ≡ answers answer → left ≡ idle answer s heads next
-        → left ≡ courseResult l image heads next s key course
+    pub course-remove : course ≡ removes → (c : ChangeResult) → c ≡ leftIn lent (removeResult l image heads next s key) → left ≡ asChange c
+        → left ≡ bookLeftIn lent (courseResult l image heads next s key course)
     unfolding courseResult
-    course-answer answer q e = e ∙ sym (ap (courseResult l image heads next s key) q)
+    course-remove q c p e = comes _ (e ∙ ap asChange p ∙ change-left lent _) (sym (ap (courseResult l image heads next s key) q))
+
+    pub course-answer : (answer : BookAnswer) → course ≡ answers answer → left ≡ bookLeftIn lent (idle answer s heads next)
+        → left ≡ bookLeftIn lent (courseResult l image heads next s key course)
+    unfolding courseResult
+    course-answer answer q e = comes _ e (sym (ap (courseResult l image heads next s key) q))
 
   -- ---- the steps: left is what the step leaves by its course
 
-  module _ (left : BookResult) (course : Course) (e : left ≡ courseResult l image heads next s key course) where
+  module _ (lent : List Store) (left : BookResult) (course : Course)
+      (e : left ≡ bookLeftIn lent (courseResult l image heads next s key course)) where
     pub new-result : (quantity : ℕ) → course ≡ newCourse quantity (locateResult l image heads next key)
-        → left ≡ newResult l image heads next s key quantity
+        → left ≡ bookLeftIn lent (newResult l image heads next s key quantity)
     unfolding newResult result
-    new-result quantity q = e ∙ ap result q ∙ new-at quantity (locateResult l image heads next key)
+    new-result quantity q = e ∙ ap (bookLeftIn lent) (ap result q ∙ new-at quantity (locateResult l image heads next key))
 
     pub acknowledge-result :
         course ≡ acknowledgeCourse (locateResult l image heads next key) (seek l image heads next key)
-        → left ≡ acknowledgeResult l image heads next s key
+        → left ≡ bookLeftIn lent (acknowledgeResult l image heads next s key)
     unfolding acknowledgeResult result
-    acknowledge-result q = e ∙ ap result q ∙ acknowledge-at (seek l image heads next key)
+    acknowledge-result q = e ∙ ap (bookLeftIn lent) (ap result q ∙ acknowledge-at (seek l image heads next key))
 
     pub fill-result : (quantity : ℕ) → course ≡ fillCourse quantity (seek l image heads next key)
-        → left ≡ fillResult l image heads next s key quantity
+        → left ≡ bookLeftIn lent (fillResult l image heads next s key quantity)
     unfolding fillResult result
-    fill-result quantity q = e ∙ ap result q ∙ fill-at quantity (seek l image heads next key)
+    fill-result quantity q = e ∙ ap (bookLeftIn lent) (ap result q ∙ fill-at quantity (seek l image heads next key))
 
-    pub withdraw-result : course ≡ withdrawCourse (seek l image heads next key) → left ≡ withdrawResult l image heads next s key
+    pub withdraw-result : course ≡ withdrawCourse (seek l image heads next key) → left ≡ bookLeftIn lent (withdrawResult l image heads next s key)
     unfolding withdrawResult result
-    withdraw-result q = e ∙ ap result q ∙ withdraw-at (seek l image heads next key)
+    withdraw-result q = e ∙ ap (bookLeftIn lent) (ap result q ∙ withdraw-at (seek l image heads next key))

@@ -7,8 +7,7 @@ use Prim.Native.Nat.{ℕ}
 use native.Mathlib.Omega.{arith}
 use lib.ListN.{length, drop, replicate, length-replicate}
 use lib.Seq.{take-append-seam}
-use Rattle.prelude.specs.Answer.{gives, absent}
-use Rattle.face.specs.Set.{World, PlainMap, limit, locate, called, calledLocate, locateResult, isHeld, holder, tableOf, slotsIn, locate-typed, ruleFault, plainAnswer, lengthAnswer, filled}
+use Rattle.face.specs.Set.{World, PlainMap, limit, lengthAnswer, filled}
 use Rattle.face.specs.Laws.{SetLaws}
 use Rattle.book.specs.Orders.{isOrder, orderOf}
 use Rattle.book.specs.Steps.{order, none-there, soughtIn, soughtBy, seek}
@@ -35,9 +34,3 @@ module _ (l : ℕ) (Inv : World → PlainMap → Type 0) (laws : SetLaws l Inv) 
   sought =
       ap soughtBy (laws .reads w m i key (replicate (limit l) 0) (omega (arith, length-replicate {A = ℕ} (limit l) 0)))
       ∙ sought-held (m key) (replicate (limit l) 0)
-
-  -- a locate finds the slot of a key that the plain map holds
-  pub located : locateResult l (w .image) (w .heads) (w .next) key ≡
-      cond (isHeld (m key)) (gives (holder (tableOf l (w .image)) (slotsIn (w .image)) key)) absent
-  unfolding called calledLocate ruleFault plainAnswer
-  located = laws .answers w m i (locate key) locate-typed .answer refl

@@ -1,5 +1,5 @@
--- The numbers of a book step: 10, 13 and 6 never show. Assumes nothing.
-use mathlib.Core.Path.{_≡_, refl}
+-- The numbers of a book step: 10, 13, 20, 21 and 6 never show. Assumes nothing.
+use mathlib.Core.Path.{_≡_, refl, sym, subst}
 use mathlib.Core.Bool.{Bool, true, false, cond}
 use mathlib.Core.Logic.{inl, inr}
 use mathlib.Core.List.{List, [], _∷_}
@@ -13,9 +13,9 @@ use Rattle.prelude.specs.Answer.{Answer, gives, absent, refused}
 use Rattle.prelude.proofs.defs.Among.{areAmong}
 use Rattle.prelude.proofs.Among.{one-of, among}
 use Rattle.book.proofs.OrderBytes.{order-length}
-use Rattle.face.specs.Set.{World, State, ChangeResult, putResult, removeResult, getResult, locateResult, limit, Layout}
-use Rattle.face.specs.Numbers.{Numbered, locateRefusals, shortPutRefusals, removeRefusals, roomyGetRefusals}
-use Rattle.face.proofs.Numbers.{short-put-numbered, remove-numbered, roomy-get-numbered, locate-numbered}
+use Rattle.face.specs.Set.{World, State, Mode, Insert, Replace, ChangeResult, writeResult, removeResult, getResult, locateResult, limit, Layout}
+use Rattle.face.specs.Numbers.{Numbered, AnswersAsAsked, locateRefusals, askedRefusals, removeRefusals, roomyGetRefusals}
+use Rattle.face.proofs.Numbers.{locate-asked, get-asked, remove-numbered, roomy-get-numbered, locate-numbered}
 use Rattle.book.specs.Orders.{orderBytes, orderOf, isOrder, openOf, sent, acknowledged, filledBy}
 use Rattle.book.specs.Steps.{Step, new, acknowledge, fill, withdraw, declined, idle, changeAnswers, asChange, Sought, order, none-there, soughtIn, soughtBy, seek, newAt, newResult, alreadyAt, acknowledgeAt, acknowledgeResult, quantityFault, fillBy, fillAt, fillResult, withdrawAt, withdrawResult, booked}
 use Rattle.book.specs.Numbers.{stepRefusals, StepNumbered}
@@ -32,10 +32,10 @@ get-in k (inr (inr (inr (inl e)))) = rw e (one-of 4 stepRefusals refl)
 get-in k (inr (inr (inr (inr (inl e))))) = rw e (one-of 11 stepRefusals refl)
 get-in k (inr (inr (inr (inr (inr (inl e)))))) = rw e (one-of 18 stepRefusals refl)
 
--- where there is no order the number is one of them
-abbrev StepFound : Sought → Type 0
-StepFound (order o) = Unit
-StepFound (none-there number) = In number stepRefusals
+-- where a step finds an order its get answered a value, and where not the number is one of them
+abbrev StepFound : Answer → Sought → Type 0
+StepFound got (order o) = AnswersAsAsked Replace got
+StepFound got (none-there number) = In number stepRefusals
 
 -- ---- the calls that a step makes
 
@@ -49,42 +49,54 @@ module _ (l : ℕ) (lay : Layout l) (image heads next : List ℕ) (s : State) (k
       go absent h = one-of 18 stepRefusals refl
       go (refused k) h = among ks stepRefusals e k h
 
-  put-step : (o : Order) → StepNumbered (asChange (putResult l image heads next s key (orderBytes o)) .answer)
-  put-step o =
-      change-in shortPutRefusals refl (putResult l image heads next s key (orderBytes o))
-      (short-put-numbered l image heads next s key (orderBytes o) (omega (arith, order-length o, lay .high)))
+  insert-step : (o : Order) → AnswersAsAsked Insert (locateResult l image heads next key)
+      → StepNumbered (asChange (writeResult l image heads next s Insert key (orderBytes o)) .answer)
+  insert-step o h =
+      change-in (askedRefusals Insert) refl (writeResult l image heads next s Insert key (orderBytes o))
+      (locate-asked l image heads next s key (orderBytes o) (omega (arith, order-length o, lay .high)) h)
+
+  -- what a get with room for any value answers
+  got : Answer
+  got = getResult l image heads next key (replicate (limit l) 0) .answer
+
+  replace-step : (o : Order) → AnswersAsAsked Replace got
+      → StepNumbered (asChange (writeResult l image heads next s Replace key (orderBytes o)) .answer)
+  unfolding got
+  replace-step o h =
+      change-in (askedRefusals Replace) refl (writeResult l image heads next s Replace key (orderBytes o))
+      (get-asked l image heads next s key (orderBytes o) (replicate (limit l) 0) (omega (arith, order-length o, lay .high)) h)
 
   remove-step : StepNumbered (asChange (removeResult l image heads next s key) .answer)
   remove-step = change-in removeRefusals refl (removeResult l image heads next s key) (remove-numbered l image heads next s key)
 
   -- what a step on an order finds
-  sought-in : StepFound (seek l image heads next key)
-  unfolding seek soughtBy soughtIn
+  sought-in : StepFound got (seek l image heads next key)
+  unfolding seek soughtBy soughtIn got
   sought-in =
       go _ (getResult l image heads next key (replicate (limit l) 0) .answer)
       (roomy-get-numbered l image heads next key (replicate (limit l) 0) (omega (arith, length-replicate {A = ℕ} (limit l) 0)))
     where
-      found : (b : Bool) (o : Order) → StepFound (cond b (order o) (none-there 18))
-      found true o = tt
-      found false o = one-of 18 stepRefusals refl
+      found : (values : List ℕ) (b : Bool) (o : Order) → StepFound (gives values) (cond b (order o) (none-there 18))
+      found values true o = tt
+      found values false o = one-of 18 stepRefusals refl
 
-      go : (out : List ℕ) (a : Answer) → Numbered roomyGetRefusals a → StepFound (soughtIn out a)
+      go : (out : List ℕ) (a : Answer) → Numbered roomyGetRefusals a → StepFound a (soughtIn out a)
       go out (gives []) h = one-of 18 stepRefusals refl
-      go out (gives (n ∷ values)) h = found (isOrder (take n out)) (orderOf (take n out))
+      go out (gives (n ∷ values)) h = found (n ∷ values) (isOrder (take n out)) (orderOf (take n out))
       go out absent h = one-of 18 stepRefusals refl
       go out (refused k) h = get-in k h
 
   -- ---- each step
 
-  located-in : (a : Answer) → Numbered locateRefusals a → (quantity : ℕ) → StepNumbered (newAt l image heads next s key quantity a .answer)
+  located-in : (a : Answer) → locateResult l image heads next key ≡ a → Numbered locateRefusals a → (quantity : ℕ) → StepNumbered (newAt l image heads next s key quantity a .answer)
   unfolding newAt idle
-  located-in (gives values) h quantity = one-of 17 stepRefusals refl
-  located-in absent h quantity = go (eqb quantity 0)
+  located-in (gives values) e h quantity = one-of 17 stepRefusals refl
+  located-in absent e h quantity = go (eqb quantity 0)
     where
-      go : (b : Bool) → StepNumbered (cond b (idle (declined 19) s heads next) (asChange (putResult l image heads next s key (orderBytes (sent quantity)))) .answer)
+      go : (b : Bool) → StepNumbered (cond b (idle (declined 19) s heads next) (asChange (writeResult l image heads next s Insert key (orderBytes (sent quantity)))) .answer)
       go true = one-of 19 stepRefusals refl
-      go false = put-step (sent quantity)
-  located-in (refused k) h quantity = among locateRefusals stepRefusals refl k h
+      go false = insert-step (sent quantity) (subst (AnswersAsAsked Insert) (sym e) tt)
+  located-in (refused k) e h quantity = among locateRefusals stepRefusals refl k h
 
   already-in : (a : Answer) → Numbered locateRefusals a → StepNumbered (alreadyAt s heads next a .answer)
   unfolding alreadyAt idle
@@ -92,31 +104,31 @@ module _ (l : ℕ) (lay : Layout l) (image heads next : List ℕ) (s : State) (k
   already-in absent h = one-of 18 stepRefusals refl
   already-in (refused k) h = among locateRefusals stepRefusals refl k h
 
-  acknowledge-in : (sought : Sought) → StepFound sought → StepNumbered (acknowledgeAt l image heads next s key sought .answer)
+  acknowledge-in : (sought : Sought) → StepFound got sought → StepNumbered (acknowledgeAt l image heads next s key sought .answer)
   unfolding acknowledgeAt idle
   acknowledge-in (order o) h = go (eqb (o .state) 2)
     where
-      go : (b : Bool) → StepNumbered (cond b (alreadyAt s heads next (locateResult l image heads next key)) (asChange (putResult l image heads next s key (orderBytes (acknowledged o)))) .answer)
+      go : (b : Bool) → StepNumbered (cond b (alreadyAt s heads next (locateResult l image heads next key)) (asChange (writeResult l image heads next s Replace key (orderBytes (acknowledged o)))) .answer)
       go true = already-in _ (locate-numbered l image heads next key)
-      go false = put-step (acknowledged o)
+      go false = replace-step (acknowledged o) h
   acknowledge-in (none-there k) h = h
 
-  fill-in : (quantity : ℕ) (sought : Sought) → StepFound sought → StepNumbered (fillAt l image heads next s key quantity sought .answer)
+  fill-in : (quantity : ℕ) (sought : Sought) → StepFound got sought → StepNumbered (fillAt l image heads next s key quantity sought .answer)
   unfolding fillAt fillBy quantityFault say unlessRefused idle
   fill-in quantity (order o) h = go (eqb quantity 0) (ltb (openOf o) quantity) (eqb quantity (openOf o))
     where
       go : (a b c : Bool)
           → StepNumbered
           (unlessRefused (say a 19 (say b 19 0))
-          (cond c (asChange (removeResult l image heads next s key)) (asChange (putResult l image heads next s key (orderBytes (filledBy quantity o)))))
+          (cond c (asChange (removeResult l image heads next s key)) (asChange (writeResult l image heads next s Replace key (orderBytes (filledBy quantity o)))))
           (idle (declined (say a 19 (say b 19 0))) s heads next) .answer)
       go true b c = one-of 19 stepRefusals refl
       go false true c = one-of 19 stepRefusals refl
       go false false true = remove-step
-      go false false false = put-step (filledBy quantity o)
+      go false false false = replace-step (filledBy quantity o) h
   fill-in quantity (none-there k) h = h
 
-  withdraw-in : (sought : Sought) → StepFound sought → StepNumbered (withdrawAt l image heads next s key sought .answer)
+  withdraw-in : (sought : Sought) → StepFound got sought → StepNumbered (withdrawAt l image heads next s key sought .answer)
   unfolding withdrawAt idle
   withdraw-in (order o) h = remove-step
   withdraw-in (none-there k) h = h
@@ -124,7 +136,7 @@ module _ (l : ℕ) (lay : Layout l) (image heads next : List ℕ) (s : State) (k
 -- THE NUMBERS of a step
 pub step-numbered : (l : ℕ) → Layout l → (w : World) (step : Step) → StepNumbered (booked l w step .answer)
 unfolding booked newResult acknowledgeResult fillResult withdrawResult
-step-numbered l lay w (new key quantity) = located-in l lay (w .image) (w .heads) (w .next) (w .state) key _ (locate-numbered l _ _ _ key) quantity
+step-numbered l lay w (new key quantity) = located-in l lay (w .image) (w .heads) (w .next) (w .state) key _ refl (locate-numbered l _ _ _ key) quantity
 step-numbered l lay w (acknowledge key) =
     acknowledge-in l lay (w .image) (w .heads) (w .next) (w .state) key _ (sought-in l lay (w .image) (w .heads) (w .next) (w .state) key)
 step-numbered l lay w (fill key quantity) =

@@ -12,12 +12,12 @@ use Rattle.prelude.specs.Answer.{refuses}
 use Rattle.prelude.specs.Members.{All, none-left, one-more}
 use Rattle.prelude.proofs.Choice.{pick-true}
 use Rattle.prelude.proofs.Refusals.{orElse-zero, taken-leaves, refused-keeps, by-refusal}
-use Rattle.face.specs.Set.{World, Call, put, remove, locate, PlainMap, Operation, operation, plainNext, plainStep, ruleFault, Typed, put-typed, remove-typed, locate-typed, dueFault, slotsIn, bothStand, recoveredWorld}
+use Rattle.face.specs.Set.{World, Insert, Replace, Call, write, remove, locate, PlainMap, Update, updates, plainNext, plainStep, ruleFault, Typed, write-typed, remove-typed, locate-typed, dueFault, slotsIn, bothStand, recoveredWorld}
 use Rattle.face.specs.Event.{Event, done, struck, Leaving, stepBy, imageCut, step, allStand, plainEvent, mapAfterEvent, FitsBy, done-fits, struck-fits, Fits}
 use Rattle.face.specs.Laws.{SetLaws}
 use Rattle.book.specs.Orders.{orderBytes, acknowledged, filledBy, openOf, sent}
 use Rattle.book.specs.Steps.{Step, new, acknowledge, fill, withdraw}
-use Rattle.book.specs.Plain.{stepKey, orderIn, bookFault, callBy, stepCall, callFault, stepFault, operationBy, stepOperation, callOr, callFor, TypedStep, new-typed, acknowledge-typed, fill-typed, withdraw-typed, worldAfterStep, mapAfterStep}
+use Rattle.book.specs.Plain.{stepKey, orderIn, bookFault, callBy, stepCall, callFault, stepFault, updatesBy, stepUpdates, callOr, callFor, TypedStep, new-typed, acknowledge-typed, fill-typed, withdraw-typed, worldAfterStep, mapAfterStep}
 use Rattle.book.specs.Totals.{worldAtEnd, mapAtEnd}
 use Rattle.book.specs.declared.Order.{Order}
 use Rattle.book.proofs.defs.CallEvent.{callEvent}
@@ -33,16 +33,16 @@ module _ (l : ℕ) where
 
   by-typed : (held : Option Order) (step : Step) → TypedStep l step → Typed l (callOr (stepKey step) (callBy held step))
   unfolding callBy callOr
-  by-typed none (new key quantity) (new-typed k q) = put-typed k (order-bytes (sent quantity))
+  by-typed none (new key quantity) (new-typed k q) = write-typed k (order-bytes (sent quantity))
   by-typed none (acknowledge key) (acknowledge-typed k) = locate-typed
   by-typed none (fill key quantity) (fill-typed k q) = locate-typed
   by-typed none (withdraw key) (withdraw-typed k) = locate-typed
-  by-typed (some o) (new key quantity) (new-typed k q) = put-typed k (order-bytes (sent quantity))
+  by-typed (some o) (new key quantity) (new-typed k q) = write-typed k (order-bytes (sent quantity))
   by-typed (some o) (acknowledge key) (acknowledge-typed k) =
-      either key (eqb (o .state) 2) none (some (put key (orderBytes (acknowledged o)))) locate-typed (put-typed k (order-bytes (acknowledged o)))
+      either key (eqb (o .state) 2) none (some (write Replace key (orderBytes (acknowledged o)))) locate-typed (write-typed k (order-bytes (acknowledged o)))
   by-typed (some o) (fill key quantity) (fill-typed k q) =
-      either key (eqb quantity (openOf o)) (some (remove key)) (some (put key (orderBytes (filledBy quantity o)))) (remove-typed k)
-      (put-typed k (order-bytes (filledBy quantity o)))
+      either key (eqb quantity (openOf o)) (some (remove key)) (some (write Replace key (orderBytes (filledBy quantity o)))) (remove-typed k)
+      (write-typed k (order-bytes (filledBy quantity o)))
   by-typed (some o) (withdraw key) (withdraw-typed k) = remove-typed k
 
   call-typed : (w : World) (m : PlainMap) (step : Step) → TypedStep l step → Typed l (callFor l w m step)
@@ -57,34 +57,34 @@ module _ (l : ℕ) where
 
 module _ (l : ℕ) (w : World) (m : PlainMap) (step : Step) where
   -- a locate keeps the plain map
-  located-map : (call : Call) (key : ℕ) → call ≡ locate key → m ≡ plainStep (operation call) (refuses (dueFault l w m call)) m
-  unfolding plainStep operation plainNext ruleFault refuses
-  located-map call key e = sym (ap (λ (c : Call). plainStep (operation c) (refuses (dueFault l w m c)) m) e)
+  located-map : (call : Call) (key : ℕ) → call ≡ locate key → m ≡ plainStep (updates call) (refuses (dueFault l w m call)) m
+  unfolding plainStep updates plainNext ruleFault refuses
+  located-map call key e = sym (ap (λ (c : Call). plainStep (updates c) (refuses (dueFault l w m c)) m) e)
 
   by-map : (call : Option Call) → callFault l w m call ≡ 0
-      → plainStep (operationBy (stepKey step) call) (refuses 0) m ≡
-      plainStep (operation (callOr (stepKey step) call)) (refuses (dueFault l w m (callOr (stepKey step) call))) m
-  unfolding callFault operationBy callOr operation ruleFault
+      → plainStep (updatesBy call) (refuses 0) m ≡
+      plainStep (updates (callOr (stepKey step) call)) (refuses (dueFault l w m (callOr (stepKey step) call))) m
+  unfolding callFault updatesBy callOr updates ruleFault plainNext
   by-map none z = refl
-  by-map (some call) z = ap (λ (k : ℕ). plainStep (operation call) (refuses k) m) (sym z)
+  by-map (some call) z = ap (λ (k : ℕ). plainStep (updates call) (refuses k) m) (sym z)
 
   -- a step that is refused keeps it too
-  refused-map : (op : Operation) (k : ℕ) → (k ≡ 0 → ⊥) → plainStep op (refuses k) m ≡ m
+  refused-map : (us : List Update) (k : ℕ) → (k ≡ 0 → ⊥) → plainStep us (refuses k) m ≡ m
   unfolding plainStep refuses
-  refused-map op k nz = pick-true _ _ _ (ap not (ne-eqb k 0 nz))
+  refused-map us k nz = pick-true _ _ _ (ap not (ne-eqb k 0 nz))
 
   call-zero : stepFault l w m step ≡ 0 → callFault l w m (stepCall m step) ≡ 0
   unfolding stepFault
   call-zero z = orElse-zero (bookFault m step) _ z .1
 
-  step-map : plainStep (stepOperation m step) (refuses (stepFault l w m step)) m ≡
-      plainStep (operation (callFor l w m step)) (refuses (dueFault l w m (callFor l w m step))) m
-  unfolding stepOperation callFor
+  step-map : plainStep (stepUpdates m step) (refuses (stepFault l w m step)) m ≡
+      plainStep (updates (callFor l w m step)) (refuses (dueFault l w m (callFor l w m step))) m
+  unfolding stepUpdates callFor
   step-map =
       by-cases (ℕ-discrete (stepFault l w m step) 0)
-      (λ z. ap (λ (k : ℕ). plainStep (stepOperation m step) (refuses k) m) z
+      (λ z. ap (λ (k : ℕ). plainStep (stepUpdates m step) (refuses k) m) z
       ∙ by-map (stepCall m step) (call-zero z)
-      ∙ sym (ap (λ (c : Call). plainStep (operation c) (refuses (dueFault l w m c)) m) (taken-leaves _ _ (stepFault l w m step) z)))
+      ∙ sym (ap (λ (c : Call). plainStep (updates c) (refuses (dueFault l w m c)) m) (taken-leaves _ _ (stepFault l w m step) z)))
       (λ nz. refused-map _ (stepFault l w m step) nz ∙ located-map _ _ (refused-keeps _ _ (stepFault l w m step) nz))
 
 -- ---- events

@@ -8,10 +8,10 @@ use native.Mathlib.Omega.{arith}
 use native.Mathlib.Decide.{ℕ-discrete}
 use Rattle.prelude.specs.Answer.{Answer, gives, absent, refused, refusalIn}
 use Rattle.prelude.proofs.Refusals.{orElse-first, orElse-later, taken-leaves, refused-keeps}
-use Rattle.face.specs.Set.{World, Call, locate, Called, called, toPlay, calledChange, calledLocate, ChangeResult, Store, State, PlainMap, Right, dueFault}
+use Rattle.face.specs.Set.{World, Call, locate, Called, called, calledChange, calledLocate, ChangeResult, Store, State, PlainMap, Right, dueFault}
 use Rattle.face.specs.Event.{Leaving, leaving}
 use Rattle.book.specs.Steps.{Step, BookResult, idle, changeAnswers, asChange}
-use Rattle.book.specs.Plain.{stepKey, bookFault, stepCall, callFault, stepFault, answerFor, stepAnswer, refusalNumber, storesToPlay, bookLeaving, callOr, callFor, StepRight}
+use Rattle.book.specs.Plain.{stepKey, bookFault, stepCall, callFault, stepFault, answerFor, stepAnswer, refusalNumber, bookLeaving, callOr, callFor, StepRight}
 use Rattle.book.proofs.defs.Ways.{Declines, Repeats, Calls}
 
 absent-gives : (values : List ℕ) → absent ≡ gives values → ⊥
@@ -54,7 +54,7 @@ module _ (l : ℕ) (w : World) (m : PlainMap) (step : Step) where
   -- ---- a step that the book's rules refuse
 
   pub declines-right : (number : ℕ) → Declines l w m step number → StepRight l w m step
-  unfolding refusalNumber bookLeaving storesToPlay idle still
+  unfolding refusalNumber bookLeaving idle still
   declines-right number d =
       let fault = first-fault number (d .fault) (d .some) in
       let nz : stepFault l w m step ≡ 0 → ⊥ = λ z. d .some (sym fault ∙ z) in
@@ -67,7 +67,7 @@ module _ (l : ℕ) (w : World) (m : PlainMap) (step : Step) where
   -- ---- a step that comes to no call
 
   pub repeats-right : Repeats l w m step → StepRight l w m step
-  unfolding callFault refusalNumber bookLeaving storesToPlay idle still stepAnswer answerFor callOr
+  unfolding callFault refusalNumber bookLeaving idle still stepAnswer answerFor callOr
   repeats-right d =
       let fault = later-fault none (d .fault) (d .comes) in
       record {
@@ -80,16 +80,8 @@ module _ (l : ℕ) (w : World) (m : PlainMap) (step : Step) where
 
   -- what the step answers and leaves is what the call does
   change-leaves : (c : ChangeResult) → bookLeaving (asChange c) ≡ leaving (calledChange c)
-  unfolding bookLeaving asChange calledChange storesToPlay changeAnswers toPlay
-  change-leaves c = go (c .answer)
-    where
-      go : (answer : Answer)
-          → _≡_ {A = Leaving}
-          (record { stores = storesToPlay (changeAnswers answer) (c .stores); heads = c .heads; next = c .next; state = c .state })
-          (record { stores = toPlay answer (c .stores); heads = c .heads; next = c .next; state = c .state })
-      go (gives values) = refl
-      go absent = refl
-      go (refused number) = refl
+  unfolding bookLeaving asChange calledChange
+  change-leaves c = refl
 
   module _ (call : Call) (c : ChangeResult) (d : Calls l w m step call c) (right : Right l w m call) where
     due : stepFault l w m step ≡ dueFault l w m call

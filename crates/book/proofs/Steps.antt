@@ -12,15 +12,16 @@ use Rattle.prelude.specs.Answer.{gives, absent}
 use Rattle.prelude.specs.Refusal.{say}
 use Rattle.prelude.proofs.Choice.{pick-true, pick-false}
 use Rattle.prelude.proofs.Refusals.{taken-leaves, refused-keeps}
-use Rattle.face.specs.Set.{World, Call, put, remove, called, putResult, removeResult, PlainMap, put-typed, remove-typed, isHeld, plainAnswer, holder, tableOf, slotsIn}
+use Rattle.face.specs.Set.{World, Mode, Insert, Replace, Call, write, remove, called, writeResult, removeResult, PlainMap, write-typed, remove-typed, isHeld, plainAnswer, holder, tableOf, slotsIn}
 use Rattle.face.specs.Laws.{SetLaws}
+use Rattle.face.proofs.Located.{located}
 use Rattle.book.specs.Orders.{orderBytes, sent, acknowledged, filledBy, openOf}
 use Rattle.book.specs.Steps.{Step, new, acknowledge, fill, withdraw, newAt, newResult, alreadyAt, acknowledgeAt, acknowledgeResult, fillBy, fillAt, fillResult, withdrawAt, withdrawResult, quantityFault, asChange, seek, booked}
 use Rattle.book.specs.Plain.{stepKey, orderIn, orderFault, bookFault, callBy, stepCall, StepRight, TypedStep, new-typed, acknowledge-typed, fill-typed, withdraw-typed}
 use Rattle.book.specs.declared.Order.{Order}
 use Rattle.book.proofs.defs.Ways.{soughtFor}
 use Rattle.book.proofs.OrderBytes.{order-bytes}
-use Rattle.book.proofs.Lookups.{sought, located}
+use Rattle.book.proofs.Lookups.{sought}
 use Rattle.book.proofs.StepWays.{declines-right, repeats-right, calls-right}
 
 -- a key that holds an order is held
@@ -39,13 +40,13 @@ module _ (l : ℕ) (Inv : World → PlainMap → Type 0) (laws : SetLaws l Inv) 
     (small : key < (2 ^ 64) ^ l) where
   -- ---- the calls
 
-  put-right : (step : Step) (o : Order) → bookFault m step ≡ 0 → stepCall m step ≡ some (put key (orderBytes o))
-      → booked l w step ≡ asChange (putResult l (w .image) (w .heads) (w .next) (w .state) key (orderBytes o)) → StepRight l w m step
+  write-right : (mode : Mode) (step : Step) (o : Order) → bookFault m step ≡ 0 → stepCall m step ≡ some (write mode key (orderBytes o))
+      → booked l w step ≡ asChange (writeResult l (w .image) (w .heads) (w .next) (w .state) mode key (orderBytes o)) → StepRight l w m step
   unfolding called plainAnswer
-  put-right step o z e d =
-      calls-right l w m step (put key (orderBytes o)) _
+  write-right mode step o z e d =
+      calls-right l w m step (write mode key (orderBytes o)) _
       (record { fault = z; comes = e; answer = refl; change = refl; result = d })
-      (laws .answers w m i _ (put-typed small (order-bytes o)))
+      (laws .answers w m i _ (write-typed small (order-bytes o)))
 
   remove-right : (step : Step) → bookFault m step ≡ 0 → isHeld (m key) ≡ true → stepCall m step ≡ some (remove key)
       → booked l w step ≡ asChange (removeResult l (w .image) (w .heads) (w .next) (w .state) key) → StepRight l w m step
@@ -80,7 +81,7 @@ module _ (l : ℕ) (Inv : World → PlainMap → Type 0) (laws : SetLaws l Inv) 
           declines-right l w m _ 19
           (record { fault = fault _ e true d; some = λ z. omega arith; result = at _ e ∙ pick-true _ _ _ d })
       go none e false d =
-          put-right (new key quantity) (sent quantity) (fault _ e false d)
+          write-right Insert (new key quantity) (sent quantity) (fault _ e false d)
           (step-call m _ none _ (fault _ e false d) (ap orderIn e) refl)
           (at _ e ∙ pick-false _ _ _ d)
 
@@ -111,7 +112,7 @@ module _ (l : ℕ) (Inv : World → PlainMap → Type 0) (laws : SetLaws l Inv) 
                 ∙ ap (alreadyAt (w .state) (w .heads) (w .next)) (located l Inv laws w m i key ∙ pick-true _ _ _ (order-held (m key) o e));
           })
       of o e false d =
-          put-right (acknowledge key) (acknowledged o) (fault _ e)
+          write-right Replace (acknowledge key) (acknowledged o) (fault _ e)
           (step-call m _ (some o) _ (fault _ e) e (pick-false _ _ _ d))
           (at _ e ∙ pick-false _ _ _ d)
 
@@ -137,7 +138,7 @@ module _ (l : ℕ) (Inv : World → PlainMap → Type 0) (laws : SetLaws l Inv) 
           (step-call m _ (some o) _ (fault _ e ∙ z) e (pick-true _ _ _ d))
           (at _ e ∙ taken-leaves _ _ _ z ∙ pick-true _ _ _ d)
       of o e z false d =
-          put-right (fill key quantity) (filledBy quantity o) (fault _ e ∙ z)
+          write-right Replace (fill key quantity) (filledBy quantity o) (fault _ e ∙ z)
           (step-call m _ (some o) _ (fault _ e ∙ z) e (pick-false _ _ _ d))
           (at _ e ∙ taken-leaves _ _ _ z ∙ pick-false _ _ _ d)
 

@@ -7,7 +7,7 @@ use Prim.Native.Nat.{ℕ, _^_, _<_}
 use lib.Dec.{eqb}
 use Rattle.prelude.specs.Answer.{refuses}
 use Rattle.prelude.specs.Refusal.{say, orElse, unlessRefused}
-use Rattle.face.specs.Set.{World, Call, put, remove, locate, called, Store, PlainMap, Operation, operation, reading, isHeld, holder, nextVersion, tableOf, slotsIn, dueFault}
+use Rattle.face.specs.Set.{World, Insert, Replace, Call, write, remove, locate, called, PlainMap, Update, updates, isHeld, holder, nextVersion, tableOf, slotsIn, dueFault}
 use Rattle.face.specs.Event.{Event, Leaving, leaving, requestOf, stepBy, allStand, plainEvent}
 use Rattle.book.specs.Orders.{orderBytes, orderOf, isOrder, openOf, sent, acknowledged, filledBy}
 use Rattle.book.specs.Steps.{Step, new, acknowledge, fill, withdraw, BookAnswer, taken, already, declined, BookResult, quantityFault, booked}
@@ -47,15 +47,15 @@ bookFault m (withdraw key) = orderFault (orderIn (m key)) (withdraw key)
 
 -- ---- the call of the set that a step comes to
 
--- by the order that is there: one call, or none for a second acknowledge
+-- by the order that is there: one call, or none for a second acknowledge. Document 02, A.2: "The book's steps use the one they mean"
 unfoldable pub callBy : Option Order → Step → Option Call
-callBy held (new key quantity) = some (put key (orderBytes (sent quantity)))
+callBy held (new key quantity) = some (write Insert key (orderBytes (sent quantity)))
 callBy none (acknowledge key) = none
 callBy none (fill key quantity) = none
 callBy none (withdraw key) = none
-callBy (some o) (acknowledge key) = cond (eqb (o .state) 2) none (some (put key (orderBytes (acknowledged o))))
+callBy (some o) (acknowledge key) = cond (eqb (o .state) 2) none (some (write Replace key (orderBytes (acknowledged o))))
 callBy (some o) (fill key quantity) =
-    cond (eqb quantity (openOf o)) (some (remove key)) (some (put key (orderBytes (filledBy quantity o))))
+    cond (eqb quantity (openOf o)) (some (remove key)) (some (write Replace key (orderBytes (filledBy quantity o))))
 callBy (some o) (withdraw key) = some (remove key)
 
 -- by the plain map, of a step that the book's rules do not refuse
@@ -83,12 +83,12 @@ stepAnswer l w m step =
     answerFor (w .state .first ∷ nextVersion (tableOf l (w .image)) (slotsIn (w .image)) ∷ [])
     (holder (tableOf l (w .image)) (slotsIn (w .image)) (stepKey step)) (stepCall m step)
 
-unfoldable pub operationBy : (key : ℕ) → Option Call → Operation
-operationBy key none = reading key
-operationBy key (some call) = operation call
+unfoldable pub updatesBy : Option Call → List Update
+updatesBy none = []
+updatesBy (some call) = updates call
 
-unfoldable pub stepOperation : PlainMap → Step → Operation
-stepOperation m step = operationBy (stepKey step) (stepCall m step)
+unfoldable pub stepUpdates : PlainMap → Step → List Update
+stepUpdates m step = updatesBy (stepCall m step)
 
 -- ---- the set after a step
 
@@ -97,14 +97,8 @@ refusalNumber (taken values) = 0
 refusalNumber (already values) = 0
 refusalNumber (declined number) = number
 
--- a step that stored nothing has no stores to play
-unfoldable pub storesToPlay : BookAnswer → List Store → List Store
-storesToPlay (taken values) ss = ss
-storesToPlay (already values) ss = []
-storesToPlay (declined number) ss = []
-
 unfoldable pub bookLeaving : BookResult → Leaving
-bookLeaving r = record { stores = storesToPlay (r .answer) (r .stores); heads = r .heads; next = r .next; state = r .state }
+bookLeaving r = record { stores = r .stores; heads = r .heads; next = r .next; state = r .state }
 
 -- the call whose stores, index and state a step's are; a locate, which leaves all as it is, where it comes to none
 unfoldable pub callOr : (key : ℕ) → Option Call → Call
@@ -135,4 +129,4 @@ worldAfterStep l w event = stepBy l (λ v step. bookLeaving (booked l v step)) w
 
 abbrev pub mapAfterStep : (l : ℕ) → World → PlainMap → Event Step → PlainMap
 mapAfterStep l w m event =
-    plainEvent (allStand event) (stepOperation m (requestOf event)) (refuses (stepFault l w m (requestOf event))) m
+    plainEvent (allStand event) (stepUpdates m (requestOf event)) (refuses (stepFault l w m (requestOf event))) m

@@ -7,7 +7,7 @@ use lib.Dec.{eqb, ltb}
 use lib.ListN.{take, replicate}
 use Rattle.prelude.specs.Answer.{Answer, gives, absent, refused}
 use Rattle.prelude.specs.Refusal.{say, unlessRefused}
-use Rattle.face.specs.Set.{State, Store, zipped, noStores, ChangeResult, GetResult, putResult, removeResult, getResult, locateResult, limit, World}
+use Rattle.face.specs.Set.{State, Store, zipped, handedOut, Insert, Replace, ChangeResult, GetResult, writeResult, removeResult, getResult, locateResult, limit, World}
 use Rattle.book.specs.Orders.{orderBytes, orderOf, isOrder, openOf, sent, acknowledged, filledBy}
 use Rattle.book.specs.declared.Order.{Order}
 use Rattle.book.specs.declared.BookOutcome.{BookOutcome}
@@ -34,7 +34,7 @@ bookSays (Stored slot version) = taken (slot ∷ version ∷ [])
 bookSays (Already slot version) = already (slot ∷ version ∷ [])
 bookSays (Refused number) = declined number
 
--- the answer, the state, the stores and the index at exit
+-- the answer, the state, the stores handed out and the index at exit
 pub record BookResult : Type 0 where
   pub answer : BookAnswer
   pub state : State
@@ -42,20 +42,31 @@ pub record BookResult : Type 0 where
   pub heads : List ℕ
   pub next : List ℕ
 
--- what a step with this answer left
-abbrev pub bookEnd : BookChange → (heads next : List ℕ) → BookResult
-bookEnd r heads next =
+-- what a step with this answer left; at and value are the stores lent to it
+abbrev pub bookEnd : BookChange → (at value heads next : List ℕ) → BookResult
+bookEnd r at value heads next =
     record {
       answer = bookSays (r .outcome);
       state = r .state;
-      stores = zipped (r .stores .at) (r .stores .value);
+      stores = zipped at value;
       heads = heads;
       next = next;
     }
 
+-- what a step with this result leaves, lent these stores
+unfoldable pub bookLeftIn : (lent : List Store) → BookResult → BookResult
+bookLeftIn lent r =
+    record {
+      answer = r .answer;
+      state = r .state;
+      stores = handedOut (r .stores) lent;
+      heads = r .heads;
+      next = r .next;
+    }
+
 -- a step that stores nothing changes nothing
 unfoldable pub idle : BookAnswer → State → (heads next : List ℕ) → BookResult
-idle answer s heads next = record { answer = answer; state = s; stores = noStores; heads = heads; next = next }
+idle answer s heads next = record { answer = answer; state = s; stores = []; heads = heads; next = next }
 
 -- a step that comes to a call of the set leaves what the call leaves; the call of a key that is not held, which no step makes, has 18
 unfoldable pub changeAnswers : Answer → BookAnswer
@@ -94,7 +105,7 @@ unfoldable pub newAt : (l : ℕ) → (image heads next : List ℕ) → State →
 newAt l image heads next s key quantity (gives values) = idle (declined 17) s heads next
 newAt l image heads next s key quantity absent =
     cond (eqb quantity 0) (idle (declined 19) s heads next)
-    (asChange (putResult l image heads next s key (orderBytes (sent quantity))))
+    (asChange (writeResult l image heads next s Insert key (orderBytes (sent quantity))))
 newAt l image heads next s key quantity (refused number) = idle (declined number) s heads next
 
 unfoldable pub newResult : (l : ℕ) → (image heads next : List ℕ) → State → (key quantity : ℕ) → BookResult
@@ -111,7 +122,7 @@ alreadyAt s heads next (refused number) = idle (declined number) s heads next
 unfoldable pub acknowledgeAt : (l : ℕ) → (image heads next : List ℕ) → State → (key : ℕ) → Sought → BookResult
 acknowledgeAt l image heads next s key (order o) =
     cond (eqb (o .state) 2) (alreadyAt s heads next (locateResult l image heads next key))
-    (asChange (putResult l image heads next s key (orderBytes (acknowledged o))))
+    (asChange (writeResult l image heads next s Replace key (orderBytes (acknowledged o))))
 acknowledgeAt l image heads next s key (none-there number) = idle (declined number) s heads next
 
 unfoldable pub acknowledgeResult : (l : ℕ) → (image heads next : List ℕ) → State → (key : ℕ) → BookResult
@@ -125,7 +136,7 @@ quantityFault quantity left = say (eqb quantity 0) 19 (say (ltb left quantity) 1
 unfoldable pub fillBy : (l : ℕ) → (image heads next : List ℕ) → State → (key quantity : ℕ) → Order → BookResult
 fillBy l image heads next s key quantity o =
     cond (eqb quantity (openOf o)) (asChange (removeResult l image heads next s key))
-    (asChange (putResult l image heads next s key (orderBytes (filledBy quantity o))))
+    (asChange (writeResult l image heads next s Replace key (orderBytes (filledBy quantity o))))
 
 unfoldable pub fillAt : (l : ℕ) → (image heads next : List ℕ) → State → (key quantity : ℕ) → Sought → BookResult
 fillAt l image heads next s key quantity (order o) =

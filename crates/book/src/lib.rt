@@ -1,6 +1,6 @@
 // The order book: a layer above the set, which it knows by its face. Types, definitions and laws.
+use face::Mode;
 use face::State;
-use face::Stores;
 
 // An order: its state (1 sent, 2 acknowledged), the quantity ordered and the quantity filled.
 pub struct Order {
@@ -16,11 +16,10 @@ pub enum BookOutcome {
     Refused(u32),
 }
 
-// What a book step hands out: the answer, the new state and the stores to be played.
+// What a book step gives back: the answer and the new state. The stores to be played are lent.
 pub struct BookChange {
     pub outcome: BookOutcome,
     pub state: State,
-    pub stores: Stores,
 }
 
 // What the get of a step finds: the order of the key, or a refusal.
@@ -29,9 +28,9 @@ pub enum Seek {
     Missing(u32),
 }
 
-// What a step is to do: a put of this order, a remove, or an answer that changes nothing.
+// What a step is to do: an insert of this order or a replace by it, a remove, or an answer that changes nothing.
 pub enum Plan {
-    Put(Order),
+    Write { mode: Mode, order: Order },
     Remove,
     Already { slot: u32, version: u64 },
     Refused(u32),

@@ -6,7 +6,6 @@ mod steps;
 pub use book::BookChange;
 pub use book::BookOutcome;
 pub use orderset::State;
-pub use orderset::Stores;
 pub use steps::acknowledge;
 pub use steps::fill;
 pub use steps::new;

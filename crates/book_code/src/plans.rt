@@ -10,6 +10,7 @@ use book::Plan;
 use book::Seek;
 use orderset::Got;
 use orderset::Located;
+use orderset::Mode;
 use orderset::get;
 use orderset::locate;
 
@@ -49,11 +50,14 @@ fn new_located(located: Located, quantity: u64) -> Plan
             if quantity == 0 {
                 return Plan::Refused(19);
             }
-            Plan::Put(Order {
-                state: 1,
-                ordered: quantity,
-                filled: 0,
-            })
+            Plan::Write {
+                mode: Mode::Insert,
+                order: Order {
+                    state: 1,
+                    ordered: quantity,
+                    filled: 0,
+                },
+            }
         }
         Located::Refused(number) => Plan::Refused(number),
     }
@@ -87,11 +91,14 @@ pub fn acknowledge_plan(image: &[u8], heads: &[u32], next: &[u32], key: u64) -> 
             if order.state == 2 {
                 return already_located(locate(image, heads, next, key));
             }
-            Plan::Put(Order {
-                state: 2,
-                ordered: order.ordered,
-                filled: order.filled,
-            })
+            Plan::Write {
+                mode: Mode::Replace,
+                order: Order {
+                    state: 2,
+                    ordered: order.ordered,
+                    filled: order.filled,
+                },
+            }
         }
         Seek::Missing(number) => Plan::Refused(number),
     }
@@ -112,11 +119,14 @@ fn fill_order(order: Order, quantity: u64) -> Plan
     if quantity == open {
         return Plan::Remove;
     }
-    Plan::Put(Order {
-        state: order.state,
-        ordered: order.ordered,
-        filled: order.filled + quantity,
-    })
+    Plan::Write {
+        mode: Mode::Replace,
+        order: Order {
+            state: order.state,
+            ordered: order.ordered,
+            filled: order.filled + quantity,
+        },
+    }
 }
 
 // A fill.

@@ -2,8 +2,8 @@
 ghost use mathlib.Core.Path.{_≡_};
 ghost use mathlib.Core.List.{List};
 ghost use Prim.Native.Nat.{ℕ};
-ghost use Rattle.face.specs.Set.{changeSays, changeEnd};
-ghost use Rattle.book.specs.Steps.{bookSays, bookEnd, idle, changeAnswers, asChange, newResult, acknowledgeResult, fillResult, withdrawResult};
+ghost use Rattle.face.specs.Set.{zipped, leftIn, changeSays, changeEnd, writeResult};
+ghost use Rattle.book.specs.Steps.{bookSays, bookEnd, bookLeftIn, changeAnswers, asChange, newResult, acknowledgeResult, fillResult, withdrawResult};
 ghost use Rattle.book.specs.inner.Courses.{planSays, courseResult};
 use crate::orders::order_bytes;
 use crate::plans::acknowledge_plan;
@@ -14,25 +14,12 @@ use book::BookChange;
 use book::BookOutcome;
 use book::Plan;
 use orderset::Change;
+use orderset::Mode;
 use orderset::Outcome;
 use orderset::State;
-use orderset::Stores;
-use orderset::put;
+use orderset::insert;
 use orderset::remove;
-
-// A step that stores nothing: the state as given, and stores that no image takes.
-fn unchanged(outcome: BookOutcome, state: State) -> BookChange
-    ensures { λ r. ⌜ ((heads next : List ℕ) → bookEnd r heads next ≡ idle (bookSays outcome) state heads next) ⌝ }
-{
-    BookChange {
-        outcome,
-        state,
-        stores: Stores {
-            at: [4294967295; 16],
-            value: [0; 16],
-        },
-    }
-}
+use orderset::replace;
 
 // A step's answer by the answer of its call; no step makes the call of a key that is not held.
 fn outcome_of(outcome: Outcome) -> BookOutcome
@@ -45,17 +32,35 @@ fn outcome_of(outcome: Outcome) -> BookOutcome
     }
 }
 
-// What a step hands out by what its call handed out.
+// What a step gives back by what its call gave back.
 fn by_change(change: Change) -> BookChange
-    ensures { λ r. ⌜ ((heads next : List ℕ) → bookEnd r heads next ≡ asChange (changeEnd change heads next)) ⌝ }
+    ensures { λ r. ⌜ ((at value heads next : List ℕ) → bookEnd r at value heads next ≡ asChange (changeEnd change at value heads next)) ⌝ }
 {
     let outcome = change.outcome;
     let state = change.state;
-    let stores = change.stores;
     BookChange {
         outcome: outcome_of(outcome),
         state,
-        stores,
+    }
+}
+
+// An insert of the key or a replace, by the mode.
+fn write(
+    image: &[u8],
+    heads: &mut [u32],
+    next: &mut [u32],
+    state: State,
+    mode: Mode,
+    key: u64,
+    value: &[u8],
+    at: &mut [u32; 16],
+    words: &mut [u64; 16],
+) -> Change
+    ensures { λ r. ⌜ changeEnd r (now (at .exit)) (now (words .exit)) (now (heads .exit)) (now (next .exit)) ≡ leftIn (zipped (now (at .entry)) (now (words .entry))) (writeResult 1 (now (image .entry)) (now (heads .entry)) (now (next .entry)) state mode key (now (value .entry))) ⌝ }
+{
+    match mode {
+        Mode::Insert => insert(image, heads, next, state, key, value, at, words),
+        Mode::Replace => replace(image, heads, next, state, key, value, at, words),
     }
 }
 
@@ -67,21 +72,29 @@ fn carry_out(
     state: State,
     key: u64,
     plan: Plan,
+    at: &mut [u32; 16],
+    words: &mut [u64; 16],
 ) -> BookChange
-    ensures { λ r. ⌜ bookEnd r (now (heads .exit)) (now (next .exit)) ≡ courseResult 1 (now (image .entry)) (now (heads .entry)) (now (next .entry)) state key (planSays plan) ⌝ }
+    ensures { λ r. ⌜ bookEnd r (now (at .exit)) (now (words .exit)) (now (heads .exit)) (now (next .exit)) ≡ bookLeftIn (zipped (now (at .entry)) (now (words .entry))) (courseResult 1 (now (image .entry)) (now (heads .entry)) (now (next .entry)) state key (planSays plan)) ⌝ }
 {
     match plan {
-        Plan::Put(order) => {
+        Plan::Write { mode, order } => {
             let bytes = order_bytes(order);
-            by_change(put(image, heads, next, state, key, &bytes))
+            by_change(write(image, heads, next, state, mode, key, &bytes, at, words))
         }
-        Plan::Remove => by_change(remove(image, heads, next, state, key)),
-        Plan::Already { slot, version } => unchanged(BookOutcome::Already { slot, version }, state),
-        Plan::Refused(number) => unchanged(BookOutcome::Refused(number), state),
+        Plan::Remove => by_change(remove(image, heads, next, state, key, at, words)),
+        Plan::Already { slot, version } => BookChange {
+            outcome: BookOutcome::Already { slot, version },
+            state,
+        },
+        Plan::Refused(number) => BookChange {
+            outcome: BookOutcome::Refused(number),
+            state,
+        },
     }
 }
 
-// A new order of this quantity: the slot taken and the version, the new state and the stores to be played; or a refusal, which changes nothing.
+// A new order of this quantity: the slot taken and the version, the new state and, lent, the stores to be played; or a refusal, which changes nothing.
 pub fn new(
     image: &[u8],
     heads: &mut [u32],
@@ -89,11 +102,13 @@ pub fn new(
     state: State,
     key: u64,
     quantity: u64,
+    at: &mut [u32; 16],
+    words: &mut [u64; 16],
 ) -> BookChange
-    ensures { λ r. ⌜ bookEnd r (now (heads .exit)) (now (next .exit)) ≡ newResult 1 (now (image .entry)) (now (heads .entry)) (now (next .entry)) state key quantity ⌝ }
+    ensures { λ r. ⌜ bookEnd r (now (at .exit)) (now (words .exit)) (now (heads .exit)) (now (next .exit)) ≡ bookLeftIn (zipped (now (at .entry)) (now (words .entry))) (newResult 1 (now (image .entry)) (now (heads .entry)) (now (next .entry)) state key quantity) ⌝ }
 {
     let plan = new_plan(image, heads, next, key, quantity);
-    carry_out(image, heads, next, state, key, plan)
+    carry_out(image, heads, next, state, key, plan, at, words)
 }
 
 // The order is acknowledged: as above; or, of an order that was acknowledged before, its slot and version, which changes nothing.
@@ -103,11 +118,13 @@ pub fn acknowledge(
     next: &mut [u32],
     state: State,
     key: u64,
+    at: &mut [u32; 16],
+    words: &mut [u64; 16],
 ) -> BookChange
-    ensures { λ r. ⌜ bookEnd r (now (heads .exit)) (now (next .exit)) ≡ acknowledgeResult 1 (now (image .entry)) (now (heads .entry)) (now (next .entry)) state key ⌝ }
+    ensures { λ r. ⌜ bookEnd r (now (at .exit)) (now (words .exit)) (now (heads .exit)) (now (next .exit)) ≡ bookLeftIn (zipped (now (at .entry)) (now (words .entry))) (acknowledgeResult 1 (now (image .entry)) (now (heads .entry)) (now (next .entry)) state key) ⌝ }
 {
     let plan = acknowledge_plan(image, heads, next, key);
-    carry_out(image, heads, next, state, key, plan)
+    carry_out(image, heads, next, state, key, plan, at, words)
 }
 
 // This quantity of the order is filled: an order that is filled fully is removed.
@@ -118,11 +135,13 @@ pub fn fill(
     state: State,
     key: u64,
     quantity: u64,
+    at: &mut [u32; 16],
+    words: &mut [u64; 16],
 ) -> BookChange
-    ensures { λ r. ⌜ bookEnd r (now (heads .exit)) (now (next .exit)) ≡ fillResult 1 (now (image .entry)) (now (heads .entry)) (now (next .entry)) state key quantity ⌝ }
+    ensures { λ r. ⌜ bookEnd r (now (at .exit)) (now (words .exit)) (now (heads .exit)) (now (next .exit)) ≡ bookLeftIn (zipped (now (at .entry)) (now (words .entry))) (fillResult 1 (now (image .entry)) (now (heads .entry)) (now (next .entry)) state key quantity) ⌝ }
 {
     let plan = fill_plan(image, heads, next, key, quantity);
-    carry_out(image, heads, next, state, key, plan)
+    carry_out(image, heads, next, state, key, plan, at, words)
 }
 
 // The order is removed, with all that is open.
@@ -132,9 +151,11 @@ pub fn withdraw(
     next: &mut [u32],
     state: State,
     key: u64,
+    at: &mut [u32; 16],
+    words: &mut [u64; 16],
 ) -> BookChange
-    ensures { λ r. ⌜ bookEnd r (now (heads .exit)) (now (next .exit)) ≡ withdrawResult 1 (now (image .entry)) (now (heads .entry)) (now (next .entry)) state key ⌝ }
+    ensures { λ r. ⌜ bookEnd r (now (at .exit)) (now (words .exit)) (now (heads .exit)) (now (next .exit)) ≡ bookLeftIn (zipped (now (at .entry)) (now (words .entry))) (withdrawResult 1 (now (image .entry)) (now (heads .entry)) (now (next .entry)) state key) ⌝ }
 {
     let plan = withdraw_plan(image, heads, next, key);
-    carry_out(image, heads, next, state, key, plan)
+    carry_out(image, heads, next, state, key, plan, at, words)
 }

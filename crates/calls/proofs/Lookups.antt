@@ -1,4 +1,4 @@
--- The lookups of put, remove and get: the refusals in order, what the chain has, and what the writes need. Assumes nothing.
+-- The lookups of the calls: the refusals in order, what the chain has, and what the writes need. Assumes nothing.
 use mathlib.Core.Path.{_≡_, refl, sym, ap, ap₂, _∙_, subst}
 use mathlib.Core.Bool.{Bool, true, false}
 use mathlib.Core.List.{List}
@@ -20,17 +20,23 @@ use Rattle.layout.specs.inner.Sized.{Sized}
 use Rattle.layout.proofs.Size.{slots-high}
 use Rattle.layout.proofs.Lents.{version-fine, lent-sized}
 use Rattle.index.specs.Walk.{search, chainFault}
-use Rattle.index.specs.Change.{reuseFault}
+use Rattle.index.specs.Change.{keyFault, reuseFault}
 use Rattle.index.specs.declared.State.{State}
+use Rattle.index.specs.declared.Mode.{Mode}
+use Rattle.index.specs.declared.Place.{Place}
+use Rattle.index.specs.declared.Place.the-variants.{Held, NotHeld}
+use Rattle.index.specs.declared.Lookup.{Lookup}
+use Rattle.index.specs.declared.Lookup.the-variants.{Refused}
 use Rattle.index.specs.declared.Found.{Found}
 use Rattle.index.specs.declared.Found.the-variants.{At, Missing, BadChain}
 use Rattle.index.proofs.Walks.{at-inside, absent-inside}
 use Rattle.index.proofs.Faults.{room-fine, reusable}
-use Rattle.calls.specs.Change.{putLentFault, putLaterFault, putFault, heldFault, removeLaterFault, removeFault}
+use Rattle.calls.specs.Change.{writeLentFault, writeLaterFault, writeFault, heldFault, removeLaterFault, removeFault}
 use Rattle.calls.specs.Get.{slotLength, lengthFault, getLaterFault, getFault}
-use Rattle.calls.specs.inner.Lookup.{lookupBy, lookupOf, LooksUp, Writable, PutReady, PutLookup, RemoveReady, RemoveLookup, FoundInside, GetReady, GetLookup}
-use Rattle.calls.specs.declared.Lookup.{Lookup}
-use Rattle.calls.specs.declared.Lookup.the-variants.{Refused, Held, NotHeld}
+use Rattle.index.specs.Index.{headOf}
+use Rattle.index.specs.inner.Parts.{PlaceInside}
+use Rattle.index.specs.inner.Lookup.{lookupBy}
+use Rattle.calls.specs.inner.Lookup.{lookupOf, LooksUp, Writable, OpenAt, WriteReady, WriteLookup, RemoveReady, RemoveLookup, FoundInside, GetReady, GetLookup}
 
 -- ---- refusals in order: the first refusal is what the whole row says, or it is none and the rest says it
 
@@ -40,52 +46,36 @@ said later e ne = e ∙ sym (orElse-first _ later (λ z. ne (e ∙ z)))
 pub passed : {a f later g : ℕ} → f ≡ a → f ≡ 0 → g ≡ later → g ≡ orElse a later
 passed e z q = q ∙ sym (orElse-later _ _ (sym e ∙ z))
 
+-- the refusal for the key, by a test of what was found
+pub key-tested : {r : ℕ} {held found : Bool} (mode : Mode) → r ≡ keyFault mode held → held ≡ found → r ≡ keyFault mode found
+key-tested mode e q = e ∙ ap (keyFault mode) q
+
 -- the slots of an image, which a u32 holds
 pub slots-fit : (len n : ℕ) → n ≡ slotsOf len → Fits w32 n
 slots-fit len n e = record { fits = omega (arith, slots-high len) }
 
--- put's refusals where 1, 2, 3 and 4 are not due
-pub put-after : (l : ℕ) (image heads next : List ℕ) (s : State) (key size : ℕ) → lentFault l image (length heads) (length next) ≡ 0
-    → putFault l image heads next s key size ≡
-    say (ltb (limit l) size) 10 (putLaterFault (search l image heads next key) next (slotsIn image) s)
-unfolding putFault putLentFault say orElse
-put-after l image heads next s key size z =
+-- the refusals of an insert and a replace where 1, 2, 3 and 4 are not due
+pub write-after : (l : ℕ) (image heads next : List ℕ) (s : State) (mode : Mode) (key size : ℕ) → lentFault l image (length heads) (length next) ≡ 0
+    → writeFault l image heads next s mode key size ≡
+    say (ltb (limit l) size) 10 (writeLaterFault mode (search l image heads next key) next (slotsIn image) s)
+unfolding writeFault writeLentFault say orElse
+write-after l image heads next s mode key size z =
     ap (λ (f : ℕ). orElse (orElse f (say (ltb (limit l) size) 10 0)) checks) z ∙ long (ltb (limit l) size) checks
   where
     checks : ℕ
-    checks = putLaterFault (search l image heads next key) next (slotsIn image) s
+    checks = writeLaterFault mode (search l image heads next key) next (slotsIn image) s
 
     long : (t : Bool) (later : ℕ) → orElse (say t 10 0) later ≡ say t 10 later
     long true later = refl
     long false later = refl
 
--- ---- the lookup by what was found; `later` is what the checks after the chain say, and the code has it as `fault`
-
-module _ (found : Found) (slot prev compared fault later : ℕ) (e : found ≡ At slot prev compared) (q : fault ≡ later) where
-  pub held-refused : (fault ≡ 0 → ⊥) → Refused fault compared ≡ lookupBy later found
-  unfolding lookupBy
-  held-refused ne = sym (ap₂ lookupBy (sym q) e ∙ refused-keeps _ _ fault ne)
-
-  pub held-taken : fault ≡ 0 → Held slot prev compared ≡ lookupBy later found
-  unfolding lookupBy
-  held-taken z = sym (ap₂ lookupBy (sym q) e ∙ taken-leaves _ _ fault z)
-
-module _ (found : Found) (prev compared fault later : ℕ) (e : found ≡ Missing prev compared) (q : fault ≡ later) where
-  pub not-held-refused : (fault ≡ 0 → ⊥) → Refused fault compared ≡ lookupBy later found
-  unfolding lookupBy
-  not-held-refused ne = sym (ap₂ lookupBy (sym q) e ∙ refused-keeps _ _ fault ne)
-
-  pub not-held-taken : fault ≡ 0 → NotHeld prev compared ≡ lookupBy later found
-  unfolding lookupBy
-  not-held-taken z = sym (ap₂ lookupBy (sym q) e ∙ taken-leaves _ _ fault z)
-
 -- the refusals of a value by its length: m is the greatest length that the layout has
 module _ (l size m : ℕ) (e : m ≡ limit l) where
-  pub put-too-long : m < size → 10 ≡ say (ltb (limit l) size) 10 0
-  put-too-long h = sym (say-true _ _ _ (lt-ltb (limit l) size (omega arith)))
+  pub value-too-long : m < size → 10 ≡ say (ltb (limit l) size) 10 0
+  value-too-long h = sym (say-true _ _ _ (lt-ltb (limit l) size (omega arith)))
 
-  pub put-length-fits : size ≤ m → 0 ≡ say (ltb (limit l) size) 10 0
-  put-length-fits h = sym (say-false _ _ _ (le-ltb (limit l) size (omega arith)))
+  pub value-fits : size ≤ m → 0 ≡ say (ltb (limit l) size) 10 0
+  value-fits h = sym (say-false _ _ _ (le-ltb (limit l) size (omega arith)))
 
 module _ (l n size m : ℕ) (e : m ≡ limit l) where
   pub too-long : m < n → 6 ≡ lengthFault l n size
@@ -154,21 +144,27 @@ module _ (l : ℕ) (image heads next : List ℕ) (key n : ℕ) (sized : Sized im
           slot-in = omega (arith, ends .first-high, sized .image-size);
         }
 
-    put-ready : (size : ℕ) → size ≤ limit l → (found : Found) → found ≡ search l image heads next key → (k : ℕ)
-        → k ≡ putLaterFault found next n s → PutReady l image heads next s key size (lookupBy k found)
-    unfolding lookupBy unlessRefused putLaterFault chainFault
-    put-ready size h (At slot prev compared) e zero q =
-        let a = orElse-zero _ _ (orElse-zero _ _ (orElse-zero _ _ (sym q) .1) .1) in
+    open-at : (place : Place) (size : ℕ) → size ≤ limit l → {prev old : ℕ} → Writable image heads next s key prev old
+        → PlaceInside heads next s (headOf key (length heads)) place → OpenAt l image heads next s key size place
+    open-at place size h u p =
+        record { inside = p; some-head = sized .some-head; recordable = (h, u .index .version-fits, u .slot-fits, u .slot-in) }
+
+    write-ready : (mode : Mode) (size : ℕ) → size ≤ limit l → (found : Found) → found ≡ search l image heads next key → (k : ℕ)
+        → k ≡ writeLaterFault mode found next n s → WriteReady l image heads next s key size (lookupBy k found)
+    unfolding lookupBy unlessRefused writeLaterFault chainFault
+    write-ready mode size h (At slot prev compared) e zero q =
+        let a = orElse-zero _ _ (orElse-zero _ _ (orElse-zero _ _ (orElse-zero _ _ (sym q) .1) .1) .1) in
         let i = at-inside l image heads next n key (sized .slot-count) slot prev compared (sym e) in
-        (writable prev slot (a .0) (a .1) (i .2) (i .1), h)
-    put-ready size h (At slot prev compared) e (suc k) q = tt
-    put-ready size h (Missing prev compared) e zero q =
-        let b = orElse-zero _ _ (orElse-zero _ _ (sym q) .1) in
+        open-at (Held slot prev) size h (writable prev slot (a .0) (a .1) (i .2) (i .1)) (writable prev slot (a .0) (a .1) (i .2) (i .1) .index)
+    write-ready mode size h (At slot prev compared) e (suc k) q = tt
+    write-ready mode size h (Missing prev compared) e zero q =
+        let b = orElse-zero _ _ (orElse-zero _ _ (orElse-zero _ _ (sym q) .1) .1) in
         let a = orElse-zero _ _ (b .1) in
         let i = absent-inside l image heads next n key (sized .slot-count) prev compared (sym e) in
-        (writable prev prev (a .0) (a .1) i i, h, omega (arith, room-fine n (s .live) prev compared (b .0), sized .few))
-    put-ready size h (Missing prev compared) e (suc k) q = tt
-    put-ready size h BadChain e k q = tt
+        let u = writable prev prev (a .0) (a .1) i i in
+        open-at (NotHeld prev) size h u (u .index, omega (arith, room-fine n (s .live) prev compared (b .0), sized .few))
+    write-ready mode size h (Missing prev compared) e (suc k) q = tt
+    write-ready mode size h BadChain e k q = tt
 
     remove-ready : (found : Found) → found ≡ search l image heads next key → (k : ℕ) → k ≡ removeLaterFault found next n s
         → RemoveReady image heads next s key (lookupBy k found)
@@ -213,36 +209,36 @@ module _
   pub lent-inside : Layout l → FoundInside l image found
   lent-inside lay = found-inside l image heads next key n sized lay found ed
 
-  pub remove-looks : (s : State) (r : Lookup) → r ≡ lookupBy (removeLaterFault found next n s) found
+  pub remove-looks : (s : State) (k : ℕ) → k ≡ removeLaterFault found next n s → (r : Lookup) → r ≡ lookupBy k found
       → RemoveLookup l image heads next s key r
   unfolding removeFault
-  remove-looks s r h =
-      looks-up ef z (ap₂ (λ (d : Found) (m : ℕ). removeLaterFault d next m s) ed en) ed h
-      (remove-ready l image heads next key n sized s found ed _ refl)
+  remove-looks s k e r h =
+      looks-up ef z (e ∙ ap₂ (λ (d : Found) (m : ℕ). removeLaterFault d next m s) ed en) ed h
+      (remove-ready l image heads next key n sized s found ed k e)
 
-  pub get-looks : Layout l → (size : ℕ) (r : Lookup) → r ≡ lookupBy (getLaterFault l image size found) found
+  pub get-looks : Layout l → (size k : ℕ) → k ≡ getLaterFault l image size found → (r : Lookup) → r ≡ lookupBy k found
       → GetLookup l image heads next key size r
   unfolding getFault
-  get-looks lay size r h =
-      looks-up ef z (ap (getLaterFault l image size) ed) ed h
-      (get-ready l image heads next key n sized lay size found ed _ refl)
+  get-looks lay size k e r h =
+      looks-up ef z (e ∙ ap (getLaterFault l image size) ed) ed h
+      (get-ready l image heads next key n sized lay size found ed k e)
 
 module _
     (l : ℕ) (image heads next : List ℕ) (size f n : ℕ) (z : f ≡ 0) (en : n ≡ slotsIn image)
-    (ef : f ≡ putLentFault l image (length heads) (length next) size) where
-  put-passed : (lentFault l image (length heads) (length next) ≡ 0) × (size ≤ limit l)
-  unfolding putLentFault
-  put-passed = let a = orElse-zero _ _ (sym ef ∙ z) in (a .0, ltb-false _ _ (say-zero _ _ _ (a .1) (omega arith) .0))
+    (ef : f ≡ writeLentFault l image (length heads) (length next) size) where
+  write-passed : (lentFault l image (length heads) (length next) ≡ 0) × (size ≤ limit l)
+  unfolding writeLentFault
+  write-passed = let a = orElse-zero _ _ (sym ef ∙ z) in (a .0, ltb-false _ _ (say-zero _ _ _ (a .1) (omega arith) .0))
 
-  pub put-sized : Sized image heads next n
-  put-sized = lent-sized l 0 image heads next (sym (put-passed .0)) refl n en
+  pub write-sized : Sized image heads next n
+  write-sized = lent-sized l 0 image heads next (sym (write-passed .0)) refl n en
 
-  pub put-next : length next ≡ n + 1
-  put-next = put-sized .next-size
+  pub write-next : length next ≡ n + 1
+  write-next = write-sized .next-size
 
-  pub put-looks : (key : ℕ) (found : Found) → found ≡ search l image heads next key → (s : State) (k : ℕ)
-      → k ≡ putLaterFault found next n s → (r : Lookup) → r ≡ lookupBy k found → PutLookup l image heads next s key size r
-  unfolding putFault
-  put-looks key found ed s k e r h =
-      looks-up ef z (e ∙ ap₂ (λ (d : Found) (m : ℕ). putLaterFault d next m s) ed en) ed h
-      (put-ready l image heads next key n put-sized s size (put-passed .1) found ed k e)
+  pub write-looks : (key : ℕ) (found : Found) → found ≡ search l image heads next key → (s : State) (mode : Mode) (k : ℕ)
+      → k ≡ writeLaterFault mode found next n s → (r : Lookup) → r ≡ lookupBy k found → WriteLookup l image heads next s mode key size r
+  unfolding writeFault
+  write-looks key found ed s mode k e r h =
+      looks-up ef z (e ∙ ap₂ (λ (d : Found) (m : ℕ). writeLaterFault mode d next m s) ed en) ed h
+      (write-ready l image heads next key n write-sized s mode size (write-passed .1) found ed k e)

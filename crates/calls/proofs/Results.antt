@@ -1,4 +1,4 @@
--- The results of put, remove and get, by what the lookup answers: refused, held or not held. Assumes nothing.
+-- The results of the calls, by what the lookup answers: refused, held or not held. Assumes nothing.
 use mathlib.Core.Path.{_≡_, refl, sym, ap, _∙_, subst}
 use mathlib.Core.List.{List, [], _∷_, _++_}
 use Prim.Native.Nat.{ℕ, zero, suc, _+_, _-_}
@@ -13,21 +13,26 @@ use Rattle.layout.specs.Line.{lineA, lineB}
 use Rattle.layout.specs.Record.{valueFront, valueOf}
 use Rattle.index.specs.Index.{indexOf, headOf}
 use Rattle.index.specs.Walk.{search, chainFault}
-use Rattle.index.specs.Change.{putNew, putHeld, removeHeld}
+use Rattle.index.specs.Change.{insertNew, replaceHeld, removeHeld}
 use Rattle.index.specs.declared.State.{State}
+use Rattle.index.specs.declared.Mode.{Mode}
+use Rattle.index.specs.declared.Place.{Place}
+use Rattle.index.specs.declared.Place.the-variants.{Held, NotHeld}
+use Rattle.index.specs.declared.Lookup.{Lookup}
+use Rattle.index.specs.declared.Lookup.the-variants.{Refused, Open}
 use Rattle.index.specs.declared.Found.{Found}
 use Rattle.index.specs.declared.Found.the-variants.{At, Missing, BadChain}
-use Rattle.calls.specs.Change.{ChangeResult, unchanged, changed, putLaterFault, putFault, putDone, putResult, removeLaterFault, removeFault, removeDone, removeResult}
+use Rattle.calls.specs.Change.{unchanged, changed, writeLaterFault, writeFault, writeDone, writeResult, removeLaterFault, removeFault, removeDone, removeResult}
 use Rattle.calls.specs.Get.{GetResult, slotLength, getLaterFault, getFault, getDone, getResult}
-use Rattle.calls.specs.inner.Lookup.{lookupBy, lookupOf, LooksUp, PutLookup, RemoveLookup, GetLookup}
-use Rattle.calls.specs.declared.Lookup.{Lookup}
-use Rattle.calls.specs.declared.Lookup.the-variants.{Refused, Held, NotHeld}
+use Rattle.index.specs.inner.Parts.{writeAt, liveAt}
+use Rattle.index.specs.inner.Lookup.{lookupBy}
+use Rattle.calls.specs.inner.Lookup.{lookupOf, LooksUp, WriteLookup, RemoveLookup, GetLookup}
 
 -- what a lookup says of the call's refusal and of what was found
 abbrev Says : (fault : ℕ) → Found → Lookup → Type 0
 Says fault found (Refused number compared) = (fault ≡ number) × (fault ≡ 0 → ⊥)
-Says fault found (Held slot prev compared) = (fault ≡ 0) × (found ≡ At slot prev compared)
-Says fault found (NotHeld prev compared) = (fault ≡ 0) × (found ≡ Missing prev compared)
+Says fault found (Open (Held slot prev) compared) = (fault ≡ 0) × (found ≡ At slot prev compared)
+Says fault found (Open (NotHeld prev) compared) = (fault ≡ 0) × (found ≡ Missing prev compared)
 
 says : (fault lent : ℕ) (found : Found) → (fault ≡ 0 → lent ≡ 0) → (fault ≡ 0 → found ≡ BadChain → ⊥)
     → Says fault found (lookupOf fault lent found)
@@ -54,48 +59,42 @@ module _
   result-refused number compared e h =
       let t = told (Refused number compared) e in h ∙ ap keep (sym (t .0)) ∙ sym (refused-keeps _ _ fault (t .1))
 
-  result-held : (slot prev compared : ℕ) → r ≡ Held slot prev compared → left ≡ done (At slot prev compared)
+  result-held : (slot prev compared : ℕ) → r ≡ Open (Held slot prev) compared → left ≡ done (At slot prev compared)
       → left ≡ unlessRefused fault (done found) (keep fault)
   result-held slot prev compared e h =
-      let t = told (Held slot prev compared) e in h ∙ ap done (sym (t .1)) ∙ sym (taken-leaves _ _ fault (t .0))
+      let t = told (Open (Held slot prev) compared) e in h ∙ ap done (sym (t .1)) ∙ sym (taken-leaves _ _ fault (t .0))
 
-  result-not-held : (prev compared : ℕ) → r ≡ NotHeld prev compared → left ≡ done (Missing prev compared)
+  result-not-held : (prev compared : ℕ) → r ≡ Open (NotHeld prev) compared → left ≡ done (Missing prev compared)
       → left ≡ unlessRefused fault (done found) (keep fault)
   result-not-held prev compared e h =
-      let t = told (NotHeld prev compared) e in h ∙ ap done (sym (t .1)) ∙ sym (taken-leaves _ _ fault (t .0))
+      let t = told (Open (NotHeld prev) compared) e in h ∙ ap done (sym (t .1)) ∙ sym (taken-leaves _ _ fault (t .0))
 
--- ---- put: h is the key's head as the code finds it
+-- ---- insert and replace: h is the key's head as the code finds it
 
-module _ (l : ℕ) (image heads next : List ℕ) (s : State) (key : ℕ) (value : List ℕ) where
-  put-bad : putFault l image heads next s key (length value) ≡ 0 → search l image heads next key ≡ BadChain → ⊥
-  unfolding putFault putLaterFault chainFault
-  put-bad z e = omega (arith, sym (ap chainFault e) ∙ orElse-zero _ _ (orElse-zero _ _ z .1) .0)
+module _ (l : ℕ) (image heads next : List ℕ) (s : State) (mode : Mode) (key : ℕ) (value : List ℕ) where
+  write-bad : writeFault l image heads next s mode key (length value) ≡ 0 → search l image heads next key ≡ BadChain → ⊥
+  unfolding writeFault writeLaterFault chainFault
+  write-bad z e = omega (arith, sym (ap chainFault e) ∙ orElse-zero _ _ (orElse-zero _ _ z .1) .0)
 
-  module _ (r : Lookup) (u : PutLookup l image heads next s key (length value) r) (left : ChangeResult) where
-    pub put-refused : (number compared : ℕ) → r ≡ Refused number compared → left ≡ unchanged (refused number) s heads next
-        → left ≡ putResult l image heads next s key value
-    unfolding putResult putFault
-    put-refused =
-        result-refused (putDone l image heads next s key value) (λ k. unchanged (refused k) s heads next)
-        (λ none. orElse-zero _ _ none .0) put-bad u left
+  module _ (r : Lookup) (u : WriteLookup l image heads next s mode key (length value) r) where
+    pub write-refused : (number compared : ℕ) → r ≡ Refused number compared
+        → unchanged (refused number) s heads next ≡ writeResult l image heads next s mode key value
+    unfolding writeResult writeFault
+    write-refused number compared e =
+        result-refused (writeDone l image heads next s key value) (λ k. unchanged (refused k) s heads next)
+        (λ none. orElse-zero _ _ none .0) write-bad u _ number compared e refl
 
-    pub put-held : (old prev compared h : ℕ) → r ≡ Held old prev compared → h ≡ headOf key (length heads)
-        → left ≡ changed l image s key 1 value (putHeld (indexOf heads next s) h prev old) (s .live)
-        → left ≡ putResult l image heads next s key value
-    unfolding putResult putFault putDone
-    put-held old prev compared h e eh q =
-        result-held (putDone l image heads next s key value) (λ k. unchanged (refused k) s heads next)
-        (λ none. orElse-zero _ _ none .0) put-bad u left old prev compared e
-        (q ∙ ap (λ (x : ℕ). changed l image s key 1 value (putHeld (indexOf heads next s) x prev old) (s .live)) eh)
-
-    pub put-not-held : (prev compared h : ℕ) → r ≡ NotHeld prev compared → h ≡ headOf key (length heads)
-        → left ≡ changed l image s key 1 value (putNew (indexOf heads next s) h prev) (s .live + 1)
-        → left ≡ putResult l image heads next s key value
-    unfolding putResult putFault putDone
-    put-not-held prev compared h e eh q =
-        result-not-held (putDone l image heads next s key value) (λ k. unchanged (refused k) s heads next)
-        (λ none. orElse-zero _ _ none .0) put-bad u left prev compared e
-        (q ∙ ap (λ (x : ℕ). changed l image s key 1 value (putNew (indexOf heads next s) x prev) (s .live + 1)) eh)
+    pub write-open : (place : Place) (compared h : ℕ) → r ≡ Open place compared → h ≡ headOf key (length heads)
+        → changed l image s key 1 value (writeAt (indexOf heads next s) h place) (liveAt (s .live) place) ≡ writeResult l image heads next s mode key value
+    unfolding writeResult writeFault writeDone writeAt liveAt
+    write-open (Held old prev) compared h e eh =
+        result-held (writeDone l image heads next s key value) (λ k. unchanged (refused k) s heads next)
+        (λ none. orElse-zero _ _ none .0) write-bad u _ old prev compared e
+        (ap (λ (x : ℕ). changed l image s key 1 value (replaceHeld (indexOf heads next s) x prev old) (s .live)) eh)
+    write-open (NotHeld prev) compared h e eh =
+        result-not-held (writeDone l image heads next s key value) (λ k. unchanged (refused k) s heads next)
+        (λ none. orElse-zero _ _ none .0) write-bad u _ prev compared e
+        (ap (λ (x : ℕ). changed l image s key 1 value (insertNew (indexOf heads next s) x prev) (s .live + 1)) eh)
 
 -- ---- remove
 
@@ -104,29 +103,27 @@ module _ (l : ℕ) (image heads next : List ℕ) (s : State) (key : ℕ) where
   unfolding removeFault removeLaterFault
   remove-bad z e = omega (arith, sym (ap (λ (d : Found). removeLaterFault d next (slotsIn image) s) e) ∙ orElse-zero _ _ z .1)
 
-  module _ (r : Lookup) (u : RemoveLookup l image heads next s key r) (left : ChangeResult) where
-    pub remove-refused : (number compared : ℕ) → r ≡ Refused number compared → left ≡ unchanged (refused number) s heads next
-        → left ≡ removeResult l image heads next s key
+  module _ (r : Lookup) (u : RemoveLookup l image heads next s key r) where
+    pub remove-refused : (number compared : ℕ) → r ≡ Refused number compared
+        → unchanged (refused number) s heads next ≡ removeResult l image heads next s key
     unfolding removeResult removeFault
-    remove-refused =
+    remove-refused number compared e =
         result-refused (removeDone l image heads next s key) (λ k. unchanged (refused k) s heads next)
-        (λ none. orElse-zero _ _ none .0) remove-bad u left
+        (λ none. orElse-zero _ _ none .0) remove-bad u _ number compared e refl
 
-    pub remove-held : (old prev compared h : ℕ) → r ≡ Held old prev compared → h ≡ headOf key (length heads)
-        → left ≡ changed l image s key 2 [] (removeHeld (indexOf heads next s) h prev old) (s .live - 1)
-        → left ≡ removeResult l image heads next s key
+    pub remove-held : (old prev compared h : ℕ) → r ≡ Open (Held old prev) compared → h ≡ headOf key (length heads)
+        → changed l image s key 2 [] (removeHeld (indexOf heads next s) h prev old) (s .live - 1) ≡ removeResult l image heads next s key
     unfolding removeResult removeFault removeDone
-    remove-held old prev compared h e eh q =
+    remove-held old prev compared h e eh =
         result-held (removeDone l image heads next s key) (λ k. unchanged (refused k) s heads next)
-        (λ none. orElse-zero _ _ none .0) remove-bad u left old prev compared e
-        (q ∙ ap (λ (x : ℕ). changed l image s key 2 [] (removeHeld (indexOf heads next s) x prev old) (s .live - 1)) eh)
+        (λ none. orElse-zero _ _ none .0) remove-bad u _ old prev compared e
+        (ap (λ (x : ℕ). changed l image s key 2 [] (removeHeld (indexOf heads next s) x prev old) (s .live - 1)) eh)
 
-    pub remove-not-held : (prev compared : ℕ) → r ≡ NotHeld prev compared → left ≡ unchanged absent s heads next
-        → left ≡ removeResult l image heads next s key
+    pub remove-not-held : (prev compared : ℕ) → r ≡ Open (NotHeld prev) compared → unchanged absent s heads next ≡ removeResult l image heads next s key
     unfolding removeResult removeFault removeDone
-    remove-not-held =
+    remove-not-held prev compared e =
         result-not-held (removeDone l image heads next s key) (λ k. unchanged (refused k) s heads next)
-        (λ none. orElse-zero _ _ none .0) remove-bad u left
+        (λ none. orElse-zero _ _ none .0) remove-bad u _ prev compared e refl
 
 -- ---- get: what the answer and the output come to
 
@@ -143,7 +140,7 @@ module _ (l : ℕ) (image heads next : List ℕ) (key : ℕ) (out : List ℕ) wh
         result-refused (getDone l image out) (λ k. record { answer = refused k; out = out })
         (λ none. orElse-zero _ _ none .0) get-bad u _ number compared e refl
 
-    pub get-held : (slot prev compared : ℕ) → r ≡ Held slot prev compared → (n : ℕ) → n ≡ slotLength l image slot → (bytes : List ℕ)
+    pub get-held : (slot prev compared : ℕ) → r ≡ Open (Held slot prev) compared → (n : ℕ) → n ≡ slotLength l image slot → (bytes : List ℕ)
         → bytes ≡ valueFront l (lineA (word image) slot) (lineB (word image) slot) n ++ drop n out
         → record { answer = gives (n ∷ []); out = bytes } ≡ getResult l image heads next key out
     unfolding getResult getFault getDone valueOf
@@ -155,7 +152,7 @@ module _ (l : ℕ) (image heads next : List ℕ) (key : ℕ) (out : List ℕ) wh
         ended : ℕ → List ℕ → GetResult
         ended x bytes = record { answer = gives (x ∷ []); out = bytes }
 
-    pub get-not-held : (prev compared : ℕ) → r ≡ NotHeld prev compared
+    pub get-not-held : (prev compared : ℕ) → r ≡ Open (NotHeld prev) compared
         → record { answer = absent; out = out } ≡ getResult l image heads next key out
     unfolding getResult getFault getDone
     get-not-held prev compared e =

@@ -1,28 +1,30 @@
--- Put and remove. Document 01, "How a call writes", "The index" and "What each operation may say no to". Both leave the image unchanged.
+-- Insert, replace and remove. Document 01, "How a call writes", "The index" and "What each operation may say no to"; document 02, A.2: "Put is split in two:
+-- insert for a key not held, replace for one that is." None of them writes to the image.
 use mathlib.Core.List.{List, [], _∷_}
-use Prim.Native.Nat.{ℕ, _+_, _-_, _^_}
+use Prim.Native.Nat.{ℕ, _+_, _-_}
 use lib.Dec.{eqb, ltb}
-use lib.ListN.{length, replicate}
+use lib.ListN.{length}
 use Rattle.words.specs.Word.{word}
 use Rattle.prelude.specs.Refusal.{say, orElse, unlessRefused}
 use Rattle.prelude.specs.Answer.{Answer, gives, absent, refused}
 use Rattle.layout.specs.Size.{slotsIn}
 use Rattle.layout.specs.Record.{limit}
 use Rattle.layout.specs.Header.{lentFault}
+use Rattle.layout.specs.Line.{versionFault}
 use Rattle.stores.specs.Store.{Store, zipped}
 use Rattle.stores.specs.Written.{recordStores}
 use Rattle.index.specs.Index.{Index, indexOf, stateOf, headOf}
 use Rattle.index.specs.Walk.{search, chainFault}
-use Rattle.index.specs.Change.{putNew, putHeld, removeHeld, roomFault, reuseFault}
-use Rattle.layout.specs.Line.{versionFault}
+use Rattle.index.specs.Change.{insertNew, replaceHeld, removeHeld, keyFault, isFound, roomFault, reuseFault}
 use Rattle.index.specs.declared.State.{State}
+use Rattle.index.specs.declared.Mode.{Mode}
 use Rattle.index.specs.declared.Found.{Found}
 use Rattle.index.specs.declared.Found.the-variants.{At, Missing, BadChain}
 use Rattle.calls.specs.declared.Change.{Change}
 use Rattle.calls.specs.declared.Outcome.{Outcome}
 use Rattle.calls.specs.declared.Outcome.the-variants.{Stored, Absent, Refused}
 
--- the answer, the state, the stores and the index at exit
+-- the answer, the state, the stores handed out and the index at exit
 pub record ChangeResult : Type 0 where
   pub answer : Answer
   pub state : State
@@ -36,24 +38,36 @@ changeSays (Stored slot version) = gives (slot ∷ version ∷ [])
 changeSays Absent = absent
 changeSays (Refused number) = refused number
 
--- what a call of put or remove with this answer left
-abbrev pub changeEnd : Change → (heads next : List ℕ) → ChangeResult
-changeEnd r heads next =
+-- what a call with this answer left; at and value are the stores lent to it
+abbrev pub changeEnd : Change → (at value heads next : List ℕ) → ChangeResult
+changeEnd r at value heads next =
     record {
       answer = changeSays (r .outcome);
       state = r .state;
-      stores = zipped (r .stores .at) (r .stores .value);
+      stores = zipped at value;
       heads = heads;
       next = next;
     }
 
--- the stores of a call that stores nothing: all to a word that no image has, so that play refuses them
-unfoldable pub noStores : List Store
-noStores = replicate 16 (record { word = 2 ^ 32 - 1; value = 0 })
+-- the sixteen lent stores after a call that hands out these, sixteen or none: where it hands out none they stay
+unfoldable pub handedOut : (stores lent : List Store) → List Store
+handedOut [] lent = lent
+handedOut (s ∷ ss) lent = s ∷ ss
+
+-- what a call with this result leaves, lent these stores
+unfoldable pub leftIn : (lent : List Store) → ChangeResult → ChangeResult
+leftIn lent r =
+    record {
+      answer = r .answer;
+      state = r .state;
+      stores = handedOut (r .stores) lent;
+      heads = r .heads;
+      next = r .next;
+    }
 
 -- "A refused call changes no lent byte, index number or state"; nor does a remove that answers absent
 unfoldable pub unchanged : Answer → State → (heads next : List ℕ) → ChangeResult
-unchanged answer s heads next = record { answer = answer; state = s; stores = noStores; heads = heads; next = next }
+unchanged answer s heads next = record { answer = answer; state = s; stores = []; heads = heads; next = next }
 
 -- a record of this kind is written into the first reuse slot: i is the index at exit. "each call that stores makes the next version one higher"
 unfoldable pub changed : (l : ℕ) → (image : List ℕ) → State → (key kind : ℕ) → List ℕ → Index → (live : ℕ) → ChangeResult
@@ -66,36 +80,37 @@ changed l image s key kind value i live =
       next = i .next;
     }
 
--- ---- put
+-- ---- insert and replace: one definition, with what is asked of the key as `mode`
 
 -- "Put. 1, 2, 3, 4 as above; 10 when the value exceeds 80 bytes": by what is lent, before the key's chain is followed
-unfoldable pub putLentFault : (l : ℕ) → (image : List ℕ) → (heads next size : ℕ) → ℕ
-putLentFault l image heads next size = orElse (lentFault l image heads next) (say (ltb (limit l) size) 10 0)
+unfoldable pub writeLentFault : (l : ℕ) → (image : List ℕ) → (heads next size : ℕ) → ℕ
+writeLentFault l image heads next size = orElse (lentFault l image heads next) (say (ltb (limit l) size) 10 0)
 
--- the refusals after these: 11 (chain), 12, 9, 11 (reuse)
-unfoldable pub putLaterFault : Found → (next : List ℕ) → (n : ℕ) → State → ℕ
-putLaterFault found next n s =
+-- the refusals after these: 11 (chain); 20 or 21, "each straight after the chain check"; 12; 9; 11 (reuse)
+unfoldable pub writeLaterFault : Mode → Found → (next : List ℕ) → (n : ℕ) → State → ℕ
+writeLaterFault mode found next n s =
     orElse (chainFault found)
-    (orElse (roomFault found n (s .live)) (orElse (versionFault (s .version)) (reuseFault next n (s .first) (s .last))))
+    (orElse (keyFault mode (isFound found))
+    (orElse (roomFault found n (s .live)) (orElse (versionFault (s .version)) (reuseFault next n (s .first) (s .last)))))
 
-unfoldable pub putFault : (l : ℕ) → (image heads next : List ℕ) → State → (key : ℕ) → (size : ℕ) → ℕ
-putFault l image heads next s key size =
-    orElse (putLentFault l image (length heads) (length next) size)
-    (putLaterFault (search l image heads next key) next (slotsIn image) s)
+unfoldable pub writeFault : (l : ℕ) → (image heads next : List ℕ) → State → Mode → (key : ℕ) → (size : ℕ) → ℕ
+writeFault l image heads next s mode key size =
+    orElse (writeLentFault l image (length heads) (length next) size)
+    (writeLaterFault mode (search l image heads next key) next (slotsIn image) s)
 
 -- "A put of a new key raises the live count by one"
-unfoldable pub putDone : (l : ℕ) → (image heads next : List ℕ) → State → (key : ℕ) → List ℕ → Found → ChangeResult
-putDone l image heads next s key value (At old prev compared) =
-    changed l image s key 1 value (putHeld (indexOf heads next s) (headOf key (length heads)) prev old) (s .live)
-putDone l image heads next s key value (Missing prev compared) =
-    changed l image s key 1 value (putNew (indexOf heads next s) (headOf key (length heads)) prev) (s .live + 1)
-putDone l image heads next s key value BadChain = unchanged (refused 11) s heads next
+unfoldable pub writeDone : (l : ℕ) → (image heads next : List ℕ) → State → (key : ℕ) → List ℕ → Found → ChangeResult
+writeDone l image heads next s key value (At old prev compared) =
+    changed l image s key 1 value (replaceHeld (indexOf heads next s) (headOf key (length heads)) prev old) (s .live)
+writeDone l image heads next s key value (Missing prev compared) =
+    changed l image s key 1 value (insertNew (indexOf heads next s) (headOf key (length heads)) prev) (s .live + 1)
+writeDone l image heads next s key value BadChain = unchanged (refused 11) s heads next
 
-unfoldable pub putResult : (l : ℕ) → (image heads next : List ℕ) → State → (key : ℕ) → List ℕ → ChangeResult
-putResult l image heads next s key value =
-    unlessRefused (putFault l image heads next s key (length value))
-    (putDone l image heads next s key value (search l image heads next key))
-    (unchanged (refused (putFault l image heads next s key (length value))) s heads next)
+unfoldable pub writeResult : (l : ℕ) → (image heads next : List ℕ) → State → Mode → (key : ℕ) → List ℕ → ChangeResult
+writeResult l image heads next s mode key value =
+    unlessRefused (writeFault l image heads next s mode key (length value))
+    (writeDone l image heads next s key value (search l image heads next key))
+    (unchanged (refused (writeFault l image heads next s mode key (length value))) s heads next)
 
 -- ---- remove
 

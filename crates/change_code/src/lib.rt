@@ -1,4 +1,3 @@
-// The public calls that write: put and remove.
-mod answers;
-pub mod put;
+// The public calls that write: insert, replace and remove.
 pub mod remove;
+pub mod write;

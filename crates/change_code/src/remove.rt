@@ -1,23 +1,23 @@
 // Remove: a key is no longer held. `l` is the layout; a key is two words, the high one 0 in layout 1.
 ghost use mathlib.Core.Path.{_≡_};
-ghost use mathlib.Core.List.{[]};
-ghost use Prim.Native.Nat.{_+_, _*_, _^_, _≤_, _<_};
+ghost use Prim.Native.Nat.{_+_};
 ghost use lib.ListN.{length};
 ghost use Rattle.layout.specs.Record.{Layout};
 ghost use Rattle.layout.specs.inner.Key.{keyWith};
-ghost use Rattle.calls.specs.Change.{changeEnd, heldFault, removeLaterFault, removeResult};
-ghost use Rattle.calls.specs.inner.Lookup.{lookupBy, RemoveLookup, StoredBy};
-use crate::answers::not_held;
-use crate::answers::refusal;
+ghost use Rattle.stores.specs.Store.{zipped};
+ghost use Rattle.calls.specs.Change.{changeEnd, leftIn, heldFault, removeLaterFault, removeResult};
+ghost use Rattle.calls.specs.inner.Lookup.{RemoveLookup};
 use calls::Change;
-use calls::Lookup;
 use calls::Outcome;
 use index::Found;
+use index::Lookup;
+use index::Place;
 use index::State;
 use index_code::change::remove_held;
 use index_code::fault::reuse_fault;
 use index_code::head::head_of;
 use index_code::search::find;
+use index_code::search::looked_up;
 use layout_code::header::lent_fault;
 use layout_code::header::slot_count;
 use layout_code::line::version_fault;
@@ -42,35 +42,22 @@ fn held_fault(next: &[u32], n: u32, state: State) -> u32
     0
 }
 
-// The lookup of a remove by what the key's chain has: 11 (chain), 9 or 11, the key's slot, or that no slot has the key.
-fn remove_found(found: Found, next: &[u32], n: u32, state: State) -> Lookup
+// 11 (chain), 9 or 11 by what the key's chain has, else 0.
+fn remove_later_fault(found: Found, next: &[u32], n: u32, state: State) -> u32
     requires { ⌜ length (now next) ≡ n + 1 ⌝ }
-    ensures { λ r. ⌜ r ≡ lookupBy (removeLaterFault found (now (next .entry)) n state) found ⌝ }
+    ensures { λ r. ⌜ r ≡ removeLaterFault found (now (next .entry)) n state ⌝ }
 {
     match found {
         Found::At {
-            slot,
-            prev,
-            compared,
-        } => {
-            let fault = held_fault(next, n, state);
-            if fault != 0 {
-                return Lookup::Refused {
-                    number: fault,
-                    compared,
-                };
-            }
-            Lookup::Held {
-                slot,
-                prev,
-                compared,
-            }
-        }
-        Found::Missing { prev, compared } => Lookup::NotHeld { prev, compared },
-        Found::BadChain => Lookup::Refused {
-            number: 11,
-            compared: 0,
-        },
+            slot: _,
+            prev: _,
+            compared: _,
+        } => held_fault(next, n, state),
+        Found::Missing {
+            prev: _,
+            compared: _,
+        } => 0,
+        Found::BadChain => 11,
     }
 }
 
@@ -96,26 +83,11 @@ fn remove_lookup(
     }
     let n = slot_count(image.len());
     let found = find(image, l, heads, next, n, low, high);
-    remove_found(found, next, n as u32, state)
+    let fault = remove_later_fault(found, next, n as u32, state);
+    looked_up(fault, found)
 }
 
-// The answer of a remove whose record goes into the first reuse slot; after is the state that it leaves.
-fn remove_stored(image: &[u8], l: usize, state: State, low: u64, high: u64, after: State) -> Change
-    requires { ⌜ Layout l × (state .version < 2 ^ 63) × (state .first < 65536) × (128 * (state .first + 1) ≤ length (now image)) ⌝ }
-    ensures { λ r. ⌜ StoredBy l (now (image .entry)) state (keyWith low high) 2 [] after r ⌝ }
-{
-    let stores = remove_stores(image, l, state.first, low, high, state.version);
-    Change {
-        outcome: Outcome::Stored {
-            slot: state.first,
-            version: state.version,
-        },
-        state: after,
-        stores,
-    }
-}
-
-// Remove, in layout l.
+// Remove, in layout l. The stores are lent: at is their word numbers, words their values.
 fn remove_in(
     image: &[u8],
     l: usize,
@@ -124,35 +96,53 @@ fn remove_in(
     state: State,
     low: u64,
     high: u64,
+    at: &mut [u32; 16],
+    words: &mut [u64; 16],
 ) -> Change
     requires { ⌜ Layout l ⌝ }
-    ensures { λ r. ⌜ changeEnd r (now (heads .exit)) (now (next .exit)) ≡ removeResult l (now (image .entry)) (now (heads .entry)) (now (next .entry)) state (keyWith low high) ⌝ }
+    ensures { λ r. ⌜ changeEnd r (now (at .exit)) (now (words .exit)) (now (heads .exit)) (now (next .exit)) ≡ leftIn (zipped (now (at .entry)) (now (words .entry))) (removeResult l (now (image .entry)) (now (heads .entry)) (now (next .entry)) state (keyWith low high)) ⌝ }
 {
     let lookup = remove_lookup(image, l, heads, next, state, low, high);
     match lookup {
         Lookup::Refused {
             number,
             compared: _,
-        } => refusal(number, state),
-        Lookup::Held {
-            slot,
-            prev,
-            compared: _,
-        } => {
-            let h = head_of(low, heads.len());
-            let after = remove_held(heads, next, state, h, prev, slot);
-            remove_stored(image, l, state, low, high, after)
-        }
-        Lookup::NotHeld {
-            prev: _,
-            compared: _,
-        } => not_held(state),
+        } => Change {
+            outcome: Outcome::Refused(number),
+            state,
+        },
+        Lookup::Open { place, compared: _ } => match place {
+            Place::NotHeld { prev: _ } => Change {
+                outcome: Outcome::Absent,
+                state,
+            },
+            Place::Held { slot, prev } => {
+                let h = head_of(low, heads.len());
+                let after = remove_held(heads, next, state, h, prev, slot);
+                remove_stores(image, l, state.first, low, high, state.version, at, words);
+                Change {
+                    outcome: Outcome::Stored {
+                        slot: state.first,
+                        version: state.version,
+                    },
+                    state: after,
+                }
+            }
+        },
     }
 }
 
-// The key is dropped: the slot taken and the version, the new state and the stores to be played; absent where it is not held; or a refusal. Neither of the last two changes anything.
-pub fn remove(image: &[u8], heads: &mut [u32], next: &mut [u32], state: State, key: u64) -> Change
-    ensures { λ r. ⌜ changeEnd r (now (heads .exit)) (now (next .exit)) ≡ removeResult 1 (now (image .entry)) (now (heads .entry)) (now (next .entry)) state key ⌝ }
+// The key is dropped: the slot taken and the version, the new state and, lent, the stores to be played; absent where it is not held; or a refusal. Neither of the last two changes anything.
+pub fn remove(
+    image: &[u8],
+    heads: &mut [u32],
+    next: &mut [u32],
+    state: State,
+    key: u64,
+    at: &mut [u32; 16],
+    words: &mut [u64; 16],
+) -> Change
+    ensures { λ r. ⌜ changeEnd r (now (at .exit)) (now (words .exit)) (now (heads .exit)) (now (next .exit)) ≡ leftIn (zipped (now (at .entry)) (now (words .entry))) (removeResult 1 (now (image .entry)) (now (heads .entry)) (now (next .entry)) state key) ⌝ }
 {
-    remove_in(image, 1, heads, next, state, key, 0)
+    remove_in(image, 1, heads, next, state, key, 0, at, words)
 }

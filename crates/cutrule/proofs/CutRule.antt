@@ -10,7 +10,7 @@ use Rattle.face.specs.Laws.{SetLaws}
 use Rattle.face.proofs.SetLaws.{layout-1, set-laws}
 use Rattle.book.proofs.Steps.{step-right}
 use Rattle.book.proofs.StepEvents.{step-event-keeps, step-event-slots}
-use Rattle.cutrule.specs.Request.{Request, a-call, a-step, requestLeaves, requestFault, requestOperation, RequestRight, TypedRequest, worldAfterRequest, mapAfterRequest}
+use Rattle.cutrule.specs.Request.{Request, a-call, a-step, requestLeaves, requestFault, requestUpdates, RequestRight, TypedRequest, worldAfterRequest, mapAfterRequest}
 use Rattle.cutrule.specs.Rule.{AllRight, CutRuleIn, CutRule}
 
 typed-request : (l n : ℕ) (event : Event Request) → FitsBy (TypedRequest l) n event → TypedRequest l (requestOf event)
@@ -27,7 +27,7 @@ module _ (l : ℕ) (Inv : World → PlainMap → Type 0) (laws : SetLaws l Inv) 
 
     keeps : (event : Event Request) → FitsBy (TypedRequest l) (slotsIn (w .image)) event
         → Inv (worldAfterRequest l w event) (mapAfterRequest l w m event)
-    unfolding stepBy imageCut allStand requestLeaves requestFault requestOperation
+    unfolding stepBy imageCut allStand requestLeaves requestFault requestUpdates
     keeps (done (a-call call)) (done-fits t) = laws .keeps w m i (done call) (done-fits t)
     keeps (done (a-step step)) (done-fits t) = step-event-keeps l Inv laws w m i (done step) (done-fits t)
     keeps (struck (a-call call) cut) (struck-fits t c) = laws .keeps w m i (struck call cut) (struck-fits t c)

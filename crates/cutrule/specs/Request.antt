@@ -1,12 +1,13 @@
 -- What the cut rule's lists are made of: calls of the set and steps of the order book. Document 02, A.1: "The cut rule now speaks of book steps too."
+use mathlib.Core.List.{List}
 use Prim.Native.Nat.{ℕ}
 use Rattle.prelude.specs.Answer.{refuses}
-use Rattle.face.specs.Set.{World, Call, called, PlainMap, Operation, operation, Typed, dueFault, Right}
+use Rattle.face.specs.Set.{World, Call, called, PlainMap, Update, updates, Typed, dueFault, Right}
 use Rattle.face.specs.Event.{Event, Leaving, leaving, requestOf, stepBy, allStand, plainEvent}
 use Rattle.book.specs.Steps.{Step, booked}
-use Rattle.book.specs.Plain.{bookLeaving, stepFault, stepOperation, StepRight, TypedStep}
+use Rattle.book.specs.Plain.{bookLeaving, stepFault, stepUpdates, StepRight, TypedStep}
 
--- a put, a remove, a get or a locate; or a book step
+-- an insert, a replace, a remove, a get or a locate; or a book step
 pub data Request : Type 0 where
   a-call : Call → Request
   a-step : Step → Request
@@ -21,9 +22,9 @@ unfoldable pub requestFault : (l : ℕ) → World → PlainMap → Request → �
 requestFault l w m (a-call call) = dueFault l w m call
 requestFault l w m (a-step step) = stepFault l w m step
 
-unfoldable pub requestOperation : PlainMap → Request → Operation
-requestOperation m (a-call call) = operation call
-requestOperation m (a-step step) = stepOperation m step
+unfoldable pub requestUpdates : PlainMap → Request → List Update
+requestUpdates m (a-call call) = updates call
+requestUpdates m (a-step step) = stepUpdates m step
 
 -- its answer is right by the plain map m
 abbrev pub RequestRight : (l : ℕ) → World → PlainMap → Request → Type 0
@@ -41,4 +42,4 @@ worldAfterRequest l w event = stepBy l (requestLeaves l) w event
 
 abbrev pub mapAfterRequest : (l : ℕ) → World → PlainMap → Event Request → PlainMap
 mapAfterRequest l w m event =
-    plainEvent (allStand event) (requestOperation m (requestOf event)) (refuses (requestFault l w m (requestOf event))) m
+    plainEvent (allStand event) (requestUpdates m (requestOf event)) (refuses (requestFault l w m (requestOf event))) m

@@ -26,24 +26,24 @@ use Rattle.table.specs.Table.{isRecord, keyIn, weight, nextVersion, decider, va
 use Rattle.table.specs.Order.{rankOf, ordered, chainOf, reuseOf}
 use Rattle.index.specs.Index.{start, ahead, setNext, setStart, setLast, link}
 use Rattle.index.specs.Chained.{firstOf, lastOf, after, nextIn, chained}
-use Rattle.index.specs.Change.{takeFirst, linkNew, append, putNew, putHeld, removeHeld, roomFault, reuseFault}
+use Rattle.index.specs.Change.{takeFirst, linkNew, append, insertNew, replaceHeld, removeHeld, keyFault, isFound, roomFault, reuseFault}
 use Rattle.index.specs.Walk.{walk, search, chainFault}
 use Rattle.recovery.specs.Recover.{slotsFault, recoverFault, chainsOf, placeOf, recoveredIndex, recoveredState, recovered, recoverResult, noState}
-use Rattle.calls.specs.Change.{noStores, unchanged, changed, putLentFault, putLaterFault, putFault, putDone, putResult, heldFault, removeLaterFault, removeFault, removeDone, removeResult}
+use Rattle.calls.specs.Change.{unchanged, changed, writeLentFault, writeLaterFault, writeFault, writeDone, writeResult, heldFault, removeLaterFault, removeFault, removeDone, removeResult}
 use Rattle.calls.specs.Get.{lengthFault, getLaterFault, getFault, getDone, getResult}
 use Rattle.prelude.specs.Answer.{refuses}
 use Rattle.prelude.specs.Members.{In, All, none-left, one-more, slotNumbers}
 use Rattle.table.specs.Table.{holder, isHeld}
 use Rattle.calls.specs.Format.{formatted}
 use Rattle.calls.specs.Locate.{locateFault, locateDone, locateResult}
-use Rattle.plainmap.specs.World.{toPlay, calledChange, calledGet, calledLocate, called, playing, finished, worldAfter, recoveredWorld}
-use Rattle.plainmap.specs.Plain.{operation, plainNext, plainStep, sizeOf, ruleFault}
+use Rattle.plainmap.specs.World.{calledChange, calledGet, calledLocate, called, playing, finished, worldAfter, recoveredWorld}
+use Rattle.plainmap.specs.Plain.{updates, updated, plainNext, plainStep, sizeOf, ruleFault}
 use Rattle.table.specs.Keys.{Holds, holds, Keys}
 use Rattle.face.proofs.SetLaws.{layout-1}
 use Rattle.face.specs.Event.{CutFits, FitsBy, done-fits, struck-fits, stepBy, imageCut, allStand, plainEvent}
 use Rattle.book.specs.Orders.{orderBytes, orderOf, isState, isOrder, sent, acknowledged, filledBy}
 use Rattle.book.specs.Steps.{new, fill, idle, changeAnswers, asChange, soughtIn, soughtBy, seek, newAt, newResult, alreadyAt, acknowledgeAt, acknowledgeResult, quantityFault, fillBy, fillAt, fillResult, withdrawAt, withdrawResult, booked}
-use Rattle.book.specs.Plain.{TypedStep, new-typed, acknowledge-typed, fill-typed, withdraw-typed, orderIn, orderFault, bookFault, callBy, stepCall, callFault, stepFault, operationBy, stepOperation, storesToPlay, bookLeaving}
+use Rattle.book.specs.Plain.{TypedStep, new-typed, acknowledge-typed, fill-typed, withdraw-typed, orderIn, orderFault, bookFault, callBy, stepCall, callFault, stepFault, updatesBy, stepUpdates, bookLeaving}
 use Rattle.book.specs.Totals.{openHeld, ofHeld, orderedIn, filledIn, withdrawnIn, counts, totalOf, mapAtEnd, openTotal, Conserves}
 use Rattle.book.proofs.Conservation.{none-held, others-stay, conservation}
 use Rattle.book.proofs.Sums.{some-none}
@@ -60,7 +60,7 @@ history-computed : (bookAnswers 1 emptyBook history ≡ historyAnswers) × (tota
     × (recoverFault 1 (formatted 1 512) (length oneHead) (length threeSlots) ≡ 0) × (slotsIn (formatted 1 512) ≡ 3)
     × ((key : ℕ) → emptyMap key ≡ none) × (historyMap 7 ≡ some (orderBytes filled30))
     × (historyMap 8 ≡ none)
-unfolding word setWord say orElse unlessRefused anyOf tabulate slotsOf lineTop paired slotTop verdictOf lineVerdict isValid keyFrom keyOf valueWord valueByte valueFront valueOf made contentBy contentOf content topOf headerWord headerFault imageFault indexFault lentFault markFault kindFault wordFault tailFault faultOf recordFault zipped played marked bodyA bodyB run lineStores recordStores halfFault halvesFault playFault counted playResult filter insert sorted isRecord keyIn weight greatest topmost count nextVersion decider valueIn valueAt mapOf decidingPut live spare liveCount sharedVersion allLive rankOf slotNumbers ordered chainOf reuseOf start ahead setNext setStart setLast link firstOf lastOf after nextIn chained takeFirst linkNew append putNew putHeld removeHeld roomFault versionFault reuseFault walk search chainFault slotsFault recoverFault chainsOf placeOf recoveredIndex recoveredState recovered recoverResult formatted noStores unchanged changed putLentFault putLaterFault putFault putDone putResult heldFault removeLaterFault removeFault removeDone removeResult lengthFault getLaterFault getFault getDone getResult toPlay calledChange calledGet called wordNumbers values playing finished noState worldAfter recoveredWorld imageCut stepBy holder isHeld operation plainNext plainStep sizeOf ruleFault refuses locateFault locateDone locateResult calledLocate plainEvent allStand orderBytes orderOf isState isOrder sent acknowledged filledBy idle changeAnswers asChange soughtIn soughtBy seek newAt newResult alreadyAt acknowledgeAt acknowledgeResult quantityFault fillBy fillAt fillResult withdrawAt withdrawResult booked orderIn orderFault bookFault callBy stepCall callFault stepFault operationBy stepOperation storesToPlay bookLeaving ofHeld orderedIn filledIn withdrawnIn counts totalOf mapAtEnd openTotal oneHead bookAnswers threeSlots bookCut emptyBook history historyAnswers historyTotals historyKeys totals filled30
+unfolding word setWord say orElse unlessRefused anyOf tabulate slotsOf lineTop paired slotTop verdictOf lineVerdict isValid keyFrom keyOf valueWord valueByte valueFront valueOf made contentBy contentOf content topOf headerWord headerFault imageFault indexFault lentFault markFault kindFault wordFault tailFault faultOf recordFault zipped played marked bodyA bodyB run lineStores recordStores halfFault halvesFault playFault counted playResult filter insert sorted isRecord keyIn weight greatest topmost count nextVersion decider valueIn valueAt mapOf decidingPut live spare liveCount sharedVersion allLive rankOf slotNumbers ordered chainOf reuseOf start ahead setNext setStart setLast link firstOf lastOf after nextIn chained takeFirst linkNew append insertNew replaceHeld removeHeld keyFault isFound roomFault versionFault reuseFault walk search chainFault slotsFault recoverFault chainsOf placeOf recoveredIndex recoveredState recovered recoverResult formatted unchanged changed writeLentFault writeLaterFault writeFault writeDone writeResult heldFault removeLaterFault removeFault removeDone removeResult lengthFault getLaterFault getFault getDone getResult calledChange calledGet called wordNumbers values playing finished noState worldAfter recoveredWorld imageCut stepBy holder isHeld updates updated plainNext plainStep sizeOf ruleFault refuses locateFault locateDone locateResult calledLocate plainEvent allStand orderBytes orderOf isState isOrder sent acknowledged filledBy idle changeAnswers asChange soughtIn soughtBy seek newAt newResult alreadyAt acknowledgeAt acknowledgeResult quantityFault fillBy fillAt fillResult withdrawAt withdrawResult booked orderIn orderFault bookFault callBy stepCall callFault stepFault updatesBy stepUpdates bookLeaving ofHeld orderedIn filledIn withdrawnIn counts totalOf mapAtEnd openTotal oneHead bookAnswers threeSlots bookCut emptyBook history historyAnswers historyTotals historyKeys totals filled30
 history-computed = (refl, refl, refl, refl, λ key. refl, refl, refl)
 
 pub history-answers : bookAnswers 1 emptyBook history ≡ historyAnswers

@@ -22,14 +22,14 @@ use Rattle.table.specs.Order.{rankOf, ordered, chainOf, reuseOf}
 use Rattle.index.specs.Index.{setNext, setStart, setLast, link}
 use Rattle.index.specs.Chained.{firstOf, lastOf, after, nextIn, chained}
 use Rattle.index.specs.Walk.{walk, search, chainFault}
-use Rattle.index.specs.Change.{takeFirst, linkNew, append, putNew, putHeld, removeHeld, roomFault, reuseFault}
+use Rattle.index.specs.Change.{takeFirst, linkNew, append, insertNew, replaceHeld, removeHeld, keyFault, isFound, roomFault, reuseFault}
 use Rattle.recovery.specs.Recover.{noState, slotsFault, recoverFault, chainsOf, placeOf, recoveredIndex, recoveredState, recovered, recoverResult}
 use Rattle.calls.specs.Format.{formatFault, formatted, formatResult}
-use Rattle.calls.specs.Change.{noStores, unchanged, changed, putLentFault, putLaterFault, putFault, putDone, putResult, heldFault, removeLaterFault, removeFault, removeDone, removeResult}
+use Rattle.calls.specs.Change.{unchanged, changed, writeLentFault, writeLaterFault, writeFault, writeDone, writeResult, heldFault, removeLaterFault, removeFault, removeDone, removeResult}
 use Rattle.calls.specs.Get.{lengthFault, getLaterFault, getFault, getDone, getResult}
-use Rattle.plainmap.specs.World.{toPlay, calledChange, calledGet, called, playing, finished, worldAfter, recoveredWorld}
+use Rattle.plainmap.specs.World.{calledChange, calledGet, called, playing, finished, worldAfter, recoveredWorld}
 use Rattle.examples.specs.Examples.{bit, answer, verdict, held, formatNumbers, ends, words, over, leftover, recoveredSet, afterCalls, callAnswers, liveCounts, blank, emptySet, lateSet, removal, removedSet, get7, examples, equal, agree}
 
 pub examples-hold : agree examples ≡ true
-unfolding word setWord say orElse unlessRefused anyOf tabulate greatest topmost count slotNumbers filter slotsOf lineTop paired slotTop verdictOf lineVerdict slotVerdict isValid keyFrom keyOf valueWord valueByte valueFront valueOf made contentBy contentOf content top topOf headerWord headerFault imageFault indexFault lentFault markFault kindFault wordFault tailFault faultOf recordFault zipped played wordNumbers values halfFault halvesFault playFault counted playResult marked bodyA bodyB run lineStores recordStores insert sorted isRecord keyIn weight nextVersion decider valueIn valueAt mapOf decidingPut live spare liveCount sharedVersion allLive rankOf ordered chainOf reuseOf setNext setStart setLast link firstOf lastOf after nextIn chained walk search chainFault takeFirst linkNew append putNew putHeld removeHeld roomFault versionFault reuseFault noState slotsFault recoverFault chainsOf placeOf recoveredIndex recoveredState recovered recoverResult formatFault formatted formatResult noStores unchanged changed putLentFault putLaterFault putFault putDone putResult heldFault removeLaterFault removeFault removeDone removeResult lengthFault getLaterFault getFault getDone getResult toPlay calledChange calledGet called playing finished worldAfter recoveredWorld bit answer verdict held formatNumbers ends words over leftover recoveredSet afterCalls callAnswers liveCounts blank emptySet lateSet removal removedSet get7 examples equal agree
+unfolding word setWord say orElse unlessRefused anyOf tabulate greatest topmost count slotNumbers filter slotsOf lineTop paired slotTop verdictOf lineVerdict slotVerdict isValid keyFrom keyOf valueWord valueByte valueFront valueOf made contentBy contentOf content top topOf headerWord headerFault imageFault indexFault lentFault markFault kindFault wordFault tailFault faultOf recordFault zipped played wordNumbers values halfFault halvesFault playFault counted playResult marked bodyA bodyB run lineStores recordStores insert sorted isRecord keyIn weight nextVersion decider valueIn valueAt mapOf decidingPut live spare liveCount sharedVersion allLive rankOf ordered chainOf reuseOf setNext setStart setLast link firstOf lastOf after nextIn chained walk search chainFault takeFirst linkNew append insertNew replaceHeld removeHeld keyFault isFound roomFault versionFault reuseFault noState slotsFault recoverFault chainsOf placeOf recoveredIndex recoveredState recovered recoverResult formatFault formatted formatResult unchanged changed writeLentFault writeLaterFault writeFault writeDone writeResult heldFault removeLaterFault removeFault removeDone removeResult lengthFault getLaterFault getFault getDone getResult calledChange calledGet called playing finished worldAfter recoveredWorld bit answer verdict held formatNumbers ends words over leftover recoveredSet afterCalls callAnswers liveCounts blank emptySet lateSet removal removedSet get7 examples equal agree
 examples-hold = refl

@@ -4,8 +4,9 @@ use Prim.Native.Nat.{ℕ, zero, suc, _^_, _≤_, _<_}
 use native.Mathlib.Omega.{arith}
 use lib.ListN.{length}
 use Rattle.words.specs.Word.{AreBytes, word, setWord}
-use Rattle.plainmap.specs.World.{put, toPlay, calledChange, calledGet, called, playing, finished, worldAfter, recoveredWorld}
-use Rattle.plainmap.specs.Claims.{Typed, put-typed, remove-typed, get-typed, slotsMap}
+use Rattle.plainmap.specs.World.{write, calledChange, calledGet, called, playing, finished, worldAfter, recoveredWorld}
+use Rattle.index.specs.declared.Mode.{Mode}
+use Rattle.plainmap.specs.Claims.{Typed, write-typed, remove-typed, get-typed, slotsMap}
 use Rattle.face.specs.Event.{CutFits, done-fits, struck-fits, FitsBy, stepBy, imageCut}
 use Rattle.cutrule.specs.Request.{TypedRequest}
 use Rattle.prelude.specs.Members.{All, none-left, one-more, slotNumbers}
@@ -29,11 +30,11 @@ use Rattle.table.specs.Table.{isRecord, keyIn, weight, nextVersion, decider, va
 use Rattle.table.specs.Order.{rankOf, ordered, chainOf, reuseOf}
 use Rattle.index.specs.Index.{start, ahead, setNext, setStart, setLast, link}
 use Rattle.index.specs.Chained.{firstOf, lastOf, after, nextIn, chained}
-use Rattle.index.specs.Change.{takeFirst, linkNew, append, putNew, putHeld, removeHeld, roomFault, reuseFault}
+use Rattle.index.specs.Change.{takeFirst, linkNew, append, insertNew, replaceHeld, removeHeld, keyFault, isFound, roomFault, reuseFault}
 use Rattle.index.specs.Walk.{walk, search, chainFault}
 use Rattle.recovery.specs.Recover.{slotsFault, recoverFault, chainsOf, placeOf, recoveredIndex, recoveredState, recovered, recoverResult, noState}
 use Rattle.calls.specs.Format.{formatted}
-use Rattle.calls.specs.Change.{noStores, unchanged, changed, putLentFault, putLaterFault, putFault, putDone, putResult, heldFault, removeLaterFault, removeFault, removeDone, removeResult}
+use Rattle.calls.specs.Change.{unchanged, changed, writeLentFault, writeLaterFault, writeFault, writeDone, writeResult, heldFault, removeLaterFault, removeFault, removeDone, removeResult}
 use Rattle.calls.specs.Get.{lengthFault, getLaterFault, getFault, getDone, getResult}
 use Rattle.examples.specs.Trial.{answers, outputs, small, oneHead, twoSlots, cutAt, fresh, session, asRequests, expected, expectedOutputs}
 use Rattle.prelude.proofs.Fills.{zeros}
@@ -41,7 +42,7 @@ use Rattle.prelude.proofs.Fills.{zeros}
 -- THE SESSION answers as document 01 says, with the outputs of its gets; recovery accepts its formatted image, which has two slots
 session-computed : (answers 1 fresh session ≡ expected) × (outputs 1 fresh session ≡ expectedOutputs)
     × (recoverFault 1 (formatted 1 384) (length oneHead) (length twoSlots) ≡ 0) × (slotsIn (formatted 1 384) ≡ 2)
-unfolding word setWord say orElse unlessRefused anyOf tabulate slotsOf lineTop paired slotTop verdictOf lineVerdict isValid keyFrom keyOf valueWord valueByte valueFront valueOf made contentBy contentOf content topOf headerWord headerFault imageFault indexFault lentFault markFault kindFault wordFault tailFault faultOf recordFault zipped played marked bodyA bodyB run lineStores recordStores halfFault halvesFault playFault counted playResult filter insert sorted isRecord keyIn weight greatest topmost count nextVersion decider valueIn valueAt mapOf decidingPut live spare liveCount sharedVersion allLive rankOf slotNumbers ordered chainOf reuseOf start ahead setNext setStart setLast link firstOf lastOf after nextIn chained takeFirst linkNew append putNew putHeld removeHeld roomFault versionFault reuseFault walk search chainFault slotsFault recoverFault chainsOf placeOf recoveredIndex recoveredState recovered recoverResult formatted noStores unchanged changed putLentFault putLaterFault putFault putDone putResult heldFault removeLaterFault removeFault removeDone removeResult lengthFault getLaterFault getFault getDone getResult toPlay calledChange calledGet called wordNumbers values playing finished noState worldAfter recoveredWorld imageCut stepBy answers outputs small oneHead twoSlots cutAt fresh session expected expectedOutputs
+unfolding word setWord say orElse unlessRefused anyOf tabulate slotsOf lineTop paired slotTop verdictOf lineVerdict isValid keyFrom keyOf valueWord valueByte valueFront valueOf made contentBy contentOf content topOf headerWord headerFault imageFault indexFault lentFault markFault kindFault wordFault tailFault faultOf recordFault zipped played marked bodyA bodyB run lineStores recordStores halfFault halvesFault playFault counted playResult filter insert sorted isRecord keyIn weight greatest topmost count nextVersion decider valueIn valueAt mapOf decidingPut live spare liveCount sharedVersion allLive rankOf slotNumbers ordered chainOf reuseOf start ahead setNext setStart setLast link firstOf lastOf after nextIn chained takeFirst linkNew append insertNew replaceHeld removeHeld keyFault isFound roomFault versionFault reuseFault walk search chainFault slotsFault recoverFault chainsOf placeOf recoveredIndex recoveredState recovered recoverResult formatted unchanged changed writeLentFault writeLaterFault writeFault writeDone writeResult heldFault removeLaterFault removeFault removeDone removeResult lengthFault getLaterFault getFault getDone getResult calledChange calledGet called wordNumbers values playing finished noState worldAfter recoveredWorld imageCut stepBy answers outputs small oneHead twoSlots cutAt fresh session expected expectedOutputs
 session-computed = (refl, refl, refl, refl)
 
 pub session-answers : answers 1 fresh session ≡ expected
@@ -64,8 +65,8 @@ small-bytes n h (suc k) = omega (arith, zeros 7 k)
 key-sized : (key : ℕ) → key < 256 → key < (2 ^ 64) ^ 1
 key-sized key h = omega arith
 
-sized : (key value : ℕ) → key < 256 → value < 256 → Typed 1 (put key (small value))
-sized key value k v = put-typed (key-sized key k) (small-bytes value v)
+sized : {mode : Mode} (key value : ℕ) → key < 256 → value < 256 → Typed 1 (write mode key (small value))
+sized key value k v = write-typed (key-sized key k) (small-bytes value v)
 
 cut-fits : (a b : ℕ) → a ≤ 8 → b ≤ 8 → CutFits 2 (cutAt a b)
 unfolding cutAt

@@ -17,7 +17,8 @@ use Rattle.stores.specs.Play.{values}
 use Rattle.stores.specs.Written.{recordStores}
 use Rattle.table.specs.Table.{nextVersion, liveCount, mapOf}
 use Rattle.calls.specs.Format.{FormatResult, formatResult}
-use Rattle.plainmap.specs.World.{World, Call, put, remove, get, called, playing, finished, recoveredWorld}
+use Rattle.index.specs.declared.Mode.the-variants.{Insert, Replace}
+use Rattle.plainmap.specs.World.{World, Call, write, remove, get, called, playing, finished, recoveredWorld}
 use Rattle.layout.specs.Size.{slotsIn}
 
 -- ---- results as numbers
@@ -102,7 +103,7 @@ lateSet = recoveredSet (playing blank (recordStores 1 (word blank) 1 7 1 [] (2 ^
 
 -- in an empty set, these calls put key 7 at version 2 and remove it at 4
 unfoldable pub removal : List Call
-removal = put 8 [] ∷ put 7 [] ∷ put 8 [] ∷ remove 7 ∷ []
+removal = write Insert 8 [] ∷ write Insert 7 [] ∷ write Replace 8 [] ∷ remove 7 ∷ []
 
 -- the set after them
 unfoldable pub removedSet : World
@@ -142,17 +143,17 @@ examples =
     -- E7: over E4's line: first 0, last 8
     ∷ row (ends (over 1 7)) (0 ∷ 8 ∷ [])
     -- E8: a value of 80 bytes is taken; 81 gives 10
-    ∷ row (callAnswers emptySet (put 7 (replicate 80 5) ∷ put 7 (replicate 81 5) ∷ [])) (0 ∷ 1 ∷ 1 ∷ 2 ∷ 10 ∷ [])
+    ∷ row (callAnswers emptySet (write Insert 7 (replicate 80 5) ∷ write Replace 7 (replicate 81 5) ∷ [])) (0 ∷ 1 ∷ 1 ∷ 2 ∷ 10 ∷ [])
     -- E9: N = 3, new key: taken at live count 1, 12 at 2
-    ∷ row (liveCounts (afterCalls emptySet (put 7 [] ∷ []))) (1 ∷ 1 ∷ [])
-    ∷ row (liveCounts (afterCalls emptySet (put 7 [] ∷ put 8 [] ∷ []))) (2 ∷ 2 ∷ [])
-    ∷ row (callAnswers emptySet (put 7 [] ∷ put 8 [] ∷ put 9 [] ∷ [])) (0 ∷ 1 ∷ 1 ∷ 0 ∷ 2 ∷ 2 ∷ 2 ∷ 12 ∷ [])
+    ∷ row (liveCounts (afterCalls emptySet (write Insert 7 [] ∷ []))) (1 ∷ 1 ∷ [])
+    ∷ row (liveCounts (afterCalls emptySet (write Insert 7 [] ∷ write Insert 8 [] ∷ []))) (2 ∷ 2 ∷ [])
+    ∷ row (callAnswers emptySet (write Insert 7 [] ∷ write Insert 8 [] ∷ write Insert 9 [] ∷ [])) (0 ∷ 1 ∷ 1 ∷ 0 ∷ 2 ∷ 2 ∷ 2 ∷ 12 ∷ [])
     -- E10: the only whole line above version 2 is version 3 in a broken slot: next is 4
     ∷ row (nextVersion (content 1 leftover) 3 ∷ []) (4 ∷ [])
     -- E11: version 2^63 − 1 is still written; the call after gives 9
-    ∷ row (verdict (slotVerdict (word (afterCalls lateSet (put 8 [] ∷ []) .image)) 2)) (0 ∷ (2 ^ 63 - 1) ∷ [])
-    ∷ row (callAnswers lateSet (put 8 [] ∷ put 7 [] ∷ [])) (0 ∷ 2 ∷ (2 ^ 63 - 1) ∷ 2 ∷ 9 ∷ [])
-    ∷ row (callAnswers lateSet (put 8 [] ∷ remove 7 ∷ [])) (0 ∷ 2 ∷ (2 ^ 63 - 1) ∷ 2 ∷ 9 ∷ [])
+    ∷ row (verdict (slotVerdict (word (afterCalls lateSet (write Insert 8 [] ∷ []) .image)) 2)) (0 ∷ (2 ^ 63 - 1) ∷ [])
+    ∷ row (callAnswers lateSet (write Insert 8 [] ∷ write Replace 7 [] ∷ [])) (0 ∷ 2 ∷ (2 ^ 63 - 1) ∷ 2 ∷ 9 ∷ [])
+    ∷ row (callAnswers lateSet (write Insert 8 [] ∷ remove 7 ∷ [])) (0 ∷ 2 ∷ (2 ^ 63 - 1) ∷ 2 ∷ 9 ∷ [])
     -- E12: key 7 put at version 2, removed at 4: absent, by the slots and by get, with the calls' index and with recovery's
     ∷ row (callAnswers emptySet removal) (0 ∷ 1 ∷ 1 ∷ 0 ∷ 2 ∷ 2 ∷ 0 ∷ 3 ∷ 3 ∷ 0 ∷ 1 ∷ 4 ∷ [])
     ∷ row (held (mapOf (tableOf 1 (removedSet .image)) 3 7)) (1 ∷ [])

@@ -4,7 +4,8 @@ use Prim.Native.Nat.{ℕ}
 use lib.ListN.{replicate}
 use Rattle.prelude.specs.Answer.{Answer, gives, absent, refused}
 use Rattle.calls.specs.Format.{formatted}
-use Rattle.plainmap.specs.World.{World, Call, put, remove, get, called, recoveredWorld}
+use Rattle.index.specs.declared.Mode.the-variants.{Insert, Replace}
+use Rattle.plainmap.specs.World.{World, Call, write, remove, get, called, recoveredWorld}
 use Rattle.cutrule.specs.Request.{Request, a-call}
 use Rattle.face.specs.Event.{Cut, Event, done, struck, requestOf, step}
 
@@ -41,8 +42,9 @@ fresh = recoveredWorld 1 (formatted 1 384) oneHead twoSlots
 -- "p 7 100 / p 8 5 / p 7 101 / c 8 3 / p 7 102 / g 7 / r 7 / g 7 / p 8 5"
 unfoldable pub session : List (Event Call)
 session =
-    done (put 7 (small 100)) ∷ done (put 8 (small 5)) ∷ done (put 7 (small 101)) ∷ struck (put 7 (small 102)) (cutAt 8 3)
-    ∷ done (get 7 (replicate 8 0)) ∷ done (remove 7) ∷ done (get 7 (replicate 8 0)) ∷ done (put 8 (small 5)) ∷ []
+    done (write Insert 7 (small 100)) ∷ done (write Insert 8 (small 5)) ∷ done (write Replace 7 (small 101))
+    ∷ struck (write Replace 7 (small 102)) (cutAt 8 3)
+    ∷ done (get 7 (replicate 8 0)) ∷ done (remove 7) ∷ done (get 7 (replicate 8 0)) ∷ done (write Insert 8 (small 5)) ∷ []
 
 -- the same as requests of the cut rule
 unfoldable pub asRequests : List (Event Call) → List (Event Request)

@@ -1,7 +1,7 @@
 -- What the exported book steps return and leave in the lent numbers, by the results that the steps promise. Document 02, A.1.
 use mathlib.Core.List.{List, _∷_}
 use Prim.Native.Nat.{ℕ}
-use Rattle.face.specs.Set.{Store}
+use Rattle.face.specs.Set.{Store, handedOut}
 use Rattle.book.specs.Steps.{BookAnswer, taken, already, declined, BookResult}
 use Rattle.book.specs.Plain.{refusalNumber}
 use Rattle.exports.specs.Call.{ChangeCall}
@@ -12,19 +12,13 @@ bookAnswered (taken values) lent = 1 ∷ values
 bookAnswered (already values) lent = 2 ∷ values
 bookAnswered (declined number) lent = lent
 
--- stores are handed out by a step that stores; the lent ones stay as they were in any other
-unfoldable pub bookHandedOut : BookAnswer → (stores lent : List Store) → List Store
-bookHandedOut (taken values) stores lent = stores
-bookHandedOut (already values) stores lent = lent
-bookHandedOut (declined number) stores lent = lent
-
 unfoldable pub bookCall : BookResult → (answer : List ℕ) → (stores : List Store) → ChangeCall
 bookCall r answer stores =
     record {
       returns = refusalNumber (r .answer);
       answer = bookAnswered (r .answer) answer;
       state = r .state;
-      stores = bookHandedOut (r .answer) (r .stores) stores;
+      stores = handedOut (r .stores) stores;
       heads = r .heads;
       next = r .next;
     }

@@ -3,7 +3,7 @@ use mathlib.Core.List.{List, _∷_}
 use Prim.Native.Nat.{ℕ}
 use lib.ListN.{replicate}
 use Rattle.prelude.specs.Answer.{Answer, gives, absent, refused, refusalIn}
-use Rattle.face.specs.Set.{Store, State, Result, stateValues, FormatResult, ChangeResult, GetResult}
+use Rattle.face.specs.Set.{Store, State, Result, stateValues, FormatResult, handedOut, ChangeResult, GetResult}
 
 -- the lent answer of n words: 1 and the values that the call gives, or zeros for absent. "A refused call changes no lent byte, index number or state"
 unfoldable pub answered : (n : ℕ) → Answer → (lent : List ℕ) → List ℕ
@@ -56,9 +56,9 @@ recoverCall r s =
       next = r .next;
     }
 
--- ---- put and remove
+-- ---- insert, replace and remove
 
--- what a call of put or remove returns, 0 or a refusal's number, and the lent answer, state, stores and index after it
+-- what a call that writes returns, 0 or a refusal's number, and the lent answer, state, stores and index after it
 pub record ChangeCall : Type 0 where
   pub returns : ℕ
   pub answer : List ℕ
@@ -67,25 +67,19 @@ pub record ChangeCall : Type 0 where
   pub heads : List ℕ
   pub next : List ℕ
 
--- what a call of put or remove with this code left
+-- what a call that writes left, with this code
 abbrev pub changeLeft : (code : ℕ) → (answer : List ℕ) → State → List Store → (heads next : List ℕ) → ChangeCall
 changeLeft code answer s stores heads next =
     record { returns = code; answer = answer; state = s; stores = stores; heads = heads; next = next }
 
--- stores are handed out by a call that stores; the lent ones stay as they were in any other
-unfoldable pub handedOut : Answer → (stores lent : List Store) → List Store
-handedOut (gives values) stores lent = stores
-handedOut absent stores lent = lent
-handedOut (refused number) stores lent = lent
-
--- the same, by the result of put or remove and the lent answer and stores
+-- the same, by the result of the call and the lent answer and stores
 unfoldable pub changeCall : ChangeResult → (answer : List ℕ) → (stores : List Store) → ChangeCall
 changeCall r answer stores =
     record {
       returns = refusalIn (r .answer);
       answer = answered 3 (r .answer) answer;
       state = r .state;
-      stores = handedOut (r .answer) (r .stores) stores;
+      stores = handedOut (r .stores) stores;
       heads = r .heads;
       next = r .next;
     }

@@ -9,7 +9,7 @@ use Rattle.layout.specs.Record.{Layout}
 use Rattle.layout.specs.Size.{slotsIn}
 use Rattle.stores.specs.Cut.{bothStand}
 use Rattle.plainmap.specs.World.{World, Call, finished, worldAfter, recoveredWorld}
-use Rattle.plainmap.specs.Plain.{PlainMap, operation}
+use Rattle.plainmap.specs.Plain.{PlainMap, updates}
 use Rattle.plainmap.specs.Accepted.{RightSize}
 use Rattle.plainmap.specs.Claims.{Typed, slotsMap}
 use Rattle.plainmap.specs.Sound.{Agrees}
@@ -32,7 +32,7 @@ module _ (l : ℕ) (lay : Layout l) (w : World) (m : PlainMap) (g : Agrees l w m
   unfolding imageCut plainEvent allStand
   struck-map call cut s c k =
       after call (cut .a) (cut .b) s (c .few-a) (c .few-b) .map k
-      ∙ ap₂ (λ (b : Bool) (x : PlainMap). plainEvent (bothStand (cut .a) (cut .b)) (operation call) b x k)
+      ∙ ap₂ (λ (b : Bool) (x : PlainMap). plainEvent (bothStand (cut .a) (cut .b)) (updates call) b x k)
       (right-refuses l w m call (agrees-right l lay w m g call s)) (fun-ext (g .map))
 
   -- the index lent to the recovery after a cut has the size for the image that the cut leaves

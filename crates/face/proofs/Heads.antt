@@ -12,15 +12,15 @@ use Rattle.index.specs.declared.Found.{Found}
 use Rattle.index.specs.declared.Found.the-variants.{At, Missing, BadChain}
 use Rattle.index.proofs.CallWrites.{new-heads, held-heads, remove-heads}
 use Rattle.recovery.specs.Recover.{Result, recoveredIndex, recovered, recoverResult}
-use Rattle.calls.specs.Change.{ChangeResult, changed, unchanged, putDone, putResult, removeDone, removeResult}
-use Rattle.plainmap.specs.World.{World, Call, put, remove, get, locate, calledChange, calledGet, calledLocate, called, worldAfter, recoveredWorld}
+use Rattle.calls.specs.Change.{ChangeResult, changed, unchanged, writeDone, writeResult, removeDone, removeResult}
+use Rattle.plainmap.specs.World.{World, Call, write, remove, get, locate, calledChange, calledGet, calledLocate, called, worldAfter, recoveredWorld}
 
 module _ (l : ℕ) (image heads next : List ℕ) (s : State) (key : ℕ) where
-  put-heads : (value : List ℕ) (found : Found) → length (putDone l image heads next s key value found .heads) ≡ length heads
-  unfolding putDone changed unchanged
-  put-heads value (At old prev compared) = held-heads (indexOf heads next s) (headOf key (length heads)) prev old
-  put-heads value (Missing prev compared) = new-heads (indexOf heads next s) (headOf key (length heads)) prev
-  put-heads value BadChain = refl
+  write-heads : (value : List ℕ) (found : Found) → length (writeDone l image heads next s key value found .heads) ≡ length heads
+  unfolding writeDone changed unchanged
+  write-heads value (At old prev compared) = held-heads (indexOf heads next s) (headOf key (length heads)) prev old
+  write-heads value (Missing prev compared) = new-heads (indexOf heads next s) (headOf key (length heads)) prev
+  write-heads value BadChain = refl
 
   removed-heads : (found : Found) → length (removeDone l image heads next s key found .heads) ≡ length heads
   unfolding removeDone changed unchanged
@@ -29,9 +29,9 @@ module _ (l : ℕ) (image heads next : List ℕ) (s : State) (key : ℕ) where
   removed-heads BadChain = refl
 
 pub called-heads : (l : ℕ) (w : World) (call : Call) → length (called l w call .heads) ≡ length (w .heads)
-unfolding called calledChange calledGet calledLocate putResult removeResult unchanged
-called-heads l w (put key value) =
-    by-refusal (λ (c : ChangeResult). length (c .heads) ≡ length (w .heads)) _ _ _ (put-heads l (w .image) (w .heads) (w .next) (w .state) key value _) refl
+unfolding called calledChange calledGet calledLocate writeResult removeResult unchanged
+called-heads l w (write mode key value) =
+    by-refusal (λ (c : ChangeResult). length (c .heads) ≡ length (w .heads)) _ _ _ (write-heads l (w .image) (w .heads) (w .next) (w .state) key value _) refl
 called-heads l w (remove key) =
     by-refusal (λ (c : ChangeResult). length (c .heads) ≡ length (w .heads)) _ _ _ (removed-heads l (w .image) (w .heads) (w .next) (w .state) key _) refl
 called-heads l w (get key out) = refl

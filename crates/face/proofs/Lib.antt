@@ -5,3 +5,4 @@ pub mod Stored
 pub mod SetLaws
 pub mod Numbers
 pub mod defs
+pub mod Located

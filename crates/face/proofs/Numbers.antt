@@ -17,16 +17,18 @@ use Rattle.prelude.proofs.Refusals.{say-false}
 use Rattle.layout.specs.Record.{limit}
 use Rattle.layout.specs.Line.{versionFault}
 use Rattle.layout.specs.Header.{headerFault, imageFault, indexFault, lentFault}
-use Rattle.index.specs.Walk.{chainFault}
-use Rattle.index.specs.Change.{roomFault, reuseFault}
+use Rattle.index.specs.Walk.{search, chainFault}
+use Rattle.index.specs.Change.{keyFault, isFound, roomFault, reuseFault}
+use Rattle.index.specs.declared.Mode.{Mode}
+use Rattle.index.specs.declared.Mode.the-variants.{Insert, Replace}
 use Rattle.index.specs.declared.State.{State}
 use Rattle.index.specs.declared.Found.{Found}
 use Rattle.index.specs.declared.Found.the-variants.{At, Missing, BadChain}
 use Rattle.recovery.specs.Recover.{Result, slotsFault, recovered, recoverFault, refusedResult, recoverResult}
 use Rattle.calls.specs.Format.{FormatResult, formatFault, formatResult}
-use Rattle.calls.specs.Change.{ChangeResult, unchanged, changed, putLentFault, putLaterFault, putFault, putDone, putResult, heldFault, removeLaterFault, removeFault, removeDone, removeResult}
+use Rattle.calls.specs.Change.{ChangeResult, unchanged, changed, writeLentFault, writeLaterFault, writeFault, writeDone, writeResult, heldFault, removeLaterFault, removeFault, removeDone, removeResult}
 use Rattle.calls.specs.Get.{GetResult, lengthFault, getLaterFault, getFault, getDone, getResult}
-use Rattle.face.specs.Numbers.{Numbered, formatRefusals, recoverRefusals, putRefusals, shortPutRefusals, removeRefusals, getRefusals, roomyGetRefusals, locateRefusals}
+use Rattle.face.specs.Numbers.{Numbered, AnswersAsAsked, formatRefusals, recoverRefusals, writeRefusals, askedRefusals, removeRefusals, getRefusals, roomyGetRefusals, locateRefusals}
 use Rattle.calls.specs.Locate.{locateFault, locateDone, locateResult}
 
 -- ---- rows of refusals
@@ -81,6 +83,34 @@ room-due ks twelve (At slot prev compared) n live = none-due ks
 room-due ks twelve (Missing prev compared) n live = say-due ks _ 12 0 (one-of 12 ks twelve) (none-due ks)
 room-due ks twelve BadChain n live = none-due ks
 
+-- the numbers by which the key and the room refuse
+abbrev Asks : Mode → List ℕ → Type 0
+Asks Insert ks = (isOne 20 ks ≡ true) × (isOne 12 ks ≡ true)
+Asks Replace ks = isOne 21 ks ≡ true
+
+-- a replace meets no 12: 21 comes before it
+key-due : (ks : List ℕ) (mode : Mode) → Asks mode ks → (found : Found) (n live later : ℕ) → Due ks later
+    → Due ks (orElse (keyFault mode (isFound found)) (orElse (roomFault found n live) later))
+unfolding keyFault isFound roomFault say orElse
+key-due ks Insert a found n live later d =
+    else-due ks _ _ (say-due ks (isFound found) 20 0 (one-of 20 ks (a .0)) (none-due ks)) (else-due ks _ _ (room-due ks (a .1) found n live) d)
+key-due ks Replace a (At slot prev compared) n live later d = d
+key-due ks Replace a (Missing prev compared) n live later d = inr (one-of 21 ks a)
+key-due ks Replace a BadChain n live later d = inr (one-of 21 ks a)
+
+-- the key as a mode asks for it: a replace then meets no 12 either
+abbrev AsAsked : Mode → List ℕ → Type 0
+AsAsked Insert ks = isOne 12 ks ≡ true
+AsAsked Replace ks = Unit
+
+asked-due : (ks : List ℕ) (mode : Mode) → AsAsked mode ks → (found : Found) (n live later : ℕ) → keyFault mode (isFound found) ≡ 0 → Due ks later
+    → Due ks (orElse (keyFault mode (isFound found)) (orElse (roomFault found n live) later))
+unfolding keyFault isFound roomFault say orElse
+asked-due ks Insert a found n live later z d = else-due ks _ _ (inl z) (else-due ks _ _ (room-due ks a found n live) d)
+asked-due ks Replace a (At slot prev compared) n live later z d = d
+asked-due ks Replace a (Missing prev compared) n live later z d = absurd (omega arith)
+asked-due ks Replace a BadChain n live later z d = absurd (omega arith)
+
 -- ---- what a call answers
 
 -- a call that is refused where its fault is not 0
@@ -107,34 +137,83 @@ recover-numbered l image heads next =
     (else-due recoverRefusals _ _ (lent-due recoverRefusals refl refl refl refl l image (length heads) (length next))
     (say-due recoverRefusals _ 5 _ (one-of 5 recoverRefusals refl) (say-due recoverRefusals _ 6 _ (one-of 6 recoverRefusals refl) (say-due recoverRefusals _ 7 _ (one-of 7 recoverRefusals refl) (say-due recoverRefusals _ 8 0 (one-of 8 recoverRefusals refl) (none-due recoverRefusals)))))) _ tt
 
+-- ---- what a locate or a get says of the key
+
+located-asked : (image : List ℕ) (k : ℕ) (found : Found) → AnswersAsAsked Insert (unlessRefused k (locateDone image found) (refused k))
+    → keyFault Insert (isFound found) ≡ 0
+unfolding unlessRefused locateDone keyFault isFound say
+located-asked image zero (At slot prev compared) e = absurd e
+located-asked image zero (Missing prev compared) e = refl
+located-asked image zero BadChain e = refl
+located-asked image (suc k) found e = absurd e
+
+got-asked : (l : ℕ) (image out : List ℕ) (k : ℕ) (found : Found)
+    → AnswersAsAsked Replace (unlessRefused k (getDone l image out found) (record { answer = refused k; out = out }) .answer)
+    → keyFault Replace (isFound found) ≡ 0
+unfolding unlessRefused getDone keyFault isFound say
+got-asked l image out zero (At slot prev compared) e = refl
+got-asked l image out zero (Missing prev compared) e = absurd e
+got-asked l image out zero BadChain e = absurd e
+got-asked l image out (suc k) found e = absurd e
+
 module _ (l : ℕ) (image heads next : List ℕ) (s : State) (key : ℕ) where
-  put-done : (ks : List ℕ) → isOne 11 ks ≡ true → (value : List ℕ) (found : Found) → Numbered ks (putDone l image heads next s key value found .answer)
-  unfolding putDone changed unchanged
-  put-done ks e value (At old prev compared) = tt
-  put-done ks e value (Missing prev compared) = tt
-  put-done ks e value BadChain = one-of 11 ks e
+  write-done : (ks : List ℕ) → isOne 11 ks ≡ true → (value : List ℕ) (found : Found) → Numbered ks (writeDone l image heads next s key value found .answer)
+  unfolding writeDone changed unchanged
+  write-done ks e value (At old prev compared) = tt
+  write-done ks e value (Missing prev compared) = tt
+  write-done ks e value BadChain = one-of 11 ks e
 
-  put-due : (ks : List ℕ) → isOne 1 ks ≡ true → isOne 2 ks ≡ true → isOne 3 ks ≡ true → isOne 4 ks ≡ true → isOne 11 ks ≡ true → isOne 12 ks ≡ true
-      → isOne 9 ks ≡ true → (size : ℕ) → Due ks (say (ltb (limit l) size) 10 0) → Due ks (putFault l image heads next s key size)
-  unfolding putFault putLentFault putLaterFault
-  put-due ks a b c d e f g size ten =
+  -- what the key and the room say is `asked`
+  write-due : (ks : List ℕ) → isOne 1 ks ≡ true → isOne 2 ks ≡ true → isOne 3 ks ≡ true → isOne 4 ks ≡ true → isOne 11 ks ≡ true
+      → isOne 9 ks ≡ true → (mode : Mode) (size : ℕ) → Due ks (say (ltb (limit l) size) 10 0)
+      → ((n later : ℕ) → Due ks later
+      → Due ks (orElse (keyFault mode (isFound (search l image heads next key))) (orElse (roomFault (search l image heads next key) n (s .live)) later)))
+      → Due ks (writeFault l image heads next s mode key size)
+  unfolding writeFault writeLentFault writeLaterFault
+  write-due ks a b c d e g mode size ten asked =
       else-due ks _ _ (else-due ks _ _ (lent-due ks a b c d l image (length heads) (length next)) ten)
-      (else-due ks _ _ (chain-due ks e _)
-      (else-due ks _ _ (room-due ks f _ _ _) (else-due ks _ _ (version-due ks g _) (reuse-due ks e _ _ _ _))))
+      (else-due ks _ _ (chain-due ks e _) (asked _ _ (else-due ks _ _ (version-due ks g _) (reuse-due ks e _ _ _ _))))
 
-  put-by : (ks : List ℕ) → isOne 11 ks ≡ true → (value : List ℕ) → Due ks (putFault l image heads next s key (length value))
-      → Numbered ks (putResult l image heads next s key value .answer)
-  unfolding putResult unchanged
-  put-by ks e value d =
-      numbered ks (λ (r : ChangeResult). r .answer) (λ fault. unchanged (refused fault) s heads next) (λ k. refl) _ d _ (put-done ks e value _)
+  write-by : (ks : List ℕ) → isOne 11 ks ≡ true → (mode : Mode) (value : List ℕ) → Due ks (writeFault l image heads next s mode key (length value))
+      → Numbered ks (writeResult l image heads next s mode key value .answer)
+  unfolding writeResult unchanged
+  write-by ks e mode value d =
+      numbered ks (λ (r : ChangeResult). r .answer) (λ fault. unchanged (refused fault) s heads next) (λ k. refl) _ d _ (write-done ks e value _)
 
-  -- PUT: 1, 2, 3, 4, 10, 11, 12, 9; without 10 where the value is short enough
-  pub put-numbered : (value : List ℕ) → Numbered putRefusals (putResult l image heads next s key value .answer)
-  put-numbered value = put-by putRefusals refl value (put-due putRefusals refl refl refl refl refl refl refl (length value) (say-due putRefusals _ 10 0 (one-of 10 putRefusals refl) (none-due putRefusals)))
+  -- INSERT AND REPLACE: 1, 2, 3, 4, 10, 11, 9, and 20, 12 or 21
+  pub write-numbered : (mode : Mode) (value : List ℕ) → Numbered (writeRefusals mode) (writeResult l image heads next s mode key value .answer)
+  write-numbered Insert value =
+      write-by (writeRefusals Insert) refl Insert value
+      (write-due (writeRefusals Insert) refl refl refl refl refl refl Insert (length value) (say-due (writeRefusals Insert) _ 10 0 (one-of 10 (writeRefusals Insert) refl) (none-due (writeRefusals Insert)))
+      (λ n. key-due (writeRefusals Insert) Insert (refl, refl) _ n _))
+  write-numbered Replace value =
+      write-by (writeRefusals Replace) refl Replace value
+      (write-due (writeRefusals Replace) refl refl refl refl refl refl Replace (length value) (say-due (writeRefusals Replace) _ 10 0 (one-of 10 (writeRefusals Replace) refl) (none-due (writeRefusals Replace)))
+      (λ n. key-due (writeRefusals Replace) Replace refl _ n _))
 
-  pub short-put-numbered : (value : List ℕ) → length value ≤ limit l → Numbered shortPutRefusals (putResult l image heads next s key value .answer)
-  short-put-numbered value h =
-      put-by shortPutRefusals refl value (put-due shortPutRefusals refl refl refl refl refl refl refl (length value) (inl (say-false _ 10 0 (le-ltb (limit l) (length value) h))))
+  -- without 10 where the value is short enough, and without 20 or 21 where the key is as the call asks
+  asked-by : (mode : Mode) (value : List ℕ) → length value ≤ limit l → keyFault mode (isFound (search l image heads next key)) ≡ 0
+      → Numbered (askedRefusals mode) (writeResult l image heads next s mode key value .answer)
+  asked-by Insert value h z =
+      write-by (askedRefusals Insert) refl Insert value
+      (write-due (askedRefusals Insert) refl refl refl refl refl refl Insert (length value) (inl (say-false _ 10 0 (le-ltb (limit l) (length value) h)))
+      (λ n later. asked-due (askedRefusals Insert) Insert refl _ n _ later z))
+  asked-by Replace value h z =
+      write-by (askedRefusals Replace) refl Replace value
+      (write-due (askedRefusals Replace) refl refl refl refl refl refl Replace (length value) (inl (say-false _ 10 0 (le-ltb (limit l) (length value) h)))
+      (λ n later. asked-due (askedRefusals Replace) Replace tt _ n _ later z))
+
+  -- by a locate that finds the key absent, for an insert, or by a get that finds it held, for a replace
+  pub locate-asked : (value : List ℕ) → length value ≤ limit l → AnswersAsAsked Insert (locateResult l image heads next key)
+      → Numbered (askedRefusals Insert) (writeResult l image heads next s Insert key value .answer)
+  unfolding locateResult
+  locate-asked value h e = asked-by Insert value h (located-asked image (locateFault l image heads next key) (search l image heads next key) e)
+
+  pub get-asked : (value out : List ℕ) → length value ≤ limit l → AnswersAsAsked Replace (getResult l image heads next key out .answer)
+      → Numbered (askedRefusals Replace) (writeResult l image heads next s Replace key value .answer)
+  unfolding getResult
+  get-asked value out h e =
+      asked-by Replace value h (got-asked l image out (getFault l image heads next key (length out)) (search l image heads next key) e)
 
   remove-done : (ks : List ℕ) → isOne 11 ks ≡ true → (found : Found) → Numbered ks (removeDone l image heads next s key found .answer)
   unfolding removeDone changed unchanged

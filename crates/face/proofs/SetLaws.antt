@@ -16,7 +16,7 @@ use Rattle.recovery.specs.Recover.{recoverFault}
 use Rattle.calls.specs.Change.{changed}
 use Rattle.calls.specs.Format.{formatted}
 use Rattle.calls.proofs.Formats.{formatted-length}
-use Rattle.plainmap.specs.World.{World, Call, Called, toPlay, calledChange, called, recoveredWorld}
+use Rattle.plainmap.specs.World.{World, Call, Called, calledChange, called, recoveredWorld}
 use Rattle.plainmap.specs.Plain.{PlainMap}
 use Rattle.plainmap.specs.Accepted.{Accepted, RightSize}
 use Rattle.plainmap.specs.Claims.{Typed, slotsMap}
@@ -29,7 +29,7 @@ use Rattle.plainmap.proofs.Playing.{record-passes, playing-none}
 use Rattle.face.specs.Laws.{Lengths, CallLaws, SetLaws}
 use Rattle.face.proofs.Images.{accepted-gives, passed-size, state-answered}
 use Rattle.face.proofs.Events.{event-agrees, event-slots}
-use Rattle.face.proofs.Stored.{few-given, some-stores}
+use Rattle.face.proofs.Stored.{few-given, hands-out, some-stores}
 use Rattle.face.proofs.Heads.{called-heads, recovered-heads}
 
 module _ (l : ℕ) (lay : Layout l) where
@@ -72,7 +72,7 @@ module _ (l : ℕ) (lay : Layout l) where
       -- PLAY of a call's stores, if it has any, refuses no counts up to 8
       the-plays : (called l w call .stores ≡ [] → ⊥) → (a b : ℕ) → a ≤ 8 → b ≤ 8
           → playFault (length (w .image)) (wordNumbers (called l w call .stores)) a b ≡ 0
-      unfolding calledChange changed toPlay
+      unfolding calledChange changed
       the-plays some a b p q = go stepped
         where
           go : Stepped l w call → playFault (length (w .image)) (wordNumbers (called l w call .stores)) a b ≡ 0
@@ -88,6 +88,7 @@ module _ (l : ℕ) (lay : Layout l) where
       record {
         answers-state = state-answered l;
         few-values = few-given l;
+        hands-out = λ w call writes given e lent. hands-out l w lent call writes given e;
         call-heads = called-heads l;
         recovery-heads = recovered-heads l;
         plays-nothing = playing-none;

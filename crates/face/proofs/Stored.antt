@@ -1,4 +1,4 @@
--- A call answers at most two values; a put or a remove that is neither refused nor absent has stores; a refused call changes nothing. Assumes nothing.
+-- A call answers at most two values, and hands out stores where it answers a slot; a call that writes and is neither refused nor absent has stores; a refused call changes nothing. Assumes nothing.
 use mathlib.Core.Path.{_≡_, refl, sym, ap, _∙_}
 use mathlib.Core.Bool.{true≢false}
 use mathlib.Core.List.{List, []}
@@ -14,16 +14,16 @@ use Rattle.stores.specs.Written.{run, lineStores, recordStores}
 use Rattle.index.specs.Index.{Chain}
 use Rattle.index.specs.declared.Found.{Found}
 use Rattle.index.specs.declared.Found.the-variants.{At, Missing, BadChain}
-use Rattle.calls.specs.Change.{ChangeResult, changed, unchanged, putDone, putResult, removeDone, removeResult}
+use Rattle.calls.specs.Change.{ChangeResult, handedOut, changed, unchanged, writeDone, writeResult, removeDone, removeResult}
 use Rattle.calls.specs.Get.{GetResult, getDone, getResult}
 use Rattle.calls.specs.Locate.{locateDone, locateResult}
-use Rattle.plainmap.specs.World.{World, Call, put, remove, get, locate, Called, toPlay, calledChange, calledGet, calledLocate, called}
+use Rattle.plainmap.specs.World.{World, Call, write, remove, get, locate, Called, calledChange, calledGet, calledLocate, called}
 use Rattle.plainmap.specs.Plain.{PlainMap}
-use Rattle.plainmap.specs.Claims.{Typed, put-typed, remove-typed, Untouched, Right}
+use Rattle.plainmap.specs.Claims.{Typed, write-typed, remove-typed, Untouched, Right}
 use Rattle.plainmap.proofs.Rights.{plain-given}
 use Rattle.plainmap.specs.Sound.{Sound}
-use Rattle.face.specs.Laws.{Writes, put-writes, remove-writes}
-use Rattle.plainmap.proofs.Outcomes.{Ran, ran-refused, ran-absent, ran-wrote, put-runs, remove-runs}
+use Rattle.face.specs.Laws.{Writes, write-writes, remove-writes}
+use Rattle.plainmap.proofs.Outcomes.{Ran, ran-refused, ran-absent, ran-wrote, write-runs, remove-runs}
 
 -- how many values an answer gives
 abbrev valueCount : Answer → ℕ
@@ -39,12 +39,12 @@ answerCase (refused number) = 2
 
 -- at most two values
 module _ (l : ℕ) (w : World) where
-  put-few : (key : ℕ) (value : List ℕ) (found : Found)
-      → valueCount (putDone l (w .image) (w .heads) (w .next) (w .state) key value found .answer) ≤ 2
-  unfolding putDone changed unchanged
-  put-few key value (At old prev compared) = omega arith
-  put-few key value (Missing prev compared) = omega arith
-  put-few key value BadChain = omega arith
+  write-few : (key : ℕ) (value : List ℕ) (found : Found)
+      → valueCount (writeDone l (w .image) (w .heads) (w .next) (w .state) key value found .answer) ≤ 2
+  unfolding writeDone changed unchanged
+  write-few key value (At old prev compared) = omega arith
+  write-few key value (Missing prev compared) = omega arith
+  write-few key value BadChain = omega arith
 
   remove-few : (key : ℕ) (found : Found) → valueCount (removeDone l (w .image) (w .heads) (w .next) (w .state) key found .answer) ≤ 2
   unfolding removeDone changed unchanged
@@ -65,8 +65,8 @@ module _ (l : ℕ) (w : World) where
   locate-few BadChain = omega arith
 
   called-few : (call : Call) → valueCount (called l w call .answer) ≤ 2
-  unfolding called calledChange calledGet calledLocate putResult removeResult getResult locateResult unchanged
-  called-few (put key value) = by-refusal (λ (c : ChangeResult). valueCount (c .answer) ≤ 2) _ _ _ (put-few key value _) (omega arith)
+  unfolding called calledChange calledGet calledLocate writeResult removeResult getResult locateResult unchanged
+  called-few (write mode key value) = by-refusal (λ (c : ChangeResult). valueCount (c .answer) ≤ 2) _ _ _ (write-few key value _) (omega arith)
   called-few (remove key) = by-refusal (λ (c : ChangeResult). valueCount (c .answer) ≤ 2) _ _ _ (remove-few key _) (omega arith)
   called-few (get key out) = by-refusal (λ (c : GetResult). valueCount (c .answer) ≤ 2) _ _ _ (get-few out _) (omega arith)
   called-few (locate key) = by-refusal (λ (a : Answer). valueCount a ≤ 2) _ _ _ (locate-few _) (omega arith)
@@ -74,12 +74,43 @@ module _ (l : ℕ) (w : World) where
   pub few-given : (call : Call) (given : List ℕ) → called l w call .answer ≡ gives given → length given ≤ 2
   few-given call given e = omega (arith, called-few call, ap valueCount e)
 
+-- what is handed out where a slot is answered
+module _ (l : ℕ) (w : World) (lent : List Store) where
+  HandsOut : ChangeResult → Type 0
+  HandsOut c = (given : List ℕ) → c .answer ≡ gives given → handedOut (c .stores) lent ≡ c .stores
+
+  none-out : (c : ChangeResult) → (answerCase (c .answer) ≡ 0 → ⊥) → HandsOut c
+  unfolding HandsOut
+  none-out c ne given e = absurd (ne (ap answerCase e))
+
+  refused-out : (number : ℕ) → HandsOut (unchanged (refused number) (w .state) (w .heads) (w .next))
+  unfolding unchanged
+  refused-out number = none-out (unchanged (refused number) (w .state) (w .heads) (w .next)) (λ z. omega arith)
+
+  write-out : (key : ℕ) (value : List ℕ) (found : Found) → HandsOut (writeDone l (w .image) (w .heads) (w .next) (w .state) key value found)
+  unfolding HandsOut writeDone changed unchanged handedOut recordStores lineStores run
+  write-out key value (At old prev compared) = λ given e. refl
+  write-out key value (Missing prev compared) = λ given e. refl
+  write-out key value BadChain = none-out (writeDone l (w .image) (w .heads) (w .next) (w .state) key value BadChain) (λ z. omega arith)
+
+  remove-out : (key : ℕ) (found : Found) → HandsOut (removeDone l (w .image) (w .heads) (w .next) (w .state) key found)
+  unfolding HandsOut removeDone changed unchanged handedOut recordStores lineStores run
+  remove-out key (At old prev compared) = λ given e. refl
+  remove-out key (Missing prev compared) = none-out (removeDone l (w .image) (w .heads) (w .next) (w .state) key (Missing prev compared)) (λ z. omega arith)
+  remove-out key BadChain = none-out (removeDone l (w .image) (w .heads) (w .next) (w .state) key BadChain) (λ z. omega arith)
+
+  pub hands-out : (call : Call) → Writes call → (given : List ℕ) → called l w call .answer ≡ gives given
+      → handedOut (called l w call .stores) lent ≡ called l w call .stores
+  unfolding HandsOut called calledChange writeResult removeResult
+  hands-out (write mode key value) write-writes = by-refusal HandsOut _ _ _ (write-out key value _) (refused-out _)
+  hands-out (remove key) remove-writes = by-refusal HandsOut _ _ _ (remove-out key _) (refused-out _)
+
 module _ (l : ℕ) (lay : Layout l) (w : World) (chains : Chain → List ℕ) (g : Sound l w chains) where
-  -- put and remove
+  -- a call that writes
   ran-stores : (call : Call) (key kind : ℕ) (value : List ℕ) (fault : ℕ) (r : ChangeResult) → called l w call ≡ calledChange r
       → Ran l w key kind value fault r → (given : List ℕ) → called l w call .answer ≡ gives given
       → called l w call .stores ≡ [] → ⊥
-  unfolding calledChange unchanged changed toPlay recordStores lineStores run
+  unfolding calledChange unchanged changed recordStores lineStores run
   ran-stores call key kind value fault r d (ran-refused nz q) given e z =
       omega (arith, ap answerCase (sym (ap (λ (c : Called). c .answer) (d ∙ ap calledChange q)) ∙ e))
   ran-stores call key kind value fault r d (ran-absent f k q u) given e z =
@@ -90,8 +121,8 @@ module _ (l : ℕ) (lay : Layout l) (w : World) (chains : Chain → List ℕ) (g
   pub some-stores : (call : Call) → Typed l call → Writes call → (given : List ℕ) → called l w call .answer ≡ gives given
       → called l w call .stores ≡ [] → ⊥
   unfolding called
-  some-stores (put key value) (put-typed k b) put-writes =
-      ran-stores (put key value) key 1 value _ _ refl (put-runs l lay w chains g key value k b)
+  some-stores (write mode key value) (write-typed k b) write-writes =
+      ran-stores (write mode key value) key 1 value _ _ refl (write-runs l lay w chains g mode key value k b)
   some-stores (remove key) (remove-typed k) remove-writes = ran-stores (remove key) key 2 [] _ _ refl (remove-runs l lay w chains g key k)
 
 -- a call that answers a refusal is one that the rules refuse

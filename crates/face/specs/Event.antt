@@ -10,7 +10,7 @@ use Rattle.stores.specs.Store.{Store}
 use Rattle.stores.specs.Cut.{bothStand}
 use Rattle.index.specs.declared.State.{State}
 use Rattle.plainmap.specs.World.{World, Call, Called, called, playing, recoveredWorld}
-use Rattle.plainmap.specs.Plain.{PlainMap, Operation, operation, plainStep}
+use Rattle.plainmap.specs.Plain.{PlainMap, Update, updates, plainStep}
 use Rattle.prelude.specs.Answer.{refuses}
 use Rattle.plainmap.specs.Claims.{Typed, dueFault}
 
@@ -62,8 +62,8 @@ module _ {A : Type 0} where
   allStand (struck request cut) = bothStand (cut .a) (cut .b)
 
 -- "A struck put or remove that was not refused takes its step, wholly done, if all its stores stand; else it is wholly absent and changes nothing"
-unfoldable pub plainEvent : (stand : Bool) → Operation → (isRefused : Bool) → PlainMap → PlainMap
-plainEvent stand op isRefused m = cond stand (plainStep op isRefused m) m
+unfoldable pub plainEvent : (stand : Bool) → List Update → (isRefused : Bool) → PlainMap → PlainMap
+plainEvent stand us isRefused m = cond stand (plainStep us isRefused m) m
 
 -- a line has eight stores; "That index has the right size when 4 is not due; B may be another": a cut in an image of n slots
 pub record CutFits (n : ℕ) (cut : Cut) : Type 0 where
@@ -84,10 +84,10 @@ leaving r = record { stores = r .stores; heads = r .heads; next = r .next; state
 abbrev pub step : (l : ℕ) → World → Event Call → World
 step l w event = stepBy l (λ v call. leaving (called l v call)) w event
 
--- the plain map after an event in world w: it is told whether all stores stand, the operation, and whether the rules refuse the call
+-- the plain map after an event in world w: it is told whether all stores stand, the updates, and whether the rules refuse the call
 abbrev pub mapAfterEvent : (l : ℕ) → World → PlainMap → Event Call → PlainMap
 mapAfterEvent l w m event =
-    plainEvent (allStand event) (operation (requestOf event)) (refuses (dueFault l w m (requestOf event))) m
+    plainEvent (allStand event) (updates (requestOf event)) (refuses (dueFault l w m (requestOf event))) m
 
 abbrev pub Fits : (l n : ℕ) → Event Call → Type 0
 Fits l n event = FitsBy (Typed l) n event

@@ -9,17 +9,20 @@ use Rattle.layout.specs.Size.{slotsOf, slotsIn}
 use Rattle.layout.specs.Header.{indexFault}
 use Rattle.stores.specs.Play.{playEnd, wordNumbers, values, playFault, playListResult}
 use Rattle.recovery.specs.Recover.{stateValues, recoverFault, recoverResult}
+use Rattle.stores.specs.Store.{Store}
+use Rattle.calls.specs.Change.{handedOut}
 use Rattle.calls.specs.Format.{formatted}
-use Rattle.plainmap.specs.World.{World, Call, put, remove, called, playing, finished, recoveredWorld}
+use Rattle.plainmap.specs.World.{World, Call, write, remove, called, playing, finished, recoveredWorld}
+use Rattle.index.specs.declared.Mode.{Mode}
 use Rattle.plainmap.specs.Plain.{PlainMap}
 use Rattle.plainmap.specs.Accepted.{RightSize}
 use Rattle.plainmap.specs.Claims.{Typed, slotsMap, Right, Reads}
 use Rattle.face.specs.Event.{Event, step, mapAfterEvent, Fits}
 use Rattle.face.specs.Recovers.{Recovers}
 
--- a put or a remove
+-- an insert, a replace or a remove
 pub data Writes : Call → Type 0 where
-  put-writes : {key : ℕ} {value : List ℕ} → Writes (put key value)
+  write-writes : {mode : Mode} {key : ℕ} {value : List ℕ} → Writes (write mode key value)
   remove-writes : {key : ℕ} → Writes (remove key)
 
 -- the lengths of a set's image and index
@@ -35,6 +38,9 @@ pub record CallLaws (l : ℕ) : Type 0 where
       → recoverResult l image heads next .answer ≡ gives (stateValues (recoverResult l image heads next .state))
   -- a call answers at most two values
   pub few-values : (w : World) (call : Call) (given : List ℕ) → called l w call .answer ≡ gives given → length given ≤ 2
+  -- a call that writes and answers a slot hands out stores, which take the place of those lent to it
+  pub hands-out : (w : World) (call : Call) → Writes call → (given : List ℕ) → called l w call .answer ≡ gives given
+      → (lent : List Store) → handedOut (called l w call .stores) lent ≡ called l w call .stores
   -- a call and recovery leave as many heads as they were lent
   pub call-heads : (w : World) (call : Call) → length (called l w call .heads) ≡ length (w .heads)
   pub recovery-heads : (image heads next : List ℕ) → length (recoveredWorld l image heads next .heads) ≡ length heads
@@ -66,7 +72,7 @@ pub record SetLaws (l : ℕ) (Inv : World → PlainMap → Type 0) : Type 0 wher
   pub lengths : (w : World) (m : PlainMap) → Inv w m → Lengths w
   -- every call is refused exactly where the rules refuse it, and otherwise answers as the plain map does
   pub answers : (w : World) (m : PlainMap) → Inv w m → (call : Call) → Typed l call → Right l w m call
-  -- a put or a remove that is neither refused nor absent has stores
+  -- a call that writes and is neither refused nor absent has stores
   pub some-stores : (w : World) (m : PlainMap) → Inv w m → (call : Call) → Typed l call → Writes call → (given : List ℕ)
       → called l w call .answer ≡ gives given → called l w call .stores ≡ [] → ⊥
   -- play takes the stores of a call, if it has any, with any counts up to 8, and all of them as a list

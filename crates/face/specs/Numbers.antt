@@ -2,6 +2,8 @@
 use mathlib.Core.List.{List, [], _∷_}
 use Prim.Native.Nat.{ℕ}
 use Rattle.prelude.specs.Members.{In}
+use Rattle.index.specs.declared.Mode.{Mode}
+use Rattle.index.specs.declared.Mode.the-variants.{Insert, Replace}
 use Rattle.prelude.specs.Answer.{Answer, gives, absent, refused}
 
 -- a refusal's number is one of these
@@ -9,6 +11,15 @@ abbrev pub Numbered : List ℕ → Answer → Type 0
 Numbered ks (gives values) = Unit
 Numbered ks absent = Unit
 Numbered ks (refused number) = In number ks
+
+-- the key is as a mode asks, by the answer of a locate or of a get: absent for an insert, held for a replace
+abbrev pub AnswersAsAsked : Mode → Answer → Type 0
+AnswersAsAsked Insert (gives values) = ⊥
+AnswersAsAsked Insert absent = Unit
+AnswersAsAsked Insert (refused number) = ⊥
+AnswersAsAsked Replace (gives values) = Unit
+AnswersAsAsked Replace absent = ⊥
+AnswersAsAsked Replace (refused number) = ⊥
 
 -- format
 abbrev pub formatRefusals : List ℕ
@@ -18,13 +29,15 @@ formatRefusals = 1 ∷ []
 abbrev pub recoverRefusals : List ℕ
 recoverRefusals = 1 ∷ 2 ∷ 3 ∷ 4 ∷ 5 ∷ 6 ∷ 7 ∷ 8 ∷ []
 
--- put
-abbrev pub putRefusals : List ℕ
-putRefusals = 1 ∷ 2 ∷ 3 ∷ 4 ∷ 10 ∷ 11 ∷ 12 ∷ 9 ∷ []
+-- insert and replace: a replace is never refused for room
+abbrev pub writeRefusals : Mode → List ℕ
+writeRefusals Insert = 1 ∷ 2 ∷ 3 ∷ 4 ∷ 10 ∷ 11 ∷ 20 ∷ 12 ∷ 9 ∷ []
+writeRefusals Replace = 1 ∷ 2 ∷ 3 ∷ 4 ∷ 10 ∷ 11 ∷ 21 ∷ 9 ∷ []
 
--- put, where the value is short enough
-abbrev pub shortPutRefusals : List ℕ
-shortPutRefusals = 1 ∷ 2 ∷ 3 ∷ 4 ∷ 11 ∷ 12 ∷ 9 ∷ []
+-- the same, where the value is short enough and the key is as the call asks
+abbrev pub askedRefusals : Mode → List ℕ
+askedRefusals Insert = 1 ∷ 2 ∷ 3 ∷ 4 ∷ 11 ∷ 12 ∷ 9 ∷ []
+askedRefusals Replace = 1 ∷ 2 ∷ 3 ∷ 4 ∷ 11 ∷ 9 ∷ []
 
 -- remove
 abbrev pub removeRefusals : List ℕ

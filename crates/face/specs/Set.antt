@@ -24,20 +24,23 @@ unfoldable pub use Rattle.recovery.specs.Recover.{recoverSays, noState, recover
 pub use Rattle.calls.specs.Format.{FormatResult}
 pub use Rattle.calls.specs.Format.{formatted}
 unfoldable pub use Rattle.calls.specs.Format.{formatSays, formatFault, formatResult}
+pub use Rattle.calls.specs.declared.Change.{Change}
 pub use Rattle.calls.specs.Change.{ChangeResult, changeEnd}
-pub use Rattle.calls.specs.Change.{putResult, removeResult}
-unfoldable pub use Rattle.calls.specs.Change.{changeSays, noStores}
+pub use Rattle.index.specs.declared.Mode.{Mode}
+pub use Rattle.index.specs.declared.Mode.the-variants.{Insert, Replace}
+pub use Rattle.calls.specs.Change.{writeResult, removeResult}
+unfoldable pub use Rattle.calls.specs.Change.{changeSays, handedOut, leftIn}
 pub use Rattle.calls.specs.Get.{GetResult}
 pub use Rattle.calls.specs.Get.{getResult}
 unfoldable pub use Rattle.calls.specs.Get.{getSays}
 pub use Rattle.calls.specs.Locate.{locateResult}
 unfoldable pub use Rattle.calls.specs.Locate.{locateSays}
 -- the world between calls, and the plain map
-pub use Rattle.plainmap.specs.World.{World, Call, put, remove, get, locate, Called}
+pub use Rattle.plainmap.specs.World.{World, Call, write, remove, get, locate, Called}
 pub use Rattle.plainmap.specs.World.{outOf}
-unfoldable pub use Rattle.plainmap.specs.World.{toPlay, calledChange, calledGet, calledLocate, called, playing, finished, worldAfter, recoveredWorld}
-pub use Rattle.plainmap.specs.Plain.{PlainMap, Operation, putting, removing, reading}
+unfoldable pub use Rattle.plainmap.specs.World.{calledChange, calledGet, calledLocate, called, playing, finished, worldAfter, recoveredWorld}
+pub use Rattle.plainmap.specs.Plain.{PlainMap, Update, giving, dropping}
 pub use Rattle.plainmap.specs.Plain.{sizeOf, plainOut}
-unfoldable pub use Rattle.plainmap.specs.Plain.{operation, plainNext, plainStep, ruleFault, lengthAnswer, filled, plainAnswer}
+unfoldable pub use Rattle.plainmap.specs.Plain.{updates, updated, plainNext, plainStep, ruleFault, lengthAnswer, filled, plainAnswer}
 pub use Rattle.plainmap.specs.Accepted.{RightSize}
-pub use Rattle.plainmap.specs.Claims.{Typed, put-typed, remove-typed, get-typed, locate-typed, slotsMap, dueFault, dueAnswer, Untouched, Right, Reads}
+pub use Rattle.plainmap.specs.Claims.{Typed, write-typed, remove-typed, get-typed, locate-typed, slotsMap, dueFault, dueAnswer, Untouched, Right, Reads}

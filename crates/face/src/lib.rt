@@ -4,6 +4,6 @@ pub use calls::Formatted;
 pub use calls::Got;
 pub use calls::Located;
 pub use calls::Outcome;
+pub use index::Mode;
 pub use index::State;
 pub use recovery::Recovered;
-pub use stores::Stores;

@@ -3,11 +3,13 @@ ghost use mathlib.Core.Path.{_≡_};
 ghost use Rattle.layout.specs.Record.{Layout};
 ghost use Rattle.layout.specs.inner.Key.{keyWith};
 ghost use Rattle.calls.specs.Get.{getEnd, lengthFault, getLaterFault, getResult};
-ghost use Rattle.calls.specs.inner.Lookup.{lookupBy, FoundInside, GetLookup};
+ghost use Rattle.calls.specs.inner.Lookup.{FoundInside, GetLookup};
 use calls::Got;
-use calls::Lookup;
 use index::Found;
+use index::Lookup;
+use index::Place;
 use index_code::search::find;
+use index_code::search::looked_up;
 use layout_code::fields::copy_value;
 use layout_code::fields::slot_length;
 use layout_code::fields::value_limit;
@@ -28,35 +30,22 @@ fn length_fault(l: usize, n: usize, size: usize) -> u32
     0
 }
 
-// The lookup of a get by what the key's chain has: 11 (chain), 6 or 13, the key's slot, or that no slot has the key.
-fn get_found(image: &[u8], l: usize, size: usize, found: Found) -> Lookup
+// 11 (chain), 6 or 13 by what the key's chain has, else 0.
+fn get_later_fault(image: &[u8], l: usize, size: usize, found: Found) -> u32
     requires { ⌜ Layout l × FoundInside l (now image) found ⌝ }
-    ensures { λ r. ⌜ r ≡ lookupBy (getLaterFault l (now (image .entry)) size found) found ⌝ }
+    ensures { λ r. ⌜ r ≡ getLaterFault l (now (image .entry)) size found ⌝ }
 {
     match found {
         Found::At {
             slot,
-            prev,
-            compared,
-        } => {
-            let fault = length_fault(l, slot_length(image, l, slot as usize), size);
-            if fault != 0 {
-                return Lookup::Refused {
-                    number: fault,
-                    compared,
-                };
-            }
-            Lookup::Held {
-                slot,
-                prev,
-                compared,
-            }
-        }
-        Found::Missing { prev, compared } => Lookup::NotHeld { prev, compared },
-        Found::BadChain => Lookup::Refused {
-            number: 11,
-            compared: 0,
-        },
+            prev: _,
+            compared: _,
+        } => length_fault(l, slot_length(image, l, slot as usize), size),
+        Found::Missing {
+            prev: _,
+            compared: _,
+        } => 0,
+        Found::BadChain => 11,
     }
 }
 
@@ -81,7 +70,8 @@ fn get_lookup(
         };
     }
     let found = find(image, l, heads, next, slot_count(image.len()), low, high);
-    get_found(image, l, size, found)
+    let fault = get_later_fault(image, l, size, found);
+    looked_up(fault, found)
 }
 
 // Get, in layout l.
@@ -103,19 +93,14 @@ fn get_in(
             number,
             compared: _,
         } => Got::Refused(number),
-        Lookup::Held {
-            slot,
-            prev: _,
-            compared: _,
-        } => {
-            let n = slot_length(image, l, slot as usize);
-            copy_value(image, l, slot as usize, out, n);
-            Got::Length(n)
-        }
-        Lookup::NotHeld {
-            prev: _,
-            compared: _,
-        } => Got::Absent,
+        Lookup::Open { place, compared: _ } => match place {
+            Place::NotHeld { prev: _ } => Got::Absent,
+            Place::Held { slot, prev: _ } => {
+                let n = slot_length(image, l, slot as usize);
+                copy_value(image, l, slot as usize, out, n);
+                Got::Length(n)
+            }
+        },
     }
 }
 

@@ -9,7 +9,7 @@ use lib.Dec.{eqb}
 use lib.ListN.{length, getD}
 use borrow.Author.Tests.{eq-eqb, ne-eqb}
 use Rattle.index.specs.Index.{Chain, reuse, head, Index, start, ahead, setNext, setStart, setLast, link}
-use Rattle.index.specs.Change.{takeFirst, append, linkNew, putNew, putHeld, removeHeld}
+use Rattle.index.specs.Change.{takeFirst, append, linkNew, insertNew, replaceHeld, removeHeld}
 use Rattle.prelude.specs.Members.{In}
 use Rattle.index.specs.Linked.{Run, endOf, Owner, free, of, Entry, Disjoint, WellFormed}
 use Rattle.index.proofs.defs.Linked.{give, withChain, Room}
@@ -158,20 +158,20 @@ pub append-heads : (i : Index) (s : ℕ) → length (append i s .heads) ≡ leng
 unfolding append setLast
 append-heads i s = link-heads _ _ _ _ ∙ set-heads _ _ _
 
-pub new-next : (i : Index) (h prev : ℕ) → length (putNew i h prev .next) ≡ length (i .next)
-unfolding putNew
+pub new-next : (i : Index) (h prev : ℕ) → length (insertNew i h prev .next) ≡ length (i .next)
+unfolding insertNew
 new-next i h prev = simp (linkNew-next, take-next)
 
-pub new-heads : (i : Index) (h prev : ℕ) → length (putNew i h prev .heads) ≡ length (i .heads)
-unfolding putNew
+pub new-heads : (i : Index) (h prev : ℕ) → length (insertNew i h prev .heads) ≡ length (i .heads)
+unfolding insertNew
 new-heads i h prev = simp (linkNew-heads, take-heads)
 
-pub held-next : (i : Index) (h prev old : ℕ) → length (putHeld i h prev old .next) ≡ length (i .next)
-unfolding putHeld linkNew
+pub held-next : (i : Index) (h prev old : ℕ) → length (replaceHeld i h prev old .next) ≡ length (i .next)
+unfolding replaceHeld linkNew
 held-next i h prev old = simp (append-next, link-size, set-size, take-next)
 
-pub held-heads : (i : Index) (h prev old : ℕ) → length (putHeld i h prev old .heads) ≡ length (i .heads)
-unfolding putHeld linkNew
+pub held-heads : (i : Index) (h prev old : ℕ) → length (replaceHeld i h prev old .heads) ≡ length (i .heads)
+unfolding replaceHeld linkNew
 held-heads i h prev old = simp (append-heads, link-heads, set-heads, take-heads)
 
 pub remove-next : (i : Index) (h prev old : ℕ) → length (removeHeld i h prev old .next) ≡ length (i .next)
@@ -197,10 +197,10 @@ module _
   kept : withChain chains reuse rest (head h) ≡ chains (head h)
   kept = with-other chains reuse rest (head h) (λ d. reuse-apart h (sym d))
 
-  -- a put of a new key
+  -- an insert
   pub formed-new : h < length (i .heads) → prev ≡ endOf 0 (chains (head h))
-      → WellFormed (putNew i h prev) (give owner f (of (head h))) (withChain (withChain chains reuse rest) (head h) (chains (head h) ++ f ∷ []))
-  unfolding putNew
+      → WellFormed (insertNew i h prev) (give owner f (of (head h))) (withChain (withChain chains reuse rest) (head h) (chains (head h) ++ f ∷ []))
+  unfolding insertNew
   formed-new a p =
       formed-at _ _ _ _ (ap (λ (x : ℕ). linkNew (takeFirst i) (head h) prev x 0) (sym (first-is _ _ _ _ _ (g .disjoint) e)))
       (formed-alike (linkNew (takeFirst i) (head h) prev f 0) _ _ _ _ (give-twice owner f free (of (head h)))
@@ -218,10 +218,10 @@ module _
         (sym (owner-of _ _ _ reuse [] f rest (g .disjoint) e) ∙ ap owner (sym n) ∙ owner-of _ _ _ (head h) xs old ys
         (g .disjoint) d))
 
-    -- a put of a held key
-    pub formed-held : WellFormed (putHeld i h prev old) (give (give owner f (of (head h))) old (of reuse))
+    -- a replace
+    pub formed-held : WellFormed (replaceHeld i h prev old) (give (give owner f (of (head h))) old (of reuse))
         (withChain (withChain chains reuse (rest ++ old ∷ [])) (head h) (xs ++ f ∷ ys))
-    unfolding putHeld
+    unfolding replaceHeld
     formed-held =
         let j = takeFirst i in
         let o = give (give (give owner f free) old free) f (of (head h)) in

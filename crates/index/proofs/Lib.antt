@@ -1,5 +1,6 @@
 pub mod Walks
 pub mod Faults
+pub mod LookedUp
 pub mod Writes
 pub mod Owners
 pub mod Heads

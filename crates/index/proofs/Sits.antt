@@ -10,7 +10,7 @@ use lib.Dec.{eqb}
 use lib.ListN.{length, getD}
 use borrow.Author.Tests.{eq-eqb, ne-eqb, lt-ltb, le-ltb}
 use Rattle.index.specs.Index.{Chain, reuse, head, Index, ahead}
-use Rattle.index.specs.Change.{putNew, putHeld, removeHeld}
+use Rattle.index.specs.Change.{insertNew, replaceHeld, removeHeld}
 use Rattle.index.specs.inner.Build.{build}
 use Rattle.prelude.specs.Members.{In, Once}
 use Rattle.index.specs.Linked.{Run, endOf, Owner, free, of, WellFormed, placed, Sits}
@@ -141,10 +141,10 @@ module _ (n b : ℕ) (place : ℕ → Chain) (i : Index) (chains : Chain → Lis
 
     pub sits-new : h < b → prev ≡ endOf 0 (chains (head h)) → place′ f ≡ head h
         → ((x : ℕ) → 0 < x → x ≤ n → (x ≡ f → ⊥) → place′ x ≡ place x)
-        → Sits n b place′ (putNew i h prev) (withChain (withChain chains reuse rest) (head h) (chains (head h) ++ f ∷ []))
+        → Sits n b place′ (insertNew i h prev) (withChain (withChain chains reuse rest) (head h) (chains (head h) ++ f ∷ []))
     sits-new l p q o = record {
       formed =
-          formed-alike (putNew i h prev) _ _ _ _ (ap (λ (c : Chain). give (placed n place) f (of c)) (sym q)
+          formed-alike (insertNew i h prev) _ _ _ _ (ap (λ (c : Chain). give (placed n place) f (of c)) (sym q)
           ∙ placed-move n place place′ f (first-in .0) (first-in .1) o) refl
           (formed-new _ _ _ h prev f rest (g .formed) e (rw (g .heads-size) l) p);
       next-size = new-next _ _ _ ∙ g .next-size;
@@ -156,10 +156,10 @@ module _ (n b : ℕ) (place : ℕ → Chain) (i : Index) (chains : Chain → Lis
       old-in = placed-of n place old (head h) (owner-of _ _ _ (head h) xs old ys (g .formed .disjoint) d)
 
       pub sits-held : place′ f ≡ head h → place′ old ≡ reuse → ((x : ℕ) → 0 < x → x ≤ n → (x ≡ f → ⊥) → (x ≡ old → ⊥) → place′ x ≡ place x)
-          → Sits n b place′ (putHeld i h prev old) (withChain (withChain chains reuse (rest ++ old ∷ [])) (head h) (xs ++ f ∷ ys))
+          → Sits n b place′ (replaceHeld i h prev old) (withChain (withChain chains reuse (rest ++ old ∷ [])) (head h) (xs ++ f ∷ ys))
       sits-held q r o = record {
         formed =
-            formed-alike (putHeld i h prev old) _ _ _ _
+            formed-alike (replaceHeld i h prev old) _ _ _ _
             (placed-two n place place′ f old h (first-in .0) (first-in .1) (old-in .0) (old-in .1) q r o) refl
             (formed-held _ _ _ h prev f rest (g .formed) e xs old ys d p);
         next-size = held-next _ _ _ _ ∙ g .next-size;

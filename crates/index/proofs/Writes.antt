@@ -8,7 +8,7 @@ use native.Mathlib.Omega.{arith}
 use lib.ListN.{length, getD, set}
 use borrow.Author.Tests.{eq-eqb, ne-eqb}
 use Rattle.index.specs.Index.{Index, reuse, head, indexOf, setNext, setStart, setLast, link}
-use Rattle.index.specs.Change.{takeFirst, append, linkNew, putNew, putHeld, removeHeld}
+use Rattle.index.specs.Change.{takeFirst, append, linkNew, insertNew, replaceHeld, removeHeld}
 use Rattle.index.specs.inner.Parts.{PartsOf, linkHeads, linkNext, takeState, appendNext, appendState}
 use Rattle.index.specs.declared.State.{State}
 
@@ -72,12 +72,12 @@ module _ (heads next : List ℕ) (s rest : State) (h prev : ℕ) (er : rest ≡ 
   took : takeFirst (indexOf heads next s) ≡ indexOf heads next rest
   took = index-take heads next s ∙ ap (indexOf heads next) (sym er)
 
-  pub put-new : (heads′ next′ : List ℕ) → heads′ ≡ linkHeads heads h prev (s .first)
+  pub insert-new : (heads′ next′ : List ℕ) → heads′ ≡ linkHeads heads h prev (s .first)
       → next′ ≡ linkNext (set next (s .first) 0) prev (s .first)
       → PartsOf heads′ next′ (record { first = rest .first; last = rest .last; live = rest .live + 1; version = rest .version + 1 })
-      (putNew (indexOf heads next s) h prev) (s .live + 1) (s .version + 1)
-  unfolding putNew linkNew setNext
-  put-new heads′ next′ eh en =
+      (insertNew (indexOf heads next s) h prev) (s .live + 1) (s .version + 1)
+  unfolding insertNew linkNew setNext
+  insert-new heads′ next′ eh en =
       record {
         index =
             sym
@@ -90,12 +90,12 @@ module _ (heads next : List ℕ) (s rest : State) (h prev : ℕ) (er : rest ≡ 
   module _
       (old : ℕ) (heads′ next₁ next₂ : List ℕ) (back : State) (eb : back ≡ appendState rest old)
       (en : next₂ ≡ appendNext next₁ rest old) where
-    pub put-held : heads′ ≡ linkHeads heads h prev (s .first)
+    pub replace-held : heads′ ≡ linkHeads heads h prev (s .first)
         → next₁ ≡ linkNext (set next (s .first) (getD next old 0)) prev (s .first)
         → PartsOf heads′ next₂ (record { first = back .first; last = back .last; live = back .live; version = back .version + 1 })
-        (putHeld (indexOf heads next s) h prev old) (s .live) (s .version + 1)
-    unfolding putHeld linkNew setNext
-    put-held eh e₁ =
+        (replaceHeld (indexOf heads next s) h prev old) (s .live) (s .version + 1)
+    unfolding replaceHeld linkNew setNext
+    replace-held eh e₁ =
         record {
           index =
               sym

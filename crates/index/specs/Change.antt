@@ -1,11 +1,13 @@
 -- What the calls write to the index, and the refusals that go by it. Document 01, "The index": "The index is written in this order."
-use mathlib.Core.Bool.{cond}
+use mathlib.Core.Bool.{Bool, true, false, cond, not}
 use mathlib.Core.List.{List}
 use Prim.Native.Nat.{ℕ, _+_}
 use lib.Dec.{eqb, ltb, leb}
 use lib.ListN.{getD}
 use Rattle.prelude.specs.Refusal.{say}
 use Rattle.index.specs.Index.{Index, Chain, reuse, head, setNext, setStart, setLast, link}
+use Rattle.index.specs.declared.Mode.{Mode}
+use Rattle.index.specs.declared.Mode.the-variants.{Insert, Replace}
 use Rattle.index.specs.declared.Found.{Found}
 use Rattle.index.specs.declared.Found.the-variants.{At, Missing, BadChain}
 
@@ -22,17 +24,28 @@ linkNew i c prev s v = link (setNext i s v) c prev s
 unfoldable pub append : Index → ℕ → Index
 append i s = setLast (link (setNext i s 0) reuse (i .last) s) s
 
--- "A put of a new key takes the first reuse slot and links it at the end of its head's chain", whose last slot is prev
-unfoldable pub putNew : Index → (h prev : ℕ) → Index
-putNew i h prev = linkNew (takeFirst i) (head h) prev (i .first) 0
+-- an insert: "A put of a new key takes the first reuse slot and links it at the end of its head's chain", whose last slot is prev
+unfoldable pub insertNew : Index → (h prev : ℕ) → Index
+insertNew i h prev = linkNew (takeFirst i) (head h) prev (i .first) 0
 
--- "A put of a held key takes the first reuse slot, which replaces the old slot in its chain; the old slot joins the end of the reuse chain"
-unfoldable pub putHeld : Index → (h prev old : ℕ) → Index
-putHeld i h prev old = append (linkNew (takeFirst i) (head h) prev (i .first) (getD (takeFirst i .next) old 0)) old
+-- a replace: "A put of a held key takes the first reuse slot, which replaces the old slot in its chain; the old slot joins the end of the reuse chain"
+unfoldable pub replaceHeld : Index → (h prev old : ℕ) → Index
+replaceHeld i h prev old = append (linkNew (takeFirst i) (head h) prev (i .first) (getD (takeFirst i .next) old 0)) old
 
 -- "A remove takes the first reuse slot, unlinks the old slot, and appends to the reuse chain the old slot and then the slot just taken"
 unfoldable pub removeHeld : Index → (h prev old : ℕ) → Index
 removeHeld i h prev old = append (append (link (takeFirst i) (head h) prev (getD (takeFirst i .next) old 0)) old) (i .first)
+
+-- document 02, A.2: "20 when insert meets a held key and 21 when replace meets an unheld one"
+unfoldable pub keyFault : Mode → (held : Bool) → ℕ
+keyFault Insert held = say held 20 0
+keyFault Replace held = say (not held) 21 0
+
+-- is the key there, by what following its chain found?
+unfoldable pub isFound : Found → Bool
+isFound (At slot prev compared) = true
+isFound (Missing prev compared) = false
+isFound BadChain = false
 
 -- "12 when the key is not held and the live count plus 1 is at least N"
 unfoldable pub roomFault : Found → (n live : ℕ) → ℕ

@@ -15,3 +15,22 @@ pub enum Found {
     Missing { prev: u32, compared: u32 },
     BadChain,
 }
+
+// Which keys a write is for: insert for a key that is not held, replace for one that is.
+pub enum Mode {
+    Insert,
+    Replace,
+}
+
+// Where a key stands in its chain: its slot, with the slot before it (0 for the head); or nowhere, with the chain's last slot (0 for the head).
+pub enum Place {
+    Held { slot: u32, prev: u32 },
+    NotHeld { prev: u32 },
+}
+
+// What a call reads before it writes: its refusal, or where the key stands. Each has the count of slots compared, 0 for a call refused before or
+// by its chain.
+pub enum Lookup {
+    Refused { number: u32, compared: u32 },
+    Open { place: Place, compared: u32 },
+}

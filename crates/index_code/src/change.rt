@@ -3,8 +3,9 @@ ghost use mathlib.Core.Path.{_≡_};
 ghost use Prim.Native.Nat.{_+_, _-_, _<_};
 ghost use lib.ListN.{length};
 ghost use Rattle.index.specs.Index.{indexOf};
-ghost use Rattle.index.specs.Change.{putNew, putHeld, removeHeld};
-ghost use Rattle.index.specs.inner.Parts.{WritesInside, PartsOf, linkHeads, linkNext, takeState, appendNext, appendState};
+ghost use Rattle.index.specs.Change.{insertNew, replaceHeld, removeHeld};
+ghost use Rattle.index.specs.inner.Parts.{WritesInside, PlaceInside, PartsOf, writeAt, liveAt, linkHeads, linkNext, takeState, appendNext, appendState};
+use index::Place;
 use index::State;
 
 // The link to what follows prev in the chain of head h becomes slot; prev 0 is the head itself.
@@ -68,10 +69,10 @@ fn append(next: &mut [u32], state: State, slot: u32) -> State
     }
 }
 
-// A put of a new key: the first reuse slot is taken and linked after prev, the last slot of its chain.
-pub fn put_new(heads: &mut [u32], next: &mut [u32], state: State, h: usize, prev: u32) -> State
+// An insert: the first reuse slot is taken and linked after prev, the last slot of its chain.
+fn insert_new(heads: &mut [u32], next: &mut [u32], state: State, h: usize, prev: u32) -> State
     requires { ⌜ (WritesInside (now heads) (now next) state h prev prev) × (state .live < 65535) ⌝ }
-    ensures { λ r. ⌜ PartsOf (now (heads .exit)) (now (next .exit)) r (putNew (indexOf (now (heads .entry)) (now (next .entry)) state) h prev) (state .live + 1) (state .version + 1) ⌝ }
+    ensures { λ r. ⌜ PartsOf (now (heads .exit)) (now (next .exit)) r (insertNew (indexOf (now (heads .entry)) (now (next .entry)) state) h prev) (state .live + 1) (state .version + 1) ⌝ }
 {
     let slot = state.first;
     let rest = take(next, state);
@@ -86,8 +87,8 @@ pub fn put_new(heads: &mut [u32], next: &mut [u32], state: State, h: usize, prev
     }
 }
 
-// A put of a held key: the first reuse slot is taken and replaces old, which follows prev; old joins the reuse chain.
-pub fn put_held(
+// A replace: the first reuse slot is taken and replaces old, which follows prev; old joins the reuse chain.
+fn replace_held(
     heads: &mut [u32],
     next: &mut [u32],
     state: State,
@@ -96,7 +97,7 @@ pub fn put_held(
     old: u32,
 ) -> State
     requires { ⌜ WritesInside (now heads) (now next) state h prev old ⌝ }
-    ensures { λ r. ⌜ PartsOf (now (heads .exit)) (now (next .exit)) r (putHeld (indexOf (now (heads .entry)) (now (next .entry)) state) h prev old) (state .live) (state .version + 1) ⌝ }
+    ensures { λ r. ⌜ PartsOf (now (heads .exit)) (now (next .exit)) r (replaceHeld (indexOf (now (heads .entry)) (now (next .entry)) state) h prev old) (state .live) (state .version + 1) ⌝ }
 {
     let slot = state.first;
     let rest = take(next, state);
@@ -111,6 +112,23 @@ pub fn put_held(
         last: back.last,
         live: back.live,
         version: back.version + 1,
+    }
+}
+
+// An insert or a replace of a key that stands at this place in the chain of head h.
+pub fn write_place(
+    heads: &mut [u32],
+    next: &mut [u32],
+    state: State,
+    h: usize,
+    place: Place,
+) -> State
+    requires { ⌜ PlaceInside (now heads) (now next) state h place ⌝ }
+    ensures { λ r. ⌜ PartsOf (now (heads .exit)) (now (next .exit)) r (writeAt (indexOf (now (heads .entry)) (now (next .entry)) state) h place) (liveAt (state .live) place) (state .version + 1) ⌝ }
+{
+    match place {
+        Place::Held { slot, prev } => replace_held(heads, next, state, h, prev, slot),
+        Place::NotHeld { prev } => insert_new(heads, next, state, h, prev),
     }
 }
 

@@ -3,8 +3,9 @@ ghost use mathlib.Core.Path.{_≡_};
 ghost use Prim.Native.Nat.{_+_};
 ghost use lib.ListN.{length};
 ghost use Rattle.index.specs.Walk.{chainFault};
-ghost use Rattle.index.specs.Change.{roomFault, reuseFault};
+ghost use Rattle.index.specs.Change.{keyFault, isFound, roomFault, reuseFault};
 use index::Found;
+use index::Mode;
 
 // 11 by the key's chain, else 0.
 pub fn chain_fault(found: Found) -> u32
@@ -21,6 +22,44 @@ pub fn chain_fault(found: Found) -> u32
             compared: _,
         } => 0,
         Found::BadChain => 11,
+    }
+}
+
+// Is the key there?
+pub fn is_found(found: Found) -> bool
+    ensures { λ r. ⌜ r ≡ isFound found ⌝ }
+{
+    match found {
+        Found::At {
+            slot: _,
+            prev: _,
+            compared: _,
+        } => true,
+        Found::Missing {
+            prev: _,
+            compared: _,
+        } => false,
+        Found::BadChain => false,
+    }
+}
+
+// 20 for an insert of a held key, 21 for a replace of one that is not held, else 0.
+pub fn key_fault(mode: Mode, held: bool) -> u32
+    ensures { λ r. ⌜ r ≡ keyFault mode held ⌝ }
+{
+    match mode {
+        Mode::Insert => {
+            if held {
+                return 20;
+            }
+            0
+        }
+        Mode::Replace => {
+            if held {
+                return 0;
+            }
+            21
+        }
     }
 }
 

@@ -4,8 +4,11 @@ ghost use Rattle.layout.specs.Record.{Layout};
 ghost use Rattle.layout.specs.inner.Key.{keyWith};
 ghost use Rattle.layout.specs.inner.Sized.{Sized};
 ghost use Rattle.index.specs.Walk.{search};
+ghost use Rattle.index.specs.inner.Lookup.{lookupBy};
 use crate::head::head_of;
 use index::Found;
+use index::Lookup;
+use index::Place;
 use layout_code::fields::has_key;
 
 // Follows the chain of the key's head, up to the first slot with that key or the end.
@@ -47,4 +50,44 @@ pub fn find(
         left -= 1;
     }
     Found::BadChain
+}
+
+// The lookup of a call by what the key's chain has; fault is the call's refusal then.
+pub fn looked_up(fault: u32, found: Found) -> Lookup
+    ensures { λ r. ⌜ r ≡ lookupBy fault found ⌝ }
+{
+    match found {
+        Found::At {
+            slot,
+            prev,
+            compared,
+        } => {
+            if fault != 0 {
+                return Lookup::Refused {
+                    number: fault,
+                    compared,
+                };
+            }
+            Lookup::Open {
+                place: Place::Held { slot, prev },
+                compared,
+            }
+        }
+        Found::Missing { prev, compared } => {
+            if fault != 0 {
+                return Lookup::Refused {
+                    number: fault,
+                    compared,
+                };
+            }
+            Lookup::Open {
+                place: Place::NotHeld { prev },
+                compared,
+            }
+        }
+        Found::BadChain => Lookup::Refused {
+            number: fault,
+            compared: 0,
+        },
+    }
 }

@@ -1,28 +1,26 @@
 // Answers as a return code and lent numbers.
 ghost use mathlib.Core.Path.{_≡_};
-ghost use mathlib.Core.List.{List};
-ghost use Prim.Native.Nat.{ℕ};
-ghost use Rattle.face.specs.Set.{zipped, changeEnd};
+ghost use Rattle.face.specs.Set.{changeSays};
 ghost use Rattle.exports.specs.State.{stateFrom};
-ghost use Rattle.exports.specs.Call.{changeLeft, changeCall};
-ghost use Rattle.book.specs.Steps.{bookEnd};
-ghost use Rattle.exports.specs.Book.{bookCall};
+ghost use Rattle.exports.specs.Call.{answered};
+ghost use Rattle.prelude.specs.Answer.{refusalIn};
+ghost use Rattle.book.specs.Steps.{bookSays};
+ghost use Rattle.book.specs.Plain.{refusalNumber};
+ghost use Rattle.exports.specs.Book.{bookAnswered};
 use crate::state::keep_state;
 use book_code::BookChange;
 use book_code::BookOutcome;
 use orderset::Change;
 use orderset::Outcome;
 
-// What put and remove hand out goes into the lent numbers.
+// What a call that writes gives back goes into the lent numbers.
 pub fn hand_out(
     change: Change,
     state: &mut [u32; 3],
     version: &mut [u64; 1],
-    at: &mut [u32; 16],
-    value: &mut [u64; 16],
     answer: &mut [u64; 3],
 ) -> u32
-    ensures { λ r. ⌜ ((heads next : List ℕ) → changeLeft r (now (answer .exit)) (stateFrom (now (state .exit)) (now (version .exit))) (zipped (now (at .exit)) (now (value .exit))) heads next ≡ changeCall (changeEnd change heads next) (now (answer .entry)) (zipped (now (at .entry)) (now (value .entry)))) ⌝ }
+    ensures { λ r. ⌜ (r ≡ refusalIn (changeSays (change .outcome))) × (now (answer .exit) ≡ answered 3 (changeSays (change .outcome)) (now (answer .entry))) × (stateFrom (now (state .exit)) (now (version .exit)) ≡ change .state) ⌝ }
 {
     let after = change.state;
     keep_state(after, state, version);
@@ -37,27 +35,20 @@ pub fn hand_out(
             slot,
             version: number,
         } => {
-            let stores = change.stores;
-            let places = stores.at;
-            let words = stores.value;
-            *at = places;
-            *value = words;
             *answer = [1, slot as u64, number];
             0
         }
     }
 }
 
-// What a book step hands out goes into the lent numbers.
+// What a book step gives back goes into the lent numbers.
 pub fn hand_out_step(
     change: BookChange,
     state: &mut [u32; 3],
     version: &mut [u64; 1],
-    at: &mut [u32; 16],
-    value: &mut [u64; 16],
     answer: &mut [u64; 3],
 ) -> u32
-    ensures { λ r. ⌜ ((heads next : List ℕ) → changeLeft r (now (answer .exit)) (stateFrom (now (state .exit)) (now (version .exit))) (zipped (now (at .exit)) (now (value .exit))) heads next ≡ bookCall (bookEnd change heads next) (now (answer .entry)) (zipped (now (at .entry)) (now (value .entry)))) ⌝ }
+    ensures { λ r. ⌜ (r ≡ refusalNumber (bookSays (change .outcome))) × (now (answer .exit) ≡ bookAnswered (bookSays (change .outcome)) (now (answer .entry))) × (stateFrom (now (state .exit)) (now (version .exit)) ≡ change .state) ⌝ }
 {
     let after = change.state;
     keep_state(after, state, version);
@@ -75,11 +66,6 @@ pub fn hand_out_step(
             slot,
             version: number,
         } => {
-            let stores = change.stores;
-            let places = stores.at;
-            let words = stores.value;
-            *at = places;
-            *value = words;
             *answer = [1, slot as u64, number];
             0
         }

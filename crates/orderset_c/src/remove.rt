@@ -23,6 +23,6 @@ pub extern "C" fn orderset_remove(
     ensures { λ r. ⌜ changeLeft r (now (answer .exit)) (stateFrom (now (state .exit)) (now (version .exit))) (zipped (now (at .exit)) (now (value .exit))) (now (heads .exit)) (now (next .exit)) ≡ changeCall (removeResult 1 (now (image .entry)) (now (heads .entry)) (now (next .entry)) (stateFrom (now (state .entry)) (now (version .entry))) key) (now (answer .entry)) (zipped (now (at .entry)) (now (value .entry))) ⌝ }
 {
     let before = state_from(state, version);
-    let change = remove(image, heads, next, before, key);
-    hand_out(change, state, version, at, value, answer)
+    let change = remove(image, heads, next, before, key, at, value);
+    hand_out(change, state, version, answer)
 }

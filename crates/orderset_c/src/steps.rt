@@ -29,8 +29,8 @@ pub extern "C" fn orderset_book_new(
     ensures { λ r. ⌜ changeLeft r (now (answer .exit)) (stateFrom (now (state .exit)) (now (version .exit))) (zipped (now (at .exit)) (now (value .exit))) (now (heads .exit)) (now (next .exit)) ≡ bookCall (newResult 1 (now (image .entry)) (now (heads .entry)) (now (next .entry)) (stateFrom (now (state .entry)) (now (version .entry))) key quantity) (now (answer .entry)) (zipped (now (at .entry)) (now (value .entry))) ⌝ }
 {
     let before = state_from(state, version);
-    let change = new(image, heads, next, before, key, quantity);
-    hand_out_step(change, state, version, at, value, answer)
+    let change = new(image, heads, next, before, key, quantity, at, value);
+    hand_out_step(change, state, version, answer)
 }
 
 // The order is acknowledged; the answer is as above, or, of an order that was acknowledged before, its slot and version.
@@ -49,8 +49,8 @@ pub extern "C" fn orderset_book_acknowledge(
     ensures { λ r. ⌜ changeLeft r (now (answer .exit)) (stateFrom (now (state .exit)) (now (version .exit))) (zipped (now (at .exit)) (now (value .exit))) (now (heads .exit)) (now (next .exit)) ≡ bookCall (acknowledgeResult 1 (now (image .entry)) (now (heads .entry)) (now (next .entry)) (stateFrom (now (state .entry)) (now (version .entry))) key) (now (answer .entry)) (zipped (now (at .entry)) (now (value .entry))) ⌝ }
 {
     let before = state_from(state, version);
-    let change = acknowledge(image, heads, next, before, key);
-    hand_out_step(change, state, version, at, value, answer)
+    let change = acknowledge(image, heads, next, before, key, at, value);
+    hand_out_step(change, state, version, answer)
 }
 
 // This quantity of the order is filled; the answer is the slot taken and the version, and the stores are to be made by the caller.
@@ -70,8 +70,8 @@ pub extern "C" fn orderset_book_fill(
     ensures { λ r. ⌜ changeLeft r (now (answer .exit)) (stateFrom (now (state .exit)) (now (version .exit))) (zipped (now (at .exit)) (now (value .exit))) (now (heads .exit)) (now (next .exit)) ≡ bookCall (fillResult 1 (now (image .entry)) (now (heads .entry)) (now (next .entry)) (stateFrom (now (state .entry)) (now (version .entry))) key quantity) (now (answer .entry)) (zipped (now (at .entry)) (now (value .entry))) ⌝ }
 {
     let before = state_from(state, version);
-    let change = fill(image, heads, next, before, key, quantity);
-    hand_out_step(change, state, version, at, value, answer)
+    let change = fill(image, heads, next, before, key, quantity, at, value);
+    hand_out_step(change, state, version, answer)
 }
 
 // The order is removed, with all that is open; the answer is as above.
@@ -90,6 +90,6 @@ pub extern "C" fn orderset_book_withdraw(
     ensures { λ r. ⌜ changeLeft r (now (answer .exit)) (stateFrom (now (state .exit)) (now (version .exit))) (zipped (now (at .exit)) (now (value .exit))) (now (heads .exit)) (now (next .exit)) ≡ bookCall (withdrawResult 1 (now (image .entry)) (now (heads .entry)) (now (next .entry)) (stateFrom (now (state .entry)) (now (version .entry))) key) (now (answer .entry)) (zipped (now (at .entry)) (now (value .entry))) ⌝ }
 {
     let before = state_from(state, version);
-    let change = withdraw(image, heads, next, before, key);
-    hand_out_step(change, state, version, at, value, answer)
+    let change = withdraw(image, heads, next, before, key, at, value);
+    hand_out_step(change, state, version, answer)
 }

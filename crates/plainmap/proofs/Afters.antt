@@ -20,8 +20,8 @@ use Rattle.table.proofs.defs.Write.{Free, only, upd, Record}
 use Rattle.table.proofs.Write.{above-next, lose-map, write-map}
 use Rattle.index.specs.Index.{Index}
 use Rattle.calls.specs.Change.{changed}
-use Rattle.plainmap.specs.World.{World, Call, Called, toPlay, calledChange, called, playing, finished}
-use Rattle.plainmap.specs.Plain.{PlainMap, operation, plainStep}
+use Rattle.plainmap.specs.World.{World, Call, Called, calledChange, called, playing, finished}
+use Rattle.plainmap.specs.Plain.{PlainMap, updates, plainStep}
 use Rattle.prelude.proofs.defs.Answer.{isRefusal}
 use Rattle.plainmap.specs.Accepted.{Accepted}
 use Rattle.plainmap.specs.Claims.{slotsMap}
@@ -78,7 +78,7 @@ pub record After (l : ℕ) (w : World) (call : Call) (a b : ℕ) : Type 0 where
   pub map :
       (k : ℕ)
       → slotsMap l (playedImage l w call a b) k ≡
-      (cond (bothStand a b) (plainStep (operation call) (isRefusal (called l w call .answer)) (slotsMap l (w .image))) (slotsMap l (w .image))) k
+      (cond (bothStand a b) (plainStep (updates call) (isRefusal (called l w call .answer)) (slotsMap l (w .image))) (slotsMap l (w .image))) k
 
 either : (t : Bool) (m m′ : PlainMap) (k : ℕ) → m k ≡ m′ k → m k ≡ (cond t m′ m) k
 either true m m′ k e = e
@@ -93,7 +93,7 @@ module _ (l : ℕ) (w : World) (call : Call) (accepted : Accepted l (w .image)) 
   stores-are : (key kind : ℕ) (value : List ℕ) (i : Index) (alive : ℕ)
       → called l w call ≡ calledChange (changed l (w .image) (w .state) key kind value i alive)
       → called l w call .stores ≡ nextStores l (w .image) (w .state .first) key kind value
-  unfolding calledChange changed toPlay
+  unfolding calledChange changed
   stores-are key kind value i alive e =
       ap (λ (r : Called). r .stores) e ∙ ap (recordStores l (word (w .image)) (w .state .first) key kind value) version
 

@@ -18,17 +18,17 @@ use Rattle.recovery.specs.Recover.{slotsFault}
 use Rattle.calls.specs.Format.{formatted}
 use Rattle.calls.proofs.Formats.{formatted-length, formatted-fault, formatted-content}
 use Rattle.plainmap.proofs.FormattedImages.{formatted-slots}
-use Rattle.plainmap.specs.World.{World, Call, put, remove, get, locate, outOf, called, finished, worldAfter, recoveredWorld}
-use Rattle.plainmap.specs.Plain.{PlainMap, operation, plainStep, plainAnswer, plainOut}
+use Rattle.plainmap.specs.World.{World, Call, write, remove, get, locate, outOf, called, finished, worldAfter, recoveredWorld}
+use Rattle.plainmap.specs.Plain.{PlainMap, updates, plainStep, plainAnswer, plainOut}
 use Rattle.plainmap.specs.Accepted.{Accepted, RightSize}
 use Rattle.plainmap.specs.Sound.{Sound, Agrees}
 use Rattle.layout.specs.Record.{Layout}
-use Rattle.plainmap.specs.Claims.{Typed, put-typed, remove-typed, slotsMap, Right, Reads, mapAfterCall}
+use Rattle.plainmap.specs.Claims.{Typed, write-typed, remove-typed, slotsMap, Right, Reads, mapAfterCall}
 use Rattle.plainmap.specs.Map.{PlainRule}
 use Rattle.plainmap.proofs.Sounds.{recovered-sound}
-use Rattle.plainmap.proofs.Outcomes.{SomeSound, some-sound, put-runs, remove-runs}
+use Rattle.plainmap.proofs.Outcomes.{SomeSound, some-sound, write-runs, remove-runs}
 use Rattle.plainmap.proofs.Rights.{ran-right, right-refuses}
-use Rattle.plainmap.proofs.Refuses.{put-fault, remove-fault}
+use Rattle.plainmap.proofs.Refuses.{write-fault, remove-fault}
 use Rattle.plainmap.proofs.GetAnswers.{sound-reads, get-right}
 use Rattle.plainmap.proofs.LocateAnswers.{locate-right}
 use Rattle.plainmap.proofs.CallSteps.{call-stepped}
@@ -47,9 +47,9 @@ none-answer o slot version e = sym (ap (λ (x : Option (List ℕ)). cond (isHeld
 module _ (l : ℕ) (lay : Layout l) (w : World) (chains : Chain → List ℕ) (a : Accepted l (w .image)) (g : Sound l w chains) where
   pub call-right : (call : Call) → Typed l call → Right l w (slotsMap l (w .image)) call
   unfolding called plainAnswer plainOut outOf
-  call-right (put key value) (put-typed k b) =
-      ran-right l w (put key value) key 1 value (g .next-version) (λ h. refl) (λ z m. absurd (omega arith)) refl refl _ _ refl
-      (put-runs l lay w chains g key value k b) (put-fault l w chains a g key value)
+  call-right (write mode key value) (write-typed k b) =
+      ran-right l w (write mode key value) key 1 value (g .next-version) (λ h. refl) (λ z m. absurd (omega arith)) refl refl _ _ refl
+      (write-runs l lay w chains g mode key value k b) (write-fault l w chains a g mode key value)
   call-right (remove key) (remove-typed k) =
       ran-right l w (remove key) key 2 [] (g .next-version) (λ h. held-answer (slotsMap l (w .image) key) _ _ (h refl))
       (λ z m. none-answer (slotsMap l (w .image) key) _ _ m) refl refl _ _ refl
@@ -86,7 +86,7 @@ agrees-next l lay w m g call s =
     let p : 8 ≤ 8 = omega arith in
     let r = after-call l w call (g .accepted) (g .sound .next-version) 8 8 p p t in
     agrees-by l (finished l w call) (mapAfterCall l w m call) (r .accepted) (after-sound l w call (g .accepted) (g .sound .next-version) t)
-    (λ k. r .map k ∙ ap₂ (λ (b : Bool) (x : PlainMap). plainStep (operation call) b x k) (right-refuses l w m call (agrees-right l lay w m g call s)) (alike l w m g))
+    (λ k. r .map k ∙ ap₂ (λ (b : Bool) (x : PlainMap). plainStep (updates call) b x k) (right-refuses l w m call (agrees-right l lay w m g call s)) (alike l w m g))
 
 -- EVERY LIST OF CALLS answers as the plain map does
 pub plain-rule : (l : ℕ) → Layout l → (w : World) (m : PlainMap) (calls : List Call) → Agrees l w m → All (Typed l) calls → PlainRule l w m calls

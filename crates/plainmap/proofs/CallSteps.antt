@@ -10,26 +10,27 @@ use borrow.Author.Tests.{eqb-true}
 use Rattle.layout.specs.Content.{made}
 use Rattle.table.specs.Table.{valueIn}
 use Rattle.index.specs.Index.{Index, Chain}
+use Rattle.index.specs.declared.Mode.{Mode}
 use Rattle.calls.specs.Change.{ChangeResult, changed, unchanged}
-use Rattle.plainmap.specs.World.{World, Call, put, remove, get, locate, Called, toPlay, calledChange, calledGet, calledLocate, called}
-use Rattle.plainmap.specs.Plain.{PlainMap, reading, operation, plainNext, plainStep}
+use Rattle.plainmap.specs.World.{World, Call, write, remove, get, locate, Called, calledChange, calledGet, calledLocate, called}
+use Rattle.plainmap.specs.Plain.{PlainMap, updates, updated, plainNext, plainStep}
 use Rattle.prelude.proofs.defs.Answer.{isRefusal}
 use Rattle.plainmap.specs.Sound.{Sound}
 use Rattle.layout.specs.Record.{Layout}
-use Rattle.plainmap.specs.Claims.{Typed, put-typed, remove-typed, slotsMap}
+use Rattle.plainmap.specs.Claims.{Typed, write-typed, remove-typed, slotsMap}
 use Rattle.plainmap.proofs.Struck.{nextRecord}
-use Rattle.plainmap.proofs.Outcomes.{worldWith, SomeSound, some-sound, WroteRecord, Ran, ran-refused, ran-absent, ran-wrote, put-runs, remove-runs}
+use Rattle.plainmap.proofs.Outcomes.{worldWith, SomeSound, some-sound, WroteRecord, Ran, ran-refused, ran-absent, ran-wrote, write-runs, remove-runs}
 
 -- ---- what a call does: it stores nothing and the plain map stays, or it writes a record, which is the plain map's step
 
 pub data Stepped (l : ℕ) (w : World) (call : Call) : Type 0 where
   stored-none : called l w call .stores ≡ [] → SomeSound l (worldWith (w .image) (called l w call))
-      → ((k : ℕ) → slotsMap l (w .image) k ≡ plainStep (operation call) (isRefusal (called l w call .answer)) (slotsMap l (w .image)) k)
+      → ((k : ℕ) → slotsMap l (w .image) k ≡ plainStep (updates call) (isRefusal (called l w call .answer)) (slotsMap l (w .image)) k)
       → Stepped l w call
   stored-record : (key kind : ℕ) (value : List ℕ) (i : Index) (alive : ℕ)
       → called l w call ≡ calledChange (changed l (w .image) (w .state) key kind value i alive) → WroteRecord l w key kind value i alive
       → ((k : ℕ) → cond (eqb k key) (valueIn (nextRecord l (w .image) key kind value)) (slotsMap l (w .image) k) ≡
-      plainStep (operation call) (isRefusal (called l w call .answer)) (slotsMap l (w .image)) k)
+      plainStep (updates call) (isRefusal (called l w call .answer)) (slotsMap l (w .image)) k)
       → Stepped l w call
 
 unchanged-by : (l : ℕ) (w : World) (call : Call) (r : Called) → called l w call ≡ r → r .heads ≡ w .heads → r .next ≡ w .next → r .state ≡ w .state
@@ -45,40 +46,40 @@ not-dropped m key k e = go (eqb k key) refl
     go true q = ap m (eqb-true k key q) ∙ e
     go false q = refl
 
-record-stored : (m : PlainMap) (version key k : ℕ) (value : List ℕ)
-    → cond (eqb k key) (valueIn (made 1 version key value)) (m k) ≡ plainNext (operation (put key value)) m k
-unfolding made valueIn plainNext operation
-record-stored m version key k value = refl
+record-stored : (m : PlainMap) (version : ℕ) (mode : Mode) (key k : ℕ) (value : List ℕ)
+    → cond (eqb k key) (valueIn (made 1 version key value)) (m k) ≡ plainNext (updates (write mode key value)) m k
+unfolding made valueIn plainNext updated updates
+record-stored m version mode key k value = refl
 
 record-dropped : (m : PlainMap) (version key k : ℕ)
-    → cond (eqb k key) (valueIn (made 2 version key [])) (m k) ≡ plainNext (operation (remove key)) m k
-unfolding made valueIn plainNext operation
+    → cond (eqb k key) (valueIn (made 2 version key [])) (m k) ≡ plainNext (updates (remove key)) m k
+unfolding made valueIn plainNext updated updates
 record-dropped m version key k = refl
 
--- a put or a remove, by the ways it goes
+-- a call that writes, by the ways it goes
 module _
     (l : ℕ) (w : World) (call : Call) (key kind : ℕ) (value : List ℕ) (sound : SomeSound l w)
     (stores : (k : ℕ) → cond (eqb k key) (valueIn (nextRecord l (w .image) key kind value)) (slotsMap l (w .image) k) ≡
-    plainNext (operation call) (slotsMap l (w .image)) k)
-    (idles : kind ≡ 2 → slotsMap l (w .image) key ≡ none → (k : ℕ) → slotsMap l (w .image) k ≡ plainNext (operation call) (slotsMap l (w .image)) k) where
+    plainNext (updates call) (slotsMap l (w .image)) k)
+    (idles : kind ≡ 2 → slotsMap l (w .image) key ≡ none → (k : ℕ) → slotsMap l (w .image) k ≡ plainNext (updates call) (slotsMap l (w .image)) k) where
   -- where the answer is no refusal the plain map makes its step
   taken : (r : Called) → called l w call ≡ r → isRefusal (r .answer) ≡ false → (k : ℕ)
-      → plainNext (operation call) (slotsMap l (w .image)) k ≡
-      plainStep (operation call) (isRefusal (called l w call .answer)) (slotsMap l (w .image)) k
+      → plainNext (updates call) (slotsMap l (w .image)) k ≡
+      plainStep (updates call) (isRefusal (called l w call .answer)) (slotsMap l (w .image)) k
   unfolding plainStep
   taken r e z k =
-      ap (λ (x : Bool). (cond x (slotsMap l (w .image)) (plainNext (operation call) (slotsMap l (w .image)))) k)
+      ap (λ (x : Bool). (cond x (slotsMap l (w .image)) (plainNext (updates call) (slotsMap l (w .image)))) k)
       (sym (ap (λ (c : Called). isRefusal (c .answer)) e ∙ z))
 
   left : (r : Called) → called l w call ≡ r → isRefusal (r .answer) ≡ true → (k : ℕ)
-      → slotsMap l (w .image) k ≡ plainStep (operation call) (isRefusal (called l w call .answer)) (slotsMap l (w .image)) k
+      → slotsMap l (w .image) k ≡ plainStep (updates call) (isRefusal (called l w call .answer)) (slotsMap l (w .image)) k
   unfolding plainStep
   left r e z k =
-      ap (λ (x : Bool). (cond x (slotsMap l (w .image)) (plainNext (operation call) (slotsMap l (w .image)))) k)
+      ap (λ (x : Bool). (cond x (slotsMap l (w .image)) (plainNext (updates call) (slotsMap l (w .image)))) k)
       (sym (ap (λ (c : Called). isRefusal (c .answer)) e ∙ z))
 
   pub ran-stepped : (fault : ℕ) (r : ChangeResult) → called l w call ≡ calledChange r → Ran l w key kind value fault r → Stepped l w call
-  unfolding calledChange unchanged changed toPlay isRefusal
+  unfolding calledChange unchanged changed isRefusal
   ran-stepped fault r e (ran-refused nz q) =
       let d = e ∙ ap calledChange q in
       stored-none (ap (λ (c : Called). c .stores) d) (unchanged-by l w call _ d refl refl refl sound) (left _ d refl)
@@ -91,19 +92,19 @@ module _
 
 module _ (l : ℕ) (lay : Layout l) (w : World) (chains : Chain → List ℕ) (g : Sound l w chains) where
   -- a call that reads leaves the map
-  reads-only : (key : ℕ) (x : Bool) (k : ℕ) → slotsMap l (w .image) k ≡ plainStep (reading key) x (slotsMap l (w .image)) k
+  reads-only : (x : Bool) (k : ℕ) → slotsMap l (w .image) k ≡ plainStep [] x (slotsMap l (w .image)) k
   unfolding plainStep plainNext
-  reads-only key true k = refl
-  reads-only key false k = refl
+  reads-only true k = refl
+  reads-only false k = refl
 
   -- ONE CALL
   pub call-stepped : (call : Call) → Typed l call → Stepped l w call
-  unfolding called calledGet calledLocate plainStep plainNext operation
-  call-stepped (put key value) (put-typed k b) =
-      ran-stepped l w (put key value) key 1 value (some-sound chains g) (λ j. record-stored (slotsMap l (w .image)) _ key j value)
-      (λ z m j. absurd (omega arith)) _ _ refl (put-runs l lay w chains g key value k b)
+  unfolding called calledGet calledLocate plainStep plainNext updated updates
+  call-stepped (write mode key value) (write-typed k b) =
+      ran-stepped l w (write mode key value) key 1 value (some-sound chains g) (λ j. record-stored (slotsMap l (w .image)) _ mode key j value)
+      (λ z m j. absurd (omega arith)) _ _ refl (write-runs l lay w chains g mode key value k b)
   call-stepped (remove key) (remove-typed k) =
       ran-stepped l w (remove key) key 2 [] (some-sound chains g) (λ j. record-dropped (slotsMap l (w .image)) _ key j)
       (λ z m j. not-dropped (slotsMap l (w .image)) key j m) _ _ refl (remove-runs l lay w chains g key k)
-  call-stepped (get key out) s = stored-none refl (some-sound chains g) (λ k. reads-only key (isRefusal (called l w (get key out) .answer)) k)
-  call-stepped (locate key) s = stored-none refl (some-sound chains g) (λ k. reads-only key (isRefusal (called l w (locate key) .answer)) k)
+  call-stepped (get key out) s = stored-none refl (some-sound chains g) (λ k. reads-only (isRefusal (called l w (get key out) .answer)) k)
+  call-stepped (locate key) s = stored-none refl (some-sound chains g) (λ k. reads-only (isRefusal (called l w (locate key) .answer)) k)

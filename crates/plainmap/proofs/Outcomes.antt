@@ -1,4 +1,4 @@
--- What put and remove do in a sound world: they are refused, store nothing, or write one record and leave a sound index. Assumes nothing.
+-- What insert, replace and remove do in a sound world: they are refused, store nothing, or write one record and leave a sound index. Assumes nothing.
 use mathlib.Core.Path.{_≡_, refl, sym, ap, _∙_, subst}
 use mathlib.Core.Bool.{true, false}
 use mathlib.Core.Option.{none}
@@ -26,14 +26,15 @@ use Rattle.table.specs.Reuse.{HiddenFirst}
 use Rattle.table.proofs.Hidden.{head-free}
 use Rattle.index.specs.Index.{Index, Chain, reuse, head, headOf, indexOf, stateOf}
 use Rattle.index.specs.Walk.{search, chainFault}
-use Rattle.index.specs.Change.{putNew, putHeld, removeHeld, roomFault}
+use Rattle.index.specs.Change.{insertNew, replaceHeld, removeHeld, keyFault, isFound, roomFault}
+use Rattle.index.specs.declared.Mode.{Mode}
 use Rattle.layout.specs.Line.{versionFault}
 use Rattle.index.specs.declared.Found.{Found}
 use Rattle.index.specs.declared.Found.the-variants.{At, Missing}
 use Rattle.index.proofs.Faults.{room-fine}
 use Rattle.layout.proofs.Lents.{version-fine, index-sized}
 use Rattle.index.proofs.Sits.{sits-first}
-use Rattle.calls.specs.Change.{ChangeResult, changed, unchanged, putLentFault, putLaterFault, putFault, putDone, putResult, heldFault, removeLaterFault, removeFault, removeDone, removeResult}
+use Rattle.calls.specs.Change.{ChangeResult, changed, unchanged, writeLentFault, writeLaterFault, writeFault, writeDone, writeResult, heldFault, removeLaterFault, removeFault, removeDone, removeResult}
 use Rattle.plainmap.specs.World.{World, Called}
 use Rattle.layout.specs.Size.{slotsIn}
 use Rattle.plainmap.specs.Sound.{Starts, starts, Sound}
@@ -75,18 +76,20 @@ pub data Ran (l : ℕ) (w : World) (key kind : ℕ) (value : List ℕ) (fault : 
 
 -- ---- what a call that is not refused has passed
 
-pub record PutPassed (l : ℕ) (w : World) (key size : ℕ) : Type 0 where
+pub record WritePassed (l : ℕ) (w : World) (key size : ℕ) : Type 0 where
   pub short : size ≤ limit l
   pub room : roomFault (search l (w .image) (w .heads) (w .next) key) (slotsIn (w .image)) (w .state .live) ≡ 0
   pub small : w .state .version < 2 ^ 63
 
-put-passed : (l : ℕ) (w : World) (key size : ℕ) → putFault l (w .image) (w .heads) (w .next) (w .state) key size ≡ 0 → PutPassed l w key size
-unfolding putFault putLentFault putLaterFault
-put-passed l w key size z =
-    let a = orElse-zero (putLentFault l (w .image) (length (w .heads)) (length (w .next)) size) _ z in
+write-passed : (l : ℕ) (w : World) (mode : Mode) (key size : ℕ) → writeFault l (w .image) (w .heads) (w .next) (w .state) mode key size ≡ 0
+    → WritePassed l w key size
+unfolding writeFault writeLentFault writeLaterFault
+write-passed l w mode key size z =
+    let a = orElse-zero (writeLentFault l (w .image) (length (w .heads)) (length (w .next)) size) _ z in
     let b = say-zero (ltb (limit l) size) _ _ (orElse-zero _ _ (a .0) .1) (omega arith) in
     let c = orElse-zero (chainFault (search l (w .image) (w .heads) (w .next) key)) _ (a .1) in
-    let d = orElse-zero (roomFault (search l (w .image) (w .heads) (w .next) key) (slotsIn (w .image)) (w .state .live)) _ (c .1) in
+    let k = orElse-zero (keyFault mode (isFound (search l (w .image) (w .heads) (w .next) key))) _ (c .1) in
+    let d = orElse-zero (roomFault (search l (w .image) (w .heads) (w .next) key) (slotsIn (w .image)) (w .state .live)) _ (k .1) in
     let e = orElse-zero (versionFault (w .state .version)) _ (d .1) in
     record { short = ltb-false (limit l) size (b .0); room = d .0; small = version-fine (w .state .version) (e .0) }
 
@@ -155,13 +158,13 @@ module _ (l : ℕ) (lay : Layout l) (w : World) (chains : Chain → List ℕ) (g
             sound = sound;
           }
 
-    -- a put, by what the key's chain has
-    put-ran : (key : ℕ) (value : List ℕ) (found : Found) → key < (2 ^ 64) ^ l → AreBytes value → PutPassed l w key (length value)
+    -- an insert or a replace, by what the key's chain has
+    write-ran : (key : ℕ) (value : List ℕ) (found : Found) → key < (2 ^ 64) ^ l → AreBytes value → WritePassed l w key (length value)
         → search l (w .image) (w .heads) (w .next) key ≡ found → Sees f n key (chains (head (h key))) found → (r : ChangeResult)
-        → r ≡ putDone l (w .image) (w .heads) (w .next) (w .state) key value found → (fault : ℕ) → fault ≡ 0 → Ran l w key 1 value fault r
-    unfolding putDone
-    put-ran key value (At old prev compared) k b p q (sees-held xs ys v parts before j d a m z) r y fault t =
-        ran-wrote t (putHeld (indexOf (w .heads) (w .next) (w .state)) (h key) prev old) (w .state .live) y
+        → r ≡ writeDone l (w .image) (w .heads) (w .next) (w .state) key value found → (fault : ℕ) → fault ≡ 0 → Ran l w key 1 value fault r
+    unfolding writeDone
+    write-ran key value (At old prev compared) k b p q (sees-held xs ys v parts before j d a m z) r y fault t =
+        ran-wrote t (replaceHeld (indexOf (w .heads) (w .next) (w .state)) (h key) prev old) (w .state .live) y
         (wrote key 1 value _ _
         (record { layout = lay; key-fits = k; kind-fits = omega arith; size = p .short; bytes = b })
         (a-put refl) (p .small)
@@ -169,10 +172,10 @@ module _ (l : ℕ) (lay : Layout l) (w : World) (chains : Chain → List ℕ) (g
         (λ image′ en ef. some-sound _
         (held-sound l w chains g s rest e key _ spares (made-record 1 _ key value) image′ en ef prev old v xs ys m d j a parts before
         (put-made _ key value))))
-    put-ran key value (Missing prev compared) k b p q (sees-absent before m) r y fault t =
+    write-ran key value (Missing prev compared) k b p q (sees-absent before m) r y fault t =
         let room : w .state .live + 1 < n = room-fine n (w .state .live) prev compared (ap (λ (x : Found). roomFault x n (w .state .live)) (sym q) ∙ p .room) in
         let room′ : liveCount f n + 1 < n = omega (arith, g .live-count) in
-        ran-wrote t (putNew (indexOf (w .heads) (w .next) (w .state)) (h key) prev) (w .state .live + 1) y
+        ran-wrote t (insertNew (indexOf (w .heads) (w .next) (w .state)) (h key) prev) (w .state .live + 1) y
         (wrote key 1 value _ _
         (record { layout = lay; key-fits = k; kind-fits = omega arith; size = p .short; bytes = b })
         (a-put refl) (p .small)
@@ -196,16 +199,16 @@ module _ (l : ℕ) (lay : Layout l) (w : World) (chains : Chain → List ℕ) (g
     remove-ran key (Missing prev compared) k p (sees-absent before m) r y fault t = ran-absent t refl y m
 
   -- THE CALLS
-  pub put-runs : (key : ℕ) (value : List ℕ) → key < (2 ^ 64) ^ l → AreBytes value
-      → Ran l w key 1 value (putFault l (w .image) (w .heads) (w .next) (w .state) key (length value))
-      (putResult l (w .image) (w .heads) (w .next) (w .state) key value)
-  unfolding putResult
-  put-runs key value k b =
-      by-cases (ℕ-discrete (putFault l (w .image) (w .heads) (w .next) (w .state) key (length value)) 0)
+  pub write-runs : (mode : Mode) (key : ℕ) (value : List ℕ) → key < (2 ^ 64) ^ l → AreBytes value
+      → Ran l w key 1 value (writeFault l (w .image) (w .heads) (w .next) (w .state) mode key (length value))
+      (writeResult l (w .image) (w .heads) (w .next) (w .state) mode key value)
+  unfolding writeResult
+  write-runs mode key value k b =
+      by-cases (ℕ-discrete (writeFault l (w .image) (w .heads) (w .next) (w .state) mode key (length value)) 0)
       (λ z. let t = first-slot (chains reuse) refl (g .some-spare) in
-      put-ran (t .0) (t .1) key value _ k b (put-passed l w key (length value) z) refl (sound-sees l w chains g key) _
-      (taken-leaves _ _ (putFault l (w .image) (w .heads) (w .next) (w .state) key (length value)) z) _ z)
-      (λ nz. ran-refused nz (refused-keeps _ _ (putFault l (w .image) (w .heads) (w .next) (w .state) key (length value)) nz))
+      write-ran (t .0) (t .1) key value _ k b (write-passed l w mode key (length value) z) refl (sound-sees l w chains g key) _
+      (taken-leaves _ _ (writeFault l (w .image) (w .heads) (w .next) (w .state) mode key (length value)) z) _ z)
+      (λ nz. ran-refused nz (refused-keeps _ _ (writeFault l (w .image) (w .heads) (w .next) (w .state) mode key (length value)) nz))
 
   pub remove-runs : (key : ℕ) → key < (2 ^ 64) ^ l
       → Ran l w key 2 [] (removeFault l (w .image) (w .heads) (w .next) (w .state) key)

@@ -22,15 +22,17 @@ use Rattle.table.proofs.Held.{Held, held, unheld, held-or, some-none}
 use Rattle.index.specs.Index.{Index, Chain, reuse}
 use Rattle.index.specs.Linked.{Sits}
 use Rattle.index.specs.Walk.{search, chainFault}
-use Rattle.index.specs.Change.{roomFault, reuseFault}
+use Rattle.index.specs.Change.{keyFault, isFound, roomFault, reuseFault}
+use Rattle.index.specs.declared.Mode.{Mode}
+use Rattle.index.specs.declared.Mode.the-variants.{Insert}
 use Rattle.layout.specs.Line.{versionFault}
 use Rattle.index.specs.declared.State.{State}
 use Rattle.index.specs.declared.Found.{Found}
 use Rattle.index.proofs.Sits.{sits-first, sits-last, sits-second}
-use Rattle.calls.specs.Change.{putLaterFault, putFault, heldFault, removeLaterFault, removeFault}
+use Rattle.calls.specs.Change.{writeLaterFault, writeFault, heldFault, removeLaterFault, removeFault}
 use Rattle.calls.specs.Get.{lengthFault, getLaterFault, getFault}
-use Rattle.calls.proofs.Lookups.{put-after}
-use Rattle.plainmap.specs.World.{World, put, remove, get}
+use Rattle.calls.proofs.Lookups.{write-after}
+use Rattle.plainmap.specs.World.{World, write, remove, get}
 use Rattle.layout.specs.Size.{slotsIn}
 use Rattle.plainmap.specs.Plain.{sizeOf, ruleFault}
 use Rattle.plainmap.specs.Accepted.{Accepted}
@@ -82,6 +84,10 @@ unfolding orElse say
 or-say true k later = refl
 or-say false k later = refl
 
+-- the row of an insert or a replace after 10 in n slots, with a live count and a next version, where the map has o for the key
+abbrev row : Mode → (n count version : ℕ) → Option (List ℕ) → ℕ
+row mode n count version o = orElse (keyFault mode (isHeld o)) (say (not (isHeld o) && leb n (count + 1)) 12 (versionFault version))
+
 -- ---- the checks after 4, by what the search found
 
 module _ (f : Table) (n key : ℕ) (chain : List ℕ) where
@@ -91,15 +97,15 @@ module _ (f : Table) (n key : ℕ) (chain : List ℕ) where
   sees-whole found (sees-held xs ys v d p i q e m u) = refl
   sees-whole found (sees-absent p m) = refl
 
-  put-checks : (next : List ℕ) (s : State) → reuseFault next n (s .first) (s .last) ≡ 0 → (found : Found) → Sees f n key chain found
-      → putLaterFault found next n s ≡ say (not (isHeld (mapOf f n key)) && leb n (s .live + 1)) 12 (versionFault (s .version))
-  unfolding putLaterFault chainFault roomFault orElse say isHeld
-  put-checks next s z found (sees-held xs ys v d p i q e m u) =
-      or-none (versionFault (s .version)) _ z
-      ∙ sym (ap (λ (o : Option (List ℕ)). say (not (isHeld o) && leb n (s .live + 1)) 12 (versionFault (s .version))) m)
-  put-checks next s z found (sees-absent p m) =
-      or-say (leb n (s .live + 1)) 11 _ ∙ ap (say (leb n (s .live + 1)) 12) (or-none (versionFault (s .version)) _ z)
-      ∙ sym (ap (λ (o : Option (List ℕ)). say (not (isHeld o) && leb n (s .live + 1)) 12 (versionFault (s .version))) m)
+  write-checks : (mode : Mode) (next : List ℕ) (s : State) → reuseFault next n (s .first) (s .last) ≡ 0 → (found : Found)
+      → Sees f n key chain found → writeLaterFault mode found next n s ≡ row mode n (s .live) (s .version) (mapOf f n key)
+  unfolding writeLaterFault chainFault isFound roomFault orElse say isHeld
+  write-checks mode next s z found (sees-held xs ys v d p i q e m u) =
+      ap (orElse (keyFault mode true)) (or-none (versionFault (s .version)) _ z) ∙ sym (ap (row mode n (s .live) (s .version)) m)
+  write-checks mode next s z found (sees-absent p m) =
+      ap (orElse (keyFault mode false))
+      (or-say (leb n (s .live + 1)) 11 _ ∙ ap (say (leb n (s .live + 1)) 12) (or-none (versionFault (s .version)) _ z))
+      ∙ sym (ap (row mode n (s .live) (s .version)) m)
 
   remove-checks : (next : List ℕ) (s : State) → reuseFault next n (s .first) (s .last) ≡ 0 → s .live ≡ liveCount f n → (found : Found)
       → Sees f n key chain found → removeLaterFault found next n s ≡ cond (isHeld (mapOf f n key)) (versionFault (s .version)) 0
@@ -132,24 +138,25 @@ twelve false false v e = absurd (go (leb (2 ^ 63) v) e)
     go true q = omega arith
     go false q = omega arith
 
-not-held : (o : Option (List ℕ)) → not (isHeld o) ≡ true → o ≡ none
-unfolding isHeld
-not-held none e = refl
-not-held (some v) e = absurd (true≢false (sym e))
+not-twelve : (t : Bool) → say t 10 20 ≡ 12 → ⊥
+unfolding say
+not-twelve true e = omega arith
+not-twelve false e = omega arith
 
--- the row of put, whose map has o for the key: 12 exactly for a value within the limit, a key that is not held and one slot left
+-- the row of an insert, whose map has o for the key: 12 exactly for a value within the limit, a key that is not held and one slot left
 twelve-row : (limit n count version size : ℕ) (o : Option (List ℕ)) → count < n
-    → (say (ltb limit size) 10 (say (not (isHeld o) && leb n (count + 1)) 12 (versionFault version)) ≡ 12)
+    → (say (ltb limit size) 10 (row Insert n count version o) ≡ 12)
     ↔ ((size ≤ limit) × (o ≡ none) × (count + 1 ≡ n))
-unfolding say isHeld
-twelve-row limit n count version size o room = (
+unfolding say orElse keyFault isHeld
+twelve-row limit n count version size none room = (
   λ e.
       let a = twelve _ _ _ e in
-      (ltb-false limit size (a .0), not-held o (both-left (not (isHeld o)) _ (a .1)), omega (arith, leb-true n (count + 1) (both-right (not (isHeld o)) _ (a .1)))),
+      (ltb-false limit size (a .0), refl, omega (arith, leb-true n (count + 1) (a .1))),
   λ h.
       let r : n ≤ count + 1 = omega (arith, h .2) in
-      rw (le-ltb limit size (h .0), h .1, le-leb n (count + 1) r),
+      rw (le-ltb limit size (h .0), le-leb n (count + 1) r),
 )
+twelve-row limit n count version size (some v) room = (λ e. absurd (not-twelve (ltb limit size) e), λ h. absurd (some-none refl (h .1)))
 
 -- ---- in a sound world
 
@@ -166,16 +173,15 @@ module _ (l : ℕ) (w : World) (chains : Chain → List ℕ) (a : Accepted l (w 
   pub sound-reuse : reuseFault (w .next) (slotsIn (w .image)) (w .state .first) (w .state .last) ≡ 0
   sound-reuse = reuse-fine _ _ _ _ chains (s .index) (s .some-spare)
 
-  -- PUT is refused where the rules refuse it
-  pub put-fault : (key : ℕ) (value : List ℕ)
-      → putFault l (w .image) (w .heads) (w .next) (w .state) key (length value) ≡ dueFault l w (slotsMap l (w .image)) (put key value)
+  -- INSERT AND REPLACE are refused where the rules refuse them
+  pub write-fault : (mode : Mode) (key : ℕ) (value : List ℕ)
+      → writeFault l (w .image) (w .heads) (w .next) (w .state) mode key (length value) ≡ dueFault l w (slotsMap l (w .image)) (write mode key value)
   unfolding ruleFault
-  put-fault key value =
-      put-after l (w .image) (w .heads) (w .next) (w .state) key (length value) sound-lent
+  write-fault mode key value =
+      write-after l (w .image) (w .heads) (w .next) (w .state) mode key (length value) sound-lent
       ∙ ap (say (ltb (limit l) (length value)) 10)
-      (put-checks (tableOf l (w .image)) (slotsIn (w .image)) key _ (w .next) (w .state) sound-reuse _ (sound-sees l w chains s key)
-      ∙ ap₂ (λ (c v : ℕ). say (not (isHeld (slotsMap l (w .image) key)) && leb (slotsIn (w .image)) (c + 1)) 12 (versionFault v)) (s .live-count)
-      (s .next-version))
+      (write-checks (tableOf l (w .image)) (slotsIn (w .image)) key _ mode (w .next) (w .state) sound-reuse _ (sound-sees l w chains s key)
+      ∙ ap₂ (λ (c v : ℕ). row mode (slotsIn (w .image)) c v (slotsMap l (w .image) key)) (s .live-count) (s .next-version))
 
   -- REMOVE is refused where the rules refuse it
   pub remove-fault : (key : ℕ)
@@ -195,13 +201,13 @@ module _ (l : ℕ) (w : World) (chains : Chain → List ℕ) (a : Accepted l (w 
       ∙ get-checks (tableOf l (w .image)) (slotsIn (w .image)) key _ l (w .image) (length out)
       (live-keeps l (w .image) (slotsIn (w .image)) (accepted-right l (w .image) a)) _ (sound-sees l w chains s key)
 
-  -- 12 is given exactly where a new key would take the last slot that is not live
+  -- an insert meets 12 exactly where a new key would take the last slot that is not live
   pub twelve-exactly : (key : ℕ) (value : List ℕ)
-      → (putFault l (w .image) (w .heads) (w .next) (w .state) key (length value) ≡ 12)
+      → (writeFault l (w .image) (w .heads) (w .next) (w .state) Insert key (length value) ≡ 12)
       ↔ ((length value ≤ limit l) × (slotsMap l (w .image) key ≡ none)
       × (liveCount (tableOf l (w .image)) (slotsIn (w .image)) + 1 ≡ slotsIn (w .image)))
   unfolding ruleFault
   twelve-exactly key value =
       let r = accepted-right l (w .image) a .room in
       let t = twelve-row (limit l) (slotsIn (w .image)) _ _ (length value) (slotsMap l (w .image) key) r in
-      (λ e. t .0 (sym (put-fault key value) ∙ e), λ h. put-fault key value ∙ t .1 h)
+      (λ e. t .0 (sym (write-fault Insert key value) ∙ e), λ h. write-fault Insert key value ∙ t .1 h)

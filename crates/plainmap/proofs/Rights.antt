@@ -1,4 +1,4 @@
--- The answers of put and remove in a sound world: refused exactly where the rules refuse, and otherwise as the plain map answers. Assumes nothing.
+-- The answers of insert, replace and remove in a sound world: refused exactly where the rules refuse, and otherwise as the plain map answers. Assumes nothing.
 use mathlib.Core.Path.{_≡_, refl, sym, ap, _∙_}
 use mathlib.Core.Bool.{true, Bool, false, cond, not}
 use mathlib.Core.Option.{none, Option, some}
@@ -7,10 +7,9 @@ use Prim.Native.Nat.{ℕ}
 use native.Mathlib.Omega.{arith}
 use Rattle.prelude.specs.Answer.{Answer, gives, absent, refused, refusalIn, refuses}
 use Rattle.prelude.proofs.defs.Answer.{isRefusal}
-use Rattle.stores.specs.Store.{Store}
 use Rattle.table.specs.Table.{nextVersion, isHeld}
 use Rattle.calls.specs.Change.{ChangeResult, changed, unchanged}
-use Rattle.plainmap.specs.World.{World, Call, outOf, Called, toPlay, calledChange, called, put, remove, get, locate}
+use Rattle.plainmap.specs.World.{World, Call, outOf, Called, calledChange, called, write, remove, get, locate}
 use Rattle.layout.specs.Size.{slotsIn}
 use Rattle.layout.specs.Content.{tableOf}
 use Rattle.plainmap.specs.Plain.{plainAnswer, plainOut, PlainMap, lengthAnswer}
@@ -32,13 +31,13 @@ module _
     kind ≡ 2 → slotsMap l (w .image) key ≡ none
     → absent ≡ dueAnswer l w (slotsMap l (w .image)) call)
     (no-out : [] ≡ plainOut (slotsMap l (w .image)) call) (none-lent : [] ≡ outOf call) where
-  still : (answer : Answer) → called l w call ≡ calledChange (unchanged answer (w .state) (w .heads) (w .next)) → ((ss : List Store) → toPlay answer ss ≡ [])
+  still : (answer : Answer) → called l w call ≡ calledChange (unchanged answer (w .state) (w .heads) (w .next))
       → Untouched w call (called l w call)
   unfolding calledChange unchanged
-  still answer d empty =
+  still answer d =
       record {
         out = ap (λ (c : Called). c .out) d ∙ none-lent;
-        stores = ap (λ (c : Called). c .stores) d ∙ empty _;
+        stores = ap (λ (c : Called). c .stores) d;
         heads = ap (λ (c : Called). c .heads) d;
         next = ap (λ (c : Called). c .next) d;
         state = ap (λ (c : Called). c .state) d;
@@ -46,15 +45,15 @@ module _
 
   pub ran-right : (fault : ℕ) (r : ChangeResult) → called l w call ≡ calledChange r → Ran l w key kind value fault r
       → fault ≡ dueFault l w (slotsMap l (w .image)) call → Right l w (slotsMap l (w .image)) call
-  unfolding calledChange unchanged changed toPlay refusalIn
+  unfolding calledChange unchanged changed refusalIn
   ran-right fault r e (ran-refused nz q) due =
       let d = e ∙ ap calledChange q in
       record {
         refusal = ap (λ (c : Called). refusalIn (c .answer)) d ∙ due;
         answer = λ z. absurd (nz (due ∙ z));
         out = λ z. ap (λ (c : Called). c .out) d ∙ no-out;
-        refused-still = λ x. still (refused fault) d (λ ss. refl);
-        absent-still = λ x. still (refused fault) d (λ ss. refl);
+        refused-still = λ x. still (refused fault) d;
+        absent-still = λ x. still (refused fault) d;
       }
   ran-right fault r e (ran-absent z kd q m) due =
       let d = e ∙ ap calledChange q in
@@ -63,7 +62,7 @@ module _
         answer = λ x. ap (λ (c : Called). c .answer) d ∙ none-held kd m;
         out = λ x. ap (λ (c : Called). c .out) d ∙ no-out;
         refused-still = λ x. absurd (x (sym due ∙ z));
-        absent-still = λ x. still absent d (λ ss. refl);
+        absent-still = λ x. still absent d;
       }
   ran-right fault r e (ran-wrote z i alive q wr) due =
       let d = e ∙ ap calledChange q in
@@ -86,7 +85,7 @@ refused-is (refused number) ne = refl
 
 pub plain-given : (slot version : ℕ) (holder : ℕ → List ℕ) (m : PlainMap) (call : Call) → isRefusal (plainAnswer slot version holder m call) ≡ false
 unfolding plainAnswer isRefusal lengthAnswer
-plain-given slot version holder m (put key value) = refl
+plain-given slot version holder m (write mode key value) = refl
 plain-given slot version holder m (remove key) = go (isHeld (m key))
   where
     go : (b : Bool) → isRefusal (cond b (gives (slot ∷ version ∷ [])) absent) ≡ false

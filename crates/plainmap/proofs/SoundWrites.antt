@@ -24,7 +24,7 @@ use Rattle.table.proofs.LiveCount.{room, count-new, count-over, count-removed}
 use Rattle.table.proofs.Hidden.{head-free}
 use Rattle.table.proofs.Reuse.{write-hidden}
 use Rattle.index.specs.Index.{Index, Chain, reuse, head, headOf, indexOf, stateOf}
-use Rattle.index.specs.Change.{putNew, putHeld, removeHeld}
+use Rattle.index.specs.Change.{insertNew, replaceHeld, removeHeld}
 use Rattle.index.specs.Linked.{endOf, Sits}
 use Rattle.index.proofs.defs.Linked.{withChain}
 use Rattle.index.proofs.Owners.{Told, is, isnt, told}
@@ -154,11 +154,11 @@ module _
 
     -- a put of a key that is not held
     pub new-sound : (prev : ℕ) → mapOf f n key ≡ none → isPut c ≡ true → h < b → prev ≡ endOf 0 (chains (head h)) → liveCount f n + 1 < n
-        → Sound l (after (putNew i h prev) (w .state .live + 1))
+        → Sound l (after (insertNew i h prev) (w .state .live + 1))
         (withChain (withChain chains reuse rest) (head h) (chains (head h) ++ s ∷ []))
     new-sound prev m p few q room =
         let more = count-new f n s (nextVersion f n) key c at free r above m p in
-        write-sound (putNew i h prev) (w .state .live + 1) _
+        write-sound (insertNew i h prev) (w .state .live + 1) _
         (sits-new n b (placeOf f n b) i chains (g .index) (placeOf (upd f s c) n b) h prev s rest e few q
         (place-put f n b s (nextVersion f n) key c at free r above p)
         (λ x lo hi ne. place-kept f n b s (nextVersion f n) key c at free r above x (omega arith, hi) ne (λ d. unheld-spare x (omega arith, hi) d (held-or f n key))))
@@ -194,11 +194,11 @@ module _
 
       -- a put
       pub held-sound : isPut c ≡ true
-          → Sound l (after (putHeld i h prev old) (w .state .live))
+          → Sound l (after (replaceHeld i h prev old) (w .state .live))
           (withChain (withChain chains reuse (rest ++ old ∷ [])) (head h) (xs ++ s ∷ ys))
       held-sound p =
           let same = count-over f n s (nextVersion f n) key c at free r above v m p in
-          write-sound (putHeld i h prev old) (w .state .live) _
+          write-sound (replaceHeld i h prev old) (w .state .live) _
           (sits-held n b (placeOf f n b) i chains (g .index) (placeOf (upd f s c) n b) h prev s rest e xs old ys parts q
           (place-put f n b s (nextVersion f n) key c at free r above p) (place-old f n b s (nextVersion f n) key c at free r above old j apart d)
           (λ x lo hi ne nq. else-kept x (omega arith, hi) ne nq))

@@ -7,15 +7,16 @@ use Rattle.words.specs.Word.{AreBytes}
 use Rattle.prelude.specs.Answer.{Answer, absent, refusalIn, refuses}
 use Rattle.layout.specs.Record.{limit}
 use Rattle.table.specs.Table.{mapOf, holder, liveCount, nextVersion}
+use Rattle.index.specs.declared.Mode.{Mode}
 use Rattle.calls.specs.Get.{getResult}
-use Rattle.plainmap.specs.World.{World, Call, put, remove, get, locate, outOf, Called, called}
+use Rattle.plainmap.specs.World.{World, Call, write, remove, get, locate, outOf, Called, called}
 use Rattle.layout.specs.Size.{slotsIn}
 use Rattle.layout.specs.Content.{tableOf}
-use Rattle.plainmap.specs.Plain.{PlainMap, operation, plainStep, ruleFault, lengthAnswer, filled, plainAnswer, plainOut}
+use Rattle.plainmap.specs.Plain.{PlainMap, updates, plainStep, ruleFault, lengthAnswer, filled, plainAnswer, plainOut}
 
--- a put's and a remove's key has l words, and a put's value is bytes; of a get nothing is asked
+-- the key of a call that writes has l words, and its value is bytes; of a get and a locate nothing is asked
 pub data Typed (l : ℕ) : Call → Type 0 where
-  put-typed : {key : ℕ} {value : List ℕ} → key < (2 ^ 64) ^ l → AreBytes value → Typed l (put key value)
+  write-typed : {mode : Mode} {key : ℕ} {value : List ℕ} → key < (2 ^ 64) ^ l → AreBytes value → Typed l (write mode key value)
   remove-typed : {key : ℕ} → key < (2 ^ 64) ^ l → Typed l (remove key)
   get-typed : {key : ℕ} {out : List ℕ} → Typed l (get key out)
   locate-typed : {key : ℕ} → Typed l (locate key)
@@ -67,4 +68,4 @@ Reads l w m =
 
 -- the plain map after a call with all its stores played: it is told "whether these rules refuse it"
 abbrev pub mapAfterCall : (l : ℕ) → World → PlainMap → Call → PlainMap
-mapAfterCall l w m call = plainStep (operation call) (refuses (dueFault l w m call)) m
+mapAfterCall l w m call = plainStep (updates call) (refuses (dueFault l w m call)) m

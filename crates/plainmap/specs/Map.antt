@@ -13,7 +13,8 @@ use Rattle.index.specs.Walk.{search}
 use Rattle.recovery.specs.Recover.{chainsOf}
 use Rattle.recovery.specs.Represents.{Answers}
 use Rattle.calls.specs.Format.{formatted}
-use Rattle.calls.specs.Change.{putFault}
+use Rattle.index.specs.declared.Mode.the-variants.{Insert}
+use Rattle.calls.specs.Change.{writeFault}
 use Rattle.plainmap.specs.World.{World, Call, finished, recoveredWorld, called}
 use Rattle.layout.specs.Content.{tableOf}
 use Rattle.plainmap.specs.Plain.{PlainMap}
@@ -43,9 +44,9 @@ pub record IsMap (l : ℕ) : Type 0 where
   -- the play of a list of its stores leaves that image too
   pub list-plays : (w : World) (m : PlainMap) → Agrees l w m → (call : Call) → Typed l call
       → playListResult (w .image) (wordNumbers (called l w call .stores)) (values (called l w call .stores)) ≡ playEnd 0 (finished l w call .image)
-  -- 12 is given exactly where the value fits, the key is not held, and one slot is left that is not live
+  -- an insert meets 12 exactly where the value fits, the key is not held, and one slot is left that is not live. A replace never does: face/Numbers
   pub room : (w : World) (chains : Chain → List ℕ) → Accepted l (w .image) → Sound l w chains → (key : ℕ) (value : List ℕ)
-      → (putFault l (w .image) (w .heads) (w .next) (w .state) key (length value) ≡ 12)
+      → (writeFault l (w .image) (w .heads) (w .next) (w .state) Insert key (length value) ≡ 12)
       ↔ ((length value ≤ limit l) × (slotsMap l (w .image) key ≡ none)
       × (liveCount (tableOf l (w .image)) (slotsIn (w .image)) + 1 ≡ slotsIn (w .image)))
   -- get with the recovered index gives the map that the slots of an accepted image give

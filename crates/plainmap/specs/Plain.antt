@@ -5,39 +5,43 @@ use mathlib.Core.List.{List, [], _∷_, _++_}
 use Prim.Native.Nat.{ℕ, _+_}
 use lib.Dec.{eqb, ltb, leb}
 use lib.ListN.{length, drop}
-use Rattle.prelude.specs.Refusal.{say}
+use Rattle.prelude.specs.Refusal.{say, orElse}
 use Rattle.prelude.specs.Answer.{Answer, gives, absent}
 use Rattle.layout.specs.Record.{limit}
 use Rattle.table.specs.Table.{isHeld}
 use Rattle.layout.specs.Line.{versionFault}
-use Rattle.plainmap.specs.World.{Call, put, remove, get, locate}
+use Rattle.index.specs.Change.{keyFault}
+use Rattle.plainmap.specs.World.{Call, write, remove, get, locate}
 
 -- "Its state is a set of keys with a value each, perhaps of 0 bytes"
 abbrev pub PlainMap : Type 0
 PlainMap = ℕ → Option (List ℕ)
 
--- "fed only which call it is, its key, a put's value"
-pub data Operation : Type 0 where
-  putting : (key : ℕ) → (value : List ℕ) → Operation
-  removing : (key : ℕ) → Operation
-  reading : (key : ℕ) → Operation
+-- "fed only which call it is, its key, a put's value": what a call makes of the map where it is not refused, one key at a time
+pub data Update : Type 0 where
+  giving : (key : ℕ) → (value : List ℕ) → Update
+  dropping : (key : ℕ) → Update
 
--- of a call, what the plain map is fed; a get's output is no part of it
-unfoldable pub operation : Call → Operation
-operation (put key value) = putting key value
-operation (remove key) = removing key
-operation (get key out) = reading key
-operation (locate key) = reading key
+-- of a call, what the plain map is fed; a call that only reads updates no key
+unfoldable pub updates : Call → List Update
+updates (write mode key value) = giving key value ∷ []
+updates (remove key) = dropping key ∷ []
+updates (get key out) = []
+updates (locate key) = []
 
 -- "A put gives its key the value, held before or not. A remove drops a held key"
-unfoldable pub plainNext : Operation → PlainMap → PlainMap
-plainNext (putting key value) m k = cond (eqb k key) (some value) (m k)
-plainNext (removing key) m k = cond (eqb k key) none (m k)
-plainNext (reading key) m k = m k
+unfoldable pub updated : Update → PlainMap → PlainMap
+updated (giving key value) m k = cond (eqb k key) (some value) (m k)
+updated (dropping key) m k = cond (eqb k key) none (m k)
+
+-- all updates, in their order
+unfoldable pub plainNext : List Update → PlainMap → PlainMap
+plainNext [] m = m
+plainNext (u ∷ us) m = plainNext us (updated u m)
 
 -- "A refused call changes nothing"; isRefused is "whether these rules refuse it"
-unfoldable pub plainStep : Operation → (isRefused : Bool) → PlainMap → PlainMap
-plainStep op isRefused m = cond isRefused m (plainNext op m)
+unfoldable pub plainStep : List Update → (isRefused : Bool) → PlainMap → PlainMap
+plainStep us isRefused m = cond isRefused m (plainNext us m)
 
 -- ---- what a call answers, by the plain map before it
 
@@ -46,10 +50,13 @@ unfoldable pub sizeOf : Option (List ℕ) → ℕ
 sizeOf none = 0
 sizeOf (some value) = length value
 
--- where the rules refuse a call on an image with its own index: n slots, `count` keys held, the next version. A put with 10, 12 or 9, a remove with 9, a get with 13, a locate never
+-- where the rules refuse a call on an image with its own index: n slots, `count` keys held, the next version. An insert with 10, 20, 12 or 9, a replace with 10, 21 or 9,
+-- a remove with 9, a get with 13, a locate never
 unfoldable pub ruleFault : (l n count version : ℕ) → PlainMap → Call → ℕ
-ruleFault l n count version m (put key value) =
-    say (ltb (limit l) (length value)) 10 (say (not (isHeld (m key)) && leb n (count + 1)) 12 (versionFault version))
+ruleFault l n count version m (write mode key value) =
+    say (ltb (limit l) (length value)) 10
+    (orElse (keyFault mode (isHeld (m key)))
+    (say (not (isHeld (m key)) && leb n (count + 1)) 12 (versionFault version)))
 ruleFault l n count version m (remove key) = cond (isHeld (m key)) (versionFault version) 0
 ruleFault l n count version m (get key out) = say (ltb (length out) (sizeOf (m key))) 13 0
 ruleFault l n count version m (locate key) = 0
@@ -64,17 +71,17 @@ unfoldable pub filled : Option (List ℕ) → (out : List ℕ) → List ℕ
 filled none out = out
 filled (some value) out = value ++ drop (length value) out
 
--- a call that is not refused: put and remove answer the slot taken and the version; "A remove drops a held key; for another it answers absent".
+-- a call that is not refused: insert, replace and remove answer the slot taken and the version; "A remove drops a held key; for another it answers absent".
 -- A locate answers the slot that holds the key and its version: `holder` gives both
 unfoldable pub plainAnswer : (slot version : ℕ) → (holder : ℕ → List ℕ) → PlainMap → Call → Answer
-plainAnswer slot version holder m (put key value) = gives (slot ∷ version ∷ [])
+plainAnswer slot version holder m (write mode key value) = gives (slot ∷ version ∷ [])
 plainAnswer slot version holder m (remove key) = cond (isHeld (m key)) (gives (slot ∷ version ∷ [])) absent
 plainAnswer slot version holder m (get key out) = lengthAnswer (m key)
 plainAnswer slot version holder m (locate key) = cond (isHeld (m key)) (gives (holder key)) absent
 
--- the output that a call leaves; a put and a remove have none
+-- the output that a call leaves; a get alone has one
 unfoldable pub plainOut : PlainMap → Call → List ℕ
-plainOut m (put key value) = []
+plainOut m (write mode key value) = []
 plainOut m (remove key) = []
 plainOut m (get key out) = filled (m key) out
 plainOut m (locate key) = []

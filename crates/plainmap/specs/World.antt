@@ -1,12 +1,13 @@
 -- The lent image and index with the state beside them, and what calls and recovery make of them: nothing but the definitions that the contracts of the public calls cite.
 use mathlib.Core.List.{List, []}
 use Prim.Native.Nat.{ℕ}
-use Rattle.prelude.specs.Answer.{Answer, gives, absent, refused}
+use Rattle.prelude.specs.Answer.{Answer}
 use Rattle.stores.specs.Store.{Store}
 use Rattle.stores.specs.Play.{wordNumbers, values, playResult}
 use Rattle.index.specs.declared.State.{State}
 use Rattle.recovery.specs.Recover.{Result, recoverResult}
-use Rattle.calls.specs.Change.{ChangeResult, putResult, removeResult}
+use Rattle.index.specs.declared.Mode.{Mode}
+use Rattle.calls.specs.Change.{ChangeResult, writeResult, removeResult}
 use Rattle.calls.specs.Get.{GetResult, getResult}
 use Rattle.calls.specs.Locate.{locateResult}
 
@@ -19,16 +20,16 @@ pub record World : Type 0 where
 
 -- ---- calls
 
--- "Its value or output is its own"
+-- an insert or a replace, by its mode, and the others. "Its value or output is its own"
 pub data Call : Type 0 where
-  put : (key : ℕ) → (value : List ℕ) → Call
+  write : Mode → (key : ℕ) → (value : List ℕ) → Call
   remove : (key : ℕ) → Call
   get : (key : ℕ) → (out : List ℕ) → Call
   locate : (key : ℕ) → Call
 
 -- the output that a call is lent; a get alone has one
 unfoldable pub outOf : Call → List ℕ
-outOf (put key value) = []
+outOf (write mode key value) = []
 outOf (remove key) = []
 outOf (get key out) = out
 outOf (locate key) = []
@@ -43,19 +44,13 @@ pub record Called : Type 0 where
   pub next : List ℕ
   pub state : State
 
--- a call that is refused or answers absent has no stores to play
-unfoldable pub toPlay : Answer → List Store → List Store
-toPlay (gives values) ss = ss
-toPlay absent ss = []
-toPlay (refused number) ss = []
-
--- by the result of put or remove, which have no output
+-- by the result of a call that writes, which has no output
 unfoldable pub calledChange : ChangeResult → Called
 calledChange r =
     record {
       answer = r .answer;
       out = [];
-      stores = toPlay (r .answer) (r .stores);
+      stores = r .stores;
       heads = r .heads;
       next = r .next;
       state = r .state;
@@ -72,7 +67,7 @@ calledLocate w answer =
 
 -- the call by its contract
 unfoldable pub called : (l : ℕ) → World → Call → Called
-called l w (put key value) = calledChange (putResult l (w .image) (w .heads) (w .next) (w .state) key value)
+called l w (write mode key value) = calledChange (writeResult l (w .image) (w .heads) (w .next) (w .state) mode key value)
 called l w (remove key) = calledChange (removeResult l (w .image) (w .heads) (w .next) (w .state) key)
 called l w (get key out) = calledGet w (getResult l (w .image) (w .heads) (w .next) key out)
 called l w (locate key) = calledLocate w (locateResult l (w .image) (w .heads) (w .next) key)

@@ -1,5 +1,6 @@
 -- A call of a session on an image and an index of its set's size: it is an event of the cut rule, and it prints what the call answers. Assumes nothing.
 use mathlib.Core.Path.{_≡_, refl, sym, ap, ap₂, _∙_, subst}
+use mathlib.Core.Bool.{Bool, true, false, cond}
 use mathlib.Core.List.{List, [], _∷_}
 use Prim.Native.Nat.{ℕ, _^_, _<_, _≤_}
 use native.Mathlib.Omega.{arith}
@@ -10,17 +11,18 @@ use Rattle.prelude.specs.Answer.{Answer, gives, absent, refused}
 use Rattle.prelude.proofs.Fills.{zeros}
 use Rattle.face.proofs.defs.CutImage.{cutImage}
 use Rattle.face.proofs.SetLaws.{layout-1, call-laws}
-use Rattle.face.specs.Set.{recoverFault, indexFault, State, Store, ChangeResult, World, Call, put, remove, get, Called, toPlay, calledChange, calledGet, called, playing, finished, worldAfter, recoveredWorld, slotsIn, PlainMap, Typed, put-typed, remove-typed, Untouched}
+use Rattle.face.specs.Set.{recoverFault, indexFault, State, Store, ChangeResult, World, Mode, Insert, Replace, Call, write, remove, get, Called, writeResult, locateResult, isHeld, calledChange, calledGet, called, playing, finished, worldAfter, recoveredWorld, slotsIn, PlainMap, Typed, write-typed, remove-typed, Untouched}
 use Rattle.face.specs.Event.{Cut, done, struck, step, Fits, stepBy, imageCut}
 use Rattle.face.proofs.Stored.{refusal-still}
-use Rattle.face.specs.Laws.{Writes, put-writes, remove-writes, SetLaws}
+use Rattle.face.proofs.Located.{located}
+use Rattle.face.specs.Laws.{Writes, write-writes, remove-writes, SetLaws}
 use Rattle.text.specs.Output.{Printed, ok}
-use Rattle.session.specs.Step.{StepResult, leaves, recoverStep, storedWith, changedAs, changeStep, wordBytes, gotBy, wordFound, lineStep}
+use Rattle.session.specs.Step.{StepResult, leaves, recoverStep, storedWith, changedAs, changeStep, wordBytes, modeBy, putStep, gotBy, wordFound, lineStep}
 use Rattle.text.specs.declared.Line.the-variants.{Put, Remove, Get}
 use Rattle.session.specs.declared.Waiting.{Waiting}
 use Rattle.session.specs.declared.Waiting.the-variants.{Nothing, Counts}
 use Rattle.session.specs.declared.Session.{Session}
-use Rattle.session.specs.Lines.{sessionOf, struckWith, eventIn, waitsOn, changePrints, printedFor}
+use Rattle.session.specs.Lines.{sessionOf, modeFor, struckWith, eventIn, waitsOn, changePrints, printedFor}
 use Rattle.session.specs.Rule.{FewWait, none-waits, few-wait}
 use Rattle.session.proofs.Events.{left-size, event-fits}
 use Rattle.session.proofs.Fronts.{leftBy, LeftBehind}
@@ -135,7 +137,7 @@ module _ (Inv : World → PlainMap → Type 0) (laws : SetLaws 1 Inv) where
         subst (Carried n (Counts a b) w call) (sym (recovers a b p q))
         (carried (Counts a b) _ (sym (ap (step 1 w) (struck-event a b p q))))
 
--- ---- put, remove and get
+-- ---- the calls
 
 pub word-bytes : (x : ℕ) → AreBytes (wordBytes x)
 unfolding wordBytes
@@ -175,7 +177,7 @@ module _ (Inv : World → PlainMap → Type 0) (laws : SetLaws 1 Inv) (s : Sessi
         (sym (says (called 1 w call .answer) (called 1 w call .out) ∙ ap changePrints e)))
 
     changed-carried : (c : ChangeResult) → called 1 w call ≡ calledChange c → Carried (s .n) (s .waiting) w call (changeStep s image c)
-    unfolding changeStep changedAs calledChange toPlay changePrints
+    unfolding changeStep changedAs calledChange changePrints
     changed-carried c d = go (c .answer) (c .stores) d
       where
         go : (answer : Answer) (ss : List Store)
@@ -192,11 +194,19 @@ module _ (Inv : World → PlainMap → Type 0) (laws : SetLaws 1 Inv) (s : Sessi
             kept (refused number) (c .heads) (c .next) (ap (λ (r : Called). r .answer) e) (ap (λ (r : Called). r .heads) e)
             (ap (λ (r : Called). r .next) e) (refusal-still 1 w m call (laws .answers w m i call typed) number (ap (λ (r : Called). r .answer) e))
 
-  pub put-carried : (key x : ℕ) → key < 2 ^ 64
-      → Carried (s .n) (s .waiting) w (put key (wordBytes x)) (lineStep (Put key x) s image heads next)
-  unfolding lineStep printedFor called
-  put-carried key x k =
-      changed-carried (put key (wordBytes x)) (put-typed k (word-bytes x)) put-writes (λ answer out. refl) _ refl
+  -- p inserts where the plain map has no value for the key, and replaces where it has one
+  mode-held : (held : Bool) (values : List ℕ) → modeFor held ≡ modeBy (cond held (gives values) absent)
+  unfolding modeFor modeBy
+  mode-held true values = refl
+  mode-held false values = refl
+
+  pub write-carried : (key x : ℕ) → key < 2 ^ 64
+      → Carried (s .n) (s .waiting) w (write (modeFor (isHeld (m key))) key (wordBytes x)) (lineStep (Put key x) s image heads next)
+  unfolding lineStep putStep printedFor called
+  write-carried key x k =
+      changed-carried (write (modeFor (isHeld (m key))) key (wordBytes x)) (write-typed k (word-bytes x)) write-writes (λ answer out. refl) _
+      (ap (λ (mode : Mode). calledChange (writeResult 1 image heads next (s .state) mode key (wordBytes x)))
+      (mode-held (isHeld (m key)) _ ∙ ap modeBy (sym (located 1 Inv laws w m i key))))
 
   pub remove-carried : (key : ℕ) → key < 2 ^ 64
       → Carried (s .n) (s .waiting) w (remove key) (lineStep (Remove key) s image heads next)

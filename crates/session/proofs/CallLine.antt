@@ -53,7 +53,7 @@ module _ (Inv : World → PlainMap → Type 0) (laws : SetLaws 1 Inv) (r : StepR
       one-head Inv laws n (step 1 w event) map after (laws .keeps-slots w m (k .set) event fits ∙ slots-front r n (k .size) Inv laws)
       (event-heads Inv laws w call (r .session .waiting) ∙ heads-front r n (k .size))
 
-  pub call-goes : (line : Line) → faultAt r line ≡ 0 → slotsFor line (r .session) ≡ n → callIn line ≡ some call
+  pub call-goes : (line : Line) → faultAt r line ≡ 0 → slotsFor line (r .session) ≡ n → callIn m line ≡ some call
       → mapByLine w (r .session .waiting) m line ≡ map
       → Carried n (r .session .waiting) w call
       (lineStep line (r .session) (take (128 * (n + 1)) (r .image)) (take 1 (r .heads)) (take (n + 1) (r .next)))

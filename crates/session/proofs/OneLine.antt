@@ -8,7 +8,7 @@ use native.Mathlib.Omega.{arith}
 use lib.ListN.{replicate}
 use Rattle.prelude.proofs.Refusals.{orElse-zero, refused-keeps}
 use Rattle.face.specs.Laws.{SetLaws}
-use Rattle.face.specs.Set.{World, put, remove, get, PlainMap, put-typed, remove-typed, get-typed}
+use Rattle.face.specs.Set.{World, write, remove, get, PlainMap, isHeld, write-typed, remove-typed, get-typed}
 use Rattle.text.specs.Output.{Printed, no}
 use Rattle.session.specs.Step.{StepResult, leaves, noSet, formFault, slotsFor, lineFault, wordBytes, stepResult}
 use Rattle.session.specs.Stream.{stepAfter}
@@ -16,10 +16,10 @@ use Rattle.text.specs.declared.Line.{Line}
 use Rattle.text.specs.declared.Line.the-variants.{New, Put, Remove, Get, Cut, Bad}
 use Rattle.session.specs.declared.Session.{Session}
 use Rattle.session.proofs.Steps.{roomy}
-use Rattle.session.specs.Lines.{worldOf, callIn}
+use Rattle.session.specs.Lines.{worldOf, modeFor, callIn}
 use Rattle.session.specs.Rule.{faultAt, mapByCall, mapByLine, mapAfter, LineRight, refused-line, SizedLine, sized-put, sized-remove}
 use Rattle.session.proofs.defs.Keeps.{SetKeeps, Keeps, none-yet, kept}
-use Rattle.session.proofs.CallEvents.{word-bytes, put-carried, remove-carried, get-carried}
+use Rattle.session.proofs.CallEvents.{word-bytes, write-carried, remove-carried, get-carried}
 use Rattle.session.proofs.NewLine.{new-goes}
 use Rattle.session.proofs.CutLine.{cut-goes}
 use Rattle.session.proofs.CallLine.{call-goes}
@@ -71,8 +71,8 @@ module _ (Inv : World → PlainMap → Type 0) (laws : SetLaws 1 Inv) where
   taken-goes r m (New n) s k z = new-goes Inv laws r m n z
   taken-goes r m (Put key x) (sized-put p q) k z =
       let t = has-set r m (Put key x) refl z k in
-      call-goes Inv laws r m t (put key (wordBytes x)) (put-typed p (word-bytes x)) (Put key x) z refl refl refl
-      (put-carried Inv laws (r .session) _ _ _ m (t .set) (t .waits) key x p)
+      call-goes Inv laws r m t (write (modeFor (isHeld (m key))) key (wordBytes x)) (write-typed p (word-bytes x)) (Put key x) z refl refl refl
+      (write-carried Inv laws (r .session) _ _ _ m (t .set) (t .waits) key x p)
   taken-goes r m (Remove key) (sized-remove p) k z =
       let t = has-set r m (Remove key) refl z k in
       call-goes Inv laws r m t (remove key) (remove-typed p) (Remove key) z refl refl refl

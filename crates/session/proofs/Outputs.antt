@@ -30,7 +30,7 @@ use Rattle.session.proofs.Numbers.{sized-line}
 none-some : (call : Call) → none ≡ some call → ⊥
 none-some call e = let z : _≡_ {A = ℕ} 0 1 = cc in omega arith
 
-call-prints : (w : World) (m : PlainMap) (line : Line) (call : Call) → callIn line ≡ some call → plainPrints w m call ≡ linePrints w m line
+call-prints : (w : World) (m : PlainMap) (line : Line) (call : Call) → callIn m line ≡ some call → plainPrints w m call ≡ linePrints w m line
 unfolding callIn callPrints linePrints
 call-prints w m (New n) call e = absurd (none-some call e)
 call-prints w m (Put key word) call e = sym (ap (callPrints w m) e)

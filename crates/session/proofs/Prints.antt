@@ -6,7 +6,7 @@ use Prim.Native.Nat.{ℕ}
 use native.Mathlib.Decide.{ℕ-discrete}
 use Rattle.prelude.specs.Answer.{Answer, gives, absent, refused, refusalIn}
 use Rattle.prelude.proofs.Refusals.{taken-leaves, refused-keeps}
-use Rattle.face.specs.Set.{World, Call, put, remove, get, locate, called, PlainMap, dueFault, Right}
+use Rattle.face.specs.Set.{World, Call, write, remove, get, locate, called, PlainMap, dueFault, Right}
 use Rattle.text.specs.Output.{no}
 use Rattle.session.specs.Step.{gotAs}
 use Rattle.session.specs.Lines.{changePrints, printedFor}
@@ -16,7 +16,7 @@ use Rattle.session.specs.Rule.{plainPrints}
 
 prints-number : (call : Call) (number : ℕ) (out : List ℕ) → printedFor call (refused number) out ≡ no number
 unfolding printedFor changePrints gotAs
-prints-number (put key value) number out = refl
+prints-number (write mode key value) number out = refl
 prints-number (remove key) number out = refl
 prints-number (get key lent) number out = refl
 prints-number (locate key) number out = refl

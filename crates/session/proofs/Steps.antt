@@ -7,9 +7,12 @@ use native.Mathlib.Omega.{arith}
 use lib.ListN.{length, take, drop}
 use borrow.Author.Tests.{ltb-false}
 use Rattle.prelude.proofs.Refusals.{say-zero, orElse-zero, taken-leaves}
-use Rattle.face.specs.Set.{zipped, wordNumbers, values, Played, playEnd, playResult, playing}
+use Rattle.prelude.specs.Answer.{Answer, gives, absent, refused}
+use Rattle.face.specs.Laws.{write-writes, remove-writes}
+use Rattle.face.proofs.SetLaws.{layout-1, call-laws}
+use Rattle.face.specs.Set.{Store, Mode, World, write, remove, called, calledChange, handedOut, leftIn, ChangeResult, writeResult, removeResult, zipped, wordNumbers, values, Played, playEnd, playResult, playing}
 use Rattle.text.specs.Output.{Printed}
-use Rattle.session.specs.Step.{leaves, slotsFor, sizeFault, lineFault, lineStep, followedBy, frontStep, stepResult}
+use Rattle.session.specs.Step.{leaves, slotsFor, sizeFault, lineFault, changedAs, changeStep, lineStep, followedBy, frontStep, stepResult}
 use Rattle.text.specs.declared.Line.{Line}
 use Rattle.session.specs.declared.Session.{Session}
 
@@ -31,6 +34,36 @@ unfolding playing
 played-on image at value words numbers a b k after e =
     let p = parts-zipped at value (words ∙ sym numbers) in
     ap (λ (r : Played). r .bytes) (e ∙ ap₂ (λ (ws vs : List ℕ). playResult image ws vs a b) (sym (p .0)) (sym (p .1)))
+
+-- a step by what a call left in the stores lent to it: they are looked at only where it handed stores out
+pub left-step : (s : Session) (image : List ℕ) (lent : List Store) (c : ChangeResult)
+    → ((given : List ℕ) → c .answer ≡ gives given → handedOut (c .stores) lent ≡ c .stores) → changeStep s image (leftIn lent c) ≡ changeStep s image c
+unfolding changeStep changedAs leftIn
+left-step s image lent c h = go (c .answer) h
+  where
+    go : (answer : Answer) → ((given : List ℕ) → answer ≡ gives given → handedOut (c .stores) lent ≡ c .stores)
+        → changedAs s (c .state) (handedOut (c .stores) lent) image (c .heads) (c .next) answer ≡
+        changedAs s (c .state) (c .stores) image (c .heads) (c .next) answer
+    go (gives given) out = ap (λ (ss : List Store). changedAs s (c .state) ss image (c .heads) (c .next) (gives given)) (out given refl)
+    go absent out = refl
+    go (refused number) out = refl
+
+-- the call of a line hands out stores where it answers a slot
+module _ (s : Session) (image heads next : List ℕ) (lent : List Store) where
+  abbrev lineWorld : World
+  lineWorld = record { image = image; heads = heads; next = next; state = s .state }
+
+  pub put-left : (mode : Mode) (key : ℕ) (value : List ℕ)
+      → changeStep s image (leftIn lent (writeResult 1 image heads next (s .state) mode key value)) ≡
+      changeStep s image (writeResult 1 image heads next (s .state) mode key value)
+  unfolding called calledChange
+  put-left mode key value = left-step s image lent _ (λ given e. call-laws 1 layout-1 .hands-out lineWorld (write mode key value) write-writes given e lent)
+
+  pub remove-left : (key : ℕ)
+      → changeStep s image (leftIn lent (removeResult 1 image heads next (s .state) key)) ≡
+      changeStep s image (removeResult 1 image heads next (s .state) key)
+  unfolding called calledChange
+  remove-left key = left-step s image lent _ (λ given e. call-laws 1 layout-1 .hands-out lineWorld (remove key) remove-writes given e lent)
 
 -- ---- the refusals before a step
 

@@ -1,11 +1,12 @@
 -- The lines of a trial session as calls and events of the cut rule. Document 01, "The trial session".
+use mathlib.Core.Bool.{Bool, cond}
 use mathlib.Core.Option.{Option, some, none}
 use mathlib.Core.List.{List, [], _∷_}
 use Prim.Native.Nat.{ℕ, _+_, _*_}
 use lib.ListN.{take, replicate}
 use Rattle.words.specs.Word.{word}
 use Rattle.prelude.specs.Answer.{Answer, gives, absent, refused}
-use Rattle.face.specs.Set.{Store, World, Call, put, remove, get, locate, called}
+use Rattle.face.specs.Set.{Store, World, Mode, Insert, Replace, Call, write, remove, get, locate, called, PlainMap, isHeld}
 use Rattle.face.specs.Event.{Event, done, struck}
 use Rattle.text.specs.Output.{Printed, ok, notHeld, no}
 use Rattle.session.specs.Step.{StepResult, wordBytes, gotAs}
@@ -29,14 +30,18 @@ worldOf r =
 abbrev pub sessionOf : (n : ℕ) → World → Waiting → Session
 sessionOf n w waiting = record { n = n; state = w .state; waiting = waiting }
 
--- "`p K W` puts the 8-byte word W", "`r K` removes", "`g K`: `found W`", with 80 bytes of output; the other lines make no call
-unfoldable pub callIn : Line → Option Call
-callIn (Put key word) = some (put key (wordBytes word))
-callIn (Remove key) = some (remove key)
-callIn (Get key) = some (get key (replicate 80 0))
-callIn (New n) = none
-callIn (Cut a b) = none
-callIn Bad = none
+-- "The trial's p inserts or replaces according to what is held" (document 02, A.2)
+unfoldable pub modeFor : (held : Bool) → Mode
+modeFor held = cond held Replace Insert
+
+-- "`p K W` puts the 8-byte word W", "`r K` removes", "`g K`: `found W`", with 80 bytes of output; the other lines make no call. m is the plain map before it
+unfoldable pub callIn : PlainMap → Line → Option Call
+callIn m (Put key word) = some (write (modeFor (isHeld (m key))) key (wordBytes word))
+callIn m (Remove key) = some (remove key)
+callIn m (Get key) = some (get key (replicate 80 0))
+callIn m (New n) = none
+callIn m (Cut a b) = none
+callIn m Bad = none
 
 -- ---- the event that a call is
 
@@ -65,7 +70,7 @@ changePrints (refused number) = no number
 
 -- by the call's answer and the output that it left: "`found W`" prints the word at the front of the output
 unfoldable pub printedFor : Call → Answer → (out : List ℕ) → Printed
-printedFor (put key value) answer out = changePrints answer
+printedFor (write mode key value) answer out = changePrints answer
 printedFor (remove key) answer out = changePrints answer
 printedFor (get key lent) answer out = gotAs out answer
 printedFor (locate key) answer out = changePrints answer

@@ -22,10 +22,10 @@ callPrints w m none = no 16
 unfoldable pub linePrints : World → PlainMap → Line → Printed
 linePrints w m (New n) = ok (n ∷ [])
 linePrints w m (Cut a b) = cut a b
-linePrints w m (Put key word) = callPrints w m (callIn (Put key word))
-linePrints w m (Remove key) = callPrints w m (callIn (Remove key))
-linePrints w m (Get key) = callPrints w m (callIn (Get key))
-linePrints w m Bad = callPrints w m (callIn Bad)
+linePrints w m (Put key word) = callPrints w m (callIn m (Put key word))
+linePrints w m (Remove key) = callPrints w m (callIn m (Remove key))
+linePrints w m (Get key) = callPrints w m (callIn m (Get key))
+linePrints w m Bad = callPrints w m (callIn m Bad)
 
 -- "A refusal prints `no` and its number"
 unfoldable pub duePrints : StepResult → PlainMap → Line → Printed

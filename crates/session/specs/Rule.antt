@@ -43,9 +43,9 @@ mapByCall w waiting m (some call) = mapAfterEvent 1 w m (eventIn w waiting call)
 -- "`n N` formats": the map is empty
 unfoldable pub mapByLine : World → Waiting → PlainMap → Line → PlainMap
 mapByLine w waiting m (New n) = λ k. none
-mapByLine w waiting m (Put key word) = mapByCall w waiting m (callIn (Put key word))
-mapByLine w waiting m (Remove key) = mapByCall w waiting m (callIn (Remove key))
-mapByLine w waiting m (Get key) = mapByCall w waiting m (callIn (Get key))
+mapByLine w waiting m (Put key word) = mapByCall w waiting m (callIn m (Put key word))
+mapByLine w waiting m (Remove key) = mapByCall w waiting m (callIn m (Remove key))
+mapByLine w waiting m (Get key) = mapByCall w waiting m (callIn m (Get key))
 mapByLine w waiting m (Cut a b) = m
 mapByLine w waiting m Bad = m
 
@@ -96,7 +96,7 @@ pub data LineRight (r : StepResult) (m : PlainMap) : Line → Type 0 where
       → Leaves r (New n) (ok (n ∷ [])) (sessionOf n (newWorld r n) Nothing) (newWorld r n) → LineRight r m (New n)
   cut-line : {a b : ℕ} → faultAt r (Cut a b) ≡ 0
       → Leaves r (Cut a b) (cut a b) (sessionOf (r .session .n) (worldOf r) (Counts a b)) (worldOf r) → LineRight r m (Cut a b)
-  call-line : {line : Line} {call : Call} → faultAt r line ≡ 0 → callIn line ≡ some call
+  call-line : {line : Line} {call : Call} → faultAt r line ≡ 0 → callIn m line ≡ some call
       → Leaves r line (plainPrints (worldOf r) m call)
       (sessionOf (r .session .n) (worldAfterCall r call) (waitsOn (r .session .waiting) (called 1 (worldOf r) call .stores)))
       (worldAfterCall r call)

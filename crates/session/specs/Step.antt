@@ -6,7 +6,7 @@ use lib.ListN.{length, take, drop, replicate}
 use Rattle.words.specs.Word.{word, setWord}
 use Rattle.prelude.specs.Refusal.{say, orElse, unlessRefused}
 use Rattle.prelude.specs.Answer.{Answer, gives, absent, refused}
-use Rattle.face.specs.Set.{Store, values, State, Result, noState, recoverResult, FormatResult, formatResult, ChangeResult, putResult, removeResult, GetResult, getResult, playing}
+use Rattle.face.specs.Set.{Store, values, State, Result, noState, recoverResult, FormatResult, formatResult, Mode, Insert, Replace, ChangeResult, writeResult, removeResult, GetResult, getResult, locateResult, playing}
 use Rattle.text.specs.Output.{Printed, ok, found, cut, notHeld, no}
 use Rattle.text.specs.declared.Line.{Line}
 use Rattle.text.specs.declared.Line.the-variants.{New, Put, Remove, Get, Cut, Bad}
@@ -123,13 +123,24 @@ changedAs s state stores image heads next (gives values) =
 changedAs s state stores image heads next absent = leaves notHeld s image heads next
 changedAs s state stores image heads next (refused number) = leaves (no number) s image heads next
 
--- by the result of put or remove on this image
+-- by the result of a call that writes on this image
 unfoldable pub changeStep : Session → (image : List ℕ) → ChangeResult → StepResult
 changeStep s image r = changedAs s (r .state) (r .stores) image (r .heads) (r .next) (r .answer)
 
 -- "the 8-byte word W"
 unfoldable pub wordBytes : (w : ℕ) → List ℕ
 wordBytes w = setWord (replicate 8 0) 0 w
+
+-- document 02, A.2: "The trial's p inserts or replaces according to what is held", by the answer of a locate; where that refuses, so does an insert
+unfoldable pub modeBy : Answer → Mode
+modeBy (gives values) = Replace
+modeBy absent = Insert
+modeBy (refused number) = Insert
+
+unfoldable pub putStep : (key w : ℕ) → Session → (image heads next : List ℕ) → StepResult
+putStep key w s image heads next =
+    changeStep s image
+    (writeResult 1 image heads next (s .state) (modeBy (locateResult 1 image heads next key)) key (wordBytes w))
 
 -- ---- `g K`: "`found W`, or `absent`"
 
@@ -158,7 +169,7 @@ waitingFor s a b = record { n = s .n; state = s .state; waiting = Counts a b }
 -- each line by its form; a Bad line is refused before it comes here
 unfoldable pub lineStep : Line → Session → (image heads next : List ℕ) → StepResult
 lineStep (New n) s image heads next = makeStep n s image heads next
-lineStep (Put key w) s image heads next = changeStep s image (putResult 1 image heads next (s .state) key (wordBytes w))
+lineStep (Put key w) s image heads next = putStep key w s image heads next
 lineStep (Remove key) s image heads next = changeStep s image (removeResult 1 image heads next (s .state) key)
 lineStep (Get key) s image heads next = leaves (wordFound image heads next key) s image heads next
 lineStep (Cut a b) s image heads next = leaves (cut a b) (waitingFor s a b) image heads next

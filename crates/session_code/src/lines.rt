@@ -1,23 +1,27 @@
-// The calls of the set as a session makes them: a new set, put, remove, get, and recovery after a cut.
+// The calls of the set as a session makes them: a new set, insert and replace, remove, get, and recovery after a cut.
 ghost use mathlib.Core.Path.{_≡_};
 ghost use mathlib.Core.List.{[], _∷_};
-ghost use Rattle.face.specs.Set.{zipped, changeEnd, putResult, removeResult, getResult};
+ghost use Rattle.face.specs.Set.{zipped, leftIn, changeEnd, writeResult, removeResult, getResult, locateResult};
 ghost use Rattle.text.specs.inner.Output.{replySays};
 ghost use Rattle.session.specs.inner.Step.{stepEnd};
-ghost use Rattle.session.specs.Step.{recoverStep, makeStep, storedWith, changeStep, wordBytes, gotBy, wordFound};
+ghost use Rattle.session.specs.Step.{recoverStep, makeStep, storedWith, changeStep, wordBytes, modeBy, putStep, gotBy, wordFound};
 use crate::start::start;
 use orderset::Change;
 use orderset::Formatted;
 use orderset::Got;
+use orderset::Located;
 use orderset::Outcome;
 use orderset::Recovered;
 use orderset::State;
+use orderset::Stores;
 use orderset::format;
 use orderset::get;
+use orderset::insert;
+use orderset::locate;
 use orderset::play;
-use orderset::put;
 use orderset::recover;
 use orderset::remove;
+use orderset::replace;
 use session::Session;
 use session::Stepped;
 use session::Waiting;
@@ -71,14 +75,14 @@ fn carry_out(
     slot: u32,
     version: u64,
     change: Change,
+    stores: Stores,
     session: Session,
     image: &mut [u8],
     heads: &mut [u32],
     next: &mut [u32],
 ) -> Stepped
-    ensures { λ r. ⌜ stepEnd r (now (image .exit)) (now (heads .exit)) (now (next .exit)) ≡ storedWith (session .n) (slot ∷ version ∷ []) (change .state) (zipped (change .stores .at) (change .stores .value)) (now (image .entry)) (now (heads .entry)) (now (next .entry)) (session .waiting) ⌝ }
+    ensures { λ r. ⌜ stepEnd r (now (image .exit)) (now (heads .exit)) (now (next .exit)) ≡ storedWith (session .n) (slot ∷ version ∷ []) (change .state) (zipped (stores .at) (stores .value)) (now (image .entry)) (now (heads .entry)) (now (next .entry)) (session .waiting) ⌝ }
 {
-    let stores = change.stores;
     let waiting = session.waiting;
     match waiting {
         Waiting::Nothing => {
@@ -106,20 +110,21 @@ fn carry_out(
     }
 }
 
-// What a put or a remove answers; its stores are played.
+// What a call that writes answers; its stores are played.
 fn carry_change(
     change: Change,
+    stores: Stores,
     session: Session,
     image: &mut [u8],
     heads: &mut [u32],
     next: &mut [u32],
 ) -> Stepped
-    ensures { λ r. ⌜ stepEnd r (now (image .exit)) (now (heads .exit)) (now (next .exit)) ≡ changeStep session (now (image .entry)) (changeEnd change (now (heads .entry)) (now (next .entry))) ⌝ }
+    ensures { λ r. ⌜ stepEnd r (now (image .exit)) (now (heads .exit)) (now (next .exit)) ≡ changeStep session (now (image .entry)) (changeEnd change (stores .at) (stores .value) (now (heads .entry)) (now (next .entry))) ⌝ }
 {
     let outcome = change.outcome;
     match outcome {
         Outcome::Stored { slot, version } => {
-            carry_out(slot, version, change, session, image, heads, next)
+            carry_out(slot, version, change, stores, session, image, heads, next)
         }
         Outcome::Absent => Stepped {
             reply: Reply::Absent,
@@ -132,7 +137,7 @@ fn carry_change(
     }
 }
 
-// The key gets the 8 bytes of the word.
+// The key gets the 8 bytes of the word: an insert or a replace, according to what is held.
 fn put_word(
     image: &[u8],
     heads: &mut [u32],
@@ -140,12 +145,22 @@ fn put_word(
     state: State,
     key: u64,
     word: u64,
+    at: &mut [u32; 16],
+    words: &mut [u64; 16],
 ) -> Change
-    ensures { λ r. ⌜ changeEnd r (now (heads .exit)) (now (next .exit)) ≡ putResult 1 (now (image .entry)) (now (heads .entry)) (now (next .entry)) state key (wordBytes word) ⌝ }
+    ensures { λ r. ⌜ changeEnd r (now (at .exit)) (now (words .exit)) (now (heads .exit)) (now (next .exit)) ≡ leftIn (zipped (now (at .entry)) (now (words .entry))) (writeResult 1 (now (image .entry)) (now (heads .entry)) (now (next .entry)) state (modeBy (locateResult 1 (now (image .entry)) (now (heads .entry)) (now (next .entry)) key)) key (wordBytes word)) ⌝ }
 {
     let mut value = [0u8; 8];
     write_word(&mut value, 0, word);
-    put(image, heads, next, state, key, &value)
+    let located = locate(image, heads, next, key);
+    match located {
+        Located::At {
+            slot: _,
+            version: _,
+        } => replace(image, heads, next, state, key, &value, at, words),
+        Located::Absent => insert(image, heads, next, state, key, &value, at, words),
+        Located::Refused(_) => insert(image, heads, next, state, key, &value, at, words),
+    }
 }
 
 // `p K W`.
@@ -157,11 +172,13 @@ pub fn put_line(
     heads: &mut [u32],
     next: &mut [u32],
 ) -> Stepped
-    ensures { λ r. ⌜ stepEnd r (now (image .exit)) (now (heads .exit)) (now (next .exit)) ≡ changeStep session (now (image .entry)) (putResult 1 (now (image .entry)) (now (heads .entry)) (now (next .entry)) (session .state) key (wordBytes word)) ⌝ }
+    ensures { λ r. ⌜ stepEnd r (now (image .exit)) (now (heads .exit)) (now (next .exit)) ≡ putStep key word session (now (image .entry)) (now (heads .entry)) (now (next .entry)) ⌝ }
 {
     let state = session.state;
-    let change = put_word(image, heads, next, state, key, word);
-    carry_change(change, session, image, heads, next)
+    let mut at = [0u32; 16];
+    let mut value = [0u64; 16];
+    let change = put_word(image, heads, next, state, key, word, &mut at, &mut value);
+    carry_change(change, Stores { at, value }, session, image, heads, next)
 }
 
 // `r K`.
@@ -175,8 +192,10 @@ pub fn remove_line(
     ensures { λ r. ⌜ stepEnd r (now (image .exit)) (now (heads .exit)) (now (next .exit)) ≡ changeStep session (now (image .entry)) (removeResult 1 (now (image .entry)) (now (heads .entry)) (now (next .entry)) (session .state) key) ⌝ }
 {
     let state = session.state;
-    let change = remove(image, heads, next, state, key);
-    carry_change(change, session, image, heads, next)
+    let mut at = [0u32; 16];
+    let mut value = [0u64; 16];
+    let change = remove(image, heads, next, state, key, &mut at, &mut value);
+    carry_change(change, Stores { at, value }, session, image, heads, next)
 }
 
 // The word of the key's value, read by way of the lent bytes.

@@ -14,7 +14,7 @@ use session::Waiting;
 use text::Line;
 use text::Reply;
 
-// The counts wait for the next accepted put or storing remove.
+// The counts wait for the next accepted p, or r that stores.
 fn wait(session: Session, a: u64, b: u64) -> Session
     ensures { λ r. ⌜ r ≡ waitingFor session a b ⌝ }
 {

@@ -1,12 +1,10 @@
 // Printing to standard output: labels, numbers and lists of them, and the answers of the calls.
 use libc::STDOUT_FILENO;
-use orderset::Change;
 use orderset::Formatted;
 use orderset::Got;
 use orderset::Outcome;
 use orderset::Recovered;
 use orderset::State;
-use orderset::Stores;
 
 pub fn text(label: &[u8]) {
     io::write_all(STDOUT_FILENO, label);
@@ -21,7 +19,7 @@ fn wide(n: u32) -> u64 {
     n as u64
 }
 
-fn numbers(list: &[u32]) {
+pub fn numbers(list: &[u32]) {
     let mut i = 0;
     while i < list.len() {
         number(wide(list[i]));
@@ -29,27 +27,10 @@ fn numbers(list: &[u32]) {
     }
 }
 
-fn values(list: &[u64]) {
+pub fn values(list: &[u64]) {
     let mut i = 0;
     while i < list.len() {
         number(list[i]);
-        i += 1;
-    }
-}
-
-fn byte(n: u8) -> u64 {
-    n as u64
-}
-
-// The bytes of a list from position `from` on, at most four of them.
-pub fn bytes(list: &[u8], from: usize) {
-    let mut i = 0;
-    while i < list.len() {
-        if from <= i {
-            if i - from < 4 {
-                number(byte(list[i]));
-            }
-        }
         i += 1;
     }
 }
@@ -86,7 +67,7 @@ pub fn recovered(r: Recovered) {
     }
 }
 
-// The answer of a put or a remove.
+// The answer of an insert, a replace or a remove.
 pub fn outcome(r: Outcome) {
     match r {
         Outcome::Stored { slot, version } => {
@@ -97,31 +78,6 @@ pub fn outcome(r: Outcome) {
         Outcome::Absent => text(b" absent"),
         Outcome::Refused(k) => refused(k),
     }
-}
-
-fn words_of(stores: Stores) {
-    let at = stores.at;
-    numbers(&at);
-}
-
-fn values_of(stores: Stores) {
-    let value = stores.value;
-    values(&value);
-}
-
-// The answer, the state and the stores that a put or a remove handed out.
-pub fn change(r: Change) {
-    let answer = r.outcome;
-    outcome(answer);
-    let after = r.state;
-    text(b"\n ");
-    state(after);
-    let stores = r.stores;
-    text(b"\n  words");
-    words_of(stores);
-    text(b"\n  values");
-    values_of(stores);
-    text(b"\n");
 }
 
 // The index.
@@ -143,5 +99,4 @@ pub fn got(r: Got) {
         Got::Absent => text(b" absent"),
         Got::Refused(k) => refused(k),
     }
-    text(b"\n");
 }

@@ -12,7 +12,6 @@ ghost use Rattle.stores.specs.inner.Written.{recordNumbers, recordWords};
 ghost use Rattle.stores.specs.inner.Needs.{Recordable};
 use layout_code::line::first_word;
 use layout_code::line::last_word;
-use stores::Stores;
 use words_code::padded_word;
 use words_code::read_word;
 
@@ -118,7 +117,7 @@ fn record_words(
     ]
 }
 
-// The stores of a record for slot s of the image.
+// The stores of a record for slot s of the image: their word numbers and their values, lent.
 pub fn record_stores(
     image: &[u8],
     l: usize,
@@ -128,16 +127,17 @@ pub fn record_stores(
     kind: u64,
     value: &[u8],
     version: u64,
-) -> Stores
+    at: &mut [u32; 16],
+    words: &mut [u64; 16],
+)
     requires { ⌜ Recordable l kind (now value) version × (s < 65536) × (128 * (s + 1) ≤ length (now image)) ⌝ }
-    ensures { λ r. ⌜ zipped (r .at) (r .value) ≡ recordStores l (word (now (image .entry))) s (keyWith low high) kind (now (value .entry)) version ⌝ }
+    ensures { λ _. ⌜ zipped (now (at .exit)) (now (words .exit)) ≡ recordStores l (word (now (image .entry))) s (keyWith low high) kind (now (value .entry)) version ⌝ }
 {
     let slot = s as usize;
     let a = read_word(image, 16 * slot + 7);
     let b = read_word(image, 16 * slot + 15);
-    let at = record_numbers(s);
-    let words = record_words(l, a, b, low, high, kind, value, version);
-    Stores { at, value: words }
+    *at = record_numbers(s);
+    *words = record_words(l, a, b, low, high, kind, value, version);
 }
 
 // Word i of line A of a remove, between mark and stamp: a record without a value.
@@ -180,21 +180,22 @@ fn remove_words(l: usize, a: u64, b: u64, low: u64, high: u64, version: u64) -> 
 }
 
 // The stores of a remove for slot s of the image: those of a record without a value, of which most are known beforehand.
-pub fn remove_stores(image: &[u8], l: usize, s: u32, low: u64, high: u64, version: u64) -> Stores
+pub fn remove_stores(
+    image: &[u8],
+    l: usize,
+    s: u32,
+    low: u64,
+    high: u64,
+    version: u64,
+    at: &mut [u32; 16],
+    words: &mut [u64; 16],
+)
     requires { ⌜ Layout l × (version < 2 ^ 63) × (s < 65536) × (128 * (s + 1) ≤ length (now image)) ⌝ }
-    ensures { λ r. ⌜ zipped (r .at) (r .value) ≡ recordStores l (word (now (image .entry))) s (keyWith low high) 2 [] version ⌝ }
+    ensures { λ _. ⌜ zipped (now (at .exit)) (now (words .exit)) ≡ recordStores l (word (now (image .entry))) s (keyWith low high) 2 [] version ⌝ }
 {
     let slot = s as usize;
-    let value = remove_words(
-        l,
-        read_word(image, 16 * slot + 7),
-        read_word(image, 16 * slot + 15),
-        low,
-        high,
-        version,
-    );
-    Stores {
-        at: record_numbers(s),
-        value,
-    }
+    let a = read_word(image, 16 * slot + 7);
+    let b = read_word(image, 16 * slot + 15);
+    *at = record_numbers(s);
+    *words = remove_words(l, a, b, low, high, version);
 }

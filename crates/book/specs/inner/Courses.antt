@@ -5,14 +5,14 @@ use Prim.Native.Nat.{ℕ}
 use lib.Dec.{eqb, ltb}
 use Rattle.prelude.specs.Answer.{Answer, gives, absent, refused}
 use Rattle.prelude.specs.Refusal.{unlessRefused}
-use Rattle.face.specs.Set.{State, putResult, removeResult}
+use Rattle.face.specs.Set.{State, Mode, Insert, Replace, writeResult, removeResult}
 use Rattle.book.specs.Orders.{orderBytes, isState, openOf, sent, acknowledged, filledBy}
 use Rattle.book.specs.Steps.{BookAnswer, already, declined, BookResult, idle, asChange, Sought, order, none-there, quantityFault}
 use Rattle.book.specs.declared.Order.{Order}
 use Rattle.book.specs.declared.Seek.{Seek}
 use Rattle.book.specs.declared.Seek.the-variants.{Found, Missing}
 use Rattle.book.specs.declared.Plan.{Plan}
-use Rattle.book.specs.declared.Plan.the-variants.{Put, Remove, Already, Refused}
+use Rattle.book.specs.declared.Plan.the-variants.{Write, Remove, Already, Refused}
 
 -- ---- the order of a key
 
@@ -31,21 +31,21 @@ soughtNumber number = cond (eqb number 6) 18 number
 
 -- ---- what a step is to do
 
--- a put of this order, a remove, or this answer with no change
+-- an insert of this order or a replace by it, a remove, or this answer with no change
 pub data Course : Type 0 where
-  puts : Order → Course
+  writes : Mode → Order → Course
   removes : Course
   answers : BookAnswer → Course
 
 unfoldable pub planSays : Plan → Course
-planSays (Put o) = puts o
+planSays (Write mode o) = writes mode o
 planSays Remove = removes
 planSays (Already slot version) = answers (already (slot ∷ version ∷ []))
 planSays (Refused number) = answers (declined number)
 
 -- what it comes to
 unfoldable pub courseResult : (l : ℕ) → (image heads next : List ℕ) → State → (key : ℕ) → Course → BookResult
-courseResult l image heads next s key (puts o) = asChange (putResult l image heads next s key (orderBytes o))
+courseResult l image heads next s key (writes mode o) = asChange (writeResult l image heads next s mode key (orderBytes o))
 courseResult l image heads next s key removes = asChange (removeResult l image heads next s key)
 courseResult l image heads next s key (answers answer) = idle answer s heads next
 
@@ -53,7 +53,7 @@ courseResult l image heads next s key (answers answer) = idle answer s heads nex
 
 unfoldable pub newCourse : (quantity : ℕ) → Answer → Course
 newCourse quantity (gives values) = answers (declined 17)
-newCourse quantity absent = cond (eqb quantity 0) (answers (declined 19)) (puts (sent quantity))
+newCourse quantity absent = cond (eqb quantity 0) (answers (declined 19)) (writes Insert (sent quantity))
 newCourse quantity (refused number) = answers (declined number)
 
 unfoldable pub alreadyCourse : Answer → Course
@@ -63,12 +63,12 @@ alreadyCourse (refused number) = answers (declined number)
 
 -- `located` is locate's answer for the key
 unfoldable pub acknowledgeCourse : (located : Answer) → Sought → Course
-acknowledgeCourse located (order o) = cond (eqb (o .state) 2) (alreadyCourse located) (puts (acknowledged o))
+acknowledgeCourse located (order o) = cond (eqb (o .state) 2) (alreadyCourse located) (writes Replace (acknowledged o))
 acknowledgeCourse located (none-there number) = answers (declined number)
 
 unfoldable pub fillOrder : (quantity : ℕ) → Order → Course
 fillOrder quantity o =
-    unlessRefused (quantityFault quantity (openOf o)) (cond (eqb quantity (openOf o)) removes (puts (filledBy quantity o)))
+    unlessRefused (quantityFault quantity (openOf o)) (cond (eqb quantity (openOf o)) removes (writes Replace (filledBy quantity o)))
     (answers (declined (quantityFault quantity (openOf o))))
 
 unfoldable pub fillCourse : (quantity : ℕ) → Sought → Course

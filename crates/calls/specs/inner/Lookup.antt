@@ -1,7 +1,7 @@
 -- What a call reads before it writes: its refusal, or what following the key's chain found; and what its writes need.
 use mathlib.Core.Path.{_≡_}
 use mathlib.Core.List.{List}
-use Prim.Native.Nat.{ℕ, _+_, _*_, _≤_, _<_}
+use Prim.Native.Nat.{ℕ, _+_, _*_, _^_, _≤_, _<_}
 use lib.ListN.{length}
 use Rattle.words.specs.Word.{word}
 use Rattle.prelude.specs.Refusal.{unlessRefused}
@@ -12,24 +12,22 @@ use Rattle.stores.specs.Store.{zipped}
 use Rattle.stores.specs.Written.{recordStores}
 use Rattle.index.specs.Index.{headOf}
 use Rattle.index.specs.Walk.{search}
-use Rattle.index.specs.inner.Parts.{WritesInside}
+use Rattle.index.specs.inner.Parts.{WritesInside, PlaceInside}
+use Rattle.index.specs.inner.Lookup.{lookupBy}
 use Rattle.index.specs.declared.State.{State}
+use Rattle.index.specs.declared.Mode.{Mode}
 use Rattle.index.specs.declared.Found.{Found}
 use Rattle.index.specs.declared.Found.the-variants.{At, Missing, BadChain}
-use Rattle.calls.specs.Change.{putLentFault, putFault, removeFault}
+use Rattle.index.specs.declared.Place.{Place}
+use Rattle.index.specs.declared.Place.the-variants.{Held, NotHeld}
+use Rattle.index.specs.declared.Lookup.{Lookup}
+use Rattle.index.specs.declared.Lookup.the-variants.{Refused, Open}
+use Rattle.calls.specs.Change.{writeLentFault, writeFault, removeFault}
 use Rattle.calls.specs.Get.{slotLength, getFault}
 use Rattle.calls.specs.declared.Change.{Change}
 use Rattle.calls.specs.declared.Outcome.the-variants.{Stored}
-use Rattle.calls.specs.declared.Lookup.{Lookup}
-use Rattle.calls.specs.declared.Lookup.the-variants.{Refused, Held, NotHeld}
 
--- the lookup of a call by what following the key's chain found: `fault` is the call's refusal, 0 for none, and not 0 for a bad chain
-unfoldable pub lookupBy : (fault : ℕ) → Found → Lookup
-lookupBy fault (At slot prev compared) = unlessRefused fault (Held slot prev compared) (Refused fault compared)
-lookupBy fault (Missing prev compared) = unlessRefused fault (NotHeld prev compared) (Refused fault compared)
-lookupBy fault BadChain = Refused fault 0
-
--- and by `lent` too, the refusal before the chain is followed: no slot is compared then
+-- the lookup of a call by what following the key's chain found; `lent` is the refusal before it is followed: no slot is compared then
 unfoldable pub lookupOf : (fault lent : ℕ) → Found → Lookup
 lookupOf fault lent found = unlessRefused lent (lookupBy fault found) (Refused fault 0)
 
@@ -38,7 +36,7 @@ pub record LooksUp (fault lent : ℕ) (found : Found) (Ready : Lookup → Type 0
   pub is : r ≡ lookupOf fault lent found
   pub ready : Ready r
 
--- ---- put and remove
+-- ---- insert, replace and remove
 
 -- the numbers by which a call writes lie inside the image and the index
 pub record Writable (image heads next : List ℕ) (s : State) (key prev old : ℕ) : Type 0 where
@@ -46,35 +44,39 @@ pub record Writable (image heads next : List ℕ) (s : State) (key prev old : �
   pub slot-fits : s .first < 65536
   pub slot-in : 128 * (s .first + 1) ≤ length image
 
--- a put can be carried out; size is the value's length
-abbrev pub PutReady : (l : ℕ) → (image heads next : List ℕ) → State → (key size : ℕ) → Lookup → Type 0
-PutReady l image heads next s key size (Refused number compared) = Unit
-PutReady l image heads next s key size (Held old prev compared) = Writable image heads next s key prev old × (size ≤ limit l)
-PutReady l image heads next s key size (NotHeld prev compared) =
-    Writable image heads next s key prev prev × (size ≤ limit l) × (s .live < 65535)
+-- what the writes of an insert or a replace need, for a key at this place; size is the value's length
+pub record OpenAt (l : ℕ) (image heads next : List ℕ) (s : State) (key size : ℕ) (place : Place) : Type 0 where
+  pub inside : PlaceInside heads next s (headOf key (length heads)) place
+  pub some-head : 1 ≤ length heads
+  pub recordable : (size ≤ limit l) × (s .version < 2 ^ 63) × (s .first < 65536) × (128 * (s .first + 1) ≤ length image)
+
+-- an insert or a replace can be carried out
+abbrev pub WriteReady : (l : ℕ) → (image heads next : List ℕ) → State → (key size : ℕ) → Lookup → Type 0
+WriteReady l image heads next s key size (Refused number compared) = Unit
+WriteReady l image heads next s key size (Open place compared) = OpenAt l image heads next s key size place
 
 -- and so can a remove
 abbrev pub RemoveReady : (image heads next : List ℕ) → State → (key : ℕ) → Lookup → Type 0
 RemoveReady image heads next s key (Refused number compared) = Unit
-RemoveReady image heads next s key (Held old prev compared) = Writable image heads next s key prev old × (0 < s .live)
-RemoveReady image heads next s key (NotHeld prev compared) = Unit
+RemoveReady image heads next s key (Open (Held old prev) compared) = Writable image heads next s key prev old × (0 < s .live)
+RemoveReady image heads next s key (Open (NotHeld prev) compared) = Unit
 
--- what the lookups of put and remove answer
-abbrev pub PutLookup : (l : ℕ) → (image heads next : List ℕ) → State → (key size : ℕ) → Lookup → Type 0
-PutLookup l image heads next s key size r =
-    LooksUp (putFault l image heads next s key size) (putLentFault l image (length heads) (length next) size)
-    (search l image heads next key) (PutReady l image heads next s key size) r
+-- what the lookups of these calls answer
+abbrev pub WriteLookup : (l : ℕ) → (image heads next : List ℕ) → State → Mode → (key size : ℕ) → Lookup → Type 0
+WriteLookup l image heads next s mode key size r =
+    LooksUp (writeFault l image heads next s mode key size) (writeLentFault l image (length heads) (length next) size)
+    (search l image heads next key) (WriteReady l image heads next s key size) r
 
 abbrev pub RemoveLookup : (l : ℕ) → (image heads next : List ℕ) → State → (key : ℕ) → Lookup → Type 0
 RemoveLookup l image heads next s key r =
     LooksUp (removeFault l image heads next s key) (lentFault l image (length heads) (length next))
     (search l image heads next key) (RemoveReady image heads next s key) r
 
--- a record of this kind goes into the first reuse slot of state s: the answer, the state after it and the stores
-pub record StoredBy (l : ℕ) (image : List ℕ) (s : State) (key kind : ℕ) (value : List ℕ) (after : State) (r : Change) : Type 0 where
+-- a record of this kind goes into the first reuse slot of state s: the answer, the state after it, and the lent stores, of which there are 16
+pub record StoredBy (l : ℕ) (image : List ℕ) (s : State) (key kind : ℕ) (value : List ℕ) (after : State) (r : Change) (at words : List ℕ) : Type 0 where
   pub outcome-is : r .outcome ≡ Stored (s .first) (s .version)
   pub state-is : r .state ≡ after
-  pub stores-are : zipped (r .stores .at) (r .stores .value) ≡ recordStores l (word image) (s .first) key kind value (s .version)
+  pub stores-are : zipped at words ≡ recordStores l (word image) (s .first) key kind value (s .version)
 
 -- ---- get
 
@@ -87,9 +89,9 @@ FoundInside l image BadChain = Unit
 -- the slot of a held key is inside the image, and its value fits an output of this size
 abbrev pub GetReady : (l : ℕ) → (image : List ℕ) → (size : ℕ) → Lookup → Type 0
 GetReady l image size (Refused number compared) = Unit
-GetReady l image size (Held slot prev compared) =
+GetReady l image size (Open (Held slot prev) compared) =
     SlotInside image l slot × (slotLength l image slot ≤ limit l) × (slotLength l image slot ≤ size)
-GetReady l image size (NotHeld prev compared) = Unit
+GetReady l image size (Open (NotHeld prev) compared) = Unit
 
 -- what the lookup of get answers
 abbrev pub GetLookup : (l : ℕ) → (image heads next : List ℕ) → (key size : ℕ) → Lookup → Type 0

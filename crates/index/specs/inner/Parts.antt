@@ -2,11 +2,14 @@
 use mathlib.Core.Path.{_≡_}
 use mathlib.Core.Bool.{cond}
 use mathlib.Core.List.{List}
-use Prim.Native.Nat.{ℕ, _^_, _≤_, _<_}
+use Prim.Native.Nat.{ℕ, _+_, _^_, _≤_, _<_}
 use lib.Dec.{eqb}
 use lib.ListN.{length, getD, set}
 use Rattle.index.specs.Index.{Index, indexOf}
+use Rattle.index.specs.Change.{insertNew, replaceHeld}
 use Rattle.index.specs.declared.State.{State}
+use Rattle.index.specs.declared.Place.{Place}
+use Rattle.index.specs.declared.Place.the-variants.{Held, NotHeld}
 
 -- the numbers by which a call's writes go lie inside the index, and the next version can be written
 pub record WritesInside (heads next : List ℕ) (s : State) (h prev old : ℕ) : Type 0 where
@@ -17,6 +20,20 @@ pub record WritesInside (heads next : List ℕ) (s : State) (h prev old : ℕ) :
   pub old-in : old < length next
   pub few : length next ≤ 65536
   pub version-fits : s .version < 2 ^ 63
+
+-- the same for a write of a key that stands at this place in its chain; a new key is counted
+abbrev pub PlaceInside : (heads next : List ℕ) → State → (h : ℕ) → Place → Type 0
+PlaceInside heads next s h (Held slot prev) = WritesInside heads next s h prev slot
+PlaceInside heads next s h (NotHeld prev) = WritesInside heads next s h prev prev × (s .live < 65535)
+
+-- the index after an insert or a replace of such a key, and the live count
+unfoldable pub writeAt : Index → (h : ℕ) → Place → Index
+writeAt i h (Held slot prev) = replaceHeld i h prev slot
+writeAt i h (NotHeld prev) = insertNew i h prev
+
+unfoldable pub liveAt : (live : ℕ) → Place → ℕ
+liveAt live (Held slot prev) = live
+liveAt live (NotHeld prev) = live + 1
 
 -- heads, next and the state r are those of index i, with this live count and this next version
 pub record PartsOf (heads next : List ℕ) (r : State) (i : Index) (live version : ℕ) : Type 0 where

@@ -5,7 +5,7 @@ use Rattle.book_code.proofs.steps.by_change.Statement.{statement}
 use Rattle.book_code.proofs.steps.by_change.Tie as tie
 
 returns : tie.Need-returns
-returns c heads next = answered _ _ (c .outcome-of .ensures)
+returns c at value heads next = answered _ _ (c .outcome-of .ensures)
 
 pub by-change-spec : {M : Type 1} → statement M
 by-change-spec = tie.close (tie.spec (λ c κs. search needs) returns)

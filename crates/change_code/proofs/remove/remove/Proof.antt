@@ -4,8 +4,14 @@ use Rattle.calls.proofs.Changes.{key-alone}
 use Rattle.change_code.proofs.remove.remove.Statement.{statement}
 use Rattle.change_code.proofs.remove.remove.Tie as tie
 
+same-length : tie.Need-same-length
+same-length c = c .before .before .before .before .remove-in .kept .1 .1 .0
+
+same-length-2 : tie.Need-same-length-2
+same-length-2 c = c .before .before .before .before .remove-in .kept .1 .1 .1 .0
+
 returns : tie.Need-returns
-returns c = rw (key-alone (c .before .before .before .before .before .before .before .before .before .before .args .key)) at (c .before .before .before .before .remove-in .ensures)
+returns c = rw (key-alone (c .before .before .before .before .before .before .before .before .before .before .before .before .args .key)) at (c .before .before .before .before .remove-in .ensures)
 
 pub remove-spec : {M : Type 1} → statement M
-remove-spec = tie.close (tie.spec (λ c κs. search needs) (λ c. c .before .before .before .before .remove-in .kept .1 .1 .0) (λ c. c .before .before .before .before .remove-in .kept .1 .1 .1 .0) returns)
+remove-spec = tie.close (tie.spec (λ c κs. search needs) same-length same-length-2 returns)

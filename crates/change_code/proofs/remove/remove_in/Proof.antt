@@ -1,6 +1,8 @@
 -- `change_code::remove::remove_in` meets its contract. Assumes nothing.
-use mathlib.Core.Path.{refl}
+use mathlib.Core.Path.{refl, ap, _∙_}
 use borrow.Author.Needs.{needs}
+use Rattle.index.proofs.LookedUp.{open-at}
+use Rattle.calls.specs.Change.{changeSays, handedOut, leftIn, unchanged}
 use Rattle.calls.proofs.Changes.{inside, some-head, changed-end}
 use Rattle.calls.proofs.Results.{remove-refused, remove-held, remove-not-held}
 use Rattle.change_code.proofs.remove.remove_in.Statement.{statement}
@@ -8,46 +10,54 @@ use Rattle.change_code.proofs.remove.remove_in.Tie as tie
 
 head-of-requires : tie.Need-head-of-requires
 head-of-requires c κs =
-    let a = c .before .before .before .before .before .before .before .before .before .args in
-    some-head (a .image .now) (a .heads .now) (a .next .now) (a .state) _ _ _ ((rw (c .before .lookup2 .given .1) at (c .before .before .before .remove-lookup .ensures .ready)) .0)
+    some-head (c .before .before .before .before .before .before .before .before .before .before .before .before .args .image .now) (c .before .before .before .before .before .before .before .before .before .before .before .before .args .heads .now) (c .before .before .before .before .before .before .before .before .before .before .before .before .args .next .now) (c .before .before .before .before .before .before .before .before .before .before .before .before .args .state) _ _ _
+    ((rw (open-at (c .before .before .before .before .lookup2 .given .1) (c .before .place .given .1)) at (c .before .before .before .before .before .before .remove-lookup .ensures .ready)) .0)
 
 remove-held-requires : tie.Need-remove-held-requires
 remove-held-requires c κs =
-    let ready = rw (c .before .before .before .before .lookup2 .given .1) at (c .before .before .before .before .before .before .remove-lookup .ensures .ready) in
-    let a = c .before .before .before .before .before .before .before .before .before .before .before .before .args in
-    (inside (a .image .now) (a .heads .now) (a .next .now) (a .state) _ _ _ (ready .0) _ (c .before .before .head-of .ensures .1 (a .high)), ready .1)
+    let ready = rw (open-at (c .before .before .before .before .before .before .before .lookup2 .given .1) (c .before .before .before .before .place .given .1)) at (c .before .before .before .before .before .before .before .before .before .remove-lookup .ensures .ready) in
+    (inside (c .before .before .before .before .before .before .before .before .before .before .before .before .before .before .before .args .image .now) (c .before .before .before .before .before .before .before .before .before .before .before .before .before .before .before .args .heads .now) (c .before .before .before .before .before .before .before .before .before .before .before .before .before .before .before .args .next .now) (c .before .before .before .before .before .before .before .before .before .before .before .before .before .before .before .args .state) _ _ _ _ (c .before .before .head-of .ensures .1 (c .before .before .before .before .before .before .before .before .before .before .before .before .before .before .before .args .high)) (ready .0), ready .1)
 
-remove-stored-requires : tie.Need-remove-stored-requires
-remove-stored-requires c κs =
-    let w = (rw (c .before .before .before .before .before .before .before .before .before .lookup2 .given .1) at (c .before .before .before .before .before .before .before .before .before .before .before .remove-lookup .ensures .ready)) .0 in
-    (c .before .before .before .before .before .before .before .before .before .before .before .before .before .before .before .before .before .pre, w .index .version-fits, w .slot-fits, w .slot-in)
+remove-stores-requires : tie.Need-remove-stores-requires
+remove-stores-requires c κs =
+    let w = (rw (open-at (c .before .before .before .before .before .before .before .before .before .before .before .before .before .before .lookup2 .given .1) (c .before .before .before .before .before .before .before .before .before .before .before .place .given .1)) at (c .before .before .before .before .before .before .before .before .before .before .before .before .before .before .before .before .remove-lookup .ensures .ready)) .0 in
+    (c .before .before .before .before .before .before .before .before .before .before .before .before .before .before .before .before .before .before .before .before .before .before .pre, w .index .version-fits, w .slot-fits, w .slot-in)
 
 returns : tie.Need-returns
+unfolding changeSays handedOut leftIn unchanged
 returns c =
-    let a = c .before .before .before .before .before .before .before .before .before .before .args in
-    remove-refused (a .l) (a .image .now) (a .heads .now) (a .next .now) (a .state) _ _ (c .before .before .before .before .remove-lookup .ensures) _ _ _ (c .before .before .lookup .given .1) (c .refusal .ensures _ _)
+    ap (leftIn _) (remove-refused _ _ _ _ _ _ _ (c .before .before .before .remove-lookup .ensures) _ _ (c .before .lookup .given .1))
 
 returns-2 : tie.Need-returns-2
+unfolding changeSays handedOut leftIn unchanged
 returns-2 c =
-    let a = c .before .before .before .before .before .before .before .before .before .before .before .before .before .before .before .before .before .before .args in
-    remove-held (a .l) (a .image .now) (a .heads .now) (a .next .now) (a .state) _ _ (c .before .before .before .before .before .before .before .before .before .before .before .before .remove-lookup .ensures) _ _ _ _ _ (c .before .before .before .before .before .before .before .before .before .before .lookup2 .given .1) (c .before .before .before .before .before .before .before .before .head-of .ensures .1 (a .high))
-    (changed-end _ _ _ _ _ _ _ _ (c .remove-stored .ensures) _ _ _ _ (c .before .before .before .before .before .remove-held .ensures))
+    ap (leftIn _) (remove-not-held _ _ _ _ _ _ _ (c .before .before .before .before .before .remove-lookup .ensures) _ _ (open-at (c .before .before .before .lookup2 .given .1) (c .enum-told .given .1)))
+
+same-length-5 : tie.Need-same-length-5
+same-length-5 c = c .before .before .before .before .before .before .before .remove-held .kept .0
+
+same-length-6 : tie.Need-same-length-6
+same-length-6 c = c .before .before .before .before .before .before .before .remove-held .kept .1 .0
 
 returns-3 : tie.Need-returns-3
-returns-3 c = search (remove-not-held, c .not-held .ensures)
+returns-3 c =
+    changed-end _ _ _ _ _ _ _ _ _ _ _ (record { outcome-is = refl; state-is = refl; stores-are = c .remove-stores .ensures })
+    _ _ _ _ (c .before .before .before .before .before .before .before .remove-held .ensures)
+    ∙ ap (leftIn _)
+    (remove-held _ _ _ _ _ _ _ (c .before .before .before .before .before .before .before .before .before .before .before .before .before .before .before .before .before .remove-lookup .ensures) _ _ _ _ (open-at (c .before .before .before .before .before .before .before .before .before .before .before .before .before .before .before .lookup2 .given .1) (c .before .before .before .before .before .before .before .before .before .before .before .before .place .given .1)) (c .before .before .before .before .before .before .before .before .before .before .head-of .ensures .1 (c .before .before .before .before .before .before .before .before .before .before .before .before .before .before .before .before .before .before .before .before .before .before .before .args .high)))
 
 pub remove-in-spec : {M : Type 1} → statement M
 remove-in-spec =
     tie.close
     (tie.spec
-    (λ c κs. search needs) (λ c. search needs) (λ c κs. search needs) (λ c. search needs)
+    (λ c κs. search needs) (λ c. search needs) (λ c. search needs) (λ c. search needs) (λ c. search needs)
     head-of-requires
     remove-held-requires
-    remove-stored-requires
-    (λ c. search needs) (λ c κs. search needs)
+    remove-stores-requires
     (λ c. refl) (λ c. refl)
     returns
-    (λ c. c .before .before .before .before .before .remove-held .kept .0) (λ c. c .before .before .before .before .before .remove-held .kept .1 .0)
-    returns-2
     (λ c. refl) (λ c. refl)
+    returns-2
+    same-length-5
+    same-length-6
     returns-3)

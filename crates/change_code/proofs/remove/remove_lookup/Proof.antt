@@ -17,4 +17,5 @@ remove-lookup-spec =
     (λ c κs. search (lent-sized, needs))
     (λ c. search (slots-fit))
     (λ c κs. search (lent-next))
+    (λ c κs. search needs)
     (λ c. search (remove-looks)))

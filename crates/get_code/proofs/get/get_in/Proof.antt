@@ -1,18 +1,29 @@
 -- `get_code::get::get_in` meets its contract. Assumes nothing.
 use native.Mathlib.Omega.{arith}
 use borrow.Author.Needs.{needs}
+use Rattle.index.proofs.LookedUp.{open-at}
 use Rattle.calls.specs.Get.{getSays}
 use Rattle.calls.proofs.Results.{get-refused, get-held, get-not-held}
 use Rattle.get_code.proofs.get.get_in.Statement.{statement}
 use Rattle.get_code.proofs.get.get_in.Tie as tie
 
 slot-length-requires : tie.Need-slot-length-requires
-slot-length-requires c κs = (rw (c .before .lookup2 .given .1) at (c .before .before .before .get-lookup .ensures .ready)) .0
+slot-length-requires c κs = (rw (open-at (c .before .before .before .before .lookup2 .given .1) (c .before .place .given .1)) at (c .before .before .before .before .before .before .get-lookup .ensures .ready)) .0
 
 copy-value-requires : tie.Need-copy-value-requires
 copy-value-requires c κs =
-    let ready = rw (c .before .before .before .lookup2 .given .1) at (c .before .before .before .before .before .get-lookup .ensures .ready) in
+    let ready = rw (open-at (c .before .before .before .before .before .before .lookup2 .given .1) (c .before .before .before .place .given .1)) at (c .before .before .before .before .before .before .before .before .get-lookup .ensures .ready) in
     (ready .0, omega (arith, c .before .slot-length .ensures, ready .1), omega (arith, c .before .slot-length .ensures, ready .2))
+
+returns-2 : tie.Need-returns-2
+unfolding getSays
+returns-2 c = get-not-held _ _ _ _ _ _ _ (c .before .before .before .before .before .get-lookup .ensures) _ _ (open-at (c .before .before .before .lookup2 .given .1) (c .enum-told .given .1))
+
+returns-3 : tie.Need-returns-3
+unfolding getSays
+returns-3 c =
+    get-held _ _ _ _ _ _ _ (c .before .before .before .before .before .before .before .before .before .before .before .get-lookup .ensures) _ _ _ (open-at (c .before .before .before .before .before .before .before .before .before .lookup2 .given .1) (c .before .before .before .before .before .before .place .given .1)) _ (c .before .before .before .before .slot-length .ensures) _
+    (c .before .before .copy-value .ensures)
 
 pub get-in-spec : {M : Type 1} → statement M
 unfolding getSays
@@ -20,12 +31,11 @@ get-in-spec =
     tie.close
     (tie.spec
     (λ c κs. search needs)
-    (λ c. search needs) (λ c. search needs) (λ c. search needs)
+    (λ c. search needs) (λ c. search needs) (λ c. search needs) (λ c. search needs) (λ c. search needs)
     slot-length-requires
     (λ c. search needs)
     copy-value-requires
-    (λ c. search needs)
     (λ c. search (get-refused))
+    returns-2
     (λ c. search needs)
-    (λ c. search (get-held))
-    (λ c. search (get-not-held)))
+    returns-3)

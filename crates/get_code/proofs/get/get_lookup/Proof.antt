@@ -16,4 +16,5 @@ get-lookup-spec =
     (λ c κs. search needs)
     (λ c κs. search (lent-sized, needs))
     (λ c κs. search (lent-inside, needs))
+    (λ c κs. search needs)
     (λ c. search (get-looks)))

@@ -6,13 +6,22 @@ use borrow.Author.Needs.{needs}
 use Rattle.session_code.proofs.lines.carry_out.Statement.{statement}
 use Rattle.session_code.proofs.lines.carry_out.Tie as tie
 
-pub carry-out-spec : {M : Type 1} → statement M
+returns : tie.Need-returns
 unfolding storedWith replySays
+returns c = rw (c .before .before .before .before .before .enum-told .given .1, ← (played-on _ _ _ (search (needs, c .before .before .before .before .before .before .before .before .before .before .good .1 .1 .1 .0)) (search (needs, c .before .before .before .before .before .before .before .before .before .before .good .1 .1 .1 .0)) _ _ _ _ (c .before .before .before .play .ensures)))
+
+returns-2 : tie.Need-returns-2
+unfolding storedWith replySays
+returns-2 c =
+    rw (c .before .before .before .before .before .before .before .before .before .before .before .before .before .waiting .given .1, ← (played-on _ _ _ (search (needs, c .before .before .before .before .before .before .before .before .before .before .before .before .before .before .before .before .before .before .good .1 .1 .1 .0)) (search (needs, c .before .before .before .before .before .before .before .before .before .before .before .before .before .before .before .before .before .before .good .1 .1 .1 .0)) _ _ _ _ (c .before .before .before .before .before .before .before .before .before .before .play2 .ensures)))
+    (c .before .before .before .before .recovered .ensures)
+
+pub carry-out-spec : {M : Type 1} → statement M
 carry-out-spec =
     tie.close
     (tie.spec
     (λ c. search needs) (λ c κs. search needs) (λ c. search needs) (λ c κs. search needs) (λ c κs. search needs)
     (λ c. search needs)
-    (λ c. rw (c .before .before .before .before .before .enum-told .given .1, ← (played-on _ _ _ (search (needs, c .before .before .before .before .before .before .before .before .before .before .before .good .1 .1 .0)) (search (needs, c .before .before .before .before .before .before .before .before .before .before .before .good .1 .1 .0)) _ _ _ _ (c .before .before .before .play .ensures))))
+    returns
     (λ c. search needs) (λ c. search needs) (λ c. search needs)
-    (λ c. rw (c .before .before .before .before .before .before .before .before .before .before .before .before .before .waiting .given .1, ← (played-on _ _ _ (search (needs, c .before .before .before .before .before .before .before .before .before .before .before .before .before .before .before .before .before .before .before .good .1 .1 .0)) (search (needs, c .before .before .before .before .before .before .before .before .before .before .before .before .before .before .before .before .before .before .before .good .1 .1 .0)) _ _ _ _ (c .before .before .before .before .before .before .before .before .before .before .play2 .ensures))) (c .before .before .before .before .recovered .ensures)))
+    returns-2)

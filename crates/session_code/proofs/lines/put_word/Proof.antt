@@ -1,14 +1,54 @@
 -- `session_code::lines::put_word` meets its contract. Assumes nothing.
-use Rattle.session.specs.Step.{wordBytes}
+use Rattle.face.specs.Set.{locateSays}
+use Rattle.session.specs.Step.{wordBytes, modeBy}
 use borrow.Author.Needs.{needs}
 use Rattle.session_code.proofs.lines.put_word.Statement.{statement}
 use Rattle.session_code.proofs.lines.put_word.Tie as tie
 
+same-length : tie.Need-same-length
+same-length c = c .before .before .before .before .replace .kept .1 .0
+
+same-length-2 : tie.Need-same-length-2
+same-length-2 c = c .before .before .before .before .replace .kept .1 .1 .0
+
+returns : tie.Need-returns
+unfolding wordBytes modeBy locateSays
+returns c = rw (← (c .before .before .before .before .before .before .before .before .before .before .before .before .locate .ensures), c .before .before .before .before .before .before .before .before .before .before .enum-told .given .1, ← (c .before .before .before .before .before .before .before .before .before .before .before .before .before .before .before .before .write-word .ensures)) (c .before .before .before .before .replace .ensures)
+
+same-length-3 : tie.Need-same-length-3
+same-length-3 c = c .before .before .before .before .insert .kept .1 .0
+
+same-length-4 : tie.Need-same-length-4
+same-length-4 c = c .before .before .before .before .insert .kept .1 .1 .0
+
+returns-2 : tie.Need-returns-2
+unfolding wordBytes modeBy locateSays
+returns-2 c = rw (← (c .before .before .before .before .before .before .before .before .before .before .before .before .locate .ensures), c .before .before .before .before .before .before .before .before .before .before .enum-told2 .given .1, ← (c .before .before .before .before .before .before .before .before .before .before .before .before .before .before .before .before .write-word .ensures)) (c .before .before .before .before .insert .ensures)
+
+same-length-5 : tie.Need-same-length-5
+same-length-5 c = c .before .before .before .before .insert2 .kept .1 .0
+
+same-length-6 : tie.Need-same-length-6
+same-length-6 c = c .before .before .before .before .insert2 .kept .1 .1 .0
+
+returns-3 : tie.Need-returns-3
+unfolding wordBytes modeBy locateSays
+returns-3 c = rw (← (c .before .before .before .before .before .before .before .before .before .before .before .before .locate .ensures), c .before .before .before .before .before .before .before .before .before .before .enum-told3 .given .1, ← (c .before .before .before .before .before .before .before .before .before .before .before .before .before .before .before .before .write-word .ensures)) (c .before .before .before .before .insert2 .ensures)
+
 pub put-word-spec : {M : Type 1} → statement M
-unfolding wordBytes
 put-word-spec =
     tie.close
     (tie.spec
-    (λ c. search needs) (λ c κs. search needs) (λ c. search needs) (λ c κs. search needs) (λ c. search needs)
-    (λ c. search needs)
-    (λ c. search (needs, ← (c .before .before .before .before .before .before .before .before .before .write-word .ensures))))
+    (λ c. search needs) (λ c κs. search needs) (λ c κs. search needs)
+    (λ c. search needs) (λ c. search needs) (λ c κs. search needs)
+    (λ c. search needs) (λ c. search needs) (λ c κs. search needs)
+    (λ c. search needs) (λ c. search needs) (λ c κs. search needs)
+    same-length
+    same-length-2
+    returns
+    same-length-3
+    same-length-4
+    returns-2
+    same-length-5
+    same-length-6
+    returns-3)

@@ -1,0 +1,146 @@
+// The set that the lines work on: an image of at most four slots, its index of at most two heads, its state and the stores handed out last. Any
+// number of it may be set to any other, and a call may be lent less than all of it.
+ghost use Prim.Native.Nat.{_≤_};
+ghost use Rattle.io.specs.Counts.{Counts};
+use crate::names::BYTE;
+use crate::names::INDEX;
+use crate::names::LEND;
+use crate::names::STATE;
+use crate::names::STORE;
+use orderset::State;
+use orderset::Stores;
+
+// How many bytes, heads and next numbers a call is lent, the first ones of each.
+pub struct Fronts {
+    pub image: usize,
+    pub heads: usize,
+    pub next: usize,
+}
+
+// The quantities that the steps of the book moved; `step` is the one whose stores were handed out last, or 0, and `quantity` what it moves.
+pub struct Book {
+    pub ordered: u64,
+    pub filled: u64,
+    pub withdrawn: u64,
+    pub step: u64,
+    pub quantity: u64,
+}
+
+pub struct Set {
+    pub image: [u8; 640],
+    pub heads: [u32; 2],
+    pub next: [u32; 5],
+    pub stores: Stores,
+    pub state: State,
+    pub lent: Fronts,
+    pub book: Book,
+}
+
+// Every byte, index number and store is 9, and nothing is lent.
+pub fn start() -> Set {
+    Set {
+        image: [9; 640],
+        heads: [9; 2],
+        next: [9; 5],
+        stores: Stores {
+            at: [9; 16],
+            value: [9; 16],
+        },
+        state: State {
+            first: 0,
+            last: 0,
+            live: 0,
+            version: 0,
+        },
+        lent: Fronts {
+            image: 0,
+            heads: 0,
+            next: 0,
+        },
+        book: Book {
+            ordered: 0,
+            filled: 0,
+            withdrawn: 0,
+            step: 0,
+            quantity: 0,
+        },
+    }
+}
+
+fn at_most(n: usize, most: usize) -> usize
+    ensures { λ r. ⌜ r ≤ most ⌝ }
+{
+    if n < most {
+        return n;
+    }
+    most
+}
+
+// What is lent: no more than there is.
+pub fn lent(set: Set) -> Fronts
+    ensures { λ r. ⌜ Counts (r .image) (set .image) × Counts (r .heads) (set .heads) × Counts (r .next) (set .next) ⌝ }
+{
+    let wanted = set.lent;
+    Fronts {
+        image: at_most(wanted.image, 640),
+        heads: at_most(wanted.heads, 2),
+        next: at_most(wanted.next, 5),
+    }
+}
+
+fn low(n: u64) -> u32 {
+    (n % 4294967296) as u32
+}
+
+// state FIRST LAST LIVE VERSION
+fn state_of(n: [u64; 5]) -> State {
+    State {
+        first: low(n[1]),
+        last: low(n[2]),
+        live: low(n[3]),
+        version: n[4],
+    }
+}
+
+// lend BYTES HEADS NEXT
+fn fronts_of(n: [u64; 5]) -> Fronts {
+    Fronts {
+        image: n[1] as usize,
+        heads: n[2] as usize,
+        next: n[3] as usize,
+    }
+}
+
+// byte PLACE BYTE; store NUMBER WORD, for the word of one store; index HEAD NEXT NEXT NEXT, for the first head and slots 1 to 3; state and lend
+pub fn set_up(set: Set, name: u64, n: [u64; 5]) -> Set {
+    let mut after = set;
+    let place = n[1] as usize;
+    if name == BYTE {
+        if place < 640 {
+            after.image[place] = (n[2] % 256) as u8;
+        }
+        return after;
+    }
+    if name == STORE {
+        let mut stores = set.stores;
+        if place < 16 {
+            stores.at[place] = low(n[2]);
+        }
+        after.stores = stores;
+        return after;
+    }
+    if name == INDEX {
+        after.heads = [low(n[1]), 0];
+        after.next = [0, low(n[2]), low(n[3]), low(n[4]), 0];
+        return after;
+    }
+    if name == STATE {
+        after.state = state_of(n);
+        return after;
+    }
+    if name == LEND {
+        after.lent = fronts_of(n);
+        return after;
+    }
+    after
+}

@@ -1,0 +1,20 @@
+-- `change_code::write::write_lookup` meets its contract. Assumes nothing.
+use borrow.Author.Needs.{needs}
+use Rattle.calls.specs.Change.{writeFault}
+use Rattle.calls.proofs.Lookups.{slots-fit, refused-early, write-sized, write-next, write-looks}
+use Rattle.change_code.proofs.write.write_lookup.Statement.{statement}
+use Rattle.change_code.proofs.write.write_lookup.Tie as tie
+
+pub write-lookup-spec : {M : Type 1} → statement M
+unfolding writeFault
+write-lookup-spec =
+    tie.close
+    (tie.spec
+    (λ c κs. search needs)
+    (λ c. search (refused-early))
+    (λ c κs. search needs)
+    (λ c κs. search (write-sized, needs))
+    (λ c. search (slots-fit))
+    (λ c κs. search (write-next))
+    (λ c κs. search needs)
+    (λ c. search (write-looks)))

@@ -1,0 +1,205 @@
+// Insert and replace: a key that is not held, or one that is, gets a value. `l` is the layout; a key is two words, the high one 0 in layout 1.
+ghost use mathlib.Core.Path.{_≡_};
+ghost use Prim.Native.Nat.{_+_};
+ghost use lib.ListN.{length};
+ghost use Rattle.layout.specs.Record.{Layout};
+ghost use Rattle.layout.specs.inner.Key.{keyWith};
+ghost use Rattle.stores.specs.Store.{zipped};
+ghost use Rattle.index.specs.declared.Mode.the-variants.{Insert, Replace};
+ghost use Rattle.calls.specs.Change.{changeEnd, leftIn, writeLentFault, writeLaterFault, writeResult};
+ghost use Rattle.calls.specs.inner.Lookup.{WriteLookup};
+use calls::Change;
+use calls::Outcome;
+use index::Found;
+use index::Lookup;
+use index::Mode;
+use index::State;
+use index_code::change::write_place;
+use index_code::fault::chain_fault;
+use index_code::fault::is_found;
+use index_code::fault::key_fault;
+use index_code::fault::reuse_fault;
+use index_code::fault::room_fault;
+use index_code::head::head_of;
+use index_code::search::find;
+use index_code::search::looked_up;
+use layout_code::fields::value_limit;
+use layout_code::header::lent_fault;
+use layout_code::header::slot_count;
+use layout_code::line::version_fault;
+use stores_code::record::record_stores;
+
+// 1, 2, 3, 4 or 10 by what is lent, else 0; size is the value's length.
+fn write_lent_fault(image: &[u8], l: usize, heads: usize, next: usize, size: usize) -> u32
+    requires { ⌜ Layout l ⌝ }
+    ensures { λ r. ⌜ r ≡ writeLentFault l (now (image .entry)) heads next size ⌝ }
+{
+    let lent = lent_fault(image, l, heads, next);
+    if lent != 0 {
+        return lent;
+    }
+    if value_limit(l) < size {
+        return 10;
+    }
+    0
+}
+
+// 11 (chain), 20 or 21, 12, 9 or 11 (reuse) by what the key's chain has, else 0.
+fn write_later_fault(mode: Mode, found: Found, next: &[u32], n: u32, state: State) -> u32
+    requires { ⌜ length (now next) ≡ n + 1 ⌝ }
+    ensures { λ r. ⌜ r ≡ writeLaterFault mode found (now (next .entry)) n state ⌝ }
+{
+    let chain = chain_fault(found);
+    if chain != 0 {
+        return chain;
+    }
+    let key = key_fault(mode, is_found(found));
+    if key != 0 {
+        return key;
+    }
+    let room = room_fault(found, n, state.live);
+    if room != 0 {
+        return room;
+    }
+    let version = version_fault(state.version);
+    if version != 0 {
+        return version;
+    }
+    reuse_fault(next, n, state.first, state.last)
+}
+
+// What an insert or a replace reads before it writes.
+fn write_lookup(
+    image: &[u8],
+    l: usize,
+    heads: &[u32],
+    next: &[u32],
+    state: State,
+    mode: Mode,
+    low: u64,
+    high: u64,
+    size: usize,
+) -> Lookup
+    requires { ⌜ Layout l ⌝ }
+    ensures { λ r. ⌜ WriteLookup l (now (image .entry)) (now (heads .entry)) (now (next .entry)) state mode (keyWith low high) size r ⌝ }
+{
+    let lent = write_lent_fault(image, l, heads.len(), next.len(), size);
+    if lent != 0 {
+        return Lookup::Refused {
+            number: lent,
+            compared: 0,
+        };
+    }
+    let n = slot_count(image.len());
+    let found = find(image, l, heads, next, n, low, high);
+    let fault = write_later_fault(mode, found, next, n as u32, state);
+    looked_up(fault, found)
+}
+
+// Insert or replace, in layout l. The stores are lent: at is their word numbers, words their values.
+fn write_in(
+    image: &[u8],
+    l: usize,
+    heads: &mut [u32],
+    next: &mut [u32],
+    state: State,
+    mode: Mode,
+    low: u64,
+    high: u64,
+    value: &[u8],
+    at: &mut [u32; 16],
+    words: &mut [u64; 16],
+) -> Change
+    requires { ⌜ Layout l ⌝ }
+    ensures { λ r. ⌜ changeEnd r (now (at .exit)) (now (words .exit)) (now (heads .exit)) (now (next .exit)) ≡ leftIn (zipped (now (at .entry)) (now (words .entry))) (writeResult l (now (image .entry)) (now (heads .entry)) (now (next .entry)) state mode (keyWith low high) (now (value .entry))) ⌝ }
+{
+    let lookup = write_lookup(image, l, heads, next, state, mode, low, high, value.len());
+    match lookup {
+        Lookup::Refused {
+            number,
+            compared: _,
+        } => Change {
+            outcome: Outcome::Refused(number),
+            state,
+        },
+        Lookup::Open { place, compared: _ } => {
+            let h = head_of(low, heads.len());
+            let after = write_place(heads, next, state, h, place);
+            record_stores(
+                image,
+                l,
+                state.first,
+                low,
+                high,
+                1,
+                value,
+                state.version,
+                at,
+                words,
+            );
+            Change {
+                outcome: Outcome::Stored {
+                    slot: state.first,
+                    version: state.version,
+                },
+                state: after,
+            }
+        }
+    }
+}
+
+// A key that is not held gets the value: the slot taken and the version, the new state and, lent, the stores to be played; or a refusal, which changes nothing.
+pub fn insert(
+    image: &[u8],
+    heads: &mut [u32],
+    next: &mut [u32],
+    state: State,
+    key: u64,
+    value: &[u8],
+    at: &mut [u32; 16],
+    words: &mut [u64; 16],
+) -> Change
+    ensures { λ r. ⌜ changeEnd r (now (at .exit)) (now (words .exit)) (now (heads .exit)) (now (next .exit)) ≡ leftIn (zipped (now (at .entry)) (now (words .entry))) (writeResult 1 (now (image .entry)) (now (heads .entry)) (now (next .entry)) state Insert key (now (value .entry))) ⌝ }
+{
+    write_in(
+        image,
+        1,
+        heads,
+        next,
+        state,
+        Mode::Insert,
+        key,
+        0,
+        value,
+        at,
+        words,
+    )
+}
+
+// A key that is held gets the value in place of its old one; the answer is as above.
+pub fn replace(
+    image: &[u8],
+    heads: &mut [u32],
+    next: &mut [u32],
+    state: State,
+    key: u64,
+    value: &[u8],
+    at: &mut [u32; 16],
+    words: &mut [u64; 16],
+) -> Change
+    ensures { λ r. ⌜ changeEnd r (now (at .exit)) (now (words .exit)) (now (heads .exit)) (now (next .exit)) ≡ leftIn (zipped (now (at .entry)) (now (words .entry))) (writeResult 1 (now (image .entry)) (now (heads .entry)) (now (next .entry)) state Replace key (now (value .entry))) ⌝ }
+{
+    write_in(
+        image,
+        1,
+        heads,
+        next,
+        state,
+        Mode::Replace,
+        key,
+        0,
+        value,
+        at,
+        words,
+    )
+}

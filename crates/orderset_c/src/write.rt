@@ -1,0 +1,51 @@
+// Insert and replace.
+ghost use mathlib.Core.Path.{_≡_};
+ghost use Rattle.face.specs.Set.{zipped, Insert, Replace, writeResult};
+ghost use Rattle.exports.specs.State.{stateFrom};
+ghost use Rattle.exports.specs.Call.{changeLeft, changeCall};
+use crate::answer::hand_out;
+use crate::state::state_from;
+use orderset::insert;
+use orderset::replace;
+
+// A key that is not held gets the value; the answer is the slot taken and the version, and the stores are to be made by the caller.
+#[no_mangle]
+pub extern "C" fn orderset_insert(
+    image: &[u8],
+    heads: &mut [u32],
+    next: &mut [u32],
+    state: &mut [u32; 3],
+    version: &mut [u64; 1],
+    key: u64,
+    bytes: &[u8],
+    at: &mut [u32; 16],
+    value: &mut [u64; 16],
+    answer: &mut [u64; 3],
+) -> u32
+    ensures { λ r. ⌜ changeLeft r (now (answer .exit)) (stateFrom (now (state .exit)) (now (version .exit))) (zipped (now (at .exit)) (now (value .exit))) (now (heads .exit)) (now (next .exit)) ≡ changeCall (writeResult 1 (now (image .entry)) (now (heads .entry)) (now (next .entry)) (stateFrom (now (state .entry)) (now (version .entry))) Insert key (now (bytes .entry))) (now (answer .entry)) (zipped (now (at .entry)) (now (value .entry))) ⌝ }
+{
+    let before = state_from(state, version);
+    let change = insert(image, heads, next, before, key, bytes, at, value);
+    hand_out(change, state, version, answer)
+}
+
+// A key that is held gets the value; the answer is as above.
+#[no_mangle]
+pub extern "C" fn orderset_replace(
+    image: &[u8],
+    heads: &mut [u32],
+    next: &mut [u32],
+    state: &mut [u32; 3],
+    version: &mut [u64; 1],
+    key: u64,
+    bytes: &[u8],
+    at: &mut [u32; 16],
+    value: &mut [u64; 16],
+    answer: &mut [u64; 3],
+) -> u32
+    ensures { λ r. ⌜ changeLeft r (now (answer .exit)) (stateFrom (now (state .exit)) (now (version .exit))) (zipped (now (at .exit)) (now (value .exit))) (now (heads .exit)) (now (next .exit)) ≡ changeCall (writeResult 1 (now (image .entry)) (now (heads .entry)) (now (next .entry)) (stateFrom (now (state .entry)) (now (version .entry))) Replace key (now (bytes .entry))) (now (answer .entry)) (zipped (now (at .entry)) (now (value .entry))) ⌝ }
+{
+    let before = state_from(state, version);
+    let change = replace(image, heads, next, before, key, bytes, at, value);
+    hand_out(change, state, version, answer)
+}
