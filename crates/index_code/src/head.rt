@@ -4,10 +4,14 @@ ghost use Prim.Native.Nat.{ℕ, _<_, _≤_};
 ghost use Rattle.layout.specs.inner.Key.{keyWith};
 ghost use Rattle.index.specs.Index.{headOf};
 
-// Which of b heads a key with this low word belongs to.
+// Which of b heads a key with this low word belongs to. Where b is a power of two, its mask gives the remainder.
 pub fn head_of(low: u64, b: usize) -> usize
     requires { ⌜ 1 ≤ b ⌝ }
     ensures { λ r. ⌜ (r < b) × ((high : ℕ) → r ≡ headOf (keyWith low high) b) ⌝ }
 {
+    let mask = b - 1;
+    if b & mask == 0 {
+        return (low & mask as u64) as usize;
+    }
     (low % b as u64) as usize
 }

@@ -1,11 +1,12 @@
 -- The refusals 1, 2, 3 and 4, by what the tests on the image and the index gave. Assumes nothing.
-use mathlib.Core.Path.{_≡_, sym, ap, _∙_}
-use mathlib.Core.Bool.{Bool, true, false, not, true≢false}
+use mathlib.Core.Path.{_≡_, refl, sym, ap, _∙_}
+use mathlib.Core.Bool.{Bool, true, false, not, cond, true≢false}
 use mathlib.Core.List.{List}
 use mathlib.Core.Logic.{_≢_, by-cases}
 use Prim.Native.Nat.{ℕ, _-_, _≤_}
 use native.Mathlib.Decide.{ℕ-discrete}
 use native.Mathlib.Omega.{arith}
+use lib.Bits.{bitOr}
 use lib.Dec.{eqb}
 use borrow.Author.Tests.{eq-eqb, ne-eqb}
 use Rattle.words.specs.Word.{word}
@@ -14,11 +15,30 @@ use Rattle.layout.specs.Size.{slotsIn}
 use Rattle.layout.specs.Header.{headerWord, headerFault, imageFault, indexFault, lentFault}
 use Rattle.prelude.proofs.Choice.{pick-false}
 use Rattle.prelude.proofs.Any.{any-some, any-none}
+use Rattle.prelude.proofs.Bits.{or-nonzero}
 use Rattle.prelude.proofs.Refusals.{say-true, say-false, orElse-first, orElse-later}
 
 -- a word that is not zero
 abbrev nonzero : (ℕ → ℕ) → ℕ → Bool
 nonzero m i = not (eqb (m i) 0)
+
+-- rest_differs: the words 2 to 7 in one
+pub rest-in-one : (m : ℕ → ℕ) (a b c d e f : ℕ) → a ≡ m 2 → b ≡ m 3 → c ≡ m 4 → d ≡ m 5 → e ≡ m 6 → f ≡ m 7
+    → not (eqb (bitOr (bitOr (bitOr (bitOr (bitOr a b) c) d) e) f) 0) ≡ anyOf (nonzero m) 2 6
+unfolding anyOf
+rest-in-one m a b c d e f p2 p3 p4 p5 p6 p7 =
+    rw (p2, p3, p4, p5, p6, p7) (simp or-nonzero (nested (nonzero m 2) (nonzero m 3) (nonzero m 4) (nonzero m 5) (nonzero m 6) (nonzero m 7)))
+  where
+    nested : (x y z u v w : Bool)
+        → cond (cond (cond (cond (cond x true y) true z) true u) true v) true w ≡
+        cond x true (cond y true (cond z true (cond u true (cond v true (cond w true false)))))
+    nested true y z u v w = refl
+    nested false true z u v w = refl
+    nested false false true u v w = refl
+    nested false false false true v w = refl
+    nested false false false false true w = refl
+    nested false false false false false true = refl
+    nested false false false false false false = refl
 
 -- header_differs, by the words 0 and 1 and the rest
 module _ (l n : ℕ) (m : ℕ → ℕ) where

@@ -6,5 +6,5 @@ pub mod Tails
 pub mod Copies
 pub mod Lents
 pub mod KeyWords
+pub mod Places
 pub mod RecordFields
-pub mod defs

@@ -41,9 +41,18 @@ lengthOf w = w / 256 % 256
 abbrev pub limit : ℕ → ℕ
 limit l = 88 - 8 * l
 
+-- where word i of a value stands among a slot's 16 words, line A's before line B's: from word l + 2 of line A on, and after its word 6 from
+-- word 1 of line B on
+unfoldable pub valuePlace : (l i : ℕ) → ℕ
+valuePlace l i = cond (ltb (l + 2 + i) 7) (l + 2 + i) (l + 4 + i)
+
+-- word p of the slot with lines A and B
+unfoldable pub slotWord : (A B : ℕ → ℕ) → ℕ → ℕ
+slotWord A B p = cond (ltb p 8) (A p) (B (p - 8))
+
 -- word i of the value
 unfoldable pub valueWord : (l : ℕ) → (A B : ℕ → ℕ) → ℕ → ℕ
-valueWord l A B i = cond (ltb (l + 2 + i) 7) (A (l + 2 + i)) (B (l + i - 4))
+valueWord l A B i = slotWord A B (valuePlace l i)
 
 -- byte k of the value
 unfoldable pub valueByte : (l : ℕ) → (A B : ℕ → ℕ) → ℕ → ℕ

@@ -1,3 +1,4 @@
 pub mod Sized
 pub mod Inside
 pub mod Key
+pub mod Steps

@@ -1,17 +1,16 @@
 // The fields of the record in a slot, and refusal 6. `l` is the layout.
 ghost use mathlib.Core.Path.{_≡_};
-ghost use mathlib.Core.List.{List, _++_};
-ghost use Prim.Native.Nat.{ℕ, _+_, _*_, _<_, _≤_};
+ghost use Prim.Native.Nat.{_+_, _*_, _≤_};
 ghost use lib.Dec.{eqb};
-ghost use lib.ListN.{length, drop};
+ghost use lib.ListN.{length};
 ghost use Rattle.words.specs.Word.{word};
 ghost use Rattle.layout.specs.Line.{lineA, lineB};
-ghost use Rattle.layout.specs.Record.{keyOf, kindOf, lengthOf, limit, valueWord, valueByte, valueFront};
+ghost use Rattle.layout.specs.Record.{keyOf, kindOf, lengthOf, limit};
 ghost use Rattle.layout.specs.Fault.{kindFault, wordFault, tailFault, faultOf};
 ghost use Rattle.layout.specs.inner.Inside.{SlotInside};
 ghost use Rattle.layout.specs.inner.Key.{keyWith, highWord};
+use crate::value::value_word;
 use words_code::read_word;
-use words_code::write_word;
 
 // The low word of the key in slot s.
 pub fn slot_low(image: &[u8], s: usize) -> u64
@@ -89,17 +88,6 @@ pub fn slot_length(image: &[u8], l: usize, s: usize) -> usize
     length_of(kind_word(image, l, s))
 }
 
-// Byte k of the value in slot s.
-pub fn value_byte(image: &[u8], l: usize, s: usize, k: usize) -> u8
-    requires { ⌜ SlotInside (now image) l s × (k < limit l) ⌝ }
-    ensures { λ r. ⌜ r ≡ valueByte l (lineA (word (now (image .entry))) s) (lineB (word (now (image .entry))) s) k ⌝ }
-{
-    if k < 40 - 8 * l {
-        return image[128 * s + 8 * l + 16 + k];
-    }
-    image[128 * s + 8 * l + 32 + k]
-}
-
 // Is it another kind than put and remove?
 fn kind_fault(kind: u64) -> bool
     ensures { λ r. ⌜ r ≡ kindFault kind ⌝ }
@@ -133,52 +121,6 @@ fn word_fault(l: usize, w: u64) -> bool
         return 0 < size;
     }
     false
-}
-
-// Word i of the value in slot s.
-fn value_word(image: &[u8], l: usize, s: usize, i: usize) -> u64
-    requires { ⌜ SlotInside (now image) l s × (l + i < 11) ⌝ }
-    ensures { λ r. ⌜ r ≡ valueWord l (lineA (word (now (image .entry))) s) (lineB (word (now (image .entry))) s) i ⌝ }
-{
-    if l + 2 + i < 7 {
-        return read_word(image, 16 * s + l + 2 + i);
-    }
-    read_word(image, 16 * s + 4 + l + i)
-}
-
-// The first words of the value in slot s fill the front of out.
-fn copy_words(image: &[u8], l: usize, s: usize, out: &mut [u8], words: usize)
-    requires { ⌜ SlotInside (now image) l s × (8 * words ≤ limit l) × (8 * words ≤ length (now out)) ⌝ }
-    ensures { λ _. ⌜ now (out .exit) ≡ valueFront l (lineA (word (now (image .entry))) s) (lineB (word (now (image .entry))) s) (8 * words) ++ drop (8 * words) (now (out .entry)) ⌝ }
-{
-    let mut i = 0;
-    while i < words {
-        let w = value_word(image, l, s, i);
-        write_word(out, i, w);
-        i += 1;
-    }
-}
-
-// The bytes from position start up to n of the value in slot s follow those before them in out.
-fn copy_bytes(image: &[u8], l: usize, s: usize, out: &mut [u8], start: usize, n: usize)
-    requires { ⌜ SlotInside (now image) l s × (start ≤ n) × (n ≤ limit l) × (n ≤ length (now out)) ⌝ }
-    ensures { λ _. ⌜ ((old : List ℕ) → length old ≡ length (now (out .entry)) → now (out .entry) ≡ valueFront l (lineA (word (now (image .entry))) s) (lineB (word (now (image .entry))) s) start ++ drop start old → now (out .exit) ≡ valueFront l (lineA (word (now (image .entry))) s) (lineB (word (now (image .entry))) s) n ++ drop n old) ⌝ }
-{
-    let mut k = start;
-    while k < n {
-        out[k] = value_byte(image, l, s, k);
-        k += 1;
-    }
-}
-
-// The first n bytes of the value in slot s fill the front of out, a word at a time and then the bytes of the last one.
-pub fn copy_value(image: &[u8], l: usize, s: usize, out: &mut [u8], n: usize)
-    requires { ⌜ SlotInside (now image) l s × (n ≤ limit l) × (n ≤ length (now out)) ⌝ }
-    ensures { λ _. ⌜ now (out .exit) ≡ valueFront l (lineA (word (now (image .entry))) s) (lineB (word (now (image .entry))) s) n ++ drop n (now (out .entry)) ⌝ }
-{
-    let words = n / 8;
-    copy_words(image, l, s, out, words);
-    copy_bytes(image, l, s, out, 8 * words, n);
 }
 
 // Is a byte of the value from position size on not zero? Word by word, the first one from position size % 8 on.

@@ -10,20 +10,19 @@ ghost use Rattle.layout.specs.Size.{slotsOf};
 ghost use Rattle.layout.specs.Header.{headerWord, headerFault, imageFault, indexFault, lentFault};
 use words_code::read_word;
 
-// The slots of an image of len bytes, or 0 where no image has that length.
+// The slots of an image of len bytes, or 0 where no image has that length. The length is turned by seven bits, so that one range tests it: a
+// remainder by 128 makes the number large.
 pub fn slot_count(len: usize) -> usize
     ensures { λ r. ⌜ r ≡ slotsOf len ⌝ }
 {
-    if len < 384 {
+    let turned = len / 128 + len % 128 * 144115188075855872;
+    if turned < 3 {
         return 0;
     }
-    if 8388608 < len {
+    if 65536 < turned {
         return 0;
     }
-    if len % 128 != 0 {
-        return 0;
-    }
-    len / 128 - 1
+    turned - 1
 }
 
 // Is one of the words 2 to 7 of the header other than zero?
@@ -31,14 +30,13 @@ fn rest_differs(image: &[u8]) -> bool
     requires { ⌜ 64 ≤ length (now image) ⌝ }
     ensures { λ r. ⌜ r ≡ anyOf (λ i. not (eqb (word (now (image .entry)) i) 0)) 2 6 ⌝ }
 {
-    let mut i = 2;
-    while i < 8 {
-        if read_word(image, i) != 0 {
-            return true;
-        }
-        i += 1;
-    }
-    false
+    let bits = read_word(image, 2)
+        | read_word(image, 3)
+        | read_word(image, 4)
+        | read_word(image, 5)
+        | read_word(image, 6)
+        | read_word(image, 7);
+    bits != 0
 }
 
 // Is a word of the header other than laid down?

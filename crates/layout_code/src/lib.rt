@@ -3,3 +3,4 @@ pub mod fields;
 pub mod header;
 pub mod line;
 pub mod slot;
+pub mod value;

@@ -2,6 +2,7 @@ pub mod Choice
 pub mod Tests
 pub mod Refusals
 pub mod Any
+pub mod Bits
 pub mod Tabulate
 pub mod Fills
 pub mod Count

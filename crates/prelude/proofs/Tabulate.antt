@@ -1,10 +1,12 @@
 -- The list that a function tabulates to: its length, its elements, which list it is, and how it grows. Assumes nothing.
 use mathlib.Core.Path.{_≡_, refl, sym, ap, ap₂, _∙_}
+use mathlib.Core.Logic.{by-cases}
 use mathlib.Core.List.{List, [], _∷_, _++_, append-assoc}
 use Prim.Native.Nat.{ℕ, zero, suc, _+_, _<_}
+use native.Mathlib.Decide.{ℕ-discrete}
 use native.Mathlib.Omega.{arith}
-use lib.ListN.{length, getD, set, drop}
-use lib.Seq.{drop-cons, set-at}
+use lib.ListN.{length, getD, set, drop, length-set}
+use lib.Seq.{drop-cons, getD-set-same, getD-set-other, set-at, ext-getD}
 use Rattle.prelude.specs.Range.{tabulate}
 
 pub tabulate-length : (f : ℕ → ℕ) (k n : ℕ) → length (tabulate f k n) ≡ n
@@ -51,3 +53,19 @@ tabulate-list f [] k h = refl
 tabulate-list f (x ∷ xs) k h =
     ap₂ (λ (y : ℕ) (ys : List ℕ). y ∷ ys) (ap f (omega arith) ∙ h 0 (omega arith))
     (tabulate-list f xs (suc k) (λ i l. ap f (omega arith) ∙ h (suc i) (omega arith)))
+
+-- another value at one number
+pub tabulate-put : (f g : ℕ → ℕ) (n k v : ℕ) → k < n → g k ≡ v → ((i : ℕ) → (i ≡ k → ⊥) → g i ≡ f i)
+    → set (tabulate f 0 n) k v ≡ tabulate g 0 n
+tabulate-put f g n k v h e rest =
+    ext-getD 0 (set (tabulate f 0 n) k v) (tabulate g 0 n) (length-set (tabulate f 0 n) k v ∙ tabulate-length f 0 n ∙ sym (tabulate-length g 0 n))
+    (λ i p.
+    let inside : i < n = omega (arith, p, length-set (tabulate f 0 n) k v, tabulate-length f 0 n) in
+    let here : getD (tabulate g 0 n) i 0 ≡ g i = tabulate-get g 0 n i inside ∙ ap g (omega arith) in
+    by-cases (ℕ-discrete i k)
+    (λ q.
+    ap (λ (x : ℕ). getD (set (tabulate f 0 n) k v) x 0) q
+    ∙ getD-set-same (tabulate f 0 n) k v 0 (omega (arith, tabulate-length f 0 n))
+    ∙ sym (here ∙ ap g q ∙ e))
+    (λ ne.
+    getD-set-other (tabulate f 0 n) k i v 0 ne ∙ tabulate-get f 0 n i inside ∙ ap f (omega arith) ∙ sym (here ∙ rest i ne)))

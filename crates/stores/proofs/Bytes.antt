@@ -12,12 +12,14 @@ use lib.Dec.{eqb, ltb}
 use borrow.Author.Tests.{eq-eqb, ne-eqb}
 use Rattle.words.specs.Word.{word, setWord}
 use Rattle.prelude.proofs.Choice.{pick-true, pick-false}
-use Rattle.words.proofs.Laws.{setWord-length, word-same, word-other, word-range}
+use Rattle.words.proofs.Laws.{setWord-length, word-same, word-other}
+use Rattle.layout.specs.Record.{limit}
 use Rattle.layout.specs.Content.{top}
 use Rattle.stores.specs.Store.{Store, played, stored, playedWords, less, standing}
 use Rattle.stores.specs.Written.{marked, bodyA, bodyB, run, lineStores, recordStores}
 use Rattle.stores.specs.Cut.{afterCut, Fields, Lawful, Written}
 use Rattle.stores.proofs.defs.Cut.{nil-in, cons-in, StoresInside}
+use Rattle.stores.proofs.Placed.{placed-below}
 use Rattle.stores.proofs.Table.{table-law}
 
 -- ---- play
@@ -88,11 +90,11 @@ bodyA-below : (l key kind : ℕ) (value : List ℕ) → Fields l key kind value 
 unfolding bodyA
 bodyA-below l key kind value fine i =
     cond-below (ltb i (l + 1)) _ _ _ (mod-lt (key / (2 ^ 64) ^ (i - 1)) (omega arith))
-    (cond-below (eqb i (l + 1)) _ _ _ (omega (arith, fine .size, fine .kind-fits)) (word-range value (i - (l + 2)) (fine .bytes)))
+    (cond-below (eqb i (l + 1)) _ _ _ (omega (arith, fine .size, fine .kind-fits)) (placed-below l value (limit l / 8) i (fine .bytes)))
 
 bodyB-below : (l key kind : ℕ) (value : List ℕ) → Fields l key kind value → (i : ℕ) → bodyB l value i < 2 ^ 64
 unfolding bodyB
-bodyB-below l key kind value fine i = word-range value (i + 4 - l) (fine .bytes)
+bodyB-below l key kind value fine i = placed-below l value (limit l / 8) (8 + i) (fine .bytes)
 
 pub record-inside : (n l : ℕ) (m : ℕ → ℕ) (s key kind : ℕ) (value : List ℕ) (version : ℕ) → Fields l key kind value → version < 2 ^ 63 → 128 * (s + 1) ≤ n
     → StoresInside n (recordStores l m s key kind value version)

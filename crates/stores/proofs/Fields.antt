@@ -14,15 +14,17 @@ use Rattle.prelude.proofs.Choice.{pick-true, pick-false}
 use Rattle.words.proofs.Laws.{word-byte}
 use Rattle.layout.specs.Line.{whole, versionOf}
 use Rattle.layout.specs.Slot.{paired}
-use Rattle.layout.specs.Record.{keyOf, keyWord, kindWord, kindOf, lengthOf, limit, valueWord, valueByte, valueFront, valueOf}
+use Rattle.layout.specs.Record.{keyOf, keyWord, kindWord, kindOf, lengthOf, limit, slotWord, valueWord, valueByte, valueFront, valueOf}
 use Rattle.layout.specs.Content.{made, contentOf}
 use Rattle.layout.specs.Fault.{kindFault, wordFault, tailFault, faultOf}
 use Rattle.prelude.proofs.Any.{any-clear}
 use Rattle.prelude.proofs.Tabulate.{tabulate-list}
 use Rattle.layout.proofs.KeyWords.{key-again}
+use Rattle.layout.proofs.Places.{place-A, place-B}
 use Rattle.layout.proofs.Content.{paired-by, valid-content}
-use Rattle.stores.specs.Written.{bodyA, bodyB, newA, newB}
+use Rattle.stores.specs.Written.{placedWord, bodyA, bodyB, newA, newB}
 use Rattle.stores.specs.Cut.{Fields, Lawful, a-put, a-remove}
+use Rattle.stores.proofs.Placed.{placed-at}
 use Rattle.stores.proofs.Line.{marked-body, marked-whole, marked-version}
 
 -- ---- the words of the bodies
@@ -38,16 +40,18 @@ body-kind l key kind value =
     pick-false (ltb (l + 1) (l + 1)) _ _ (le-ltb (l + 1) (l + 1) (omega arith))
     ∙ pick-true (eqb (l + 1) (l + 1)) _ _ (eq-eqb (l + 1) (l + 1) refl)
 
-body-value : (l key kind : ℕ) (value : List ℕ) (i : ℕ) → bodyA l key kind value (l + 2 + i) ≡ word value i
+body-value : (l key kind : ℕ) (value : List ℕ) (i : ℕ) → l + 2 + i < 7 → bodyA l key kind value (l + 2 + i) ≡ word value i
 unfolding bodyA
-body-value l key kind value i =
+body-value l key kind value i h =
     pick-false (ltb (l + 2 + i) (l + 1)) _ _ (le-ltb (l + 2 + i) (l + 1) (omega arith))
     ∙ pick-false (eqb (l + 2 + i) (l + 1)) _ _ (ne-eqb (l + 2 + i) (l + 1) (λ (e : l + 2 + i ≡ l + 1). omega arith))
-    ∙ ap (word value) (omega arith)
+    ∙ ap (placedWord l value (limit l / 8)) (place-A l i h) ∙ placed-at l value (limit l / 8) i (omega arith)
 
-body-more : (l : ℕ) (value : List ℕ) (i : ℕ) → l ≤ 2 → 7 ≤ l + 2 + i → bodyB l value (l + i - 4) ≡ word value i
+body-more : (l : ℕ) (value : List ℕ) (i : ℕ) → 7 ≤ l + 2 + i → l + i < 11 → bodyB l value (l + 4 + i - 8) ≡ word value i
 unfolding bodyB
-body-more l value i h p = ap (word value) (omega arith)
+body-more l value i h p =
+    let along : 8 + (l + 4 + i - 8) ≡ l + 4 + i = omega arith in
+    ap (placedWord l value (limit l / 8)) (along ∙ place-B l i h) ∙ placed-at l value (limit l / 8) i (omega arith)
 
 -- ---- two lines that hold a record's words, over lines with stamps stampA and stampB
 module _ (l stampA stampB key kind : ℕ) (value : List ℕ) (version : ℕ) (fine : Fields l key kind value) (A B : ℕ → ℕ)
@@ -86,13 +90,15 @@ module _ (l stampA stampB key kind : ℕ) (value : List ℕ) (version : ℕ) (fi
       (λ j h. inA (1 + j) (omega arith) (omega (arith, fine .layout .high)) ∙ body-key l key kind value j h) (fine .key-fits)
 
   pub the-word : (i : ℕ) → l + i < 11 → valueWord l A B i ≡ word value i
-  unfolding valueWord
+  unfolding valueWord slotWord
   the-word i h =
       by-cases (decLt (l + 2 + i) 7)
-      (λ p. pick-true (ltb (l + 2 + i) 7) _ _ (lt-ltb (l + 2 + i) 7 p) ∙ inA (l + 2 + i) (omega arith) p ∙ body-value l key kind value i)
       (λ p.
-      pick-false (ltb (l + 2 + i) 7) _ _ (le-ltb (l + 2 + i) 7 (omega arith))
-      ∙ inB (l + i - 4) (omega arith) (omega arith) ∙ body-more l value i (fine .layout .high) (omega arith))
+      ap (slotWord A B) (sym (place-A l i p)) ∙ pick-true (ltb (l + 2 + i) 8) _ _ (lt-ltb (l + 2 + i) 8 (omega arith))
+      ∙ inA (l + 2 + i) (omega arith) p ∙ body-value l key kind value i p)
+      (λ p.
+      ap (slotWord A B) (sym (place-B l i (omega arith))) ∙ pick-false (ltb (l + 4 + i) 8) _ _ (le-ltb (l + 4 + i) 8 (omega arith))
+      ∙ inB (l + 4 + i - 8) (omega arith) (omega arith) ∙ body-more l value i (omega arith) h)
 
   pub the-byte : (k : ℕ) → k < limit l → valueByte l A B k ≡ getD value k 0
   unfolding valueByte

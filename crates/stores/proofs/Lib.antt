@@ -1,6 +1,7 @@
 pub mod Making
 pub mod Plays
 pub mod Line
+pub mod Placed
 pub mod Fields
 pub mod Slot
 pub mod Table

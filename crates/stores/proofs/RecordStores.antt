@@ -7,14 +7,14 @@ use native.Mathlib.Omega.{arith}
 use lib.Dec.{eqb, ltb}
 use lib.ListN.{length}
 use borrow.Author.Tests.{eq-eqb, ne-eqb, lt-ltb, le-ltb}
-use Rattle.words.specs.Word.{word}
 use Rattle.prelude.proofs.Choice.{pick-true, pick-false}
 use Rattle.prelude.specs.Range.{tabulate}
-use Rattle.layout.specs.Record.{Layout, keyWord, kindWord}
+use Rattle.layout.specs.Record.{Layout, keyWord, kindWord, limit}
 use Rattle.layout.specs.inner.Key.{keyWith}
 use Rattle.stores.specs.Store.{Store, zipped}
-use Rattle.stores.specs.Written.{newA, newB, bodyA, run, lineStores, recordStores}
+use Rattle.stores.specs.Written.{newA, newB, bodyA, bodyB, run, lineStores, recordStores}
 use Rattle.stores.specs.inner.Written.{recordNumbers, recordWords}
+use Rattle.stores.proofs.Placed.{placed-empty}
 
 high-part : (low high : ℕ) → low < 2 ^ 64 → (keyWith low high) / 2 ^ 64 ≡ high
 high-part low high h = omega arith
@@ -31,30 +31,35 @@ key-high low high i h k b ne =
     one : i ≡ 1
     one = omega arith
 
--- the three parts of line A
-module _ (l key kind : ℕ) (value : List ℕ) (i : ℕ) where
-  pub in-key : (r : ℕ) → i < l + 1 → r ≡ keyWord key (i - 1) → r ≡ bodyA l key kind value i
+-- a record without a value, whose kind word is w: the key, the kind word, and zeros
+module _ (l key w i : ℕ) where
+  pub in-key : (r : ℕ) → i < l + 1 → r ≡ keyWord key (i - 1) → r ≡ bodyA l key w [] i
   unfolding bodyA
   in-key r h e = e ∙ sym (pick-true (ltb i (l + 1)) _ _ (lt-ltb i (l + 1) h))
 
-  pub in-kind : (r : ℕ) → i ≡ l + 1 → r ≡ kindWord kind (length value) → r ≡ bodyA l key kind value i
+  pub in-kind : i ≡ l + 1 → w ≡ bodyA l key w [] i
   unfolding bodyA
-  in-kind r h e =
-      e ∙ sym (pick-false (ltb i (l + 1)) _ _ (le-ltb i (l + 1) (omega arith)) ∙ pick-true (eqb i (l + 1)) _ _ (eq-eqb i (l + 1) h))
+  in-kind h =
+      sym (pick-false (ltb i (l + 1)) _ _ (le-ltb i (l + 1) (omega arith)) ∙ pick-true (eqb i (l + 1)) _ _ (eq-eqb i (l + 1) h) ∙ alone)
+    where
+      alone : kindWord w 0 ≡ w
+      alone = omega arith
 
-  pub in-value : (r : ℕ) → l + 1 ≤ i → (i ≡ l + 1 → ⊥) → r ≡ word value (i - (l + 2)) → r ≡ bodyA l key kind value i
+  pub past-kind : l + 1 < i → bodyA l key w [] i ≡ 0
   unfolding bodyA
-  in-value r h ne e =
-      e ∙ sym (pick-false (ltb i (l + 1)) _ _ (le-ltb i (l + 1) h) ∙ pick-false (eqb i (l + 1)) _ _ (ne-eqb i (l + 1) ne))
+  past-kind h =
+      pick-false (ltb i (l + 1)) _ _ (le-ltb i (l + 1) (omega arith)) ∙ pick-false (eqb i (l + 1)) _ _ (ne-eqb i (l + 1) (λ e. omega arith))
+      ∙ placed-empty l (limit l / 8) i
 
--- line A of a remove: its first word is the low key word, and past word 3 it has zeros
-pub remove-low : (l low high : ℕ) → Layout l → low < 2 ^ 64 → bodyA l (keyWith low high) 2 [] 1 ≡ low
-remove-low l low high lay h =
-    sym (in-key l (keyWith low high) 2 [] 1 low (omega (arith, lay .low)) (key-low low high 0 h refl))
+-- its first word is the low key word
+pub first-key : (l low high w : ℕ) → Layout l → low < 2 ^ 64 → bodyA l (keyWith low high) w [] 1 ≡ low
+first-key l low high w lay h =
+    sym (in-key l (keyWith low high) w 1 low (omega (arith, lay .low)) (key-low low high 0 h refl))
 
-pub remove-zero : (l key i : ℕ) → l + 1 < i → bodyA l key 2 [] i ≡ 0
-unfolding word
-remove-zero l key i h = sym (in-value l key 2 [] i 0 (omega arith) (λ e. omega arith) refl)
+-- and line B has zeros
+pub no-rest : (l i : ℕ) → bodyB l [] i ≡ 0
+unfolding bodyB
+no-rest l i = placed-empty l (limit l / 8) (8 + i)
 
 -- ---- the stores as two lists
 

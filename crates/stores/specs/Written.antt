@@ -1,26 +1,32 @@
 -- The 16 stores of a record for slot s, in layout l. Document 01, "How a call writes".
 use mathlib.Core.Bool.{cond}
 use mathlib.Core.List.{List, [], _∷_, _++_}
-use Prim.Native.Nat.{ℕ, zero, suc, _+_, _-_, _*_}
+use Prim.Native.Nat.{ℕ, zero, suc, _+_, _-_, _*_, _/_}
 use lib.Dec.{eqb, ltb}
 use lib.ListN.{length}
 use Rattle.words.specs.Word.{word}
 use Rattle.layout.specs.Line.{line, firstWord, lastWord}
-use Rattle.layout.specs.Record.{keyWord, kindWord}
+use Rattle.layout.specs.Record.{keyWord, kindWord, limit, valuePlace}
 use Rattle.stores.specs.Store.{Store}
 
 -- the words of a line that is written over one with this stamp: the mark, six words of the body, and the stamp
 unfoldable pub marked : (stamp version : ℕ) → (body : ℕ → ℕ) → ℕ → ℕ
 marked stamp version body i = cond (eqb i 0) (firstWord stamp) (cond (eqb i 7) (lastWord stamp version) (body i))
 
+-- word p of a slot that has the first n words of the value at their places, and 0 elsewhere
+unfoldable pub placedWord : (l : ℕ) → (value : List ℕ) → (n p : ℕ) → ℕ
+placedWord l value zero p = 0
+placedWord l value (suc n) p = cond (eqb p (valuePlace l n)) (word value n) (placedWord l value n p)
+
 -- words 1 to 6 of line A: the key, the kind word and the front of the value. "Value bytes past the length are zero"
 unfoldable pub bodyA : (l key kind : ℕ) → List ℕ → ℕ → ℕ
 bodyA l key kind value i =
-    cond (ltb i (l + 1)) (keyWord key (i - 1)) (cond (eqb i (l + 1)) (kindWord kind (length value)) (word value (i - (l + 2))))
+    cond (ltb i (l + 1)) (keyWord key (i - 1))
+    (cond (eqb i (l + 1)) (kindWord kind (length value)) (placedWord l value (limit l / 8) i))
 
 -- words 1 to 6 of line B: the rest of the value
 unfoldable pub bodyB : (l : ℕ) → List ℕ → ℕ → ℕ
-bodyB l value i = word value (i + 4 - l)
+bodyB l value i = placedWord l value (limit l / 8) (8 + i)
 
 -- all eight words of line A, over a line with this stamp
 abbrev pub newA : (l stamp key kind : ℕ) → List ℕ → (version : ℕ) → ℕ → ℕ

@@ -2,3 +2,4 @@
 pub mod make;
 pub mod play;
 pub mod record;
+pub mod value;

@@ -1,34 +1,46 @@
 -- Words and bytes: a word after a store (the same, another, length, range), and the bytes of a word. Assumes nothing.
-use mathlib.Core.Path.{_≡_, refl, ap, sym, _∙_}
+use mathlib.Core.Path.{_≡_, refl, ap, ap₂, sym, _∙_}
 use mathlib.Core.List.{List}
 use mathlib.Core.Logic.{_≢_, by-cases}
-use Prim.Native.Nat.{ℕ, zero, suc, _+_, _*_, _/_, _%_, _^_, _≤_, _<_}
+use Prim.Native.Nat.{ℕ, zero, suc, _+_, _-_, _*_, _/_, _%_, _^_, _≤_, _<_, min}
 use native.Mathlib.Nat.{div-add-mod, pow-suc, pow-succ', div-one, div-lt-iff-lt-mul, div-div-eq-div-mul, mod-lt, zero-lt-suc}
 use native.Mathlib.Decide.{decLt, ℕ-discrete}
 use native.Mathlib.Omega.{arith}
 use lib.ListN.{length, take, getD, set, length-set, List·getD-eq-default}
 use lib.Seq.{getD-set-same, getD-set-other, set-out, getD-take}
-use Rattle.words.specs.Word.{AreBytes, word, setWord}
+use Rattle.words.specs.Word.{AreBytes, word, setBytes, setWord}
 
 -- the number of the n bytes from a on
 abbrev from : ℕ → List ℕ → ℕ → ℕ
 from zero s a = 0
 from (suc n) s a = getD s a 0 + 256 * from n s (suc a)
 
--- the n bytes from a on become those of v
-abbrev into : ℕ → List ℕ → ℕ → ℕ → List ℕ
-into zero s a v = s
-into (suc n) s a v = into n (set s a (v % 256)) (suc a) (v / 256)
+bytes-length : (s : List ℕ) (k n v : ℕ) → length (setBytes s k n v) ≡ length s
+unfolding setBytes
+bytes-length s k zero v = refl
+bytes-length s k (suc n) v = bytes-length (set s k (v % 256)) (suc k) n (v / 256) ∙ length-set s k (v % 256)
 
-into-length : (n : ℕ) (s : List ℕ) (a v : ℕ) → length (into n s a v) ≡ length s
-into-length zero s a v = refl
-into-length (suc n) s a v = into-length n (set s a (v % 256)) (suc a) (v / 256) ∙ length-set s a (v % 256)
-
-into-other : (n : ℕ) (s : List ℕ) (a v k : ℕ) → (a ≤ k → k < a + n → ⊥) → getD (into n s a v) k 0 ≡ getD s k 0
-into-other zero s a v k h = refl
-into-other (suc n) s a v k h =
-    into-other n (set s a (v % 256)) (suc a) (v / 256) k (λ p q. h (omega arith) (omega arith))
+bytes-other : (s : List ℕ) (a n v k : ℕ) → (a ≤ k → k < a + n → ⊥) → getD (setBytes s a n v) k 0 ≡ getD s k 0
+unfolding setBytes
+bytes-other s a zero v k h = refl
+bytes-other s a (suc n) v k h =
+    bytes-other (set s a (v % 256)) (suc a) n (v / 256) k (λ p q. h (omega arith) (omega arith))
     ∙ getD-set-other s a k (v % 256) 0 (λ e. h (omega arith) (omega arith))
+
+-- one byte, and then the others
+pub byte-next : (s : List ℕ) (at k n v : ℕ) → k < n → setBytes s (at + k) (n - k) v ≡ setBytes (set s (at + k) (v % 256)) (at + (k + 1)) (n - (k + 1)) (v / 256)
+unfolding setBytes
+byte-next s at k n v h =
+    let more : n - k ≡ suc (n - (k + 1)) = omega arith in
+    let along : suc (at + k) ≡ at + (k + 1) = omega arith in
+    ap (λ (x : ℕ). setBytes s (at + k) x v) more ∙ ap (λ (x : ℕ). setBytes (set s (at + k) (v % 256)) x (n - (k + 1)) (v / 256)) along
+
+-- and no more
+pub bytes-done : (s : List ℕ) (at k n v : ℕ) → n ≤ k → setBytes s (at + k) (n - k) v ≡ s
+unfolding setBytes
+bytes-done s at k n v h =
+    let none : n - k ≡ 0 = omega arith in
+    ap (λ (x : ℕ). setBytes s (at + k) x v) none
 
 from-same : (n : ℕ) (s t : List ℕ) (a : ℕ) → ((k : ℕ) → a ≤ k → k < a + n → getD s k 0 ≡ getD t k 0) → from n s a ≡ from n t a
 from-same zero s t a h = refl
@@ -37,16 +49,17 @@ from-same (suc n) s t a h =
     let f : from n s (suc a) ≡ from n t (suc a) = from-same n s t (suc a) (λ k p q. h k (omega arith) (omega arith)) in
     omega arith
 
-from-into : (n : ℕ) (s : List ℕ) (a v : ℕ) → a + n ≤ length s → v < 256 ^ n → from n (into n s a v) a ≡ v
-from-into zero s a v h b = omega arith
-from-into (suc n) s a v h b =
+from-bytes : (s : List ℕ) (a n v : ℕ) → a + n ≤ length s → v < 256 ^ n → from n (setBytes s a n v) a ≡ v
+unfolding setBytes
+from-bytes s a zero v h b = omega arith
+from-bytes s a (suc n) v h b =
     let t : List ℕ = set s a (v % 256) in
-    let e : getD (into n t (suc a) (v / 256)) a 0 ≡ v % 256 =
-    into-other n t (suc a) (v / 256) a (λ p q. omega arith) ∙ getD-set-same s a (v % 256) 0 (omega arith)
+    let e : getD (setBytes t (suc a) n (v / 256)) a 0 ≡ v % 256 =
+    bytes-other t (suc a) n (v / 256) a (λ p q. omega arith) ∙ getD-set-same s a (v % 256) 0 (omega arith)
     in
     let q : v / 256 < 256 ^ n = div-lt-iff-lt-mul {k = 256} {x = v} {y = 256 ^ n} (omega arith) .1 (rw pow-suc at b) in
-    let f : from n (into n t (suc a) (v / 256)) (suc a) ≡ v / 256 =
-    from-into n t (suc a) (v / 256) (omega (arith, length-set s a (v % 256))) q
+    let f : from n (setBytes t (suc a) n (v / 256)) (suc a) ≡ v / 256 =
+    from-bytes t (suc a) n (v / 256) (omega (arith, length-set s a (v % 256))) q
     in
     omega (arith, div-add-mod v 256)
 
@@ -63,27 +76,46 @@ word-from s i =
     let e = sucs (8 * i) in
     rw (e .0, e .1, e .2, e .3, e .4, e .5, e .6) (omega arith)
 
-setWord-into : (s : List ℕ) (i v : ℕ) → setWord s i v ≡ into 8 s (8 * i) v
-unfolding setWord
-setWord-into s i v =
+-- the eight bytes of a word, one by one
+pub bytes-written : (s : List ℕ) (i v : ℕ) →
+    set (set (set (set (set (set (set (set s (8 * i) (v % 256)) (8 * i + 1) (v / 256 % 256)) (8 * i + 2) (v / 65536 % 256))
+    (8 * i + 3) (v / 16777216 % 256)) (8 * i + 4) (v / 4294967296 % 256)) (8 * i + 5) (v / 1099511627776 % 256))
+    (8 * i + 6) (v / 281474976710656 % 256)) (8 * i + 7) (v / 72057594037927936 % 256) ≡ setWord s i v
+unfolding setWord setBytes
+bytes-written s i v =
     let e = sucs (8 * i) in
     simp (div-div-eq-div-mul, e .0, e .1, e .2, e .3, e .4, e .5, e .6)
 
+-- word i of n bytes: a whole word, or the bytes that are left
+pub bytes-whole : (s : List ℕ) (i n v : ℕ) → i < n / 8 → setWord s i v ≡ setBytes s (8 * i) (min 8 (n - 8 * i)) v
+unfolding setWord
+bytes-whole s i n v h =
+    let all : 8 ≡ min 8 (n - 8 * i) = omega arith in
+    ap (λ (x : ℕ). setBytes s (8 * i) x v) all
+
+pub bytes-left : (s : List ℕ) (i n v : ℕ) → 8 * i ≤ n → n / 8 ≤ i → setBytes s (n - n % 8) (n % 8) v ≡ setBytes s (8 * i) (min 8 (n - 8 * i)) v
+bytes-left s i n v room h =
+    let start : n - n % 8 ≡ 8 * i = omega arith in
+    let left : n % 8 ≡ min 8 (n - 8 * i) = omega arith in
+    ap₂ (λ (x y : ℕ). setBytes s x y v) start left
+
 -- a store keeps the length
 pub setWord-length : (s : List ℕ) (i v : ℕ) → length (setWord s i v) ≡ length s
-setWord-length s i v = ap length (setWord-into s i v) ∙ into-length 8 s (8 * i) v
+unfolding setWord
+setWord-length s i v = bytes-length s (8 * i) 8 v
 
 -- the stored word is read back
 pub word-same : (s : List ℕ) (i v : ℕ) → 8 * i + 8 ≤ length s → v < 2 ^ 64 → word (setWord s i v) i ≡ v
-word-same s i v h b =
-    word-from (setWord s i v) i ∙ ap (λ (t : List ℕ). from 8 t (8 * i)) (setWord-into s i v) ∙ from-into 8 s (8 * i) v h b
+unfolding setWord
+word-same s i v h b = word-from (setWord s i v) i ∙ from-bytes s (8 * i) 8 v h b
 
 -- any other word stays
 pub word-other : (s : List ℕ) (i j v : ℕ) → j ≢ i → word (setWord s i v) j ≡ word s j
+unfolding setWord
 word-other s i j v ne =
-    word-from (setWord s i v) j ∙ ap (λ (t : List ℕ). from 8 t (8 * j)) (setWord-into s i v)
-    ∙ from-same 8 (into 8 s (8 * i) v) s (8 * j)
-    (λ k p q. into-other 8 s (8 * i) v k (λ x y. absurd (ne (between i j k p q x y))))
+    word-from (setWord s i v) j
+    ∙ from-same 8 (setBytes s (8 * i) 8 v) s (8 * j)
+    (λ k p q. bytes-other s (8 * i) 8 v k (λ x y. absurd (ne (between i j k p q x y))))
     ∙ sym (word-from s j)
   where
     between : (i j k : ℕ) → 8 * j ≤ k → k < 8 * j + 8 → 8 * i ≤ k → k < 8 * i + 8 → j ≡ i
@@ -107,13 +139,15 @@ set-bytes s i v h b k =
     (λ p. omega (arith, ap (λ (t : List ℕ). getD t k 0) (set-out s i v (omega arith)), h k)))
     (λ ne. omega (arith, getD-set-other s i k v 0 ne, h k))
 
-into-bytes : (n : ℕ) (s : List ℕ) (a v : ℕ) → AreBytes s → AreBytes (into n s a v)
-into-bytes zero s a v h = h
-into-bytes (suc n) s a v h =
-    into-bytes n (set s a (v % 256)) (suc a) (v / 256) (set-bytes s a (v % 256) h (mod-lt v (zero-lt-suc 255)))
+setBytes-bytes : (s : List ℕ) (k n v : ℕ) → AreBytes s → AreBytes (setBytes s k n v)
+unfolding setBytes
+setBytes-bytes s k zero v h = h
+setBytes-bytes s k (suc n) v h =
+    setBytes-bytes (set s k (v % 256)) (suc k) n (v / 256) (set-bytes s k (v % 256) h (mod-lt v (zero-lt-suc 255)))
 
 pub setWord-bytes : (s : List ℕ) (i v : ℕ) → AreBytes s → AreBytes (setWord s i v)
-setWord-bytes s i v h = rw setWord-into (into-bytes 8 s (8 * i) v h)
+unfolding setWord
+setWord-bytes s i v h = setBytes-bytes s (8 * i) 8 v h
 
 -- ---- the bytes of a word
 

@@ -1,6 +1,6 @@
 -- Words in a list of bytes. Document 01: "A word is 8 bytes, low byte first."
 use mathlib.Core.List.{List}
-use Prim.Native.Nat.{ℕ, _+_, _*_, _/_, _%_, _<_}
+use Prim.Native.Nat.{ℕ, zero, suc, _+_, _*_, _/_, _%_, _<_}
 use lib.ListN.{getD, set}
 
 -- the elements are bytes
@@ -17,9 +17,11 @@ word s i =
     joined (getD s (8 * i) 0) (getD s (8 * i + 1) 0) (getD s (8 * i + 2) 0) (getD s (8 * i + 3) 0)
     (getD s (8 * i + 4) 0) (getD s (8 * i + 5) 0) (getD s (8 * i + 6) 0) (getD s (8 * i + 7) 0)
 
+-- s with the first n bytes of v, low byte first, from position k on
+unfoldable pub setBytes : List ℕ → (k n v : ℕ) → List ℕ
+setBytes s k zero v = s
+setBytes s k (suc n) v = setBytes (set s k (v % 256)) (suc k) n (v / 256)
+
 -- s with v at word i
-unfoldable pub setWord : List ℕ → ℕ → ℕ → List ℕ
-setWord s i v =
-    set (set (set (set (set (set (set (set s (8 * i) (v % 256)) (8 * i + 1) (v / 256 % 256)) (8 * i + 2) (v / 65536 % 256))
-    (8 * i + 3) (v / 16777216 % 256)) (8 * i + 4) (v / 4294967296 % 256)) (8 * i + 5) (v / 1099511627776 % 256))
-    (8 * i + 6) (v / 281474976710656 % 256)) (8 * i + 7) (v / 72057594037927936 % 256)
+unfoldable pub setWord : List ℕ → (i v : ℕ) → List ℕ
+setWord s i v = setBytes s (8 * i) 8 v

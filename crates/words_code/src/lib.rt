@@ -1,8 +1,8 @@
 // Words of 8 bytes, low byte first, in a lent slice of bytes.
 ghost use mathlib.Core.Path.{_≡_};
-ghost use Prim.Native.Nat.{_+_, _*_, _≤_};
+ghost use Prim.Native.Nat.{_+_, _-_, _*_, _≤_, min};
 ghost use lib.ListN.{length, getD};
-ghost use Rattle.words.specs.Word.{joined, word, setWord};
+ghost use Rattle.words.specs.Word.{joined, word, setBytes, setWord};
 
 // The number whose bytes are b0 to b7, low byte first.
 pub fn join(b0: u8, b1: u8, b2: u8, b3: u8, b4: u8, b5: u8, b6: u8, b7: u8) -> u64
@@ -50,6 +50,33 @@ pub fn write_word(image: &mut [u8], i: usize, v: u64)
     image[at + 5] = (v / 1099511627776 % 256) as u8;
     image[at + 6] = (v / 281474976710656 % 256) as u8;
     image[at + 7] = (v / 72057594037927936 % 256) as u8;
+}
+
+// The first n bytes of v are stored from position at on.
+fn write_bytes(image: &mut [u8], at: usize, n: usize, v: u64)
+    requires { ⌜ at + n ≤ length (now image) ⌝ }
+    ensures { λ _. ⌜ now (image .exit) ≡ setBytes (now (image .entry)) at n v ⌝ }
+{
+    let mut k = 0;
+    let mut rest = v;
+    while k < n {
+        image[at + k] = (rest % 256) as u8;
+        rest /= 256;
+        k += 1;
+    }
+}
+
+// Word i of the first n bytes becomes v: a whole word, or the bytes of it that are among them.
+pub fn write_part(image: &mut [u8], i: usize, n: usize, v: u64)
+    requires { ⌜ (8 * i ≤ n) × (n ≤ length (now image)) ⌝ }
+    ensures { λ _. ⌜ now (image .exit) ≡ setBytes (now (image .entry)) (8 * i) (min 8 (n - 8 * i)) v ⌝ }
+{
+    if i < n / 8 {
+        write_word(image, i, v);
+        return;
+    }
+    let left = n % 8;
+    write_bytes(image, n - left, left, v);
 }
 
 // Byte i of the value, 0 past its end.

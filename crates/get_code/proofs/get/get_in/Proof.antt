@@ -23,7 +23,7 @@ returns-3 : tie.Need-returns-3
 unfolding getSays
 returns-3 c =
     get-held _ _ _ _ _ _ _ (c .before .before .before .before .before .before .before .before .before .before .before .get-lookup .ensures) _ _ _ (open-at (c .before .before .before .before .before .before .before .before .before .lookup2 .given .1) (c .before .before .before .before .before .before .place .given .1)) _ (c .before .before .before .before .slot-length .ensures) _
-    (c .before .before .copy-value .ensures)
+    (c .before .before .copy-value .ensures .1)
 
 pub get-in-spec : {M : Type 1} → statement M
 unfolding getSays
