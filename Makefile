@@ -3,6 +3,7 @@
 #   make test      the tests of docs/TESTS.md: the archive, the headers and the gateway       (gcc g++ python3)
 #   make planted   that each test fails where a fault is planted                                      (gcc g++)
 #   make gateway   the example: a new file, orders, a restart, and the orders again                   (gcc)
+#   make heads     the table of docs/HEADS.md: the slots compared and the time of a get, by the number of heads  (gcc)
 #   make bench     the table and the chart of docs/PERFORMANCE.md
 #                  (gcc python3 valgrind libpmemobj-dev liblmdb-dev libsqlite3-dev)
 
@@ -23,7 +24,7 @@ CPLUS := $(CXX) -std=c++11 -Wall -Wextra -Iinclude $(CXXFLAGS) $(LDFLAGS)
 HEADERS := include/orderset.h include/orderset_persist.h
 CRATES := crates.txt $(shell find crates -name '*.rt' -o -name '*.antt')
 
-.PHONY: test planted gateway bench archive run-names run-header run-persist run-guard run-storm run-lock run-kills run-differential
+.PHONY: test planted gateway heads bench archive run-names run-header run-persist run-guard run-storm run-lock run-kills run-heads run-differential
 archive: $(ARCHIVE)
 
 $(ARCHIVE): $(CRATES)
@@ -33,11 +34,11 @@ $(OUT):
 	mkdir -p $(OUT)
 
 # the tests: docs/TESTS.md; SEED=... repeats a run, and run-storm and the like run one of them
-TESTS := persist guard storm lock kills differential
+TESTS := persist guard storm lock kills heads differential
 $(OUT)/persist: tests/persist.c tests/chance.c
 $(OUT)/guard $(OUT)/differential: $(OUT)/%: tests/%.c tests/images.c tests/model.c tests/chance.c
 $(OUT)/storm: tests/storm.c tests/chance.c
-$(OUT)/lock $(OUT)/kills: $(OUT)/%: tests/%.c tests/child.c tests/chance.c
+$(OUT)/lock $(OUT)/kills $(OUT)/heads: $(OUT)/%: tests/%.c tests/child.c tests/chance.c
 
 $(TESTS:%=$(OUT)/%): $(wildcard tests/*.h) $(HEADERS) $(ARCHIVE) | $(OUT)
 	$(C) -Itests $(filter %.c,$^) $(ARCHIVE) -o $@
@@ -50,15 +51,15 @@ $(OUT)/gateway_on_disk: examples/gateway.c tests/disk.c $(HEADERS) $(ARCHIVE) | 
 	$(C) examples/gateway.c tests/disk.c $(ARCHIVE) -Wl,--wrap=mmap,--wrap=msync,--wrap=fsync,--wrap=renameat2 -o $@
 
 .NOTPARALLEL:
-test: run-names run-header run-persist run-lock run-storm run-kills run-guard run-differential
+test: run-names run-header run-persist run-lock run-heads run-storm run-kills run-guard run-differential
 run-names:
 	@tests/names
 run-header: $(OUT)/header
 	@$(OUT)/header
 run-persist run-guard run-storm run-differential: run-%: $(OUT)/%
 	@$(OUT)/$* $(SEED)
-run-lock: $(OUT)/lock $(OUT)/gateway
-	@$(OUT)/lock $(OUT)/gateway $(OUT)/lock.img $(SEED)
+run-lock run-heads: run-%: $(OUT)/% $(OUT)/gateway
+	@$(OUT)/$* $(OUT)/gateway $(OUT)/$*.img $(SEED)
 run-kills: $(OUT)/kills $(OUT)/gateway $(OUT)/gateway_on_disk
 	@$(OUT)/kills $(OUT)/gateway $(OUT)/gateway_on_disk $(OUT)/kills.img $(SEED)
 
@@ -76,6 +77,9 @@ gateway: $(OUT)/gateway
 	$(OUT)/gateway $(OUT)/orders.img new 7 100 acknowledge 7 acknowledge 7 fill 7 40 new 8 5 fill 8 5 new 9 3 \
 		withdraw 9 new 10 2 list
 	$(OUT)/gateway $(OUT)/orders.img list
+
+heads: $(ARCHIVE)
+	$(MAKE) -f bench/Makefile heads
 
 bench: $(ARCHIVE)
 	$(MAKE) -f bench/Makefile run

@@ -1,5 +1,5 @@
-/* hand.h: (a), the same method written by hand in C: document 01's layout, index, refusals and recovery, with insert and replace as document 02 has them,
- * for the speed that a C programmer gets. */
+/* hand.h: (a), the same method written by hand in C: document 01's layout, index, refusals and recovery, with insert, replace and the slots compared as
+ * document 02 has them, for the speed that a C programmer gets. */
 #ifndef HAND_H
 #define HAND_H
 
@@ -24,8 +24,9 @@ struct hand_stores {
 
 enum { HAND_ABSENT = 100 };
 struct hand_answer {
-    uint32_t code; /* 0, HAND_ABSENT, or a refusal */
-    uint32_t slot; /* insert, replace and remove: the slot taken; get: the length */
+    uint16_t code;     /* 0, HAND_ABSENT, or a refusal */
+    uint16_t compared; /* slots of the key's chain: at most N, which is at most 65,535 */
+    uint32_t slot;     /* insert, replace and remove: the slot taken; get: the length */
     uint64_t version;
 };
 

@@ -24,12 +24,17 @@ static void write_state(const struct hand_set *s, uint32_t *state, uint64_t *ver
     version[0] = s->version;
 }
 
-static uint32_t answer_change(struct hand_answer a, const struct hand_stores *stores, uint32_t *at, uint64_t *value, uint64_t *answer) {
+static uint64_t refused(struct hand_answer a) {
+    return a.code | (uint64_t)a.compared << 32;
+}
+
+static uint64_t answer_change(struct hand_answer a, const struct hand_stores *stores, uint32_t *at, uint64_t *value, uint64_t *answer) {
     if (a.code && a.code != HAND_ABSENT)
-        return a.code;
+        return refused(a);
     answer[0] = a.code == 0;
     answer[ORDERSET_SLOT] = a.slot;
     answer[ORDERSET_VERSION] = a.version;
+    answer[ORDERSET_COMPARED] = a.compared;
     if (!a.code) {
         memcpy(at, stores->at, sizeof stores->at);
         memcpy(value, stores->value, sizeof stores->value);
@@ -37,7 +42,7 @@ static uint32_t answer_change(struct hand_answer a, const struct hand_stores *st
     return 0;
 }
 
-uint32_t orderset_format(uint8_t *image, size_t length, uint64_t answer[ORDERSET_ANSWER]) {
+uint32_t orderset_format(uint8_t *image, size_t length, uint64_t answer[ORDERSET_FORMAT_ANSWER]) {
     uint32_t code = hand_format((uint64_t *)image, length);
     if (!code) {
         answer[0] = ORDERSET_GIVEN;
@@ -55,7 +60,7 @@ uint32_t orderset_recover(const uint8_t *image, size_t length, uint32_t *heads, 
     return code;
 }
 
-uint32_t orderset_insert(const uint8_t *image, size_t length, uint32_t *heads, size_t heads_length, uint32_t *next, size_t next_length,
+uint64_t orderset_insert(const uint8_t *image, size_t length, uint32_t *heads, size_t heads_length, uint32_t *next, size_t next_length,
                          uint32_t state[ORDERSET_STATE], uint64_t version[1], uint64_t key, const uint8_t *bytes, size_t size, uint32_t at[ORDERSET_STORES],
                          uint64_t value[ORDERSET_STORES], uint64_t answer[ORDERSET_CHANGE_ANSWER]) {
     struct hand_set s = lend(image, length, heads, heads_length, next, next_length);
@@ -66,7 +71,7 @@ uint32_t orderset_insert(const uint8_t *image, size_t length, uint32_t *heads, s
     return answer_change(a, &stores, at, value, answer);
 }
 
-uint32_t orderset_replace(const uint8_t *image, size_t length, uint32_t *heads, size_t heads_length, uint32_t *next, size_t next_length,
+uint64_t orderset_replace(const uint8_t *image, size_t length, uint32_t *heads, size_t heads_length, uint32_t *next, size_t next_length,
                           uint32_t state[ORDERSET_STATE], uint64_t version[1], uint64_t key, const uint8_t *bytes, size_t size, uint32_t at[ORDERSET_STORES],
                           uint64_t value[ORDERSET_STORES], uint64_t answer[ORDERSET_CHANGE_ANSWER]) {
     struct hand_set s = lend(image, length, heads, heads_length, next, next_length);
@@ -77,7 +82,7 @@ uint32_t orderset_replace(const uint8_t *image, size_t length, uint32_t *heads, 
     return answer_change(a, &stores, at, value, answer);
 }
 
-uint32_t orderset_remove(const uint8_t *image, size_t length, uint32_t *heads, size_t heads_length, uint32_t *next, size_t next_length,
+uint64_t orderset_remove(const uint8_t *image, size_t length, uint32_t *heads, size_t heads_length, uint32_t *next, size_t next_length,
                          uint32_t state[ORDERSET_STATE], uint64_t version[1], uint64_t key, uint32_t at[ORDERSET_STORES], uint64_t value[ORDERSET_STORES],
                          uint64_t answer[ORDERSET_CHANGE_ANSWER]) {
     struct hand_set s = lend(image, length, heads, heads_length, next, next_length);
@@ -88,13 +93,14 @@ uint32_t orderset_remove(const uint8_t *image, size_t length, uint32_t *heads, s
     return answer_change(a, &stores, at, value, answer);
 }
 
-uint32_t orderset_get(const uint8_t *image, size_t length, const uint32_t *heads, size_t heads_length, const uint32_t *next, size_t next_length, uint64_t key,
+uint64_t orderset_get(const uint8_t *image, size_t length, const uint32_t *heads, size_t heads_length, const uint32_t *next, size_t next_length, uint64_t key,
                       uint8_t *out, size_t room, uint64_t answer[ORDERSET_ANSWER]) {
     struct hand_set s = lend(image, length, heads, heads_length, next, next_length);
     struct hand_answer a = hand_get(&s, key, out, room);
     if (a.code && a.code != HAND_ABSENT)
-        return a.code;
+        return refused(a);
     answer[0] = a.code == 0;
     answer[ORDERSET_LENGTH] = a.slot;
+    answer[ORDERSET_GET_COMPARED] = a.compared;
     return 0;
 }

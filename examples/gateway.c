@@ -3,6 +3,8 @@
  *     gateway FILE make N        a new file of N slots, 2 to 65535: room for N - 1 open orders
  *     gateway FILE COMMAND...    the commands; all are read before the first is carried out
  *     gateway FILE               the same commands from standard input, one a line
+ *     gateway FILE heads [B]     how many held keys are found with each count of slots compared, their average and the
+ *                                longest, with B heads (1 to 65536), or as many as the gateway takes for the file
  *
  *     new KEY QUANTITY           an order is sent
  *     acknowledge KEY            the exchange has acknowledged it; once is enough, and again stores nothing
@@ -16,8 +18,9 @@
  * all done. 1: something was refused or failed. 2: the arguments are no commands, and nothing was done.
  *
  * On a file system on non-volatile memory (DAX) a write is two line flushes and one fence; on any other it is msync,
- * the fallback. One gateway writes at a time, alone; those that only read (show and list as arguments) open the file
- * read-only, and several of them may run. What they show was perhaps not durable yet if the last writer was killed.
+ * the fallback. One gateway writes at a time, alone; those that only read (heads, and show and list as arguments) open
+ * the file read-only, and several of them may run. What they show was perhaps not durable yet if the last writer was
+ * killed.
  *
  * The calls of the archive are proved; this program, the headers and what lies below them are not. It is made so that a
  * power cut, a kill, a full disk and a failed msync lose nothing that was answered. Each start that writes makes
@@ -46,7 +49,7 @@ struct set {
     uint8_t *image;
     size_t length;
     uint32_t *heads, *next;
-    size_t heads_length, next_length;
+    size_t heads_length, next_length; /* heads_length 0 before recovery: as many as suit the slots */
     uint32_t state[ORDERSET_STATE];
     uint64_t version[1];
     int flushes; /* the mapping is non-volatile memory */
@@ -229,7 +232,8 @@ static size_t heads_for(size_t slots) {
 /* Recovery needs up to 2.3 MB of stack; the main thread has 8 MiB, unless a limit is set (ulimit -s). */
 static uint32_t recover(struct set *s) {
     s->next_length = s->length / ORDERSET_SLOT_BYTES;
-    s->heads_length = heads_for(s->next_length - 1);
+    if (!s->heads_length)
+        s->heads_length = heads_for(s->next_length - 1);
     s->heads = calloc(s->heads_length, sizeof *s->heads);
     s->next = calloc(s->next_length, sizeof *s->next);
     if (!s->heads || !s->next)
@@ -270,7 +274,7 @@ static void start(struct set *s, const char *path, int writing) {
 
 /* A new file is made durable under another name first, so that a cut while it is made leaves no half of it. */
 static int format_file(int file, size_t length) {
-    uint64_t answer[ORDERSET_ANSWER];
+    uint64_t answer[ORDERSET_FORMAT_ANSWER];
     if ((errno = posix_fallocate(file, 0, (off_t)length)))
         return -1;
     uint8_t *image = mmap(NULL, length, PROT_READ | PROT_WRITE, MAP_SHARED, file, 0);
@@ -334,13 +338,13 @@ static void persist(const struct set *s, const struct command *c, const uint32_t
              forms[c->kind].name, c->number[KEY], strerror(errno));
 }
 
-static void print_change(const struct command *c, const uint64_t answer[ORDERSET_CHANGE_ANSWER]) {
+static void print_change(const struct command *c, const uint64_t answer[ORDERSET_STEP_ANSWER]) {
     printf("%s %" PRIu64 ": slot %" PRIu64 " version %" PRIu64 "%s\n", forms[c->kind].name, c->number[KEY],
            answer[ORDERSET_SLOT], answer[ORDERSET_VERSION], answer[0] == ORDERSET_ALREADY ? ", already" : "");
 }
 
 static uint32_t step(struct set *s, const struct command *c, uint32_t at[ORDERSET_STORES],
-                     uint64_t value[ORDERSET_STORES], uint64_t answer[ORDERSET_CHANGE_ANSWER]) {
+                     uint64_t value[ORDERSET_STORES], uint64_t answer[ORDERSET_STEP_ANSWER]) {
     const uint64_t key = c->number[KEY], quantity = c->number[QUANTITY];
     switch (c->kind) {
     case NEW:
@@ -361,7 +365,7 @@ static uint32_t step(struct set *s, const struct command *c, uint32_t at[ORDERSE
 /* A second acknowledge has nothing to store: the first one is durable. */
 static uint32_t change(struct set *s, const struct command *c) {
     uint32_t at[ORDERSET_STORES];
-    uint64_t value[ORDERSET_STORES], answer[ORDERSET_CHANGE_ANSWER];
+    uint64_t value[ORDERSET_STORES], answer[ORDERSET_STEP_ANSWER];
     uint32_t number = step(s, c, at, value, answer);
     if (number)
         return number;
@@ -392,10 +396,10 @@ static void print_order(const uint8_t *bytes, uint64_t length) {
 static uint32_t show(const struct set *s, uint64_t key) {
     uint8_t bytes[ORDERSET_VALUE_MAX] = {0};
     uint64_t answer[ORDERSET_ANSWER];
-    uint32_t number = orderset_get(s->image, s->length, s->heads, s->heads_length, s->next, s->next_length, key, bytes,
-                                   sizeof bytes, answer);
-    if (number)
-        return number;
+    uint64_t returned = orderset_get(s->image, s->length, s->heads, s->heads_length, s->next, s->next_length, key,
+                                     bytes, sizeof bytes, answer);
+    if (returned)
+        return ORDERSET_REFUSAL(returned);
     printf("%" PRIu64 ": ", key);
     if (answer[0] == ORDERSET_ABSENT)
         printf("absent");
@@ -405,13 +409,18 @@ static uint32_t show(const struct set *s, uint64_t key) {
     return 0;
 }
 
-/* Every chain from its head: word 1 of a slot is its key. */
+/* word 1 of a slot */
+static uint64_t key_in(const struct set *s, uint32_t slot) {
+    uint64_t key;
+    memcpy(&key, s->image + (size_t)ORDERSET_SLOT_BYTES * slot + 8, sizeof key);
+    return key;
+}
+
+/* Every chain from its head. */
 static uint32_t list(const struct set *s) {
     for (size_t head = 0; head < s->heads_length; head++)
         for (uint32_t slot = s->heads[head]; slot; slot = s->next[slot]) {
-            uint64_t key;
-            memcpy(&key, s->image + (size_t)ORDERSET_SLOT_BYTES * slot + 8, sizeof key);
-            uint32_t number = show(s, key);
+            uint32_t number = show(s, key_in(s, slot));
             if (number)
                 return number;
         }
@@ -428,6 +437,40 @@ static uint32_t carry_out(struct set *s, const struct command *c) {
     default:
         return change(s, c);
     }
+}
+
+/* ---- how many slots are compared */
+
+/* found[1] becomes how many held keys are found with 1 slot compared, and so on. The last key of a chain is found with
+ * as many as the chain is long, and those before it with 1, 2 and so on. Answers 0, or a refusal. */
+static uint32_t count_slots(const struct set *s, uint64_t *found) {
+    for (size_t head = 0; head < s->heads_length; head++) {
+        uint64_t answer[ORDERSET_CHANGE_ANSWER];
+        uint32_t last = s->heads[head];
+        if (!last)
+            continue;
+        while (s->next[last])
+            last = s->next[last];
+        uint64_t returned = orderset_locate(s->image, s->length, s->heads, s->heads_length, s->next, s->next_length,
+                                            key_in(s, last), answer);
+        if (returned)
+            return ORDERSET_REFUSAL(returned);
+        for (uint64_t compared = 1; compared <= answer[ORDERSET_COMPARED]; compared++)
+            found[compared]++;
+    }
+    return 0;
+}
+
+static void print_counts(const struct set *s, const uint64_t *found) {
+    uint64_t held = 0, sum = 0, longest = 0;
+    printf("%zu heads\n", s->heads_length);
+    for (uint64_t compared = 1; compared < s->next_length && found[compared]; compared++) {
+        printf("%" PRIu64 " compared: %" PRIu64 " held keys\n", compared, found[compared]);
+        held += found[compared];
+        sum += compared * found[compared];
+        longest = compared;
+    }
+    printf("average %.2f, longest %" PRIu64 "\n", held ? (double)sum / (double)held : 0, longest);
 }
 
 /* ---- commands from words and from lines */
@@ -491,7 +534,7 @@ static int command_of_line(const char *line, size_t length, struct command *c) {
     return line ? -1 : 0;
 }
 
-/* ---- the three ways to be called */
+/* ---- the ways to be called */
 
 static int run_words(const char *path, char **word, int count) {
     static struct set set;
@@ -550,6 +593,25 @@ static int run_lines(const char *path) {
     return status;
 }
 
+static int run_heads(const char *path, char **word, int count) {
+    static struct set set;
+    uint64_t heads = 0;
+    if (count > 1 || (count && (number_of(word[0], strlen(word[0]), &heads) || !heads || heads > ORDERSET_HEADS_MAX)))
+        stop(USAGE, "heads: a number of heads may follow, from 1 to %u", ORDERSET_HEADS_MAX);
+    set.heads_length = (size_t)heads;
+    start(&set, path, 0);
+    uint64_t *found = calloc(set.next_length, sizeof *found);
+    if (!found)
+        fail("memory");
+    uint32_t number = count_slots(&set, found);
+    if (number)
+        stop(FAILED, "heads: no %" PRIu32 ": %s", number, words_of(number));
+    print_counts(&set, found);
+    answered();
+    free(found);
+    return 0;
+}
+
 static int run_make(const char *path, char **word, int count) {
     uint64_t slots;
     if (count != 1 || number_of(word[0], strlen(word[0]), &slots) || slots < ORDERSET_SLOTS_MIN ||
@@ -574,11 +636,13 @@ int main(int count, char **word) {
     signal(SIGPIPE, SIG_IGN); /* a reader that is gone is a failed write */
     hold_streams();
     if (count < 2)
-        stop(USAGE, "usage: gateway FILE [make N | new KEY QUANTITY | acknowledge KEY | fill KEY QUANTITY | "
-                    "withdraw KEY | show KEY | list]...");
+        stop(USAGE, "usage: gateway FILE [make N | heads [B] | new KEY QUANTITY | acknowledge KEY | "
+                    "fill KEY QUANTITY | withdraw KEY | show KEY | list]...");
     if (count == 2)
         return run_lines(word[1]);
     if (!strcmp(word[2], "make"))
         return run_make(word[1], word + 3, count - 3);
+    if (!strcmp(word[2], "heads"))
+        return run_heads(word[1], word + 3, count - 3);
     return run_words(word[1], word + 2, count - 2);
 }

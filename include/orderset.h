@@ -28,9 +28,18 @@
  * durable; then orderset_recover comes after the whole image was made durable (orderset_persist_image), or a later
  * power cut can take an order that was answered. Do so at every start that will write.
  *
- * What a call returns: 0, or the number of its refusal (enum orderset_refusal). A refused call leaves everything that
- * it was lent as it was. In get, locate and remove a key that is not held is no refusal: the call returns 0 and
- * answer[0] is ORDERSET_ABSENT.
+ * What a call returns: 0 where it is not refused. A refused call leaves everything that it was lent as it was. Format,
+ * recover, play and the book's steps return the number of the refusal (enum orderset_refusal). Insert, replace, remove,
+ * get and locate return 64 bits: that number in the low 32, read by ORDERSET_REFUSAL, and a count above them (below).
+ * So compare ORDERSET_REFUSAL of the result with a number, and the result itself with 0 alone. In get, locate and
+ * remove a key that is not held is no refusal: the call returns 0 and answer[0] is ORDERSET_ABSENT.
+ *
+ * Slots compared: insert, replace, remove, get and locate report how many slots of the key's chain were compared with
+ * the key: the key's place in the chain, from 1, or the length of the chain where the key is not held. With an index
+ * from recovery and the calls since, that is never above the number of held keys that have the key's head. It is the
+ * last word of the answer (ORDERSET_COMPARED; in get ORDERSET_GET_COMPARED), also of absent. Of a refused call it is
+ * the high 32 bits of the result (ORDERSET_REFUSED_COMPARED): 0 where the refusal is 1, 2, 3, 4, 10 or 11 of the chain,
+ * since then no search was finished. The steps of the book do not report it.
  *
  * The order book is a layer above the set: orders in the place of bytes. An order is a value of 24 bytes, three words
  * of 8 bytes, low byte first: its state (ORDERSET_SENT or ORDERSET_ACKNOWLEDGED), the ordered quantity and the filled
@@ -50,7 +59,8 @@
  *
  * How many heads: a call walks along the chain of its key's head, so with B near N chains are short. Keys k * B all
  * have one head, and are one chain: with N = 65,535, B = 65,536 and 60,000 keys k * 65,536 a get took 280 microseconds,
- * and 0.2 with B = 65,521. Take a prime near N for B, unless the keys step by a multiple of it.
+ * and 0.2 with B = 65,521. Take a prime near N for B, unless the keys step by a multiple of it. The slots compared show
+ * whether B suits the keys: docs/HEADS.md has what to expect, and what to do where it is more.
  *
  * Versions: the version of a call that stores is above those of all records that stand, and no more is said of it. It
  * is no sequence number: after a cut the version of the struck call can come again, with another call, or be left out.
@@ -91,20 +101,31 @@ extern "C" {
 #define ORDERSET_LIVE 2
 #define ORDERSET_STATE 3
 
-/* answer[0] of a call that returned 0; where it is not ORDERSET_ABSENT, the values follow */
+/* answer[0] of a call that returned 0; the values follow, zeros for ORDERSET_ABSENT, and then the slots compared */
 #define ORDERSET_ABSENT 0u
 #define ORDERSET_GIVEN 1u
 #define ORDERSET_ALREADY 2u /* the order was acknowledged before: there is nothing to store */
 
-/* places in the answer of insert, replace, remove, locate and the book's steps */
+/* places in the answer of insert, replace, remove and locate, and its length; a book's step has no ORDERSET_COMPARED */
 #define ORDERSET_SLOT 1
 #define ORDERSET_VERSION 2
-#define ORDERSET_CHANGE_ANSWER 3
+#define ORDERSET_COMPARED 3
+#define ORDERSET_CHANGE_ANSWER 4
+#define ORDERSET_STEP_ANSWER 3
 
-/* places in the answer of get and of format */
+/* the same of get */
 #define ORDERSET_LENGTH 1
+#define ORDERSET_GET_COMPARED 2
+#define ORDERSET_ANSWER 3
+
+/* the same of format */
 #define ORDERSET_SLOTS 1
-#define ORDERSET_ANSWER 2
+#define ORDERSET_FORMAT_ANSWER 2
+
+/* What a refused call returned: the number of the refusal, and the slots compared. The second does not widen what it is
+ * given, so that the compiler warns where the result was kept in 32 bits: there the count is lost. */
+#define ORDERSET_REFUSAL(returned) ((uint32_t)(returned))
+#define ORDERSET_REFUSED_COMPARED(returned) ((uint32_t)((returned) >> 32))
 
 /* an order: its bytes, and the states in its first word */
 #define ORDERSET_ORDER_BYTES 24u
@@ -141,7 +162,7 @@ enum orderset_refusal {
 
 /* Makes an empty image of the bytes. answer: {ORDERSET_GIVEN, N}. Refusals: 1. A cut during format is not covered:
  * format before the first use, and make the image durable before it gets its name. */
-ORDERSET_CALL uint32_t orderset_format(uint8_t *image, size_t image_length, uint64_t answer[ORDERSET_ANSWER]);
+ORDERSET_CALL uint32_t orderset_format(uint8_t *image, size_t image_length, uint64_t answer[ORDERSET_FORMAT_ANSWER]);
 
 /* Rebuilds heads, next, state and version from the image, whatever they held. The image is only read; if it may hold
  * stores that are not durable, make it durable first (above). Refusals: 1, 2, 3, 4, 5, 6, 7, 8.
@@ -153,77 +174,77 @@ ORDERSET_CALL uint32_t orderset_recover(const uint8_t *image, size_t image_lengt
                                         uint32_t *next, size_t next_length, uint32_t state[ORDERSET_STATE],
                                         uint64_t version[1]);
 
-/* Gives the key, which is not held, the value. answer: {ORDERSET_GIVEN, slot, version}; the stores are at[i], a word
- * number counted from the start of the image, and value[i]. Refusals: 1, 2, 3, 4, 10, 11 (chain), 20, 12, 9, 11
- * (reuse). */
-ORDERSET_CALL uint32_t orderset_insert(const uint8_t *image, size_t image_length, uint32_t *heads, size_t heads_length,
+/* Gives the key, which is not held, the value. answer: {ORDERSET_GIVEN, slot, version, slots compared}; the stores are
+ * at[i], a word number counted from the start of the image, and value[i]. Refusals: 1, 2, 3, 4, 10, 11 (chain), and
+ * with the slots compared 20, 12, 9, 11 (reuse). */
+ORDERSET_CALL uint64_t orderset_insert(const uint8_t *image, size_t image_length, uint32_t *heads, size_t heads_length,
                                        uint32_t *next, size_t next_length, uint32_t state[ORDERSET_STATE],
                                        uint64_t version[1], uint64_t key, const uint8_t *bytes, size_t bytes_length,
                                        uint32_t at[ORDERSET_STORES], uint64_t value[ORDERSET_STORES],
                                        uint64_t answer[ORDERSET_CHANGE_ANSWER]);
 
 /* Gives the key, which is held, the value in the place of the one that it has. answer and stores as in insert. It is
- * never refused for room. Refusals: 1, 2, 3, 4, 10, 11 (chain), 21, 9, 11 (reuse). */
-ORDERSET_CALL uint32_t orderset_replace(const uint8_t *image, size_t image_length, uint32_t *heads, size_t heads_length,
+ * never refused for room. Refusals: 1, 2, 3, 4, 10, 11 (chain), and with the slots compared 21, 9, 11 (reuse). */
+ORDERSET_CALL uint64_t orderset_replace(const uint8_t *image, size_t image_length, uint32_t *heads, size_t heads_length,
                                         uint32_t *next, size_t next_length, uint32_t state[ORDERSET_STATE],
                                         uint64_t version[1], uint64_t key, const uint8_t *bytes, size_t bytes_length,
                                         uint32_t at[ORDERSET_STORES], uint64_t value[ORDERSET_STORES],
                                         uint64_t answer[ORDERSET_CHANGE_ANSWER]);
 
-/* Drops the key. answer and stores as in insert; or {ORDERSET_ABSENT, 0, 0} where the key is not held, and then nothing
- * is to be stored: at and value stay as they were. Refusals: 1, 2, 3, 4, 11 (chain), and for a held key 9, 11 (reuse,
- * or a live count of zero). */
-ORDERSET_CALL uint32_t orderset_remove(const uint8_t *image, size_t image_length, uint32_t *heads, size_t heads_length,
+/* Drops the key. answer and stores as in insert; or {ORDERSET_ABSENT, 0, 0, slots compared} where the key is not held,
+ * and then nothing is to be stored: at and value stay as they were. Refusals: 1, 2, 3, 4, 11 (chain), and for a held
+ * key, with the slots compared, 9, 11 (reuse, or a live count of zero). */
+ORDERSET_CALL uint64_t orderset_remove(const uint8_t *image, size_t image_length, uint32_t *heads, size_t heads_length,
                                        uint32_t *next, size_t next_length, uint32_t state[ORDERSET_STATE],
                                        uint64_t version[1], uint64_t key, uint32_t at[ORDERSET_STORES],
                                        uint64_t value[ORDERSET_STORES], uint64_t answer[ORDERSET_CHANGE_ANSWER]);
 
 /* Copies the key's value to the front of the output; the bytes after it stay as they were. answer: {ORDERSET_GIVEN,
- * length} or {ORDERSET_ABSENT, 0}. An output of ORDERSET_VALUE_MAX bytes is always long enough. Refusals: 1, 2, 3, 4,
- * 11 (chain), and for a held key 6, 13. */
-ORDERSET_CALL uint32_t orderset_get(const uint8_t *image, size_t image_length, const uint32_t *heads,
+ * length, slots compared} or {ORDERSET_ABSENT, 0, slots compared}. An output of ORDERSET_VALUE_MAX bytes is always long
+ * enough. Refusals: 1, 2, 3, 4, 11 (chain), and for a held key, with the slots compared, 6, 13. */
+ORDERSET_CALL uint64_t orderset_get(const uint8_t *image, size_t image_length, const uint32_t *heads,
                                     size_t heads_length, const uint32_t *next, size_t next_length, uint64_t key,
                                     uint8_t *output, size_t output_length, uint64_t answer[ORDERSET_ANSWER]);
 
-/* Tells where the key stands. answer: {ORDERSET_GIVEN, slot, version of its line A} or {ORDERSET_ABSENT, 0, 0}.
- * Refusals: 1, 2, 3, 4, 11 (chain). */
-ORDERSET_CALL uint32_t orderset_locate(const uint8_t *image, size_t image_length, const uint32_t *heads,
+/* Tells where the key stands. answer: {ORDERSET_GIVEN, slot, version of its line A, slots compared} or
+ * {ORDERSET_ABSENT, 0, 0, slots compared}. Refusals: 1, 2, 3, 4, 11 (chain). */
+ORDERSET_CALL uint64_t orderset_locate(const uint8_t *image, size_t image_length, const uint32_t *heads,
                                        size_t heads_length, const uint32_t *next, size_t next_length, uint64_t key,
                                        uint64_t answer[ORDERSET_CHANGE_ANSWER]);
 
-/* Gives the key, which is not held, a sent order of the quantity, nothing of it filled. answer and stores as in
- * insert. Refusals: 1, 2, 3, 4, 11 (chain), 17, 19, 12, 9, 11 (reuse). */
+/* Gives the key, which is not held, a sent order of the quantity, nothing of it filled. answer: {ORDERSET_GIVEN, slot,
+ * version}; stores as in insert. Refusals: 1, 2, 3, 4, 11 (chain), 17, 19, 12, 9, 11 (reuse). */
 ORDERSET_CALL uint32_t orderset_book_new(const uint8_t *image, size_t image_length, uint32_t *heads,
                                          size_t heads_length, uint32_t *next, size_t next_length,
                                          uint32_t state[ORDERSET_STATE], uint64_t version[1], uint64_t key,
                                          uint64_t quantity, uint32_t at[ORDERSET_STORES],
-                                         uint64_t value[ORDERSET_STORES], uint64_t answer[ORDERSET_CHANGE_ANSWER]);
+                                         uint64_t value[ORDERSET_STORES], uint64_t answer[ORDERSET_STEP_ANSWER]);
 
-/* Makes the key's sent order an acknowledged one. answer and stores as in insert. If it is acknowledged already, answer
- * is {ORDERSET_ALREADY, slot, version of its line A} and nothing is to be stored: all but answer stays as it was.
+/* Makes the key's sent order an acknowledged one. answer and stores as in new. If it is acknowledged already, answer is
+ * {ORDERSET_ALREADY, slot, version of its line A} and nothing is to be stored: all but answer stays as it was.
  * Refusals: 1, 2, 3, 4, 11 (chain), 18, and for a sent order 9, 11 (reuse). */
 ORDERSET_CALL uint32_t orderset_book_acknowledge(const uint8_t *image, size_t image_length, uint32_t *heads,
                                                  size_t heads_length, uint32_t *next, size_t next_length,
                                                  uint32_t state[ORDERSET_STATE], uint64_t version[1], uint64_t key,
                                                  uint32_t at[ORDERSET_STORES], uint64_t value[ORDERSET_STORES],
-                                                 uint64_t answer[ORDERSET_CHANGE_ANSWER]);
+                                                 uint64_t answer[ORDERSET_STEP_ANSWER]);
 
 /* Adds the quantity to what is filled of the key's order, sent or acknowledged, and keeps its state. What is open is
- * ordered less filled; a fill of all of it removes the order. answer and stores as in insert. Refusals: 1, 2, 3, 4,
+ * ordered less filled; a fill of all of it removes the order. answer and stores as in new. Refusals: 1, 2, 3, 4,
  * 11 (chain), 18, 19, 9, 11 (reuse, or a live count of zero where the order is removed). */
 ORDERSET_CALL uint32_t orderset_book_fill(const uint8_t *image, size_t image_length, uint32_t *heads,
                                           size_t heads_length, uint32_t *next, size_t next_length,
                                           uint32_t state[ORDERSET_STATE], uint64_t version[1], uint64_t key,
                                           uint64_t quantity, uint32_t at[ORDERSET_STORES],
-                                          uint64_t value[ORDERSET_STORES], uint64_t answer[ORDERSET_CHANGE_ANSWER]);
+                                          uint64_t value[ORDERSET_STORES], uint64_t answer[ORDERSET_STEP_ANSWER]);
 
 /* Withdraws all that is open of the key's order, sent or acknowledged: the order is removed. answer and stores as in
- * insert. Refusals: 1, 2, 3, 4, 11 (chain), 18, 9, 11 (reuse, or a live count of zero). */
+ * new. Refusals: 1, 2, 3, 4, 11 (chain), 18, 9, 11 (reuse, or a live count of zero). */
 ORDERSET_CALL uint32_t orderset_book_withdraw(const uint8_t *image, size_t image_length, uint32_t *heads,
                                               size_t heads_length, uint32_t *next, size_t next_length,
                                               uint32_t state[ORDERSET_STATE], uint64_t version[1], uint64_t key,
                                               uint32_t at[ORDERSET_STORES], uint64_t value[ORDERSET_STORES],
-                                              uint64_t answer[ORDERSET_CHANGE_ANSWER]);
+                                              uint64_t answer[ORDERSET_STEP_ANSWER]);
 
 /* Makes the first a stores of the first half and the first b of the second: with 8 and 8 a whole call, with less what a
  * cut leaves of it. Plain writes: nothing is flushed. Refusals: 1, 14, 15. */

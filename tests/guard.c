@@ -147,8 +147,14 @@ static void begin(enum which which, const enum what *writable) {
     }
 }
 
-static uint32_t end(uint32_t code, const enum what *writable) {
+/* Answers the number of the refusal. A refused call has compared no more slots than there are. */
+static uint32_t end(uint64_t code, const enum what *writable) {
+    const uint32_t number = ORDERSET_REFUSAL(code), compared = ORDERSET_REFUSED_COMPARED(code);
     answers[call][code != 0]++;
+    if ((code && !number) || (compared && compared >= piece[IMAGE].length / ORDERSET_SLOT_BYTES)) {
+        show("refusal %" PRIu32 " with %" PRIu32 " slots compared", number, compared);
+        exit(1);
+    }
     for (; *writable != PIECES; writable++) {
         const struct piece *p = &piece[*writable];
         same(p, from(p), p->at, "before what was lent");
@@ -156,7 +162,7 @@ static uint32_t end(uint32_t code, const enum what *writable) {
         if (code)
             same(p, p->at, p->at + p->length, "by a refused call");
     }
-    return code;
+    return number;
 }
 
 /* ---- the calls */
@@ -184,7 +190,7 @@ static void call_play(size_t a, size_t b) {
     end(orderset_play(w(IMAGE), piece[IMAGE].length, r(AT), r(VALUE), a, b), writable);
 }
 
-static uint32_t change(uint64_t key, uint64_t quantity) {
+static uint64_t change(uint64_t key, uint64_t quantity) {
     const size_t length = piece[IMAGE].length;
     switch (call) {
     case INSERT:
@@ -315,10 +321,19 @@ static void any_stores(void) {
     fill(w(VALUE), piece[VALUE].length);
 }
 
+static size_t answer_length(void) {
+    switch (call) {
+    case FORMAT: return ORDERSET_FORMAT_ANSWER;
+    case GET: return ORDERSET_ANSWER;
+    case NEW: case ACKNOWLEDGE: case FILL: case WITHDRAW: return ORDERSET_STEP_ANSWER;
+    default: return ORDERSET_CHANGE_ANSWER;
+    }
+}
+
 static void lend_for_one_call(void) {
     place(AT, 4 * ORDERSET_STORES);
     place(VALUE, 8 * ORDERSET_STORES);
-    place(ANSWER, 8 * (call == FORMAT || call == GET ? ORDERSET_ANSWER : ORDERSET_CHANGE_ANSWER));
+    place(ANSWER, 8 * answer_length());
     place(BYTES, any_size());
     place(OUTPUT, below(3) ? below(ORDERSET_VALUE_MAX + 17) : ORDERSET_VALUE_MAX);
     fill(w(AT), piece[AT].length);

@@ -1,6 +1,7 @@
 // The headers in C++: an image is made durable, a value is inserted, made durable, found, replaced, found, removed and
 // not found; an insert of a held key, a replace of one that is not held and a value that is too long are refused and
-// store nothing; an order is sent, acknowledged, acknowledged again and filled.
+// store nothing; the slots compared are read from answers and from refusals; an order is sent, acknowledged,
+// acknowledged again and filled.
 #include <cstdio>
 #include <cstring>
 #include <vector>
@@ -27,22 +28,22 @@ bool start() {
 }
 
 // The stores are made only where the call was accepted and handed some out.
-bool made_durable(uint32_t code) {
+bool made_durable(uint64_t code) {
     return code == ORDERSET_OK && answer[0] == ORDERSET_GIVEN
            && orderset_persist(image, sizeof image, at, value, best) == 0;
 }
 
-uint32_t insert(uint64_t key, const char *text, size_t length) {
+uint64_t insert(uint64_t key, const char *text, size_t length) {
     return orderset_insert(image, sizeof image, heads.data(), heads.size(), next.data(), next.size(), state, version,
                            key, reinterpret_cast<const uint8_t *>(text), length, at, value, answer);
 }
 
-uint32_t replace(uint64_t key, const char *text, size_t length) {
+uint64_t replace(uint64_t key, const char *text, size_t length) {
     return orderset_replace(image, sizeof image, heads.data(), heads.size(), next.data(), next.size(), state, version,
                             key, reinterpret_cast<const uint8_t *>(text), length, at, value, answer);
 }
 
-uint32_t drop(uint64_t key) {
+uint64_t drop(uint64_t key) {
     return orderset_remove(image, sizeof image, heads.data(), heads.size(), next.data(), next.size(), state, version,
                            key, at, value, answer);
 }
@@ -57,13 +58,27 @@ bool finds(uint64_t key, const char *text) {
                : !text;
 }
 
-// Key 7 is held and key 8 is not.
+bool refused(uint64_t code, uint32_t number, uint32_t compared) {
+    return ORDERSET_REFUSAL(code) == number && ORDERSET_REFUSED_COMPARED(code) == compared;
+}
+
+// Key 7 is held and key 10, which has its head, is not.
 bool refused_stores_nothing(const char *of_seven) {
     std::vector<uint8_t> before(image, image + sizeof image);
     const std::vector<char> text(81, 'x');
-    return insert(8, text.data(), text.size()) == ORDERSET_VALUE_TOO_LONG
-           && insert(7, "x", 1) == ORDERSET_INSERT_HELD && replace(8, "x", 1) == ORDERSET_NOT_HELD
-           && finds(7, of_seven) && finds(8, nullptr) && !std::memcmp(image, before.data(), sizeof image);
+    return refused(insert(10, text.data(), text.size()), ORDERSET_VALUE_TOO_LONG, 0)
+           && refused(insert(7, "x", 1), ORDERSET_INSERT_HELD, 1) && refused(replace(10, "x", 1), ORDERSET_NOT_HELD, 1)
+           && finds(7, of_seven) && finds(10, nullptr) && !std::memcmp(image, before.data(), sizeof image);
+}
+
+// Key 7 is held; key 10 joins its chain and leaves it again.
+bool counts_slots() {
+    return made_durable(insert(10, "x", 1)) && answer[ORDERSET_COMPARED] == 1 && finds(7, "sell")
+           && found[ORDERSET_GET_COMPARED] == 1 && finds(10, "x") && found[ORDERSET_GET_COMPARED] == 2
+           && finds(4, nullptr) && found[ORDERSET_GET_COMPARED] == 2 && finds(8, nullptr)
+           && found[ORDERSET_GET_COMPARED] == 0 && made_durable(replace(10, "y", 1)) && answer[ORDERSET_COMPARED] == 2
+           && made_durable(drop(10)) && answer[ORDERSET_COMPARED] == 2 && drop(10) == ORDERSET_OK
+           && answer[0] == ORDERSET_ABSENT && answer[ORDERSET_COMPARED] == 1;
 }
 
 uint32_t acknowledge(uint64_t key) {
@@ -94,7 +109,7 @@ bool keeps_book(uint64_t key) {
 int main() {
     const bool good = start() && made_durable(insert(7, "buy", 3)) && finds(7, "buy") && refused_stores_nothing("buy")
                       && made_durable(replace(7, "sell", 4)) && finds(7, "sell") && refused_stores_nothing("sell")
-                      && made_durable(drop(7)) && finds(7, nullptr) && drop(7) == ORDERSET_OK
+                      && counts_slots() && made_durable(drop(7)) && finds(7, nullptr) && drop(7) == ORDERSET_OK
                       && answer[0] == ORDERSET_ABSENT && keeps_book(9);
     std::printf("header: a set through the headers in C++: %s\n", good ? "as it should be" : "NOT SO");
     return good ? 0 : 1;

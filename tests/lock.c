@@ -65,6 +65,8 @@ static void second_is_refused(void) {
     is_refused("new", "100", "1");
     is_refused("withdraw", "1", NULL);
     is_refused("list", NULL, NULL);
+    is_refused("heads", NULL, NULL);
+    is_refused("heads", "7", NULL);
     is_refused(NULL, NULL, NULL);
     say(&first, "new 2 100\n");
     expect(hear(&first, line) && !strncmp(line, "new 2: slot ", 12), "the first gateway goes on: '%s'", line);

@@ -1,5 +1,5 @@
-/* The order set of document 01, with insert and replace as document 02 (A.2) has them, and the order book of document 02 (A.1) as a plain program. The
- * quotations are their sentences. */
+/* The order set of document 01, with insert and replace (A.2) and the slots compared (A.4) as document 02 has them, and its order book (A.1) as a plain
+ * program. The quotations are their sentences. */
 #include "model.h"
 
 #include <stdlib.h>
@@ -220,10 +220,12 @@ int m_recover(const uint8_t *image, size_t length, struct m_index *index) {
 
 /* ---- the key's chain */
 
-/* "following the key's chain up to the first slot with that key or the end, a link above N is met or N slots pass without the key" */
+/* "following the key's chain up to the first slot with that key or the end, a link above N is met or N slots pass without the key"; "The count of slots
+ * compared equals the place of the key in its chain, or the chain's whole length when it is absent", "A call refused before or by the chain check reports 0" */
 struct walk {
     int refusal;
     uint32_t slot, before; /* slot 0: not held, and before is the chain's last slot. before 0: the head */
+    uint32_t compared;
 };
 
 static struct walk follow(const uint8_t *image, uint32_t n, const struct m_index *index, uint64_t key) {
@@ -232,13 +234,13 @@ static struct walk follow(const uint8_t *image, uint32_t n, const struct m_index
         if (at > n)
             return (struct walk){.refusal = 11};
         if (m_word(image, 16 * (size_t)at + 1) == key)
-            return (struct walk){.slot = at, .before = before};
+            return (struct walk){.slot = at, .before = before, .compared = passed + 1};
         if (++passed == n)
             return (struct walk){.refusal = 11};
         before = at;
         at = index->next[at];
     }
-    return (struct walk){.before = before};
+    return (struct walk){.before = before, .compared = passed};
 }
 
 /* "11 when the reuse chain's first or last slot is zero or above N, or the first's next is above N" */
@@ -295,8 +297,8 @@ static void write_record(const uint8_t *image, struct m_change *c, uint64_t key,
     }
 }
 
-static struct m_change refuse(int number) {
-    return (struct m_change){.refusal = number};
+static struct m_change refuse(int number, uint32_t compared) {
+    return (struct m_change){.refusal = number, .compared = compared};
 }
 
 /* "insert for a key not held, replace for one that is": what they test first, and where the key stands */
@@ -314,16 +316,16 @@ struct m_change m_insert(const uint8_t *image, size_t length, struct m_index *in
     struct walk walk = walk_for_value(image, length, index, key, size);
     uint32_t n = m_slots(length);
     if (walk.refusal)
-        return refuse(walk.refusal);
+        return refuse(walk.refusal, 0);
     if (walk.slot)
-        return refuse(20);
+        return refuse(20, walk.compared);
     if ((uint64_t)index->state.live + 1 >= n)
-        return refuse(12);
+        return refuse(12, walk.compared);
     if (index->state.version >> 63)
-        return refuse(9);
+        return refuse(9, walk.compared);
     if (reuse_is_bad(index, n))
-        return refuse(11);
-    struct m_change c = {.version = index->state.version};
+        return refuse(11, walk.compared);
+    struct m_change c = {.version = index->state.version, .compared = walk.compared};
     c.slot = take(index);
     write_record(image, &c, key, 1, bytes, size);
     index->next[c.slot] = 0;
@@ -337,14 +339,14 @@ struct m_change m_insert(const uint8_t *image, size_t length, struct m_index *in
 struct m_change m_replace(const uint8_t *image, size_t length, struct m_index *index, uint64_t key, const uint8_t *bytes, size_t size) {
     struct walk walk = walk_for_value(image, length, index, key, size);
     if (walk.refusal)
-        return refuse(walk.refusal);
+        return refuse(walk.refusal, 0);
     if (!walk.slot)
-        return refuse(21);
+        return refuse(21, walk.compared);
     if (index->state.version >> 63)
-        return refuse(9);
+        return refuse(9, walk.compared);
     if (reuse_is_bad(index, m_slots(length)))
-        return refuse(11);
-    struct m_change c = {.version = index->state.version};
+        return refuse(11, walk.compared);
+    struct m_change c = {.version = index->state.version, .compared = walk.compared};
     c.slot = take(index);
     write_record(image, &c, key, 1, bytes, size);
     index->next[c.slot] = index->next[walk.slot];
@@ -357,18 +359,18 @@ struct m_change m_replace(const uint8_t *image, size_t length, struct m_index *i
 struct m_change m_remove(const uint8_t *image, size_t length, struct m_index *index, uint64_t key) {
     int refusal = refuse_lent(image, length, index->heads_length, index->next_length);
     if (refusal)
-        return refuse(refusal);
+        return refuse(refusal, 0);
     uint32_t n = m_slots(length);
     struct walk walk = follow(image, n, index, key);
     if (walk.refusal)
-        return refuse(11);
+        return refuse(walk.refusal, 0);
     if (!walk.slot)
-        return (struct m_change){.absent = 1};
+        return (struct m_change){.absent = 1, .compared = walk.compared};
     if (index->state.version >> 63)
-        return refuse(9);
+        return refuse(9, walk.compared);
     if (reuse_is_bad(index, n) || index->state.live == 0)
-        return refuse(11);
-    struct m_change c = {.version = index->state.version};
+        return refuse(11, walk.compared);
+    struct m_change c = {.version = index->state.version, .compared = walk.compared};
     c.slot = take(index);
     write_record(image, &c, key, 2, (const uint8_t *)"", 0);
     link_after(index, key, walk.before, index->next[walk.slot]);
@@ -385,18 +387,18 @@ struct m_got m_get(const uint8_t *image, size_t length, const struct m_index *in
         return (struct m_got){.refusal = refusal};
     struct walk walk = follow(image, m_slots(length), index, key);
     if (walk.refusal)
-        return (struct m_got){.refusal = 11};
+        return (struct m_got){.refusal = walk.refusal};
     if (!walk.slot)
-        return (struct m_got){.absent = 1};
+        return (struct m_got){.absent = 1, .compared = walk.compared};
     const uint8_t *slot = image + 128 * (size_t)walk.slot;
     size_t size = slot[17];
     if (size > 80)
-        return (struct m_got){.refusal = 6};
+        return (struct m_got){.refusal = 6, .compared = walk.compared};
     if (room < size)
-        return (struct m_got){.refusal = 13};
+        return (struct m_got){.refusal = 13, .compared = walk.compared};
     for (size_t i = 0; i < size; i++)
         out[i] = value_byte(slot, i);
-    return (struct m_got){.length = size};
+    return (struct m_got){.length = size, .compared = walk.compared};
 }
 
 struct m_place m_locate(const uint8_t *image, size_t length, const struct m_index *index, uint64_t key) {
@@ -405,10 +407,10 @@ struct m_place m_locate(const uint8_t *image, size_t length, const struct m_inde
         return (struct m_place){.refusal = refusal};
     struct walk walk = follow(image, m_slots(length), index, key);
     if (walk.refusal)
-        return (struct m_place){.refusal = 11};
+        return (struct m_place){.refusal = walk.refusal};
     if (!walk.slot)
-        return (struct m_place){.absent = 1};
-    return (struct m_place){.slot = walk.slot, .version = m_word(image, 16 * (size_t)walk.slot + 7) / 2};
+        return (struct m_place){.absent = 1, .compared = walk.compared};
+    return (struct m_place){.slot = walk.slot, .version = m_word(image, 16 * (size_t)walk.slot + 7) / 2, .compared = walk.compared};
 }
 
 /* ---- the order book: "a layer above the set" that "knows the set only by what the set promises" */
@@ -451,11 +453,11 @@ struct m_change m_new(const uint8_t *image, size_t length, struct m_index *index
     uint8_t bytes[24];
     struct m_place place = m_locate(image, length, index, key);
     if (place.refusal)
-        return refuse(place.refusal);
+        return refuse(place.refusal, 0);
     if (!place.absent)
-        return refuse(17);
+        return refuse(17, 0);
     if (quantity == 0)
-        return refuse(19);
+        return refuse(19, 0);
     set_bytes(bytes, (struct order){0, 1, quantity, 0});
     return m_insert(image, length, index, key, bytes, sizeof bytes);
 }
@@ -464,7 +466,7 @@ struct m_change m_new(const uint8_t *image, size_t length, struct m_index *index
 struct m_change m_acknowledge(const uint8_t *image, size_t length, struct m_index *index, uint64_t key) {
     struct order o = order_of(image, length, index, key);
     if (o.refusal)
-        return refuse(o.refusal);
+        return refuse(o.refusal, 0);
     if (o.state == 2) {
         struct m_place place = m_locate(image, length, index, key);
         return (struct m_change){.already = 1, .slot = place.slot, .version = place.version};
@@ -477,10 +479,10 @@ struct m_change m_acknowledge(const uint8_t *image, size_t length, struct m_inde
 struct m_change m_fill(const uint8_t *image, size_t length, struct m_index *index, uint64_t key, uint64_t quantity) {
     struct order o = order_of(image, length, index, key);
     if (o.refusal)
-        return refuse(o.refusal);
+        return refuse(o.refusal, 0);
     uint64_t open = o.ordered - o.filled;
     if (quantity == 0 || quantity > open)
-        return refuse(19);
+        return refuse(19, 0);
     if (quantity == open)
         return m_remove(image, length, index, key);
     o.filled += quantity;
@@ -490,7 +492,7 @@ struct m_change m_fill(const uint8_t *image, size_t length, struct m_index *inde
 /* "A withdrawn .. order is removed" */
 struct m_change m_withdraw(const uint8_t *image, size_t length, struct m_index *index, uint64_t key) {
     struct order o = order_of(image, length, index, key);
-    return o.refusal ? refuse(o.refusal) : m_remove(image, length, index, key);
+    return o.refusal ? refuse(o.refusal, 0) : m_remove(image, length, index, key);
 }
 
 /* ---- play */

@@ -23,7 +23,8 @@ struct m_store {
     uint64_t value;
 };
 
-/* What insert, replace, remove and the book's steps answer: a refusal, or absent, or slot, version and stores; of an order that was acknowledged already no stores. */
+/* What insert, replace, remove and the book's steps answer: a refusal, or absent, or slot, version and stores; of an order that was acknowledged already no
+ * stores. With each of them the slots compared, which the book's steps do not report. */
 struct m_change {
     int refusal;
     int absent;
@@ -31,12 +32,14 @@ struct m_change {
     uint32_t slot;
     uint64_t version;
     struct m_store store[16];
+    uint32_t compared;
 };
 
 struct m_got {
     int refusal;
     int absent;
     size_t length;
+    uint32_t compared;
 };
 
 struct m_place {
@@ -44,6 +47,7 @@ struct m_place {
     int absent;
     uint32_t slot;
     uint64_t version; /* of its line A */
+    uint32_t compared;
 };
 
 uint32_t m_slots(size_t length); /* N, or 0 where no image has that length */

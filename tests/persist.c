@@ -201,7 +201,7 @@ static void persist(enum orderset_flush flush, int watching) {
 
 enum kind { INSERT, REPLACE, REMOVE };
 
-static uint32_t call(enum kind kind, uint64_t key, const uint8_t *bytes, size_t size) {
+static uint64_t call(enum kind kind, uint64_t key, const uint8_t *bytes, size_t size) {
     switch (kind) {
     case INSERT:
         return orderset_insert(image, LENGTH, heads, HEADS, next, N + 1, state, version, key, bytes, size, at, value,
@@ -218,7 +218,7 @@ static void change(enum kind kind, uint64_t key, size_t size, enum orderset_flus
     uint8_t bytes[96];
     fill(bytes, sizeof bytes);
     memcpy(played, image, LENGTH);
-    uint32_t code = call(kind, key, bytes, size);
+    uint64_t code = call(kind, key, bytes, size);
     int accepted = code == ORDERSET_OK && answer[0] == ORDERSET_GIVEN;
     if (accepted) {
         expect(orderset_play(played, LENGTH, at, value, 8, 8) == ORDERSET_OK, "play takes the stores");
@@ -241,7 +241,7 @@ static enum kind any_kind(uint64_t key) {
 
 static void get(uint64_t key) {
     uint8_t out[ORDERSET_VALUE_MAX];
-    uint32_t code = orderset_get(image, LENGTH, heads, HEADS, next, N + 1, key, out, sizeof out, answer);
+    uint64_t code = orderset_get(image, LENGTH, heads, HEADS, next, N + 1, key, out, sizeof out, answer);
     expect(code == ORDERSET_OK && events == 0, "get of an own index is not refused and flushes nothing");
     unstored++;
 }

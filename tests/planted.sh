@@ -3,6 +3,7 @@
 # Prints one line for each fault and ends with status 1 if one is not seen.
 #     planted.sh [WORD]    only the faults whose test, description or file has the word
 set -u
+export LC_ALL=C
 cd "$(dirname "$0")/.."
 archive=target/staticlib/liborderset_c.a
 tree=target/planted/tree
@@ -49,6 +50,10 @@ exchange='s/line \+ 0, value\[0\]/line + 8, value[8]/; s/line \+ 7, value\[7\]/l
 fault header 'a store is left out' $header '/orderset_store\(line \+ 1,/d' 'NOT SO'
 fault header 'a held key is inserted' tests/header.cc 's/orderset_replace\(/orderset_insert(/' 'NOT SO'
 fault header 'a key that is not held is replaced' tests/header.cc 's/orderset_insert\(/orderset_replace(/' 'NOT SO'
+fault header 'the count of a refusal is not looked for' tests/header.cc \
+    's/ORDERSET_REFUSED_COMPARED\(code\) == compared/(code >> 32) == 0/' 'NOT SO'
+fault header 'the result is kept in 32 bits' tests/header.cc 's/refused\(uint64_t code/refused(uint32_t code/' \
+    'warning: .*shift count >= width of type'
 
 fault persist 'the second line is not flushed' $header '/orderset_flush_line\(b, flush\);/d' \
     'NOT SO: then both lines are flushed'
@@ -82,6 +87,20 @@ fault lock 'no lock' $gateway 's/flock\(file, how \| LOCK_NB\) == 0/(void)how, 1
 fault lock 'a lock that writers share' $gateway 's/writing \? LOCK_EX : LOCK_SH/LOCK_SH/' \
     'NOT SO: a second gateway .* is refused'
 
+fault heads 'the number of heads is not used' $gateway 's/set.heads_length = \(size_t\)heads;//' \
+    "NOT SO: .* it says '[0-9]+ heads'"
+fault heads 'the last key of a chain is left out' $gateway 's/compared <= answer/compared < answer/' \
+    "NOT SO: .* it says '1 compared: [0-9]+ held keys'"
+fault heads 'the first key of a chain is taken as its last' $gateway 's/last = s->next\[last\];/break;/' \
+    "NOT SO: .* it says '[0-9]+ compared: [0-9]+ held keys'"
+fault heads 'the longest count is not shown' $gateway \
+    's/found\[compared\]; compared\+\+/found[compared + 1]; compared++/' \
+    "NOT SO: .* it says '[0-9]+ compared: [0-9]+ held keys'"
+fault heads 'the average is that of the counts' $gateway 's/held \+= found\[compared\];/held++;/' \
+    "NOT SO: .* it says 'average [0-9.]+, longest [0-9]+'"
+fault heads 'heads opens the file for writing' $gateway \
+    's/start\(\&set, path, 0\);/start(\&set, path, 1);/' 'NOT SO: it recovers [0-9]+ keys and reads only'
+
 fault storm 'a start does not make the image durable' tests/storm.c \
     's/\(after_kill \|\| below\(2\)\) \&\& orderset_persist_image\(.*\)\)/0)/' 'LOST key'
 fault storm 'a start makes every other line durable' $header 's/i \+= ORDERSET_LINE_BYTES/i += 128/' 'LOST key'
@@ -94,6 +113,8 @@ fault storm 'an insert of a held key should be done' tests/storm.c \
     's/return ORDERSET_INSERT_HELD;/return ORDERSET_OK;/' 'LOST a call of key [0-9]+ answers 20'
 fault storm 'a replace of a key that is not held should be done' tests/storm.c 's/ORDERSET_NOT_HELD;/ORDERSET_OK;/' \
     'LOST a call of key [0-9]+ answers 21'
+fault storm 'the count of a refusal is lost' tests/storm.c 's/code \? ORDERSET_REFUSED_COMPARED\(code\)/code ? 0/' \
+    'LOST count: key [0-9]+, 0 slots compared'
 
 fault kills 'a new order is answered before it is durable' $gateway \
     '/^static uint32_t change/,/^}/{s/if \(answer\[0\] == ORDERSET_GIVEN\)/if (answer[0] == 1 \&\& c->kind != NEW)/
@@ -120,6 +141,10 @@ fault guard 'the value of an insert one byte longer' tests/guard.c \
     '/case INSERT:/,/case REPLACE:/s/piece\[BYTES\].length/& + 1/' 'NOT SO: signal 11: bytes is touched'
 fault guard 'the value of a replace one byte longer' tests/guard.c \
     '/case REPLACE:/,/case REMOVE:/s/piece\[BYTES\].length/& + 1/' 'NOT SO: signal 11: bytes is touched'
+fault guard 'the answer of a get one word shorter' tests/guard.c 's/return ORDERSET_ANSWER;/return 2;/' \
+    'NOT SO: (signal 11: answer is touched|answer changed, after what was lent)'
+fault guard 'the answer of an insert one word shorter' tests/guard.c 's/return ORDERSET_CHANGE_ANSWER;/return 3;/' \
+    'NOT SO: (signal 11: answer is touched|answer changed, after what was lent)'
 fault guard 'a call writes what it may only read' tests/guard.c \
     's/orderset_play\(w\(IMAGE\)/orderset_play((uint8_t *)r(IMAGE)/' 'NOT SO: signal 11: image is .* lent for reading'
 fault guard 'a refused call changes the state' tests/guard.c \
@@ -150,41 +175,83 @@ given='image, length, index, key, bytes, size'
 held='follow(image, m_slots(length), index, key).slot'
 insert='/^struct m_change m_insert/,/^}/'
 replace='/^struct m_change m_replace/,/^}/'
-fault differential 'an insert overwrites' tests/model.c "s/return refuse\(20\);/return m_replace($given);/" \
+fault differential 'an insert overwrites' tests/model.c "s/return refuse\(20, .*/return m_replace($given);/" \
     'DIFFERENCE in the code: archive 20, model 0'
-fault differential 'a replace inserts' tests/model.c "s/return refuse\(21\);/return m_insert($given);/" \
+fault differential 'a replace inserts' tests/model.c "s/return refuse\(21, .*/return m_insert($given);/" \
     'DIFFERENCE in the code: archive 21, model 0'
 fault differential '20 is tested before 10' tests/model.c \
-    "${insert}s/if \(walk.refusal\)/if (walk.refusal == 10 \&\& $held) return refuse(20);\n    &/" \
+    "${insert}s/if \(walk.refusal\)/if (walk.refusal == 10 \&\& $held) return refuse(20, 0);\n    &/" \
     'DIFFERENCE in the code: archive 10, model 20'
 fault differential '12 is tested before 20' tests/model.c \
-    "${insert}s/if \(walk.slot\)/if (index->state.live + 1 >= n) return refuse(12);\n    &/" \
+    "${insert}s/if \(walk.slot\)/if (index->state.live + 1 >= n) return refuse(12, 0);\n    &/" \
     'DIFFERENCE in the code: archive 20, model 12'
 fault differential '9 is tested before 20' tests/model.c \
-    "${insert}s/if \(walk.slot\)/if (index->state.version >> 63) return refuse(9);\n    &/" \
+    "${insert}s/if \(walk.slot\)/if (index->state.version >> 63) return refuse(9, 0);\n    &/" \
     'DIFFERENCE in the code: archive 20, model 9'
 fault differential '21 is tested before 10' tests/model.c \
-    "${replace}s/if \(walk.refusal\)/if (walk.refusal == 10 \&\& !$held) return refuse(21);\n    &/" \
+    "${replace}s/if \(walk.refusal\)/if (walk.refusal == 10 \&\& !$held) return refuse(21, 0);\n    &/" \
     'DIFFERENCE in the code: archive 10, model 21'
 fault differential '21 is tested before 11 of the chain' tests/model.c \
-    "${replace}s/if \(walk.refusal\)/if (walk.refusal == 11) return refuse(21);\n    &/" \
+    "${replace}s/if \(walk.refusal\)/if (walk.refusal == 11) return refuse(21, 0);\n    &/" \
     'DIFFERENCE in the code: archive 11, model 21'
 fault differential '9 is tested before 21' tests/model.c \
-    "${replace}s/if \(!walk.slot\)/if (index->state.version >> 63) return refuse(9);\n    &/" \
+    "${replace}s/if \(!walk.slot\)/if (index->state.version >> 63) return refuse(9, 0);\n    &/" \
     'DIFFERENCE in the code: archive 21, model 9'
 fault differential 'a replace is refused for room' tests/model.c \
-    "${replace}s/if \(index->state.version/if (index->state.live + 1 >= m_slots(length)) return refuse(12);\n    &/" \
+    "${replace}s/if \(index->state.version/if (index->state.live + 1 >= m_slots(length)) return refuse(12, 0);\n&/" \
     'DIFFERENCE in the code: archive 0, model 12'
 fault differential 'a replace counts one more live slot' tests/model.c \
     "${replace}s/index->state.version\+\+;/index->state.live++;\n    &/" 'DIFFERENCE in the live count'
 fault differential 'a replace does not queue the old slot' tests/model.c "${replace}{/append\(index, walk.slot\);/d}" \
     'DIFFERENCE in the (first|last) slot'
 fault differential 'a refused insert takes a version' tests/model.c \
-    's/return refuse\(20\);/return index->state.version++, refuse(20);/' 'DIFFERENCE in the next version'
+    's/return refuse\(20, /return index->state.version++, refuse(20, /' 'DIFFERENCE in the next version'
 fault differential 'the plain map lets an insert overwrite' tests/differential.c \
     's/held \? ORDERSET_INSERT_HELD : DONE/DONE/' 'DIFFERENCE in the answer by the plain map: archive 20, model 0'
 fault differential 'the plain map lets a replace insert' tests/differential.c \
     's/held \? DONE : ORDERSET_NOT_HELD/DONE/' 'DIFFERENCE in the answer by the plain map: archive 21, model 0'
+
+after='return refuse(walk.refusal, walk.compared);'
+fault differential 'the count begins at 0' tests/model.c 's/.compared = passed \+ 1/.compared = passed/' \
+    'DIFFERENCE in the slots compared: archive 1, model 0'
+fault differential 'the count of an absent key has one more' tests/model.c 's/.compared = passed\}/.compared = passed + 1}/' \
+    'DIFFERENCE in the slots compared: archive 1, model 2'
+fault differential 'a refusal by the chain reports slots' tests/model.c \
+    "s/\{.refusal = 11\}/{.refusal = 11, .compared = passed}/; s/return refuse\(walk.refusal, 0\);/$after/" \
+    'DIFFERENCE in the slots compared: archive 0, model 6'
+fault differential '10 reports slots' tests/model.c \
+    "s/return \(struct walk\)\{.refusal = 10\};/return (struct walk){.refusal = 10, .compared = 1};/
+     s/return refuse\(walk.refusal, 0\);/$after/" 'DIFFERENCE in the slots compared: archive 0, model 1'
+for number in 20 12 21; do
+    fault differential "$number reports 0" tests/model.c "s/refuse\($number, walk.compared\)/refuse($number, 0)/" \
+        'DIFFERENCE in the slots compared: archive 1, model 0'
+done
+fault differential '9 of a replace reports 0' tests/model.c "${replace}s/refuse\(9, walk.compared\)/refuse(9, 0)/" \
+    'DIFFERENCE in the slots compared: archive 1, model 0'
+fault differential '11 of the reuse chain reports 0 in an insert' tests/model.c \
+    "${insert}s/refuse\(11, walk.compared\)/refuse(11, 0)/" 'DIFFERENCE in the slots compared: archive 1, model 0'
+fault differential '11 of a remove reports 0' tests/model.c \
+    '/^struct m_change m_remove/,/^}/s/refuse\(11, walk.compared\)/refuse(11, 0)/' \
+    'DIFFERENCE in the slots compared: archive 1, model 0'
+for number in 6 13; do
+    fault differential "$number reports 0" tests/model.c "s/\{.refusal = $number, .compared = [^}]*\}/{.refusal = $number}/" \
+        'DIFFERENCE in the slots compared: archive 1, model 0'
+done
+for call in 'remove change' 'get got' 'locate place'; do
+    fault differential "absent reports 0 in a ${call% *}" tests/model.c \
+        "s/(\(struct m_${call#* }\)\{.absent = 1), .compared = [^}]*\}/\1}/" \
+        'DIFFERENCE in the slots compared: archive 1, model 0'
+done
+fault differential 'a directed case has the second of a chain as its first' tests/differential.c \
+    's/\[11\] = 2/[11] = 1/' "DIFFERENCE in a directed case's slots compared: archive 2, model 1"
+fault differential 'a result is kept in 32 bits' tests/differential.c \
+    's/uint64_t code = archive_change/uint32_t code = archive_change/' \
+    'DIFFERENCE in the slots compared: archive 0, model 1'
+fault differential 'a step is to report the slots compared' tests/differential.c \
+    's/call == REMOVE;/call == REMOVE || call == WITHDRAW;/' 'DIFFERENCE in the slots compared'
+fault differential 'the plain map has one head more' tests/differential.c \
+    's/open_sharers\(p, s->model.heads_length\)/open_sharers(p, s->model.heads_length + 1)/' \
+    'DIFFERENCE in the (place in a chain|slots compared, by the held keys)'
 
 fault differential 'a fill of more than is open is taken' tests/model.c 's/ \|\| quantity > open//' \
     'DIFFERENCE in the code'
@@ -195,7 +262,7 @@ fault differential 'a second acknowledge stores' tests/model.c 's/if \(o.state =
 fault differential 'a withdraw keeps the order' tests/model.c \
     '/^struct m_change m_withdraw/,/^}/s/m_remove\((.*)\);/replace_order(\1, o);/' 'DIFFERENCE'
 fault differential '19 is tested before 18' tests/model.c \
-    '/^struct m_change m_fill/,/^}/s/if \(o.refusal\)/if (o.refusal == 18 \&\& !quantity) return refuse(19);\n    &/' \
+    '/^struct m_change m_fill/,/^}/s/if \(o.refusal\)/if (o.refusal == 18 \&\& !quantity) return refuse(19, 0);\n&/' \
     'DIFFERENCE in the code: archive 18, model 19'
 fault differential 'a withdraw counts the ordered quantity' tests/differential.c \
     's/e->withdrawn = open;/e->withdrawn = ordered;/' 'DIFFERENCE in the totals'

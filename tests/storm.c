@@ -157,12 +157,23 @@ static uint64_t version[1], value[ORDERSET_STORES], answer[ORDERSET_CHANGE_ANSWE
 static enum orderset_flush flush;
 static int after_kill;
 
+/* A call compared so many slots: no more than held keys share the key's head, one at least where the key is held, and
+ * all of them where it is not. */
+static void counted(uint32_t i, uint64_t slots) {
+    uint64_t sharing = 0;
+    for (uint32_t k = 0; k < keys; k++)
+        sharing += map[k].held && key_of[k] % heads_length == key_of[i] % heads_length;
+    if (slots > sharing || (map[i].held ? slots == 0 : slots != sharing))
+        lost("count: key %" PRIu64 ", %" PRIu64 " slots compared, %" PRIu64 " held keys share its head", key_of[i],
+             slots, sharing);
+}
+
 static struct value get(uint32_t i) {
     struct value found = {0, 0, {0}};
-    uint32_t code = orderset_get(visible, length, heads, heads_length, next, n + 1, key_of[i], found.bytes,
+    uint64_t code = orderset_get(visible, length, heads, heads_length, next, n + 1, key_of[i], found.bytes,
                                  sizeof found.bytes, answer);
     if (code)
-        lost("get of key %" PRIu64 " is refused: %" PRIu32, key_of[i], code);
+        lost("get of key %" PRIu64 " is refused: %" PRIu32, key_of[i], ORDERSET_REFUSAL(code));
     found.held = answer[0] == ORDERSET_GIVEN;
     found.size = answer[ORDERSET_LENGTH];
     return found;
@@ -219,7 +230,7 @@ static uint32_t due(enum kind kind, uint32_t i) {
     return kind == INSERT && held() + 1 >= n ? ORDERSET_FULL : ORDERSET_OK;
 }
 
-static uint32_t carry_out(enum kind kind, uint64_t key, const struct value *v) {
+static uint64_t carry_out(enum kind kind, uint64_t key, const struct value *v) {
     switch (kind) {
     case INSERT:
         return orderset_insert(visible, length, heads, heads_length, next, n + 1, state, version, key, v->bytes,
@@ -238,9 +249,10 @@ static void change(uint32_t i, enum kind kind) {
     call.later.held = kind != REMOVE;
     call.later.size = call.later.held ? below(ORDERSET_VALUE_MAX + 1) : 0;
     fill(call.later.bytes, call.later.size);
-    uint32_t code = carry_out(kind, key_of[i], &call.later);
-    if (code != due(kind, i))
-        lost("a call of key %" PRIu64 " answers %" PRIu32, key_of[i], code);
+    uint64_t code = carry_out(kind, key_of[i], &call.later);
+    if (ORDERSET_REFUSAL(code) != due(kind, i))
+        lost("a call of key %" PRIu64 " answers %" PRIu32, key_of[i], ORDERSET_REFUSAL(code));
+    counted(i, code ? ORDERSET_REFUSED_COMPARED(code) : answer[ORDERSET_COMPARED]);
     if (code || answer[0] == ORDERSET_ABSENT)
         return;
     stores_made = 0;
@@ -270,6 +282,8 @@ static void run_until_struck(void) {
             change(i, kind > 2 ? any_write(i) : REMOVE);
         else if (found = get(i), !same(&found, &map[i]))
             lost("get of key %" PRIu64, key_of[i]);
+        else
+            counted(i, answer[ORDERSET_GET_COMPARED]);
         point();
     }
 }

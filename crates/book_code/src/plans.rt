@@ -29,7 +29,8 @@ fn seek_order(image: &[u8], heads: &[u32], next: &[u32], key: u64) -> Seek
     ensures { λ r. ⌜ seekSays r ≡ seek 1 (now (image .entry)) (now (heads .entry)) (now (next .entry)) key ⌝ }
 {
     let mut out = [0u8; 80];
-    let got = get(image, heads, next, key, &mut out);
+    let answer = get(image, heads, next, key, &mut out);
+    let got = answer.got;
     match got {
         Got::Length(n) => order_in(&out, n),
         Got::Absent => Seek::Missing(18),
@@ -67,7 +68,9 @@ fn new_located(located: Located, quantity: u64) -> Plan
 pub fn new_plan(image: &[u8], heads: &[u32], next: &[u32], key: u64, quantity: u64) -> Plan
     ensures { λ r. ⌜ planSays r ≡ newCourse quantity (locateResult 1 (now (image .entry)) (now (heads .entry)) (now (next .entry)) key) ⌝ }
 {
-    new_located(locate(image, heads, next, key), quantity)
+    let answer = locate(image, heads, next, key);
+    let located = answer.located;
+    new_located(located, quantity)
 }
 
 // An acknowledge of an order that was acknowledged before, by what locate answers for its key.
@@ -89,7 +92,9 @@ pub fn acknowledge_plan(image: &[u8], heads: &[u32], next: &[u32], key: u64) -> 
     match sought {
         Seek::Found(order) => {
             if order.state == 2 {
-                return already_located(locate(image, heads, next, key));
+                let answer = locate(image, heads, next, key);
+                let located = answer.located;
+                return already_located(located);
             }
             Plan::Write {
                 mode: Mode::Replace,

@@ -34,7 +34,7 @@ fn outcome_of(outcome: Outcome) -> BookOutcome
 
 // What a step gives back by what its call gave back.
 fn by_change(change: Change) -> BookChange
-    ensures { λ r. ⌜ ((at value heads next : List ℕ) → bookEnd r at value heads next ≡ asChange (changeEnd change at value heads next)) ⌝ }
+    ensures { λ r. ⌜ ((at value heads next : List ℕ) → bookEnd r at value heads next ≡ asChange (changeEnd change at value heads next .left)) ⌝ }
 {
     let outcome = change.outcome;
     let state = change.state;
@@ -56,7 +56,7 @@ fn write(
     at: &mut [u32; 16],
     words: &mut [u64; 16],
 ) -> Change
-    ensures { λ r. ⌜ changeEnd r (now (at .exit)) (now (words .exit)) (now (heads .exit)) (now (next .exit)) ≡ leftIn (zipped (now (at .entry)) (now (words .entry))) (writeResult 1 (now (image .entry)) (now (heads .entry)) (now (next .entry)) state mode key (now (value .entry))) ⌝ }
+    ensures { λ r. ⌜ changeEnd r (now (at .exit)) (now (words .exit)) (now (heads .exit)) (now (next .exit)) .left ≡ leftIn (zipped (now (at .entry)) (now (words .entry))) (writeResult 1 (now (image .entry)) (now (heads .entry)) (now (next .entry)) state mode key (now (value .entry))) ⌝ }
 {
     match mode {
         Mode::Insert => insert(image, heads, next, state, key, value, at, words),

@@ -13,11 +13,10 @@ use Rattle.index.specs.Index.{Index, indexOf, stateOf, headOf}
 use Rattle.index.specs.inner.Parts.{WritesInside, PlaceInside, PartsOf}
 use Rattle.index.specs.declared.Place.{Place}
 use Rattle.index.specs.declared.State.{State}
-use Rattle.calls.specs.Change.{ChangeResult, changeSays, changeEnd, handedOut, leftIn, changed}
+use Rattle.calls.specs.Change.{ChangeResult, handedOut, leftIn, changed}
 use Rattle.index.specs.declared.Lookup.{Lookup}
 use Rattle.index.specs.declared.Lookup.the-variants.{Open}
-use Rattle.calls.specs.inner.Lookup.{Writable, OpenAt, WriteReady, StoredBy}
-use Rattle.calls.specs.declared.Change.{Change}
+use Rattle.calls.specs.inner.Lookup.{Writable, OpenAt, WriteReady}
 
 -- a key whose high word is 0 is its low word
 pub key-alone : (key : ℕ) → keyWith key 0 ≡ key
@@ -31,6 +30,10 @@ inside image heads next s key h prev old e w = subst (λ (x : ℕ). WritesInside
 pub some-head : (image heads next : List ℕ) (s : State) (key prev old : ℕ) → Writable image heads next s key prev old → 1 ≤ length heads
 some-head image heads next s key prev old w = omega (arith, w .index .head-in)
 
+-- a result by its parts
+abbrev pub left : Answer → State → List Store → (heads next : List ℕ) → ChangeResult
+left a t ss heads next = record { answer = a; state = t; stores = ss; heads = heads; next = next }
+
 -- an insert or a replace that is not refused, r being its lookup
 module _ (l : ℕ) (image heads next : List ℕ) (s : State) (key size : ℕ) {r : Lookup} (ready : WriteReady l image heads next s key size r)
     {place : Place} {compared : ℕ} (e : r ≡ Open place compared) where
@@ -41,18 +44,14 @@ module _ (l : ℕ) (image heads next : List ℕ) (s : State) (key size : ℕ) {r
   opened-inside h q = subst (λ (x : ℕ). PlaceInside heads next s x place) (sym q) (opened .inside)
 
 -- what a call leaves that stores a record, lent some stores; i is the index that it leaves
-pub changed-end : (l : ℕ) (image : List ℕ) (s : State) (key kind : ℕ) (value : List ℕ) (after : State) (r : Change) (at words : List ℕ) (lent : List Store)
-    → StoredBy l image s key kind value after r at words → (heads next : List ℕ) (i : Index) (live : ℕ)
+pub changed-end : (l : ℕ) (image : List ℕ) (s : State) (key kind : ℕ) (value : List ℕ) (after : State) (at words : List ℕ) (lent : List Store)
+    → zipped at words ≡ recordStores l (word image) (s .first) key kind value (s .version) → (heads next : List ℕ) (i : Index) (live : ℕ)
     → PartsOf heads next after i live (s .version + 1)
-    → changeEnd r at words heads next ≡ leftIn lent (changed l image s key kind value i live)
-unfolding changed changeSays leftIn handedOut recordStores lineStores run
-changed-end l image s key kind value after r at words lent u heads next i live h =
-    ap₂ (λ (a : Answer) (t : State). left a t (zipped at words) heads next) (ap changeSays (u .outcome-is)) (u .state-is)
-    ∙ ap₂ (stored (indexOf heads next after) (after .live)) (h .next-version) (u .stores-are)
+    → left (gives (s .first ∷ s .version ∷ [])) after (zipped at words) heads next ≡ leftIn lent (changed l image s key kind value i live)
+unfolding changed leftIn handedOut recordStores lineStores run
+changed-end l image s key kind value after at words lent e heads next i live h =
+    ap₂ (stored (indexOf heads next after) (after .live)) (h .next-version) e
     ∙ ap₂ (λ (j : Index) (m : ℕ). stored j m (s .version + 1) (recordStores l (word image) (s .first) key kind value (s .version))) (h .index) (h .live-count)
   where
-    left : Answer → State → List Store → (heads next : List ℕ) → ChangeResult
-    left a t ss heads next = record { answer = a; state = t; stores = ss; heads = heads; next = next }
-
     stored : Index → (live version : ℕ) → List Store → ChangeResult
     stored j m v ss = left (gives (s .first ∷ s .version ∷ [])) (stateOf j m v) ss (j .heads) (j .next)

@@ -7,10 +7,11 @@ use lib.ListN.{length}
 use Rattle.words.specs.Word.{word}
 use Rattle.prelude.specs.Refusal.{unlessRefused}
 use Rattle.prelude.specs.Answer.{gives, absent, refused}
-use Rattle.prelude.proofs.Refusals.{orElse-first, orElse-later, refused-keeps}
+use Rattle.prelude.proofs.Refusals.{orElse-first, orElse-later, refused-keeps, taken-leaves}
 use Rattle.layout.specs.Line.{versionOf}
 use Rattle.layout.specs.Header.{lentFault}
-use Rattle.index.specs.Walk.{search, chainFault}
+use Rattle.index.specs.Walk.{search, chainFault, comparedIn}
+use Rattle.calls.specs.Compared.{comparedAfter, keyCompared}
 use Rattle.index.specs.declared.Found.{Found}
 use Rattle.index.specs.declared.Found.the-variants.{At, Missing, BadChain}
 use Rattle.calls.specs.Locate.{locateFault, locateDone, locateResult}
@@ -25,6 +26,10 @@ done-unless image BadChain = refl
 
 -- f is the refusal before the chain is followed, found what the chain has
 module _ (l : ℕ) (image heads next : List ℕ) (key f : ℕ) (e : f ≡ lentFault l image (length heads) (length next)) where
+  pub refused-compares : (f ≡ 0 → ⊥) → 0 ≡ keyCompared l image heads next key
+  unfolding keyCompared comparedAfter
+  refused-compares ne = sym (refused-keeps _ _ _ (λ z. ne (e ∙ z)))
+
   pub locate-refused : (f ≡ 0 → ⊥) → refused f ≡ locateResult l image heads next key
   unfolding locateResult locateFault
   locate-refused ne =
@@ -37,6 +42,10 @@ module _ (l : ℕ) (image heads next : List ℕ) (key f : ℕ) (e : f ≡ lentFa
     located known q =
         ap (locateDone image) (sym q ∙ d) ∙ done-unless image (search l image heads next key)
         ∙ ap (λ (k : ℕ). unlessRefused k (locateDone image (search l image heads next key)) (refused k)) (sym (orElse-later _ _ (sym e ∙ z)))
+
+    pub locate-compares : (known : Found) → found ≡ known → comparedIn known ≡ keyCompared l image heads next key
+    unfolding keyCompared comparedAfter
+    locate-compares known q = ap comparedIn (sym q ∙ d) ∙ sym (taken-leaves _ _ _ (sym e ∙ z))
 
     pub locate-held : (slot prev compared stamp : ℕ) → found ≡ At slot prev compared → stamp ≡ word image (16 * slot + 7)
         → gives (slot ∷ stamp / 2 ∷ []) ≡ locateResult l image heads next key

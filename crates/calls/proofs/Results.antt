@@ -12,7 +12,8 @@ use Rattle.layout.specs.Size.{slotsIn}
 use Rattle.layout.specs.Line.{lineA, lineB}
 use Rattle.layout.specs.Record.{valueFront, valueOf}
 use Rattle.index.specs.Index.{indexOf, headOf}
-use Rattle.index.specs.Walk.{search, chainFault}
+use Rattle.index.specs.Walk.{search, chainFault, comparedIn}
+use Rattle.calls.specs.Compared.{comparedAfter}
 use Rattle.index.specs.Change.{insertNew, replaceHeld, removeHeld}
 use Rattle.index.specs.declared.State.{State}
 use Rattle.index.specs.declared.Mode.{Mode}
@@ -68,6 +69,31 @@ module _
       → left ≡ unlessRefused fault (done found) (keep fault)
   result-not-held prev compared e h =
       let t = told (Open (NotHeld prev) compared) e in h ∙ ap done (sym (t .1)) ∙ sym (taken-leaves _ _ fault (t .0))
+
+-- ---- the count of slots compared, by the lookup
+
+abbrev counted : Lookup → ℕ
+counted (Refused number compared) = compared
+counted (Open place compared) = compared
+
+lookup-counted : (fault lent : ℕ) (found : Found) → counted (lookupOf fault lent found) ≡ comparedAfter lent found
+unfolding lookupOf lookupBy unlessRefused comparedAfter comparedIn
+lookup-counted zero zero (At slot prev compared) = refl
+lookup-counted zero zero (Missing prev compared) = refl
+lookup-counted (suc k) zero (At slot prev compared) = refl
+lookup-counted (suc k) zero (Missing prev compared) = refl
+lookup-counted fault zero BadChain = refl
+lookup-counted fault (suc lent) found = refl
+
+module _ {fault lent : ℕ} {found : Found} {Ready : Lookup → Type 0} {r : Lookup} (u : LooksUp fault lent found Ready r) where
+  told-count : (known : Lookup) → r ≡ known → counted known ≡ comparedAfter lent found
+  told-count known e = ap counted (sym e ∙ u .is) ∙ lookup-counted fault lent found
+
+  pub refused-count : (number compared : ℕ) → r ≡ Refused number compared → compared ≡ comparedAfter lent found
+  refused-count number compared e = told-count (Refused number compared) e
+
+  pub open-count : (place : Place) (compared : ℕ) → r ≡ Open place compared → compared ≡ comparedAfter lent found
+  open-count place compared e = told-count (Open place compared) e
 
 -- ---- insert and replace: h is the key's head as the code finds it
 

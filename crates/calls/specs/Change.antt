@@ -20,6 +20,7 @@ use Rattle.index.specs.declared.State.{State}
 use Rattle.index.specs.declared.Mode.{Mode}
 use Rattle.index.specs.declared.Found.{Found}
 use Rattle.index.specs.declared.Found.the-variants.{At, Missing, BadChain}
+use Rattle.calls.specs.Compared.{Reported, reported, comparedAfter}
 use Rattle.calls.specs.declared.Change.{Change}
 use Rattle.calls.specs.declared.Outcome.{Outcome}
 use Rattle.calls.specs.declared.Outcome.the-variants.{Stored, Absent, Refused}
@@ -39,15 +40,17 @@ changeSays Absent = absent
 changeSays (Refused number) = refused number
 
 -- what a call with this answer left; at and value are the stores lent to it
-abbrev pub changeEnd : Change → (at value heads next : List ℕ) → ChangeResult
+abbrev pub changeEnd : Change → (at value heads next : List ℕ) → Reported ChangeResult
 changeEnd r at value heads next =
-    record {
+    reported
+    (record {
       answer = changeSays (r .outcome);
       state = r .state;
       stores = zipped at value;
       heads = heads;
       next = next;
-    }
+    })
+    (r .compared)
 
 -- the sixteen lent stores after a call that hands out these, sixteen or none: where it hands out none they stay
 unfoldable pub handedOut : (stores lent : List Store) → List Store
@@ -111,6 +114,11 @@ writeResult l image heads next s mode key value =
     unlessRefused (writeFault l image heads next s mode key (length value))
     (writeDone l image heads next s key value (search l image heads next key))
     (unchanged (refused (writeFault l image heads next s mode key (length value))) s heads next)
+
+-- the slots compared: 10 too comes before the chain
+unfoldable pub writeCompared : (l : ℕ) → (image heads next : List ℕ) → (key size : ℕ) → ℕ
+writeCompared l image heads next key size =
+    comparedAfter (writeLentFault l image (length heads) (length next) size) (search l image heads next key)
 
 -- ---- remove
 

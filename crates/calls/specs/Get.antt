@@ -12,6 +12,8 @@ use Rattle.layout.specs.Header.{lentFault}
 use Rattle.index.specs.Walk.{search}
 use Rattle.index.specs.declared.Found.{Found}
 use Rattle.index.specs.declared.Found.the-variants.{At, Missing, BadChain}
+use Rattle.calls.specs.Compared.{Reported, reported}
+use Rattle.calls.specs.declared.GetAnswer.{GetAnswer}
 use Rattle.calls.specs.declared.Got.{Got}
 use Rattle.calls.specs.declared.Got.the-variants.{Length, Absent, Refused}
 
@@ -26,8 +28,8 @@ getSays Absent = absent
 getSays (Refused number) = refused number
 
 -- what a call of get with this answer left
-abbrev pub getEnd : Got → (out : List ℕ) → GetResult
-getEnd r out = record { answer = getSays r; out = out }
+abbrev pub getEnd : GetAnswer → (out : List ℕ) → Reported GetResult
+getEnd r out = reported (record { answer = getSays (r .got); out = out }) (r .compared)
 
 -- the length of the value in slot s
 abbrev pub slotLength : (l : ℕ) → (image : List ℕ) → ℕ → ℕ

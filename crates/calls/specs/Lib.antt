@@ -1,3 +1,4 @@
+pub mod Compared
 pub mod Change
 pub mod Get
 pub mod Locate

@@ -10,6 +10,8 @@ use Rattle.layout.specs.Header.{lentFault}
 use Rattle.index.specs.Walk.{search, chainFault}
 use Rattle.index.specs.declared.Found.{Found}
 use Rattle.index.specs.declared.Found.the-variants.{At, Missing, BadChain}
+use Rattle.calls.specs.Compared.{Reported, reported}
+use Rattle.calls.specs.declared.LocateAnswer.{LocateAnswer}
 use Rattle.calls.specs.declared.Located.{Located}
 use Rattle.calls.specs.declared.Located.the-variants.{At as Here, Absent, Refused}
 
@@ -18,6 +20,10 @@ unfoldable pub locateSays : Located → Answer
 locateSays (Here slot version) = gives (slot ∷ version ∷ [])
 locateSays Absent = absent
 locateSays (Refused number) = refused number
+
+-- what a call of locate with this answer left
+abbrev pub locateEnd : LocateAnswer → Reported Answer
+locateEnd r = reported (locateSays (r .located)) (r .compared)
 
 -- 1, 2, 3, 4, 11 (chain)
 unfoldable pub locateFault : (l : ℕ) → (image heads next : List ℕ) → (key : ℕ) → ℕ

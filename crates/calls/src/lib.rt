@@ -8,10 +8,11 @@ pub enum Outcome {
     Refused(u32),
 }
 
-// What insert, replace and remove give back: the answer and the new state. The stores to be played are lent.
+// What insert, replace and remove give back: the answer, the new state and the count of slots compared. The stores to be played are lent.
 pub struct Change {
     pub outcome: Outcome,
     pub state: State,
+    pub compared: u32,
 }
 
 // Get's answer: the length of the value, absent, or a refusal.
@@ -21,11 +22,23 @@ pub enum Got {
     Refused(u32),
 }
 
+// What get gives back: the answer and the count of slots compared.
+pub struct GetAnswer {
+    pub got: Got,
+    pub compared: u32,
+}
+
 // Locate's answer: the slot that holds the key and the version on its line A, absent, or a refusal.
 pub enum Located {
     At { slot: u32, version: u64 },
     Absent,
     Refused(u32),
+}
+
+// What locate gives back: the answer and the count of slots compared.
+pub struct LocateAnswer {
+    pub located: Located,
+    pub compared: u32,
 }
 
 // Format's answer: the number of slots, or a refusal.

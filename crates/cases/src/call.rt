@@ -43,7 +43,7 @@ pub fn formatted(set: Set) -> Set {
 fn state_of(r: Recovered, s: State) -> State {
     match r {
         Recovered::Rebuilt(rebuilt) => rebuilt,
-        Recovered::Refused(_) => s,
+        Recovered::Refused { number: _, slot: _ } => s,
     }
 }
 
@@ -150,8 +150,10 @@ pub fn fetch(set: Set, key: u64, size: u64) -> Fetched {
     let a = &image[..i];
     let b = &heads[..h];
     let c = &next[..k];
-    let located = locate(a, b, c, key);
-    let got = get(a, b, c, key, &mut out[..o]);
+    let place = locate(a, b, c, key);
+    let located = place.located;
+    let value = get(a, b, c, key, &mut out[..o]);
+    let got = value.got;
     Fetched { located, got, out }
 }
 

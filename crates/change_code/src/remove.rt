@@ -5,6 +5,7 @@ ghost use lib.ListN.{length};
 ghost use Rattle.layout.specs.Record.{Layout};
 ghost use Rattle.layout.specs.inner.Key.{keyWith};
 ghost use Rattle.stores.specs.Store.{zipped};
+ghost use Rattle.calls.specs.Compared.{reported, keyCompared};
 ghost use Rattle.calls.specs.Change.{changeEnd, leftIn, heldFault, removeLaterFault, removeResult};
 ghost use Rattle.calls.specs.inner.Lookup.{RemoveLookup};
 use calls::Change;
@@ -100,21 +101,20 @@ fn remove_in(
     words: &mut [u64; 16],
 ) -> Change
     requires { ⌜ Layout l ⌝ }
-    ensures { λ r. ⌜ changeEnd r (now (at .exit)) (now (words .exit)) (now (heads .exit)) (now (next .exit)) ≡ leftIn (zipped (now (at .entry)) (now (words .entry))) (removeResult l (now (image .entry)) (now (heads .entry)) (now (next .entry)) state (keyWith low high)) ⌝ }
+    ensures { λ r. ⌜ changeEnd r (now (at .exit)) (now (words .exit)) (now (heads .exit)) (now (next .exit)) ≡ reported (leftIn (zipped (now (at .entry)) (now (words .entry))) (removeResult l (now (image .entry)) (now (heads .entry)) (now (next .entry)) state (keyWith low high))) (keyCompared l (now (image .entry)) (now (heads .entry)) (now (next .entry)) (keyWith low high)) ⌝ }
 {
     let lookup = remove_lookup(image, l, heads, next, state, low, high);
     match lookup {
-        Lookup::Refused {
-            number,
-            compared: _,
-        } => Change {
+        Lookup::Refused { number, compared } => Change {
             outcome: Outcome::Refused(number),
             state,
+            compared,
         },
-        Lookup::Open { place, compared: _ } => match place {
+        Lookup::Open { place, compared } => match place {
             Place::NotHeld { prev: _ } => Change {
                 outcome: Outcome::Absent,
                 state,
+                compared,
             },
             Place::Held { slot, prev } => {
                 let h = head_of(low, heads.len());
@@ -126,13 +126,14 @@ fn remove_in(
                         version: state.version,
                     },
                     state: after,
+                    compared,
                 }
             }
         },
     }
 }
 
-// The key is dropped: the slot taken and the version, the new state and, lent, the stores to be played; absent where it is not held; or a refusal. Neither of the last two changes anything.
+// The key is dropped: the slot taken and the version, the new state and, lent, the stores to be played; absent where it is not held; or a refusal. Neither of the last two changes anything. Each has the slots compared.
 pub fn remove(
     image: &[u8],
     heads: &mut [u32],
@@ -142,7 +143,7 @@ pub fn remove(
     at: &mut [u32; 16],
     words: &mut [u64; 16],
 ) -> Change
-    ensures { λ r. ⌜ changeEnd r (now (at .exit)) (now (words .exit)) (now (heads .exit)) (now (next .exit)) ≡ leftIn (zipped (now (at .entry)) (now (words .entry))) (removeResult 1 (now (image .entry)) (now (heads .entry)) (now (next .entry)) state key) ⌝ }
+    ensures { λ r. ⌜ changeEnd r (now (at .exit)) (now (words .exit)) (now (heads .exit)) (now (next .exit)) ≡ reported (leftIn (zipped (now (at .entry)) (now (words .entry))) (removeResult 1 (now (image .entry)) (now (heads .entry)) (now (next .entry)) state key)) (keyCompared 1 (now (image .entry)) (now (heads .entry)) (now (next .entry)) key) ⌝ }
 {
     remove_in(image, 1, heads, next, state, key, 0, at, words)
 }

@@ -6,7 +6,8 @@ ghost use Rattle.layout.specs.Record.{Layout};
 ghost use Rattle.layout.specs.inner.Key.{keyWith};
 ghost use Rattle.stores.specs.Store.{zipped};
 ghost use Rattle.index.specs.declared.Mode.the-variants.{Insert, Replace};
-ghost use Rattle.calls.specs.Change.{changeEnd, leftIn, writeLentFault, writeLaterFault, writeResult};
+ghost use Rattle.calls.specs.Compared.{reported};
+ghost use Rattle.calls.specs.Change.{changeEnd, leftIn, writeLentFault, writeLaterFault, writeResult, writeCompared};
 ghost use Rattle.calls.specs.inner.Lookup.{WriteLookup};
 use calls::Change;
 use calls::Outcome;
@@ -111,18 +112,16 @@ fn write_in(
     words: &mut [u64; 16],
 ) -> Change
     requires { ⌜ Layout l ⌝ }
-    ensures { λ r. ⌜ changeEnd r (now (at .exit)) (now (words .exit)) (now (heads .exit)) (now (next .exit)) ≡ leftIn (zipped (now (at .entry)) (now (words .entry))) (writeResult l (now (image .entry)) (now (heads .entry)) (now (next .entry)) state mode (keyWith low high) (now (value .entry))) ⌝ }
+    ensures { λ r. ⌜ changeEnd r (now (at .exit)) (now (words .exit)) (now (heads .exit)) (now (next .exit)) ≡ reported (leftIn (zipped (now (at .entry)) (now (words .entry))) (writeResult l (now (image .entry)) (now (heads .entry)) (now (next .entry)) state mode (keyWith low high) (now (value .entry)))) (writeCompared l (now (image .entry)) (now (heads .entry)) (now (next .entry)) (keyWith low high) (length (now (value .entry)))) ⌝ }
 {
     let lookup = write_lookup(image, l, heads, next, state, mode, low, high, value.len());
     match lookup {
-        Lookup::Refused {
-            number,
-            compared: _,
-        } => Change {
+        Lookup::Refused { number, compared } => Change {
             outcome: Outcome::Refused(number),
             state,
+            compared,
         },
-        Lookup::Open { place, compared: _ } => {
+        Lookup::Open { place, compared } => {
             let h = head_of(low, heads.len());
             let after = write_place(heads, next, state, h, place);
             record_stores(
@@ -143,12 +142,14 @@ fn write_in(
                     version: state.version,
                 },
                 state: after,
+                compared,
             }
         }
     }
 }
 
-// A key that is not held gets the value: the slot taken and the version, the new state and, lent, the stores to be played; or a refusal, which changes nothing.
+// A key that is not held gets the value: the slot taken and the version, the new state, the slots compared and, lent, the stores to be played; or a
+// refusal, which changes nothing, with the slots compared.
 pub fn insert(
     image: &[u8],
     heads: &mut [u32],
@@ -159,7 +160,7 @@ pub fn insert(
     at: &mut [u32; 16],
     words: &mut [u64; 16],
 ) -> Change
-    ensures { λ r. ⌜ changeEnd r (now (at .exit)) (now (words .exit)) (now (heads .exit)) (now (next .exit)) ≡ leftIn (zipped (now (at .entry)) (now (words .entry))) (writeResult 1 (now (image .entry)) (now (heads .entry)) (now (next .entry)) state Insert key (now (value .entry))) ⌝ }
+    ensures { λ r. ⌜ changeEnd r (now (at .exit)) (now (words .exit)) (now (heads .exit)) (now (next .exit)) ≡ reported (leftIn (zipped (now (at .entry)) (now (words .entry))) (writeResult 1 (now (image .entry)) (now (heads .entry)) (now (next .entry)) state Insert key (now (value .entry)))) (writeCompared 1 (now (image .entry)) (now (heads .entry)) (now (next .entry)) key (length (now (value .entry)))) ⌝ }
 {
     write_in(
         image,
@@ -187,7 +188,7 @@ pub fn replace(
     at: &mut [u32; 16],
     words: &mut [u64; 16],
 ) -> Change
-    ensures { λ r. ⌜ changeEnd r (now (at .exit)) (now (words .exit)) (now (heads .exit)) (now (next .exit)) ≡ leftIn (zipped (now (at .entry)) (now (words .entry))) (writeResult 1 (now (image .entry)) (now (heads .entry)) (now (next .entry)) state Replace key (now (value .entry))) ⌝ }
+    ensures { λ r. ⌜ changeEnd r (now (at .exit)) (now (words .exit)) (now (heads .exit)) (now (next .exit)) ≡ reported (leftIn (zipped (now (at .entry)) (now (words .entry))) (writeResult 1 (now (image .entry)) (now (heads .entry)) (now (next .entry)) state Replace key (now (value .entry)))) (writeCompared 1 (now (image .entry)) (now (heads .entry)) (now (next .entry)) key (length (now (value .entry)))) ⌝ }
 {
     write_in(
         image,

@@ -1,6 +1,6 @@
 -- What the exported functions return and leave in the lent numbers, by the results that the public calls promise. Document 01, "What each operation may say no to".
-use mathlib.Core.List.{List, _∷_}
-use Prim.Native.Nat.{ℕ}
+use mathlib.Core.List.{List, [], _∷_, _++_}
+use Prim.Native.Nat.{ℕ, _+_, _*_, _^_}
 use lib.ListN.{replicate}
 use Rattle.prelude.specs.Answer.{Answer, gives, absent, refused, refusalIn}
 use Rattle.face.specs.Set.{Store, State, Result, stateValues, FormatResult, handedOut, ChangeResult, GetResult}
@@ -10,6 +10,18 @@ unfoldable pub answered : (n : ℕ) → Answer → (lent : List ℕ) → List �
 answered n (gives values) lent = 1 ∷ values
 answered n absent lent = replicate n 0
 answered n (refused number) lent = lent
+
+-- the same with the count of slots compared in its last word. Document 02, A.4
+unfoldable pub answeredWith : (n : ℕ) → Answer → (compared : ℕ) → (lent : List ℕ) → List ℕ
+answeredWith n (gives values) compared lent = 1 ∷ values ++ (compared ∷ [])
+answeredWith n absent compared lent = replicate n 0 ++ (compared ∷ [])
+answeredWith n (refused number) compared lent = lent
+
+-- a refusal's number with a second number, which counts 2^32 each; 0 for no refusal
+unfoldable pub returnedWith : Answer → (second : ℕ) → ℕ
+returnedWith (gives values) second = 0
+returnedWith absent second = 0
+returnedWith (refused number) second = number + 2 ^ 32 * second
 
 -- ---- format
 
@@ -58,7 +70,7 @@ recoverCall r s =
 
 -- ---- insert, replace and remove
 
--- what a call that writes returns, 0 or a refusal's number, and the lent answer, state, stores and index after it
+-- what a call that writes returns, 0 or a refusal's number with the slots compared, and the lent answer, state, stores and index after it
 pub record ChangeCall : Type 0 where
   pub returns : ℕ
   pub answer : List ℕ
@@ -73,11 +85,11 @@ changeLeft code answer s stores heads next =
     record { returns = code; answer = answer; state = s; stores = stores; heads = heads; next = next }
 
 -- the same, by the result of the call and the lent answer and stores
-unfoldable pub changeCall : ChangeResult → (answer : List ℕ) → (stores : List Store) → ChangeCall
-changeCall r answer stores =
+unfoldable pub changeCall : ChangeResult → (compared : ℕ) → (answer : List ℕ) → (stores : List Store) → ChangeCall
+changeCall r compared answer stores =
     record {
-      returns = refusalIn (r .answer);
-      answer = answered 3 (r .answer) answer;
+      returns = returnedWith (r .answer) compared;
+      answer = answeredWith 3 (r .answer) compared answer;
       state = r .state;
       stores = handedOut (r .stores) stores;
       heads = r .heads;
@@ -86,7 +98,7 @@ changeCall r answer stores =
 
 -- ---- get
 
--- what a call of get returns, 0 or a refusal's number, and the lent answer and output after it
+-- what a call of get returns, 0 or a refusal's number with the slots compared, and the lent answer and output after it
 pub record GetCall : Type 0 where
   pub returns : ℕ
   pub answer : List ℕ
@@ -97,8 +109,9 @@ abbrev pub getLeft : (code : ℕ) → (answer out : List ℕ) → GetCall
 getLeft code answer out = record { returns = code; answer = answer; out = out }
 
 -- the same, by the result of get and the lent answer
-unfoldable pub getCall : GetResult → (answer : List ℕ) → GetCall
-getCall r answer = record { returns = refusalIn (r .answer); answer = answered 2 (r .answer) answer; out = r .out }
+unfoldable pub getCall : GetResult → (compared : ℕ) → (answer : List ℕ) → GetCall
+getCall r compared answer =
+    record { returns = returnedWith (r .answer) compared; answer = answeredWith 2 (r .answer) compared answer; out = r .out }
 
 -- ---- locate
 
@@ -110,6 +123,6 @@ pub record LocateCall : Type 0 where
 abbrev pub locateLeft : (code : ℕ) → (answer : List ℕ) → LocateCall
 locateLeft code answer = record { returns = code; answer = answer }
 
--- the code, and the answer: 1, slot and version, or zeros for absent
-unfoldable pub locateCall : Answer → (answer : List ℕ) → LocateCall
-locateCall r answer = record { returns = refusalIn r; answer = answered 3 r answer }
+-- the code, and the answer: 1, slot and version, or zeros for absent, and the slots compared
+unfoldable pub locateCall : Answer → (compared : ℕ) → (answer : List ℕ) → LocateCall
+locateCall r compared answer = record { returns = returnedWith r compared; answer = answeredWith 3 r compared answer }

@@ -24,16 +24,21 @@ unfoldable pub use Rattle.recovery.specs.Recover.{recoverSays, noState, recover
 pub use Rattle.calls.specs.Format.{FormatResult}
 pub use Rattle.calls.specs.Format.{formatted}
 unfoldable pub use Rattle.calls.specs.Format.{formatSays, formatFault, formatResult}
+pub use Rattle.calls.specs.Compared.{Reported, reported, keyCompared}
 pub use Rattle.calls.specs.declared.Change.{Change}
+pub use Rattle.calls.specs.declared.Got.{Got}
+pub use Rattle.calls.specs.declared.GetAnswer.{GetAnswer}
+pub use Rattle.calls.specs.declared.Located.{Located}
+pub use Rattle.calls.specs.declared.LocateAnswer.{LocateAnswer}
 pub use Rattle.calls.specs.Change.{ChangeResult, changeEnd}
 pub use Rattle.index.specs.declared.Mode.{Mode}
 pub use Rattle.index.specs.declared.Mode.the-variants.{Insert, Replace}
-pub use Rattle.calls.specs.Change.{writeResult, removeResult}
+pub use Rattle.calls.specs.Change.{writeResult, writeCompared, removeResult}
 unfoldable pub use Rattle.calls.specs.Change.{changeSays, handedOut, leftIn}
-pub use Rattle.calls.specs.Get.{GetResult}
+pub use Rattle.calls.specs.Get.{GetResult, getEnd}
 pub use Rattle.calls.specs.Get.{getResult}
 unfoldable pub use Rattle.calls.specs.Get.{getSays}
-pub use Rattle.calls.specs.Locate.{locateResult}
+pub use Rattle.calls.specs.Locate.{locateResult, locateEnd}
 unfoldable pub use Rattle.calls.specs.Locate.{locateSays}
 -- the world between calls, and the plain map
 pub use Rattle.plainmap.specs.World.{World, Call, write, remove, get, locate, Called}

@@ -2,8 +2,10 @@
 ghost use mathlib.Core.Path.{_≡_};
 ghost use Rattle.layout.specs.Record.{Layout};
 ghost use Rattle.layout.specs.inner.Key.{keyWith};
+ghost use Rattle.calls.specs.Compared.{reported, keyCompared};
 ghost use Rattle.calls.specs.Get.{getEnd, lengthFault, getLaterFault, getResult};
 ghost use Rattle.calls.specs.inner.Lookup.{FoundInside, GetLookup};
+use calls::GetAnswer;
 use calls::Got;
 use index::Found;
 use index::Lookup;
@@ -83,30 +85,36 @@ fn get_in(
     low: u64,
     high: u64,
     out: &mut [u8],
-) -> Got
+) -> GetAnswer
     requires { ⌜ Layout l ⌝ }
-    ensures { λ r. ⌜ getEnd r (now (out .exit)) ≡ getResult l (now (image .entry)) (now (heads .entry)) (now (next .entry)) (keyWith low high) (now (out .entry)) ⌝ }
+    ensures { λ r. ⌜ getEnd r (now (out .exit)) ≡ reported (getResult l (now (image .entry)) (now (heads .entry)) (now (next .entry)) (keyWith low high) (now (out .entry))) (keyCompared l (now (image .entry)) (now (heads .entry)) (now (next .entry)) (keyWith low high)) ⌝ }
 {
     let lookup = get_lookup(image, l, heads, next, low, high, out.len());
     match lookup {
-        Lookup::Refused {
-            number,
-            compared: _,
-        } => Got::Refused(number),
-        Lookup::Open { place, compared: _ } => match place {
-            Place::NotHeld { prev: _ } => Got::Absent,
+        Lookup::Refused { number, compared } => GetAnswer {
+            got: Got::Refused(number),
+            compared,
+        },
+        Lookup::Open { place, compared } => match place {
+            Place::NotHeld { prev: _ } => GetAnswer {
+                got: Got::Absent,
+                compared,
+            },
             Place::Held { slot, prev: _ } => {
                 let n = slot_length(image, l, slot as usize);
                 copy_value(image, l, slot as usize, out, n);
-                Got::Length(n)
+                GetAnswer {
+                    got: Got::Length(n),
+                    compared,
+                }
             }
         },
     }
 }
 
-// The value of the key fills the front of out: its length, absent, or a refusal. Neither of the last two changes out.
-pub fn get(image: &[u8], heads: &[u32], next: &[u32], key: u64, out: &mut [u8]) -> Got
-    ensures { λ r. ⌜ getEnd r (now (out .exit)) ≡ getResult 1 (now (image .entry)) (now (heads .entry)) (now (next .entry)) key (now (out .entry)) ⌝ }
+// The value of the key fills the front of out: its length, absent, or a refusal. Neither of the last two changes out. Each has the slots compared.
+pub fn get(image: &[u8], heads: &[u32], next: &[u32], key: u64, out: &mut [u8]) -> GetAnswer
+    ensures { λ r. ⌜ getEnd r (now (out .exit)) ≡ reported (getResult 1 (now (image .entry)) (now (heads .entry)) (now (next .entry)) key (now (out .entry))) (keyCompared 1 (now (image .entry)) (now (heads .entry)) (now (next .entry)) key) ⌝ }
 {
     get_in(image, 1, heads, next, key, 0, out)
 }

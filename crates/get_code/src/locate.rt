@@ -2,7 +2,9 @@
 ghost use mathlib.Core.Path.{_≡_};
 ghost use Rattle.layout.specs.Record.{Layout};
 ghost use Rattle.layout.specs.inner.Key.{keyWith};
-ghost use Rattle.calls.specs.Locate.{locateSays, locateResult};
+ghost use Rattle.calls.specs.Compared.{reported, keyCompared};
+ghost use Rattle.calls.specs.Locate.{locateEnd, locateResult};
+use calls::LocateAnswer;
 use calls::Located;
 use index::Found;
 use index_code::search::find;
@@ -11,35 +13,44 @@ use layout_code::header::slot_count;
 use words_code::read_word;
 
 // Locate, in layout l.
-fn locate_in(image: &[u8], l: usize, heads: &[u32], next: &[u32], low: u64, high: u64) -> Located
+fn locate_in(image: &[u8], l: usize, heads: &[u32], next: &[u32], low: u64, high: u64) -> LocateAnswer
     requires { ⌜ Layout l ⌝ }
-    ensures { λ r. ⌜ locateSays r ≡ locateResult l (now (image .entry)) (now (heads .entry)) (now (next .entry)) (keyWith low high) ⌝ }
+    ensures { λ r. ⌜ locateEnd r ≡ reported (locateResult l (now (image .entry)) (now (heads .entry)) (now (next .entry)) (keyWith low high)) (keyCompared l (now (image .entry)) (now (heads .entry)) (now (next .entry)) (keyWith low high)) ⌝ }
 {
     let lent = lent_fault(image, l, heads.len(), next.len());
     if lent != 0 {
-        return Located::Refused(lent);
+        return LocateAnswer {
+            located: Located::Refused(lent),
+            compared: 0,
+        };
     }
     let found = find(image, l, heads, next, slot_count(image.len()), low, high);
     match found {
         Found::At {
             slot,
             prev: _,
-            compared: _,
-        } => Located::At {
-            slot,
-            version: read_word(image, 16 * (slot as usize) + 7) / 2,
+            compared,
+        } => LocateAnswer {
+            located: Located::At {
+                slot,
+                version: read_word(image, 16 * (slot as usize) + 7) / 2,
+            },
+            compared,
         },
-        Found::Missing {
-            prev: _,
-            compared: _,
-        } => Located::Absent,
-        Found::BadChain => Located::Refused(11),
+        Found::Missing { prev: _, compared } => LocateAnswer {
+            located: Located::Absent,
+            compared,
+        },
+        Found::BadChain => LocateAnswer {
+            located: Located::Refused(11),
+            compared: 0,
+        },
     }
 }
 
-// The slot that holds the key and the version on its line A; absent; or a refusal.
-pub fn locate(image: &[u8], heads: &[u32], next: &[u32], key: u64) -> Located
-    ensures { λ r. ⌜ locateSays r ≡ locateResult 1 (now (image .entry)) (now (heads .entry)) (now (next .entry)) key ⌝ }
+// The slot that holds the key and the version on its line A; absent; or a refusal. Each has the slots compared.
+pub fn locate(image: &[u8], heads: &[u32], next: &[u32], key: u64) -> LocateAnswer
+    ensures { λ r. ⌜ locateEnd r ≡ reported (locateResult 1 (now (image .entry)) (now (heads .entry)) (now (next .entry)) key) (keyCompared 1 (now (image .entry)) (now (heads .entry)) (now (next .entry)) key) ⌝ }
 {
     locate_in(image, 1, heads, next, key, 0)
 }

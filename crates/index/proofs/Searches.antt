@@ -6,13 +6,13 @@ use mathlib.Core.Bool.{cond}
 use Prim.Native.Nat.{ℕ, zero, suc, _+_, _<_, _≤_}
 use native.Mathlib.Omega.{arith}
 use lib.Dec.{eqb}
-use lib.ListN.{length, getD}
+use lib.ListN.{length, getD, length-append}
 use borrow.Author.Tests.{eq-eqb, ne-eqb, le-ltb}
 use Rattle.layout.specs.Size.{slotsIn}
 use Rattle.index.specs.Index.{Chain, reuse, head, Index, start, ahead, headOf}
 use Rattle.prelude.specs.Members.{In}
 use Rattle.index.specs.Linked.{endOf, Owner, Disjoint, Linked}
-use Rattle.index.specs.Walk.{walk, slotKey, search}
+use Rattle.index.specs.Walk.{walk, slotKey, search, comparedIn, Counted, at-place, at-end}
 use Rattle.index.proofs.defs.SearchIn.{searchIn}
 use Rattle.index.specs.declared.Found.{Found}
 use Rattle.index.specs.declared.Found.the-variants.{At, Missing, BadChain}
@@ -92,6 +92,7 @@ pub record Hit (key : ℕ → ℕ) (k : ℕ) (l : List ℕ) (s prev count : ℕ)
   pub prev-is : prev ≡ endOf 0 before
   pub count-is : count ≡ length before + 1
   pub key-is : key s ≡ k
+  pub first : (y : ℕ) → In y before → key y ≡ k → ⊥
 
 pub search-in-hit : (key : ℕ → ℕ) (k : ℕ) (l : List ℕ) (s prev count : ℕ) → searchIn key k 0 0 l ≡ At s prev count → Hit key k l s prev count
 search-in-hit key k l s prev count q = go (seen key k l)
@@ -102,7 +103,7 @@ search-in-hit key k l s prev count q = go (seen key k l)
         let es : s ≡ x = cc in
         let ep : prev ≡ endOf 0 xs = cc in
         let ec : count ≡ 0 + length xs + 1 = cc in
-        record { before = xs; behind = ys; parts = rw es d; prev-is = ep; count-is = omega arith; key-is = rw es e }
+        record { before = xs; behind = ys; parts = rw es d; prev-is = ep; count-is = omega arith; key-is = rw es e; first = n }
     go (miss n) =
         let a : searchIn key k 0 0 l ≡ Missing (endOf 0 l) (0 + length l) = search-in-absent key k l 0 0 n in
         let z : _≡_ {A = ℕ} 0 1 = cc in
@@ -140,3 +141,17 @@ never-bad key k l q = go (seen key k l)
         let a : searchIn key k 0 0 l ≡ Missing (endOf 0 l) (0 + length l) = search-in-absent key k l 0 0 n in
         let z : _≡_ {A = ℕ} 0 1 = cc in
         omega arith
+
+-- THE COUNT of a search
+pub search-in-counted : (key : ℕ → ℕ) (k : ℕ) (l : List ℕ) (found : Found) → searchIn key k 0 0 l ≡ found → Counted key k l found
+search-in-counted key k l (At s prev count) e =
+    let h = search-in-hit key k l s prev count e in at-place (h .before) (h .behind) (h .parts) (h .key-is) (h .first) (h .count-is)
+search-in-counted key k l (Missing prev count) e = let h = search-in-missed key k l prev count e in at-end (h .none) (h .count-is)
+search-in-counted key k l BadChain e = absurd (never-bad key k l e)
+
+-- it is at most the length of the list
+pub counted-few : (key : ℕ → ℕ) (k : ℕ) (l : List ℕ) (found : Found) → Counted key k l found → comparedIn found ≤ length l
+unfolding comparedIn
+counted-few key k l (At s prev count) (at-place before behind e h n c) =
+    omega (arith, ap (λ (xs : List ℕ). length xs) e, length-append before (s ∷ behind))
+counted-few key k l (Missing prev count) (at-end n c) = omega arith

@@ -1,7 +1,9 @@
 // The public calls of the set, with the types that they take and answer. None has a `requires`; each contract is one equation.
 pub use calls::Change;
 pub use calls::Formatted;
+pub use calls::GetAnswer;
 pub use calls::Got;
+pub use calls::LocateAnswer;
 pub use calls::Located;
 pub use calls::Outcome;
 pub use change_code::remove::remove;

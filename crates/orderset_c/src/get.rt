@@ -1,11 +1,12 @@
 // Get.
 ghost use mathlib.Core.Path.{_≡_};
-ghost use Rattle.face.specs.Set.{getResult};
+ghost use Rattle.face.specs.Set.{getResult, keyCompared};
 ghost use Rattle.exports.specs.Call.{getLeft, getCall};
+use crate::answer::refused_with;
 use orderset::Got;
 use orderset::get;
 
-// The value of the key fills the front of out; the answer is its length, or absent.
+// The value of the key fills the front of out; the answer is its length, or absent, each with the slots compared.
 #[no_mangle]
 pub extern "C" fn orderset_get(
     image: &[u8],
@@ -13,19 +14,20 @@ pub extern "C" fn orderset_get(
     next: &[u32],
     key: u64,
     out: &mut [u8],
-    answer: &mut [u64; 2],
-) -> u32
-    ensures { λ r. ⌜ getLeft r (now (answer .exit)) (now (out .exit)) ≡ getCall (getResult 1 (now (image .entry)) (now (heads .entry)) (now (next .entry)) key (now (out .entry))) (now (answer .entry)) ⌝ }
+    answer: &mut [u64; 3],
+) -> u64
+    ensures { λ r. ⌜ getLeft r (now (answer .exit)) (now (out .exit)) ≡ getCall (getResult 1 (now (image .entry)) (now (heads .entry)) (now (next .entry)) key (now (out .entry))) (keyCompared 1 (now (image .entry)) (now (heads .entry)) (now (next .entry)) key) (now (answer .entry)) ⌝ }
 {
-    let got = get(image, heads, next, key, out);
+    let r = get(image, heads, next, key, out);
+    let got = r.got;
     match got {
-        Got::Refused(number) => number,
+        Got::Refused(number) => refused_with(number, r.compared),
         Got::Absent => {
-            *answer = [0; 2];
+            *answer = [0, 0, r.compared as u64];
             0
         }
         Got::Length(length) => {
-            *answer = [1, length as u64];
+            *answer = [1, length as u64, r.compared as u64];
             0
         }
     }

@@ -1,13 +1,13 @@
 // Remove.
 ghost use mathlib.Core.Path.{_≡_};
-ghost use Rattle.face.specs.Set.{zipped, removeResult};
+ghost use Rattle.face.specs.Set.{zipped, removeResult, keyCompared};
 ghost use Rattle.exports.specs.State.{stateFrom};
 ghost use Rattle.exports.specs.Call.{changeLeft, changeCall};
 use crate::answer::hand_out;
 use crate::state::state_from;
 use orderset::remove;
 
-// The key is dropped; the answer is the slot taken and the version, or absent, and the stores are to be made by the caller.
+// The key is dropped; the answer is the slot taken and the version, or absent, each with the slots compared, and the stores are to be made by the caller.
 #[no_mangle]
 pub extern "C" fn orderset_remove(
     image: &[u8],
@@ -18,9 +18,9 @@ pub extern "C" fn orderset_remove(
     key: u64,
     at: &mut [u32; 16],
     value: &mut [u64; 16],
-    answer: &mut [u64; 3],
-) -> u32
-    ensures { λ r. ⌜ changeLeft r (now (answer .exit)) (stateFrom (now (state .exit)) (now (version .exit))) (zipped (now (at .exit)) (now (value .exit))) (now (heads .exit)) (now (next .exit)) ≡ changeCall (removeResult 1 (now (image .entry)) (now (heads .entry)) (now (next .entry)) (stateFrom (now (state .entry)) (now (version .entry))) key) (now (answer .entry)) (zipped (now (at .entry)) (now (value .entry))) ⌝ }
+    answer: &mut [u64; 4],
+) -> u64
+    ensures { λ r. ⌜ changeLeft r (now (answer .exit)) (stateFrom (now (state .exit)) (now (version .exit))) (zipped (now (at .exit)) (now (value .exit))) (now (heads .exit)) (now (next .exit)) ≡ changeCall (removeResult 1 (now (image .entry)) (now (heads .entry)) (now (next .entry)) (stateFrom (now (state .entry)) (now (version .entry))) key) (keyCompared 1 (now (image .entry)) (now (heads .entry)) (now (next .entry)) key) (now (answer .entry)) (zipped (now (at .entry)) (now (value .entry))) ⌝ }
 {
     let before = state_from(state, version);
     let change = remove(image, heads, next, before, key, at, value);

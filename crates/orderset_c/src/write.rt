@@ -1,6 +1,7 @@
 // Insert and replace.
 ghost use mathlib.Core.Path.{_≡_};
-ghost use Rattle.face.specs.Set.{zipped, Insert, Replace, writeResult};
+ghost use lib.ListN.{length};
+ghost use Rattle.face.specs.Set.{zipped, Insert, Replace, writeResult, writeCompared};
 ghost use Rattle.exports.specs.State.{stateFrom};
 ghost use Rattle.exports.specs.Call.{changeLeft, changeCall};
 use crate::answer::hand_out;
@@ -8,7 +9,7 @@ use crate::state::state_from;
 use orderset::insert;
 use orderset::replace;
 
-// A key that is not held gets the value; the answer is the slot taken and the version, and the stores are to be made by the caller.
+// A key that is not held gets the value; the answer is the slot taken, the version and the slots compared, and the stores are to be made by the caller.
 #[no_mangle]
 pub extern "C" fn orderset_insert(
     image: &[u8],
@@ -20,9 +21,9 @@ pub extern "C" fn orderset_insert(
     bytes: &[u8],
     at: &mut [u32; 16],
     value: &mut [u64; 16],
-    answer: &mut [u64; 3],
-) -> u32
-    ensures { λ r. ⌜ changeLeft r (now (answer .exit)) (stateFrom (now (state .exit)) (now (version .exit))) (zipped (now (at .exit)) (now (value .exit))) (now (heads .exit)) (now (next .exit)) ≡ changeCall (writeResult 1 (now (image .entry)) (now (heads .entry)) (now (next .entry)) (stateFrom (now (state .entry)) (now (version .entry))) Insert key (now (bytes .entry))) (now (answer .entry)) (zipped (now (at .entry)) (now (value .entry))) ⌝ }
+    answer: &mut [u64; 4],
+) -> u64
+    ensures { λ r. ⌜ changeLeft r (now (answer .exit)) (stateFrom (now (state .exit)) (now (version .exit))) (zipped (now (at .exit)) (now (value .exit))) (now (heads .exit)) (now (next .exit)) ≡ changeCall (writeResult 1 (now (image .entry)) (now (heads .entry)) (now (next .entry)) (stateFrom (now (state .entry)) (now (version .entry))) Insert key (now (bytes .entry))) (writeCompared 1 (now (image .entry)) (now (heads .entry)) (now (next .entry)) key (length (now (bytes .entry)))) (now (answer .entry)) (zipped (now (at .entry)) (now (value .entry))) ⌝ }
 {
     let before = state_from(state, version);
     let change = insert(image, heads, next, before, key, bytes, at, value);
@@ -41,9 +42,9 @@ pub extern "C" fn orderset_replace(
     bytes: &[u8],
     at: &mut [u32; 16],
     value: &mut [u64; 16],
-    answer: &mut [u64; 3],
-) -> u32
-    ensures { λ r. ⌜ changeLeft r (now (answer .exit)) (stateFrom (now (state .exit)) (now (version .exit))) (zipped (now (at .exit)) (now (value .exit))) (now (heads .exit)) (now (next .exit)) ≡ changeCall (writeResult 1 (now (image .entry)) (now (heads .entry)) (now (next .entry)) (stateFrom (now (state .entry)) (now (version .entry))) Replace key (now (bytes .entry))) (now (answer .entry)) (zipped (now (at .entry)) (now (value .entry))) ⌝ }
+    answer: &mut [u64; 4],
+) -> u64
+    ensures { λ r. ⌜ changeLeft r (now (answer .exit)) (stateFrom (now (state .exit)) (now (version .exit))) (zipped (now (at .exit)) (now (value .exit))) (now (heads .exit)) (now (next .exit)) ≡ changeCall (writeResult 1 (now (image .entry)) (now (heads .entry)) (now (next .entry)) (stateFrom (now (state .entry)) (now (version .entry))) Replace key (now (bytes .entry))) (writeCompared 1 (now (image .entry)) (now (heads .entry)) (now (next .entry)) key (length (now (bytes .entry)))) (now (answer .entry)) (zipped (now (at .entry)) (now (value .entry))) ⌝ }
 {
     let before = state_from(state, version);
     let change = replace(image, heads, next, before, key, bytes, at, value);

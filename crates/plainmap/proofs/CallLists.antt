@@ -27,6 +27,7 @@ use Rattle.plainmap.specs.Claims.{Typed, write-typed, remove-typed, slot
 use Rattle.plainmap.specs.Map.{PlainRule}
 use Rattle.plainmap.proofs.Sounds.{recovered-sound}
 use Rattle.plainmap.proofs.Outcomes.{SomeSound, some-sound, write-runs, remove-runs}
+use Rattle.plainmap.proofs.Compares.{few-compared}
 use Rattle.plainmap.proofs.Rights.{ran-right, right-refuses}
 use Rattle.plainmap.proofs.Refuses.{write-fault, remove-fault}
 use Rattle.plainmap.proofs.GetAnswers.{sound-reads, get-right}
@@ -48,11 +49,11 @@ module _ (l : ℕ) (lay : Layout l) (w : World) (chains : Chain → List ℕ) (a
   pub call-right : (call : Call) → Typed l call → Right l w (slotsMap l (w .image)) call
   unfolding called plainAnswer plainOut outOf
   call-right (write mode key value) (write-typed k b) =
-      ran-right l w (write mode key value) key 1 value (g .next-version) (λ h. refl) (λ z m. absurd (omega arith)) refl refl _ _ refl
+      ran-right l w (write mode key value) key 1 value (g .next-version) (λ h. refl) (λ z m. absurd (omega arith)) refl refl (few-compared l w chains g (write mode key value)) _ _ refl
       (write-runs l lay w chains g mode key value k b) (write-fault l w chains a g mode key value)
   call-right (remove key) (remove-typed k) =
       ran-right l w (remove key) key 2 [] (g .next-version) (λ h. held-answer (slotsMap l (w .image) key) _ _ (h refl))
-      (λ z m. none-answer (slotsMap l (w .image) key) _ _ m) refl refl _ _ refl
+      (λ z m. none-answer (slotsMap l (w .image) key) _ _ m) refl refl (few-compared l w chains g (remove key)) _ _ refl
       (remove-runs l lay w chains g key k) (remove-fault l w chains a g key)
   call-right (get key out) s = get-right l w chains a g key out
   call-right (locate key) s = locate-right l w chains a g key

@@ -5,6 +5,7 @@ use Rattle.layout.specs.Record.{Layout}
 use Rattle.plainmap.specs.Map.{IsMap}
 use Rattle.plainmap.proofs.Sees.{sound-answers}
 use Rattle.plainmap.proofs.Sounds.{recovered-sound}
+use Rattle.plainmap.proofs.Compares.{sound-counted}
 use Rattle.plainmap.proofs.Refuses.{twelve-exactly}
 use Rattle.plainmap.proofs.CallLists.{agrees-right, agrees-next, plain-rule, recovered-reads, formatted-empty, formatted-rule}
 use Rattle.plainmap.proofs.Afters.{after-list}
@@ -15,6 +16,7 @@ is-map l lay =
     record {
       recovers = recovered-sound l;
       finds = sound-answers l;
+      counts = sound-counted l;
       answers = agrees-right l lay;
       keeps = agrees-next l lay;
       list-plays = λ w m g call s. after-list l w call (g .accepted) (g .sound .next-version) (call-stepped l lay w (g .chains) (g .sound) call s);

@@ -15,3 +15,4 @@ pub mod AcceptedImages
 pub mod CallLists
 pub mod IsMap
 pub mod FormattedImages
+pub mod Compares

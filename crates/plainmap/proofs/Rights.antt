@@ -4,16 +4,17 @@ use mathlib.Core.Bool.{true, Bool, false, cond, not}
 use mathlib.Core.Option.{none, Option, some}
 use mathlib.Core.List.{List, [], _∷_}
 use Prim.Native.Nat.{ℕ}
+use lib.ListN.{length}
 use native.Mathlib.Omega.{arith}
 use Rattle.prelude.specs.Answer.{Answer, gives, absent, refused, refusalIn, refuses}
 use Rattle.prelude.proofs.defs.Answer.{isRefusal}
 use Rattle.table.specs.Table.{nextVersion, isHeld}
 use Rattle.calls.specs.Change.{ChangeResult, changed, unchanged}
-use Rattle.plainmap.specs.World.{World, Call, outOf, Called, calledChange, called, write, remove, get, locate}
+use Rattle.plainmap.specs.World.{World, Call, outOf, Called, calledChange, called, callKey, callCompared, write, remove, get, locate}
 use Rattle.layout.specs.Size.{slotsIn}
 use Rattle.layout.specs.Content.{tableOf}
 use Rattle.plainmap.specs.Plain.{plainAnswer, plainOut, PlainMap, lengthAnswer}
-use Rattle.plainmap.specs.Claims.{slotsMap, dueFault, dueAnswer, Untouched, Right}
+use Rattle.plainmap.specs.Claims.{slotsMap, dueFault, dueAnswer, Untouched, FewCompared, Right}
 use Rattle.plainmap.proofs.Outcomes.{Ran, ran-refused, ran-absent, ran-wrote}
 use lib.Dec.{eqb}
 use borrow.Author.Tests.{eqb-true, eqb-false}
@@ -30,7 +31,8 @@ module _
     (none-held :
     kind ≡ 2 → slotsMap l (w .image) key ≡ none
     → absent ≡ dueAnswer l w (slotsMap l (w .image)) call)
-    (no-out : [] ≡ plainOut (slotsMap l (w .image)) call) (none-lent : [] ≡ outOf call) where
+    (no-out : [] ≡ plainOut (slotsMap l (w .image)) call) (none-lent : [] ≡ outOf call)
+    (few : FewCompared (slotsMap l (w .image)) (length (w .heads)) (callKey call) (callCompared l w call)) where
   still : (answer : Answer) → called l w call ≡ calledChange (unchanged answer (w .state) (w .heads) (w .next))
       → Untouched w call (called l w call)
   unfolding calledChange unchanged
@@ -54,6 +56,7 @@ module _
         out = λ z. ap (λ (c : Called). c .out) d ∙ no-out;
         refused-still = λ x. still (refused fault) d;
         absent-still = λ x. still (refused fault) d;
+        few = few;
       }
   ran-right fault r e (ran-absent z kd q m) due =
       let d = e ∙ ap calledChange q in
@@ -63,6 +66,7 @@ module _
         out = λ x. ap (λ (c : Called). c .out) d ∙ no-out;
         refused-still = λ x. absurd (x (sym due ∙ z));
         absent-still = λ x. still absent d;
+        few = few;
       }
   ran-right fault r e (ran-wrote z i alive q wr) due =
       let d = e ∙ ap calledChange q in
@@ -73,6 +77,7 @@ module _
         out = λ x. ap (λ (c : Called). c .out) d ∙ no-out;
         refused-still = λ x. absurd (x (sym due ∙ z));
         absent-still = λ x. absurd (gives-absent _ (sym (ap (λ (c : Called). c .answer) d) ∙ x));
+        few = few;
       }
 
 -- ---- the answer is a refusal exactly where the rules refuse

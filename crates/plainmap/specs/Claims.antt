@@ -6,10 +6,12 @@ use lib.ListN.{length}
 use Rattle.words.specs.Word.{AreBytes}
 use Rattle.prelude.specs.Answer.{Answer, absent, refusalIn, refuses}
 use Rattle.layout.specs.Record.{limit}
+use Rattle.table.specs.Keys.{Keys, sharing}
+use Rattle.index.specs.Index.{headOf}
 use Rattle.table.specs.Table.{mapOf, holder, liveCount, nextVersion}
 use Rattle.index.specs.declared.Mode.{Mode}
 use Rattle.calls.specs.Get.{getResult}
-use Rattle.plainmap.specs.World.{World, Call, write, remove, get, locate, outOf, Called, called}
+use Rattle.plainmap.specs.World.{World, Call, write, remove, get, locate, outOf, Called, called, callKey, callCompared}
 use Rattle.layout.specs.Size.{slotsIn}
 use Rattle.layout.specs.Content.{tableOf}
 use Rattle.plainmap.specs.Plain.{PlainMap, updates, plainStep, ruleFault, lengthAnswer, filled, plainAnswer, plainOut}
@@ -47,6 +49,12 @@ pub record Untouched (w : World) (call : Call) (r : Called) : Type 0 where
   pub next : r .next ≡ w .next
   pub state : r .state ≡ w .state
 
+-- document 02, A.4: the count of slots compared "is never above the number of live keys that share the head", of b heads: `sharers` are those keys, each once
+pub record FewCompared (m : PlainMap) (b key compared : ℕ) : Type 0 where
+  pub sharers : List ℕ
+  pub share : Keys (sharing (λ k. headOf k b) (headOf key b) m) sharers
+  pub at-most : compared ≤ length sharers
+
 -- the answer is right: refused exactly where the rules refuse it, and otherwise as the plain map m answers
 pub record Right (l : ℕ) (w : World) (m : PlainMap) (call : Call) : Type 0 where
   pub refusal : refusalIn (called l w call .answer) ≡ dueFault l w m call
@@ -55,6 +63,7 @@ pub record Right (l : ℕ) (w : World) (m : PlainMap) (call : Call) : Type 0 whe
   -- "A refused call changes no lent byte, index number or state", nor does one that answers absent
   pub refused-still : (dueFault l w m call ≡ 0 → ⊥) → Untouched w call (called l w call)
   pub absent-still : called l w call .answer ≡ absent → Untouched w call (called l w call)
+  pub few : FewCompared m (length (w .heads)) (callKey call) (callCompared l w call)
 
 -- ---- between calls
 

@@ -8,8 +8,8 @@ use lib.ListN.{length}
 use Rattle.layout.specs.Size.{slotsOf, slotsIn}
 use Rattle.layout.specs.Record.{limit}
 use Rattle.table.specs.Table.{liveCount}
-use Rattle.index.specs.Index.{Chain}
-use Rattle.index.specs.Walk.{search}
+use Rattle.index.specs.Index.{Chain, head, headOf}
+use Rattle.index.specs.Walk.{slotKey, search, Counted}
 use Rattle.recovery.specs.Recover.{chainsOf}
 use Rattle.recovery.specs.Represents.{Answers}
 use Rattle.calls.specs.Format.{formatted}
@@ -37,6 +37,9 @@ pub record IsMap (l : ℕ) : Type 0 where
   -- in such an index a search finds a slot exactly for the keys that the map of the slots holds, that slot is the live one, and no chain gives 11
   pub finds : (w : World) (chains : Chain → List ℕ) → Sound l w chains → (key : ℕ)
       → Answers (tableOf l (w .image)) (slotsIn (w .image)) key (search l (w .image) (w .heads) (w .next) key)
+  -- the count of slots compared is the place of the key in its chain, from 1, or the chain's whole length where it is absent
+  pub counts : (w : World) (chains : Chain → List ℕ) → Sound l w chains → (key : ℕ)
+      → Counted (slotKey l (w .image)) key (chains (head (headOf key (length (w .heads))))) (search l (w .image) (w .heads) (w .next) key)
   -- every call is refused exactly where the rules refuse it, and otherwise answers as the plain map does; a refused call and an absent one change nothing
   pub answers : (w : World) (m : PlainMap) → Agrees l w m → (call : Call) → Typed l call → Right l w m call
   -- with its stores played it leaves an accepted image, an index that is its own, and the plain map's next map

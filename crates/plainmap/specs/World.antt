@@ -1,13 +1,15 @@
 -- The lent image and index with the state beside them, and what calls and recovery make of them: nothing but the definitions that the contracts of the public calls cite.
 use mathlib.Core.List.{List, []}
 use Prim.Native.Nat.{ℕ}
+use lib.ListN.{length}
 use Rattle.prelude.specs.Answer.{Answer}
 use Rattle.stores.specs.Store.{Store}
 use Rattle.stores.specs.Play.{wordNumbers, values, playResult}
 use Rattle.index.specs.declared.State.{State}
 use Rattle.recovery.specs.Recover.{Result, recoverResult}
 use Rattle.index.specs.declared.Mode.{Mode}
-use Rattle.calls.specs.Change.{ChangeResult, writeResult, removeResult}
+use Rattle.calls.specs.Compared.{keyCompared}
+use Rattle.calls.specs.Change.{ChangeResult, writeResult, writeCompared, removeResult}
 use Rattle.calls.specs.Get.{GetResult, getResult}
 use Rattle.calls.specs.Locate.{locateResult}
 
@@ -71,6 +73,20 @@ called l w (write mode key value) = calledChange (writeResult l (w .image) (w .h
 called l w (remove key) = calledChange (removeResult l (w .image) (w .heads) (w .next) (w .state) key)
 called l w (get key out) = calledGet w (getResult l (w .image) (w .heads) (w .next) key out)
 called l w (locate key) = calledLocate w (locateResult l (w .image) (w .heads) (w .next) key)
+
+-- the key of a call
+unfoldable pub callKey : Call → ℕ
+callKey (write mode key value) = key
+callKey (remove key) = key
+callKey (get key out) = key
+callKey (locate key) = key
+
+-- the slots that a call reports as compared, by its contract. Document 02, A.4
+unfoldable pub callCompared : (l : ℕ) → World → Call → ℕ
+callCompared l w (write mode key value) = writeCompared l (w .image) (w .heads) (w .next) key (length value)
+callCompared l w (remove key) = keyCompared l (w .image) (w .heads) (w .next) key
+callCompared l w (get key out) = keyCompared l (w .image) (w .heads) (w .next) key
+callCompared l w (locate key) = keyCompared l (w .image) (w .heads) (w .next) key
 
 -- ---- play
 

@@ -119,7 +119,7 @@ fn carry_change(
     heads: &mut [u32],
     next: &mut [u32],
 ) -> Stepped
-    ensures { λ r. ⌜ stepEnd r (now (image .exit)) (now (heads .exit)) (now (next .exit)) ≡ changeStep session (now (image .entry)) (changeEnd change (stores .at) (stores .value) (now (heads .entry)) (now (next .entry))) ⌝ }
+    ensures { λ r. ⌜ stepEnd r (now (image .exit)) (now (heads .exit)) (now (next .exit)) ≡ changeStep session (now (image .entry)) (changeEnd change (stores .at) (stores .value) (now (heads .entry)) (now (next .entry)) .left) ⌝ }
 {
     let outcome = change.outcome;
     match outcome {
@@ -148,11 +148,12 @@ fn put_word(
     at: &mut [u32; 16],
     words: &mut [u64; 16],
 ) -> Change
-    ensures { λ r. ⌜ changeEnd r (now (at .exit)) (now (words .exit)) (now (heads .exit)) (now (next .exit)) ≡ leftIn (zipped (now (at .entry)) (now (words .entry))) (writeResult 1 (now (image .entry)) (now (heads .entry)) (now (next .entry)) state (modeBy (locateResult 1 (now (image .entry)) (now (heads .entry)) (now (next .entry)) key)) key (wordBytes word)) ⌝ }
+    ensures { λ r. ⌜ changeEnd r (now (at .exit)) (now (words .exit)) (now (heads .exit)) (now (next .exit)) .left ≡ leftIn (zipped (now (at .entry)) (now (words .entry))) (writeResult 1 (now (image .entry)) (now (heads .entry)) (now (next .entry)) state (modeBy (locateResult 1 (now (image .entry)) (now (heads .entry)) (now (next .entry)) key)) key (wordBytes word)) ⌝ }
 {
     let mut value = [0u8; 8];
     write_word(&mut value, 0, word);
-    let located = locate(image, heads, next, key);
+    let answer = locate(image, heads, next, key);
+    let located = answer.located;
     match located {
         Located::At {
             slot: _,
@@ -202,7 +203,8 @@ pub fn remove_line(
 fn get_by(image: &[u8], heads: &[u32], next: &[u32], key: u64, out: &mut [u8]) -> Reply
     ensures { λ r. ⌜ replySays r ≡ gotBy (getResult 1 (now (image .entry)) (now (heads .entry)) (now (next .entry)) key (now (out .entry))) ⌝ }
 {
-    let got = get(image, heads, next, key, out);
+    let answer = get(image, heads, next, key, out);
+    let got = answer.got;
     match got {
         Got::Length(_) => Reply::Found(padded_word(out, 0)),
         Got::Absent => Reply::Absent,

@@ -63,7 +63,7 @@ pub fn state(s: State) {
 pub fn recovered(r: Recovered) {
     match r {
         Recovered::Rebuilt(s) => state(s),
-        Recovered::Refused(k) => refused(k),
+        Recovered::Refused { number, slot: _ } => refused(number),
     }
 }
 

@@ -64,8 +64,16 @@ keys-once f n (suc i) = go (live f n (suc i)) refl (keys-once f n i)
     go true e o = ((λ j. omega (arith, keys-in f n (keyIn (f (suc i))) i j .0, live-key f n (suc i) e)), o)
     go false e o = o
 
-pub table-keys : (f : Table) (n : ℕ) → Keys (mapOf f n) (keysTo f n n)
+-- the slot that decides a held key has that key
+pub decider-own : (f : Table) (n k : ℕ) → Slot n (decider f n k) → live f n (decider f n k) ≡ true → keyIn (f (decider f n k)) ≡ k
 unfolding keyIn
+decider-own f n k i e = go (live-is f n (decider f n k) e)
+  where
+    go : Live f n (decider f n k) → keyIn (f (decider f n k)) ≡ k
+    go (lives w j v q b) =
+        ap keyIn q ∙ one-key j k (f (decider f n k)) (omega (arith, ap (weight j) q, weight-put w j v)) (decider-weight f n k (decider f n k) i refl)
+
+pub table-keys : (f : Table) (n : ℕ) → Keys (mapOf f n) (keysTo f n n)
 table-keys f n = record {
   once = keys-once f n n;
   held = λ k i. some-value k (keys-in f n k n i) (held-or f n k);
@@ -76,12 +84,8 @@ table-keys f n = record {
     some-value k a (held v i e m) = holds v m
     some-value k a (unheld h m) = absurd (true-false (a .1) (h (decider f n k) (a .0) refl))
 
-    own : (k : ℕ) → Slot n (decider f n k) → Live f n (decider f n k) → keyIn (f (decider f n k)) ≡ k
-    own k i (lives w j v q b) =
-        ap keyIn q ∙ one-key j k (f (decider f n k)) (omega (arith, ap (weight j) q, weight-put w j v)) (decider-weight f n k (decider f n k) i refl)
-
     in-list : (k : ℕ) → Holds (mapOf f n) k → Held f n k → In k (keysTo f n n)
-    in-list k h (held u i e q) = let r = in-keys f n (decider f n k) n i e in rw (own k i (live-is f n (decider f n k) e)) at r
+    in-list k h (held u i e q) = let r = in-keys f n (decider f n k) n i e in rw (decider-own f n k i e) at r
     in-list k (holds v m) (unheld h q) = absurd (some-none m q)
 
 -- the keys of a map that is the map of the slots

@@ -11,3 +11,4 @@ pub mod Recovery
 pub mod OneSlot
 pub mod KeyCount
 pub mod defs
+pub mod Sharing

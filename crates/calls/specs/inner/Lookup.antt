@@ -3,13 +3,10 @@ use mathlib.Core.Path.{_≡_}
 use mathlib.Core.List.{List}
 use Prim.Native.Nat.{ℕ, _+_, _*_, _^_, _≤_, _<_}
 use lib.ListN.{length}
-use Rattle.words.specs.Word.{word}
 use Rattle.prelude.specs.Refusal.{unlessRefused}
 use Rattle.layout.specs.Record.{limit}
 use Rattle.layout.specs.Header.{lentFault}
 use Rattle.layout.specs.inner.Inside.{SlotInside}
-use Rattle.stores.specs.Store.{zipped}
-use Rattle.stores.specs.Written.{recordStores}
 use Rattle.index.specs.Index.{headOf}
 use Rattle.index.specs.Walk.{search}
 use Rattle.index.specs.inner.Parts.{WritesInside, PlaceInside}
@@ -24,8 +21,6 @@ use Rattle.index.specs.declared.Lookup.{Lookup}
 use Rattle.index.specs.declared.Lookup.the-variants.{Refused, Open}
 use Rattle.calls.specs.Change.{writeLentFault, writeFault, removeFault}
 use Rattle.calls.specs.Get.{slotLength, getFault}
-use Rattle.calls.specs.declared.Change.{Change}
-use Rattle.calls.specs.declared.Outcome.the-variants.{Stored}
 
 -- the lookup of a call by what following the key's chain found; `lent` is the refusal before it is followed: no slot is compared then
 unfoldable pub lookupOf : (fault lent : ℕ) → Found → Lookup
@@ -71,12 +66,6 @@ abbrev pub RemoveLookup : (l : ℕ) → (image heads next : List ℕ) → State 
 RemoveLookup l image heads next s key r =
     LooksUp (removeFault l image heads next s key) (lentFault l image (length heads) (length next))
     (search l image heads next key) (RemoveReady image heads next s key) r
-
--- a record of this kind goes into the first reuse slot of state s: the answer, the state after it, and the lent stores, of which there are 16
-pub record StoredBy (l : ℕ) (image : List ℕ) (s : State) (key kind : ℕ) (value : List ℕ) (after : State) (r : Change) (at words : List ℕ) : Type 0 where
-  pub outcome-is : r .outcome ≡ Stored (s .first) (s .version)
-  pub state-is : r .state ≡ after
-  pub stores-are : zipped at words ≡ recordStores l (word image) (s .first) key kind value (s .version)
 
 -- ---- get
 

@@ -1,4 +1,4 @@
--- The keys of the live slots.
+-- The keys of slots.
 use mathlib.Core.Bool.{cond}
 use mathlib.Core.List.{List, [], _∷_}
 use Prim.Native.Nat.{ℕ, zero, suc}
@@ -9,3 +9,8 @@ use Rattle.table.specs.Table.{keyIn, live}
 unfoldable pub keysTo : Table → (n i : ℕ) → List ℕ
 keysTo f n zero = []
 keysTo f n (suc i) = cond (live f n (suc i)) (keyIn (f (suc i)) ∷ keysTo f n i) (keysTo f n i)
+
+-- the keys of the slots of a list
+unfoldable pub keysOf : Table → List ℕ → List ℕ
+keysOf f [] = []
+keysOf f (t ∷ ts) = keyIn (f t) ∷ keysOf f ts

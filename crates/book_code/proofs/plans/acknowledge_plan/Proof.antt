@@ -1,6 +1,8 @@
 -- `book_code::plans::acknowledge_plan` meets its contract. Assumes nothing.
 use mathlib.Core.Path.{sym, ap, _∙_}
 use borrow.Author.Needs.{needs}
+use Rattle.prelude.specs.Answer.{Answer}
+use Rattle.face.specs.Set.{Reported}
 use Rattle.book.specs.Orders.{acknowledged}
 use Rattle.book.specs.inner.Courses.{seekSays, planSays, acknowledgeCourse}
 use Rattle.book.proofs.Courses.{acknowledge-again, acknowledge-first}
@@ -11,7 +13,7 @@ returns : tie.Need-returns
 unfolding seekSays
 returns c =
     (c .already-located .ensures)
-    ∙ acknowledge-again _ _ _ (sym (ap seekSays (c .before .before .before .before .before .sought .given .1)) ∙ (c .before .before .before .before .before .before .before .seek-order .ensures)) (c .before .before .if1 .taken) _ (c .before .locate .ensures)
+    ∙ acknowledge-again _ _ _ (sym (ap seekSays (c .before .before .before .before .before .sought .given .1)) ∙ (c .before .before .before .before .before .before .before .seek-order .ensures)) (c .before .before .if1 .taken) _ (ap (λ (x : Reported Answer). x .left) (c .before .locate .ensures))
 
 returns-2 : tie.Need-returns-2
 unfolding seekSays planSays acknowledged

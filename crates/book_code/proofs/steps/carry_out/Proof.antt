@@ -1,7 +1,7 @@
 -- `book_code::steps::carry_out` meets its contract. Assumes nothing.
 use mathlib.Core.Path.{refl, ap}
 use borrow.Author.Needs.{needs}
-use Rattle.face.specs.Set.{handedOut}
+use Rattle.face.specs.Set.{Reported, ChangeResult, handedOut}
 use Rattle.book.specs.Steps.{bookSays, bookLeftIn, idle}
 use Rattle.book.specs.inner.Courses.{planSays}
 use Rattle.book.proofs.Courses.{course-write, course-remove, course-answer}
@@ -27,7 +27,7 @@ same-length-4 c = c .before .before .before .before .before .remove .kept .1 .1 
 
 returns-2 : tie.Need-returns-2
 unfolding planSays
-returns-2 c = course-remove _ _ _ _ _ _ _ _ _ (ap planSays (c .before .before .before .before .before .before .before .before .before .before .enum-told .given .1)) _ (c .before .before .before .before .before .remove .ensures) (c .by-change2 .ensures _ _ _ _)
+returns-2 c = course-remove _ _ _ _ _ _ _ _ _ (ap planSays (c .before .before .before .before .before .before .before .before .before .before .enum-told .given .1)) _ (ap (λ (x : Reported ChangeResult). x .left) (c .before .before .before .before .before .remove .ensures)) (c .by-change2 .ensures _ _ _ _)
 
 returns-3 : tie.Need-returns-3
 unfolding planSays bookSays bookLeftIn idle handedOut

@@ -1,10 +1,12 @@
 -- `change_code::remove::remove_in` meets its contract. Assumes nothing.
-use mathlib.Core.Path.{refl, ap, _∙_}
+use mathlib.Core.Path.{refl, ap, ap₂, _∙_}
+use Prim.Native.Nat.{ℕ}
 use borrow.Author.Needs.{needs}
 use Rattle.index.proofs.LookedUp.{open-at}
-use Rattle.calls.specs.Change.{changeSays, handedOut, leftIn, unchanged}
+use Rattle.calls.specs.Compared.{reported, keyCompared}
+use Rattle.calls.specs.Change.{ChangeResult, changeSays, handedOut, leftIn, unchanged}
 use Rattle.calls.proofs.Changes.{inside, some-head, changed-end}
-use Rattle.calls.proofs.Results.{remove-refused, remove-held, remove-not-held}
+use Rattle.calls.proofs.Results.{refused-count, open-count, remove-refused, remove-held, remove-not-held}
 use Rattle.change_code.proofs.remove.remove_in.Statement.{statement}
 use Rattle.change_code.proofs.remove.remove_in.Tie as tie
 
@@ -24,14 +26,18 @@ remove-stores-requires c κs =
     (c .before .before .before .before .before .before .before .before .before .before .before .before .before .before .before .before .before .before .before .before .before .before .pre, w .index .version-fits, w .slot-fits, w .slot-in)
 
 returns : tie.Need-returns
-unfolding changeSays handedOut leftIn unchanged
+unfolding changeSays handedOut leftIn unchanged keyCompared
 returns c =
-    ap (leftIn _) (remove-refused _ _ _ _ _ _ _ (c .before .before .before .remove-lookup .ensures) _ _ (c .before .lookup .given .1))
+    ap₂ (λ (x : ChangeResult) (k : ℕ). reported x k)
+    (ap (leftIn _) (remove-refused _ _ _ _ _ _ _ (c .before .before .before .remove-lookup .ensures) _ _ (c .before .lookup .given .1)))
+    (refused-count (c .before .before .before .remove-lookup .ensures) _ _ (c .before .lookup .given .1))
 
 returns-2 : tie.Need-returns-2
-unfolding changeSays handedOut leftIn unchanged
+unfolding changeSays handedOut leftIn unchanged keyCompared
 returns-2 c =
-    ap (leftIn _) (remove-not-held _ _ _ _ _ _ _ (c .before .before .before .before .before .remove-lookup .ensures) _ _ (open-at (c .before .before .before .lookup2 .given .1) (c .enum-told .given .1)))
+    ap₂ (λ (x : ChangeResult) (k : ℕ). reported x k)
+    (ap (leftIn _) (remove-not-held _ _ _ _ _ _ _ (c .before .before .before .before .before .remove-lookup .ensures) _ _ (open-at (c .before .before .before .lookup2 .given .1) (c .enum-told .given .1))))
+    (open-count (c .before .before .before .before .before .remove-lookup .ensures) _ _ (c .before .before .before .lookup2 .given .1))
 
 same-length-5 : tie.Need-same-length-5
 same-length-5 c = c .before .before .before .before .before .before .before .remove-held .kept .0
@@ -40,11 +46,13 @@ same-length-6 : tie.Need-same-length-6
 same-length-6 c = c .before .before .before .before .before .before .before .remove-held .kept .1 .0
 
 returns-3 : tie.Need-returns-3
+unfolding changeSays keyCompared
 returns-3 c =
-    changed-end _ _ _ _ _ _ _ _ _ _ _ (record { outcome-is = refl; state-is = refl; stores-are = c .remove-stores .ensures })
-    _ _ _ _ (c .before .before .before .before .before .before .before .remove-held .ensures)
+    ap₂ (λ (x : ChangeResult) (k : ℕ). reported x k)
+    (changed-end _ _ _ _ _ _ _ _ _ _ (c .remove-stores .ensures) _ _ _ _ (c .before .before .before .before .before .before .before .remove-held .ensures)
     ∙ ap (leftIn _)
-    (remove-held _ _ _ _ _ _ _ (c .before .before .before .before .before .before .before .before .before .before .before .before .before .before .before .before .before .remove-lookup .ensures) _ _ _ _ (open-at (c .before .before .before .before .before .before .before .before .before .before .before .before .before .before .before .lookup2 .given .1) (c .before .before .before .before .before .before .before .before .before .before .before .before .place .given .1)) (c .before .before .before .before .before .before .before .before .before .before .head-of .ensures .1 (c .before .before .before .before .before .before .before .before .before .before .before .before .before .before .before .before .before .before .before .before .before .before .before .args .high)))
+    (remove-held _ _ _ _ _ _ _ (c .before .before .before .before .before .before .before .before .before .before .before .before .before .before .before .before .before .remove-lookup .ensures) _ _ _ _ (open-at (c .before .before .before .before .before .before .before .before .before .before .before .before .before .before .before .lookup2 .given .1) (c .before .before .before .before .before .before .before .before .before .before .before .before .place .given .1)) (c .before .before .before .before .before .before .before .before .before .before .head-of .ensures .1 (c .before .before .before .before .before .before .before .before .before .before .before .before .before .before .before .before .before .before .before .before .before .before .before .args .high))))
+    (open-count (c .before .before .before .before .before .before .before .before .before .before .before .before .before .before .before .before .before .remove-lookup .ensures) _ _ (c .before .before .before .before .before .before .before .before .before .before .before .before .before .before .before .lookup2 .given .1))
 
 pub remove-in-spec : {M : Type 1} → statement M
 remove-in-spec =

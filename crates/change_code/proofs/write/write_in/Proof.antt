@@ -1,10 +1,12 @@
 -- `change_code::write::write_in` meets its contract. Assumes nothing.
-use mathlib.Core.Path.{refl, ap, _∙_}
+use mathlib.Core.Path.{refl, ap, ap₂, _∙_}
+use Prim.Native.Nat.{ℕ}
 use native.Mathlib.Omega.{arith}
 use borrow.Author.Needs.{needs}
-use Rattle.calls.specs.Change.{changeSays, handedOut, leftIn, unchanged}
+use Rattle.calls.specs.Compared.{reported}
+use Rattle.calls.specs.Change.{ChangeResult, changeSays, handedOut, leftIn, unchanged, writeCompared}
 use Rattle.calls.proofs.Changes.{opened, opened-inside, changed-end}
-use Rattle.calls.proofs.Results.{write-refused, write-open}
+use Rattle.calls.proofs.Results.{refused-count, open-count, write-refused, write-open}
 use Rattle.change_code.proofs.write.write_in.Statement.{statement}
 use Rattle.change_code.proofs.write.write_in.Tie as tie
 
@@ -21,14 +23,20 @@ record-stores-requires c κs =
     (record { layout = c .before .before .before .before .before .before .before .before .before .before .before .before .before .before .before .before .before .before .before .before .pre; kind-fits = omega arith; size = ready .0; version-fits = ready .1 }, ready .2, ready .3)
 
 returns : tie.Need-returns
-unfolding changeSays handedOut leftIn unchanged
-returns c = ap (leftIn _) (write-refused _ _ _ _ _ _ _ _ _ (c .before .before .before .write-lookup .ensures) _ _ (c .before .lookup .given .1))
+unfolding changeSays handedOut leftIn unchanged writeCompared
+returns c =
+    ap₂ (λ (x : ChangeResult) (k : ℕ). reported x k)
+    (ap (leftIn _) (write-refused _ _ _ _ _ _ _ _ _ (c .before .before .before .write-lookup .ensures) _ _ (c .before .lookup .given .1)))
+    (refused-count (c .before .before .before .write-lookup .ensures) _ _ (c .before .lookup .given .1))
 
 returns-2 : tie.Need-returns-2
+unfolding changeSays writeCompared
 returns-2 c =
-    changed-end _ _ _ _ _ _ _ _ _ _ _ (record { outcome-is = refl; state-is = refl; stores-are = c .record-stores .ensures }) _ _ _ _ (c .before .before .before .before .before .before .before .write-place .ensures)
+    ap₂ (λ (x : ChangeResult) (k : ℕ). reported x k)
+    (changed-end _ _ _ _ _ _ _ _ _ _ (c .record-stores .ensures) _ _ _ _ (c .before .before .before .before .before .before .before .write-place .ensures)
     ∙ ap (leftIn _)
-    (write-open _ _ _ _ _ _ _ _ _ (c .before .before .before .before .before .before .before .before .before .before .before .before .before .before .write-lookup .ensures) _ _ _ (c .before .before .before .before .before .before .before .before .before .before .before .before .lookup2 .given .1) (c .before .before .before .before .before .before .before .before .before .before .head-of .ensures .1 (c .before .before .before .before .before .before .before .before .before .before .before .before .before .before .before .before .before .before .before .before .before .args .high)))
+    (write-open _ _ _ _ _ _ _ _ _ (c .before .before .before .before .before .before .before .before .before .before .before .before .before .before .write-lookup .ensures) _ _ _ (c .before .before .before .before .before .before .before .before .before .before .before .before .lookup2 .given .1) (c .before .before .before .before .before .before .before .before .before .before .head-of .ensures .1 (c .before .before .before .before .before .before .before .before .before .before .before .before .before .before .before .before .before .before .before .before .before .args .high))))
+    (open-count (c .before .before .before .before .before .before .before .before .before .before .before .before .before .before .write-lookup .ensures) _ _ (c .before .before .before .before .before .before .before .before .before .before .before .before .lookup2 .given .1))
 
 same-length-3 : tie.Need-same-length-3
 same-length-3 c = c .before .before .before .before .before .before .before .write-place .kept .0

@@ -1,9 +1,12 @@
 -- `get_code::get::get_in` meets its contract. Assumes nothing.
+use mathlib.Core.Path.{ap₂}
+use Prim.Native.Nat.{ℕ}
 use native.Mathlib.Omega.{arith}
 use borrow.Author.Needs.{needs}
 use Rattle.index.proofs.LookedUp.{open-at}
-use Rattle.calls.specs.Get.{getSays}
-use Rattle.calls.proofs.Results.{get-refused, get-held, get-not-held}
+use Rattle.calls.specs.Compared.{reported, keyCompared}
+use Rattle.calls.specs.Get.{GetResult, getSays}
+use Rattle.calls.proofs.Results.{refused-count, open-count, get-refused, get-held, get-not-held}
 use Rattle.get_code.proofs.get.get_in.Statement.{statement}
 use Rattle.get_code.proofs.get.get_in.Tie as tie
 
@@ -15,18 +18,28 @@ copy-value-requires c κs =
     let ready = rw (open-at (c .before .before .before .before .before .before .lookup2 .given .1) (c .before .before .before .place .given .1)) at (c .before .before .before .before .before .before .before .before .get-lookup .ensures .ready) in
     (ready .0, omega (arith, c .before .slot-length .ensures, ready .1), omega (arith, c .before .slot-length .ensures, ready .2))
 
+returns : tie.Need-returns
+unfolding getSays keyCompared
+returns c =
+    ap₂ (λ (x : GetResult) (k : ℕ). reported x k) (get-refused _ _ _ _ _ _ _ (c .before .before .before .get-lookup .ensures) _ _ (c .before .lookup .given .1))
+    (refused-count (c .before .before .before .get-lookup .ensures) _ _ (c .before .lookup .given .1))
+
 returns-2 : tie.Need-returns-2
-unfolding getSays
-returns-2 c = get-not-held _ _ _ _ _ _ _ (c .before .before .before .before .before .get-lookup .ensures) _ _ (open-at (c .before .before .before .lookup2 .given .1) (c .enum-told .given .1))
+unfolding getSays keyCompared
+returns-2 c =
+    ap₂ (λ (x : GetResult) (k : ℕ). reported x k)
+    (get-not-held _ _ _ _ _ _ _ (c .before .before .before .before .before .get-lookup .ensures) _ _ (open-at (c .before .before .before .lookup2 .given .1) (c .enum-told .given .1)))
+    (open-count (c .before .before .before .before .before .get-lookup .ensures) _ _ (c .before .before .before .lookup2 .given .1))
 
 returns-3 : tie.Need-returns-3
-unfolding getSays
+unfolding getSays keyCompared
 returns-3 c =
-    get-held _ _ _ _ _ _ _ (c .before .before .before .before .before .before .before .before .before .before .before .get-lookup .ensures) _ _ _ (open-at (c .before .before .before .before .before .before .before .before .before .lookup2 .given .1) (c .before .before .before .before .before .before .place .given .1)) _ (c .before .before .before .before .slot-length .ensures) _
-    (c .before .before .copy-value .ensures .1)
+    ap₂ (λ (x : GetResult) (k : ℕ). reported x k)
+    (get-held _ _ _ _ _ _ _ (c .before .before .before .before .before .before .before .before .before .before .before .get-lookup .ensures) _ _ _ (open-at (c .before .before .before .before .before .before .before .before .before .lookup2 .given .1) (c .before .before .before .before .before .before .place .given .1)) _ (c .before .before .before .before .slot-length .ensures) _
+    (c .before .before .copy-value .ensures .1))
+    (open-count (c .before .before .before .before .before .before .before .before .before .before .before .get-lookup .ensures) _ _ (c .before .before .before .before .before .before .before .before .before .lookup2 .given .1))
 
 pub get-in-spec : {M : Type 1} → statement M
-unfolding getSays
 get-in-spec =
     tie.close
     (tie.spec
@@ -35,7 +48,7 @@ get-in-spec =
     slot-length-requires
     (λ c. search needs)
     copy-value-requires
-    (λ c. search (get-refused))
+    returns
     returns-2
     (λ c. search needs)
     returns-3)

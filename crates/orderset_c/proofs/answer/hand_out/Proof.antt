@@ -2,28 +2,28 @@
 use mathlib.Core.Path.{refl}
 use borrow.Author.Needs.{needs}
 use Rattle.face.specs.Set.{changeSays}
-use Rattle.prelude.specs.Answer.{refusalIn}
-use Rattle.exports.specs.Call.{answered}
+use Rattle.exports.specs.Call.{answeredWith, returnedWith}
 use Rattle.orderset_c.proofs.answer.hand_out.Statement.{statement}
 use Rattle.orderset_c.proofs.answer.hand_out.Tie as tie
 
 returns : tie.Need-returns
-unfolding refusalIn answered changeSays
-returns c = rw (c .before .outcome .given .1, c .before .before .before .keep-state .ensures) (refl, refl, refl)
+unfolding returnedWith answeredWith changeSays
+returns c = rw (c .before .before .outcome .given .1, c .before .before .before .before .keep-state .ensures) (c .refused-with .ensures, refl, refl)
 
 returns-2 : tie.Need-returns-2
-unfolding refusalIn answered changeSays
-returns-2 c = rw (c .before .enum-told .given .1, c .before .before .before .keep-state .ensures) (refl, refl, refl)
+unfolding returnedWith answeredWith changeSays
+returns-2 c = rw (c .before .before .enum-told .given .1, c .before .before .before .before .keep-state .ensures) (refl, refl, refl)
 
 returns-3 : tie.Need-returns-3
-unfolding refusalIn answered changeSays
-returns-3 c = rw (c .before .before .outcome2 .given .1, c .before .before .before .before .keep-state .ensures) (refl, refl, refl)
+unfolding returnedWith answeredWith changeSays
+returns-3 c = rw (c .before .before .before .outcome2 .given .1, c .before .before .before .before .before .keep-state .ensures) (refl, refl, refl)
 
 pub hand-out-spec : {M : Type 1} → statement M
 hand-out-spec =
     tie.close
     (tie.spec
-    (λ c κs. search needs) (λ c. search needs) (λ c. search needs) (λ c. search needs) (λ c. search needs)
+    (λ c κs. search needs) (λ c. search needs) (λ c κs. search needs) (λ c. search needs) (λ c. search needs)
+    (λ c. search needs) (λ c. search needs) (λ c. search needs)
     returns
     returns-2
     returns-3)

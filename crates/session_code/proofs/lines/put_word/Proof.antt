@@ -1,5 +1,7 @@
 -- `session_code::lines::put_word` meets its contract. Assumes nothing.
-use Rattle.face.specs.Set.{locateSays}
+use mathlib.Core.Path.{ap}
+use Rattle.prelude.specs.Answer.{Answer}
+use Rattle.face.specs.Set.{Reported, ChangeResult, locateSays}
 use Rattle.session.specs.Step.{wordBytes, modeBy}
 use borrow.Author.Needs.{needs}
 use Rattle.session_code.proofs.lines.put_word.Statement.{statement}
@@ -13,7 +15,7 @@ same-length-2 c = c .before .before .before .before .replace .kept .1 .1 .0
 
 returns : tie.Need-returns
 unfolding wordBytes modeBy locateSays
-returns c = rw (← (c .before .before .before .before .before .before .before .before .before .before .before .before .locate .ensures), c .before .before .before .before .before .before .before .before .before .before .enum-told .given .1, ← (c .before .before .before .before .before .before .before .before .before .before .before .before .before .before .before .before .write-word .ensures)) (c .before .before .before .before .replace .ensures)
+returns c = rw (← (ap (λ (x : Reported Answer). x .left) (c .before .before .before .before .before .before .before .before .before .before .before .before .locate .ensures)), c .before .before .before .before .before .before .before .before .before .before .enum-told .given .1, ← (c .before .before .before .before .before .before .before .before .before .before .before .before .before .before .before .before .write-word .ensures)) (ap (λ (x : Reported ChangeResult). x .left) (c .before .before .before .before .replace .ensures))
 
 same-length-3 : tie.Need-same-length-3
 same-length-3 c = c .before .before .before .before .insert .kept .1 .0
@@ -23,7 +25,7 @@ same-length-4 c = c .before .before .before .before .insert .kept .1 .1 .0
 
 returns-2 : tie.Need-returns-2
 unfolding wordBytes modeBy locateSays
-returns-2 c = rw (← (c .before .before .before .before .before .before .before .before .before .before .before .before .locate .ensures), c .before .before .before .before .before .before .before .before .before .before .enum-told2 .given .1, ← (c .before .before .before .before .before .before .before .before .before .before .before .before .before .before .before .before .write-word .ensures)) (c .before .before .before .before .insert .ensures)
+returns-2 c = rw (← (ap (λ (x : Reported Answer). x .left) (c .before .before .before .before .before .before .before .before .before .before .before .before .locate .ensures)), c .before .before .before .before .before .before .before .before .before .before .enum-told2 .given .1, ← (c .before .before .before .before .before .before .before .before .before .before .before .before .before .before .before .before .write-word .ensures)) (ap (λ (x : Reported ChangeResult). x .left) (c .before .before .before .before .insert .ensures))
 
 same-length-5 : tie.Need-same-length-5
 same-length-5 c = c .before .before .before .before .insert2 .kept .1 .0
@@ -33,7 +35,7 @@ same-length-6 c = c .before .before .before .before .insert2 .kept .1 .1 .0
 
 returns-3 : tie.Need-returns-3
 unfolding wordBytes modeBy locateSays
-returns-3 c = rw (← (c .before .before .before .before .before .before .before .before .before .before .before .before .locate .ensures), c .before .before .before .before .before .before .before .before .before .before .enum-told3 .given .1, ← (c .before .before .before .before .before .before .before .before .before .before .before .before .before .before .before .before .write-word .ensures)) (c .before .before .before .before .insert2 .ensures)
+returns-3 c = rw (← (ap (λ (x : Reported Answer). x .left) (c .before .before .before .before .before .before .before .before .before .before .before .before .locate .ensures)), c .before .before .before .before .before .before .before .before .before .before .enum-told3 .given .1, ← (c .before .before .before .before .before .before .before .before .before .before .before .before .before .before .before .before .write-word .ensures)) (ap (λ (x : Reported ChangeResult). x .left) (c .before .before .before .before .insert2 .ensures))
 
 pub put-word-spec : {M : Type 1} → statement M
 put-word-spec =
