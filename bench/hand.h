@@ -31,7 +31,7 @@ struct hand_answer {
 };
 
 uint32_t hand_format(uint64_t *image, size_t length);
-uint32_t hand_recover(struct hand_set *set);
+uint64_t hand_recover(struct hand_set *set); /* 0, or the refusal + 2^32 * the slot that it names */
 struct hand_answer hand_insert(struct hand_set *set, uint64_t key, const uint8_t *bytes, size_t size, struct hand_stores *stores);
 struct hand_answer hand_replace(struct hand_set *set, uint64_t key, const uint8_t *bytes, size_t size, struct hand_stores *stores);
 struct hand_answer hand_remove(struct hand_set *set, uint64_t key, struct hand_stores *stores);

@@ -51,10 +51,10 @@ uint32_t orderset_format(uint8_t *image, size_t length, uint64_t answer[ORDERSET
     return code;
 }
 
-uint32_t orderset_recover(const uint8_t *image, size_t length, uint32_t *heads, size_t heads_length, uint32_t *next, size_t next_length,
+uint64_t orderset_recover(const uint8_t *image, size_t length, uint32_t *heads, size_t heads_length, uint32_t *next, size_t next_length,
                           uint32_t state[ORDERSET_STATE], uint64_t version[1]) {
     struct hand_set s = lend(image, length, heads, heads_length, next, next_length);
-    uint32_t code = hand_recover(&s);
+    uint64_t code = hand_recover(&s);
     if (!code)
         write_state(&s, state, version);
     return code;

@@ -83,7 +83,7 @@ static const char *const refusals[] = {
     "the header is not the one for this length",
     "heads has 0 or more than 65,536 numbers, or next has not N + 1",
     "a mark is neither 0 nor 1",
-    "a valid slot has another kind, a bad length or bytes past it; in get: a length over 80",
+    "its kind word has bits above the length byte",
     "two valid slots have one version",
     "no slot is spare",
     "the next version is 2^63 or more",
@@ -99,6 +99,9 @@ static const char *const refusals[] = {
     "the quantity is zero, or more than is open",
     "the key of an insert is held",
     "the key of a replace is not held",
+    "its kind is neither put nor remove",
+    "its length is over 80, or it is a remove with a length",
+    "a value byte past its length is not zero",
 };
 
 static const char *words_of(uint32_t number) {
@@ -230,7 +233,7 @@ static size_t heads_for(size_t slots) {
 }
 
 /* Recovery needs up to 2.3 MB of stack; the main thread has 8 MiB, unless a limit is set (ulimit -s). */
-static uint32_t recover(struct set *s) {
+static uint64_t recover(struct set *s) {
     s->next_length = s->length / ORDERSET_SLOT_BYTES;
     if (!s->heads_length)
         s->heads_length = heads_for(s->next_length - 1);
@@ -242,8 +245,8 @@ static uint32_t recover(struct set *s) {
                             s->version);
 }
 
-/* Answers recovery's refusal, or 0. */
-static uint32_t load(struct set *s, int file, const char *path, int writing) {
+/* Answers what recovery returned: its refusal with the slot that it names, or 0. */
+static uint64_t load(struct set *s, int file, const char *path, int writing) {
     if (s->length < ORDERSET_IMAGE_BYTES(ORDERSET_SLOTS_MIN) || s->length > ORDERSET_IMAGE_BYTES(ORDERSET_SLOTS_MAX))
         return ORDERSET_NO_IMAGE_LENGTH;
     if (!writing) {
@@ -262,7 +265,10 @@ static void start(struct set *s, const char *path, int writing) {
     if (access(path, F_OK) && errno == ENOENT)
         stop(FAILED, "%s: %s; 'gateway %s make N' makes one", path, strerror(errno), path);
     int file = open_image(path, writing, &s->length);
-    uint32_t number = load(s, file, path, writing);
+    uint64_t returned = load(s, file, path, writing);
+    uint32_t number = ORDERSET_REFUSAL(returned), slot = ORDERSET_FAULT_SLOT(returned);
+    if (slot)
+        stop(FAILED, "%s: recovery says no %" PRIu32 " of slot %" PRIu32 ": %s", path, number, slot, words_of(number));
     if (number)
         stop(FAILED, "%s: recovery says no %" PRIu32 ": %s", path, number, words_of(number));
     printf("recovered %" PRIu32 " held keys; next version %" PRIu64 "; %s\n", s->state[ORDERSET_LIVE], s->version[0],
@@ -315,7 +321,8 @@ static void make(const char *path, uint64_t slots) {
     if (file < 0)
         fail(fresh);
     lock(file, fresh, LOCK_EX);
-    if (format_file(file, ORDERSET_IMAGE_BYTES(slots)) || renameat2(AT_FDCWD, fresh, AT_FDCWD, path, RENAME_NOREPLACE)) {
+    if (format_file(file, ORDERSET_IMAGE_BYTES(slots)) ||
+        renameat2(AT_FDCWD, fresh, AT_FDCWD, path, RENAME_NOREPLACE)) {
         int error = errno;
         unlink(fresh);
         stop(FAILED, "%s: %s; nothing was made", path, strerror(error));

@@ -29,10 +29,11 @@
  * power cut can take an order that was answered. Do so at every start that will write.
  *
  * What a call returns: 0 where it is not refused. A refused call leaves everything that it was lent as it was. Format,
- * recover, play and the book's steps return the number of the refusal (enum orderset_refusal). Insert, replace, remove,
- * get and locate return 64 bits: that number in the low 32, read by ORDERSET_REFUSAL, and a count above them (below).
- * So compare ORDERSET_REFUSAL of the result with a number, and the result itself with 0 alone. In get, locate and
- * remove a key that is not held is no refusal: the call returns 0 and answer[0] is ORDERSET_ABSENT.
+ * play and the book's steps return the number of the refusal (enum orderset_refusal). Recover, insert, replace, remove,
+ * get and locate return 64 bits: that number in the low 32, read by ORDERSET_REFUSAL, and above them the slot that
+ * recover names (ORDERSET_FAULT_SLOT), or the count of slots that the other calls compared (below). So compare
+ * ORDERSET_REFUSAL of the result with a number, and the result itself with 0 alone. In get, locate and remove a key that
+ * is not held is no refusal: the call returns 0 and answer[0] is ORDERSET_ABSENT.
  *
  * Slots compared: insert, replace, remove, get and locate report how many slots of the key's chain were compared with
  * the key: the key's place in the chain, from 1, or the length of the chain where the key is not held. With an index
@@ -101,7 +102,8 @@ extern "C" {
 #define ORDERSET_LIVE 2
 #define ORDERSET_STATE 3
 
-/* answer[0] of a call that returned 0; the values follow, zeros for ORDERSET_ABSENT, and then the slots compared */
+/* answer[0] of a call that returned 0; the values follow, zeros for ORDERSET_ABSENT, and then, of the calls that report
+ * them, the slots compared */
 #define ORDERSET_ABSENT 0u
 #define ORDERSET_GIVEN 1u
 #define ORDERSET_ALREADY 2u /* the order was acknowledged before: there is nothing to store */
@@ -122,10 +124,12 @@ extern "C" {
 #define ORDERSET_SLOTS 1
 #define ORDERSET_FORMAT_ANSWER 2
 
-/* What a refused call returned: the number of the refusal, and the slots compared. The second does not widen what it is
- * given, so that the compiler warns where the result was kept in 32 bits: there the count is lost. */
+/* What a refused call returned: the number of the refusal, and above it the slots compared, or from orderset_recover
+ * the slot that it names, 0 for none. The last two do not widen what they are given, so that the compiler warns where
+ * the result was kept in 32 bits: there they are lost. */
 #define ORDERSET_REFUSAL(returned) ((uint32_t)(returned))
 #define ORDERSET_REFUSED_COMPARED(returned) ((uint32_t)((returned) >> 32))
+#define ORDERSET_FAULT_SLOT(returned) ((uint32_t)((returned) >> 32))
 
 /* an order: its bytes, and the states in its first word */
 #define ORDERSET_ORDER_BYTES 24u
@@ -140,8 +144,7 @@ enum orderset_refusal {
     ORDERSET_NO_HEADER = 3,         /* the header is not the one for this length */
     ORDERSET_NO_INDEX_LENGTH = 4,   /* heads has 0 or more than 65,536 numbers, or next has not N + 1 */
     ORDERSET_BAD_MARK = 5,          /* a mark is neither 0 nor 1 */
-    ORDERSET_BAD_RECORD = 6,        /* a valid slot has another kind, a bad length or bytes past it;
-                                       in get: a length over 80 */
+    ORDERSET_BAD_BITS = 6,          /* the kind word of a valid slot has bits above the length byte */
     ORDERSET_SHARED_VERSION = 7,    /* two valid slots have one version */
     ORDERSET_ALL_LIVE = 8,          /* no slot is spare */
     ORDERSET_NO_VERSION = 9,        /* the next version is 2^63 or more */
@@ -157,7 +160,10 @@ enum orderset_refusal {
     ORDERSET_NO_ORDER = 18,         /* the key is not held, or holds no order */
     ORDERSET_BAD_QUANTITY = 19,     /* the quantity of a new order is zero; in fill: it is zero or more than is open */
     ORDERSET_INSERT_HELD = 20,      /* in insert: the key is held */
-    ORDERSET_NOT_HELD = 21          /* in replace: the key is not held */
+    ORDERSET_NOT_HELD = 21,         /* in replace: the key is not held */
+    ORDERSET_BAD_KIND = 22,         /* the kind of a valid slot is neither put nor remove */
+    ORDERSET_BAD_LENGTH = 23,       /* the length of a valid slot is over 80, or a remove's is not 0; in get: over 80 */
+    ORDERSET_BAD_TAIL = 24          /* a value byte of a valid slot past its length is not zero */
 };
 
 /* Makes an empty image of the bytes. answer: {ORDERSET_GIVEN, N}. Refusals: 1. A cut during format is not covered:
@@ -165,12 +171,15 @@ enum orderset_refusal {
 ORDERSET_CALL uint32_t orderset_format(uint8_t *image, size_t image_length, uint64_t answer[ORDERSET_FORMAT_ANSWER]);
 
 /* Rebuilds heads, next, state and version from the image, whatever they held. The image is only read; if it may hold
- * stores that are not durable, make it durable first (above). Refusals: 1, 2, 3, 4, 5, 6, 7, 8.
+ * stores that are not durable, make it durable first (above). Refusals: 1, 2, 3, 4, 5; then 6, 22, 23, 24; 7, 8.
+ *
+ * Returns 0, or the refusal + 2^32 * the slot that it names. 6, 22, 23 and 24 name the lowest slot at fault, and of what
+ * is wrong in it the first in that order; the other refusals name none.
  *
  * Its scratch is on the stack. Measured: 140 KB for N below 4,096, 664 KB below 16,384, and 2.24 MB from there on. Give
  * the thread 3 MiB, or 1 MiB where N is below 16,384. A Rust thread has 2 MiB unless it is told otherwise, and so has a
  * thread of glibc where the stack is unlimited (ulimit -s): too little for N from 16,384 on. */
-ORDERSET_CALL uint32_t orderset_recover(const uint8_t *image, size_t image_length, uint32_t *heads, size_t heads_length,
+ORDERSET_CALL uint64_t orderset_recover(const uint8_t *image, size_t image_length, uint32_t *heads, size_t heads_length,
                                         uint32_t *next, size_t next_length, uint32_t state[ORDERSET_STATE],
                                         uint64_t version[1]);
 
@@ -201,7 +210,7 @@ ORDERSET_CALL uint64_t orderset_remove(const uint8_t *image, size_t image_length
 
 /* Copies the key's value to the front of the output; the bytes after it stay as they were. answer: {ORDERSET_GIVEN,
  * length, slots compared} or {ORDERSET_ABSENT, 0, slots compared}. An output of ORDERSET_VALUE_MAX bytes is always long
- * enough. Refusals: 1, 2, 3, 4, 11 (chain), and for a held key, with the slots compared, 6, 13. */
+ * enough. Refusals: 1, 2, 3, 4, 11 (chain), and for a held key, with the slots compared, 23, 13. */
 ORDERSET_CALL uint64_t orderset_get(const uint8_t *image, size_t image_length, const uint32_t *heads,
                                     size_t heads_length, const uint32_t *next, size_t next_length, uint64_t key,
                                     uint8_t *output, size_t output_length, uint64_t answer[ORDERSET_ANSWER]);

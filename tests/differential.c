@@ -6,6 +6,7 @@
  * difference and prints the case.
  *
  *     differential [SEED [CALLS]]
+ *     differential SEED CALLS damaged    recovers damaged images alone, one a call
  */
 #define _GNU_SOURCE
 #include <inttypes.h>
@@ -67,6 +68,7 @@ static const char *const name[WHICH] = {"format", "recover",     "insert", "repl
 enum { DONE = 0, ABSENT = 100, ALREADY = 101, ANSWERS };  /* answers that are no refusal */
 static uint64_t calls, strikes, met[WHICH][ANSWERS];      /* met: by the answer */
 static uint64_t compared, longest, far_met[WHICH][ANSWERS]; /* slots: of the last call, the most; with 2 or more */
+static uint32_t named; /* the slot that the last recovery named */
 static const char *phase = "";
 static enum which call;
 static const struct set *now;
@@ -224,14 +226,16 @@ static int try_format(struct set *s) {
 
 static int try_recover(struct set *s) {
     begin(s, RECOVER, 0, 0, 0, 0);
-    uint32_t code = orderset_recover(s->image, s->length, s->heads, s->model.heads_length, s->next,
+    uint64_t code = orderset_recover(s->image, s->length, s->heads, s->model.heads_length, s->next,
                                      s->model.next_length, s->state, s->version);
-    int refusal = m_recover(s->model_image, s->length, &s->model);
-    same_code(code, refusal, DONE);
+    struct m_recovered recovered = m_recover(s->model_image, s->length, &s->model);
+    named = ORDERSET_FAULT_SLOT(code);
+    same_code(ORDERSET_REFUSAL(code), recovered.refusal, DONE);
+    same_number("the slot named", named, recovered.slot);
     compare(s);
     if (s->n > SMALL)
         compare_all(s);
-    return refusal;
+    return recovered.refusal;
 }
 
 /* A call that stores, if it is not refused. quantity: of new and fill; bytes and size: of insert and replace. */
@@ -706,15 +710,20 @@ static struct set *step(struct set *s, struct plain *p, unsigned cuts) {
     return want == DONE ? finish(s, p, &e, cuts) : s;
 }
 
-/* An accepted image whose map is empty: for each key the last record is a remove; some slots are broken. */
+/* The slot is broken: line A or line B is open. */
+static void break_slot(uint8_t *image, uint32_t slot, int line) {
+    const size_t first = 16 * (size_t)slot + 8 * (size_t)line;
+    m_set_word(image, first, 1 - m_word(image, first + 7) % 2);
+}
+
+/* An accepted image whose map is empty: for each key the last record is a remove, and one slot is broken. */
 static void emptied_image(uint8_t *image, uint32_t n, const struct plain *p) {
     for (uint32_t i = 1; i < n; i += 2) {
         uint64_t key = p->key[below(p->keys)];
         set_record(image, i, 1, key, i, ORDERSET_ORDER_BYTES);
         set_record(image, i + 1, 2, key, i + 1, 0);
-        if (below(4) == 0)
-            m_set_word(image, 16 * (size_t)i + 8 * below(2), !m_word(image, 16 * (size_t)i));
     }
+    break_slot(image, 1 + 2 * (uint32_t)below(n / 2), (int)below(2));
 }
 
 /* An empty set and a long row of calls. */
@@ -772,6 +781,19 @@ static void images(void) {
     lend_garbage(s);
     try_recover(s);
     any_calls(s, keys, 8);
+    close_set(s);
+}
+
+/* Recovery alone, of images with one to six faults. */
+static void damaged(void) {
+    phase = "damaged images";
+    uint32_t n = 2 + (uint32_t)below(below(20) ? 12 : 200), faults = 1 + (uint32_t)below(6);
+    struct set *s = open_set(ORDERSET_IMAGE_BYTES(n), any_heads(n), ORDERSET_NEXT_LENGTH(n));
+    any_image(s->model_image, n, 1 + below(2 * n));
+    while (faults--)
+        damage(s->model_image, n);
+    lend_garbage(s);
+    try_recover(s);
     close_set(s);
 }
 
@@ -846,7 +868,14 @@ static void large_history(unsigned k) {
 enum fault {
     SOUND, BAD_LENGTH, UNFORMATTED, BAD_HEADER, NO_HEADS, MANY_HEADS, BAD_NEXT, BAD_MARK, BAD_KIND, SAME_VERSION,
     ALL_LIVE, ABOVE_N, ROUND, FULL, LAST_VERSION, NO_FIRST, NO_LAST, FIRST_NEXT, NO_LIVE, LONG_RECORD, OUT_OF_ORDER,
-    OUTSIDE, ONE_LINE, TWO_LENGTHS, OTHER_STATE, ALL_FILLED, OTHER_SIZE, LARGE_ORDER, ALL_SLOTS, ALL_BUT_ONE, LONG_LAST
+    OUTSIDE, ONE_LINE, TWO_LENGTHS, OTHER_STATE, ALL_FILLED, OTHER_SIZE, LARGE_ORDER, ALL_SLOTS, ALL_BUT_ONE, LONG_LAST,
+    BAD_BITS, BAD_TAIL, REMOVE_LENGTH, BITS_AND_KIND, KIND_AND_LENGTH, LENGTH_AND_TAIL, TAIL_THEN_BITS, FAULTS
+};
+
+/* the slot that recovery names */
+static const uint32_t slot_at_fault[FAULTS] = {
+    [BAD_KIND] = 5,      [LONG_RECORD] = 1,     [BAD_BITS] = 2,        [BAD_TAIL] = 1,       [REMOVE_LENGTH] = 5,
+    [BITS_AND_KIND] = 2, [KIND_AND_LENGTH] = 2, [LENGTH_AND_TAIL] = 1, [TAIL_THEN_BITS] = 1,
 };
 
 /* the calls of a case */
@@ -876,8 +905,15 @@ static const struct directed {
     {IN_ALL, 4, MANY_HEADS, 7, 5},
     {IN_ALL, 4, BAD_NEXT, 7, 5},
     {IN_RECOVER, 5, BAD_MARK, 0, 0},
-    {IN_RECOVER, 6, BAD_KIND, 0, 0},
-    {IN_RECOVER, 6, LONG_RECORD, 0, 0},
+    {IN_RECOVER, 6, BAD_BITS, 0, 0},
+    {IN_RECOVER, 22, BAD_KIND, 0, 0},
+    {IN_RECOVER, 23, LONG_RECORD, 0, 0},
+    {IN_RECOVER, 23, REMOVE_LENGTH, 0, 0},
+    {IN_RECOVER, 24, BAD_TAIL, 0, 0},
+    {IN_RECOVER, 6, BITS_AND_KIND, 0, 0},
+    {IN_RECOVER, 22, KIND_AND_LENGTH, 0, 0},
+    {IN_RECOVER, 23, LENGTH_AND_TAIL, 0, 0},
+    {IN_RECOVER, 24, TAIL_THEN_BITS, 0, 0},
     {IN_RECOVER, 7, SAME_VERSION, 0, 0},
     {IN_RECOVER, 8, ALL_LIVE, 0, 0},
     {IN_CHANGE | IN_GET | IN_LOCATE, DONE, SOUND, 7, 33},
@@ -919,7 +955,7 @@ static const struct directed {
     {IN_INSERT, DONE, NO_LIVE, 10, 5},
     {IN_REPLACE, DONE, NO_LIVE, 8, 5},
     {IN_REMOVE, 11, NO_LIVE, 8, 0},
-    {IN_GET, 6, LONG_RECORD, 7, 90},
+    {IN_GET, 23, LONG_RECORD, 7, 90},
     {IN_LOCATE | IN_REPLACE, DONE, LONG_RECORD, 7, 0},
     {IN_GET, DONE, SOUND, 7, 20},
     {IN_GET, 13, SOUND, 7, 19},
@@ -946,7 +982,7 @@ static const struct directed {
     {IN_CHANGE | IN_GET | IN_LOCATE, DONE, ALL_SLOTS, 7, 80},
     {IN_INSERT, 20, ALL_SLOTS, 7, 5},
     {IN_GET, 13, ALL_SLOTS, 7, 0},
-    {IN_GET, 6, LONG_LAST, 7, 90},
+    {IN_GET, 23, LONG_LAST, 7, 90},
     {IN_WALK, 11, ALL_SLOTS, 10, 80},
     {IN_REMOVE | IN_GET | IN_LOCATE, ABSENT, ALL_BUT_ONE, 10, 0},
     {IN_REPLACE, 21, ALL_BUT_ONE, 10, 5},
@@ -1020,9 +1056,19 @@ static void chain_all(struct m_index *index, uint32_t from) {
     index->heads[7 % 3] = from;
 }
 
+/* the kind word of slot 2, and a nonzero byte past the length of slot 1 */
+static void set_kind_word(uint8_t *image, unsigned kind, unsigned size, uint64_t bits) {
+    m_set_word(image, 16 * 2 + 2, kind + 256 * size + bits);
+}
+
+static void set_tail(uint8_t *image) {
+    image[128 + (below(2) ? 24 + 20 + below(12) : 72 + below(48))] = (uint8_t)(1 + below(255));
+}
+
 static void plant(struct set *s, enum fault fault) {
     struct m_index *index = &s->model;
     uint8_t *image = s->model_image;
+    const uint64_t bits = 1ull << (16 + below(48));
     switch (fault) {
     case UNFORMATTED: m_set_word(image, 0, 0); break;
     case BAD_HEADER: m_set_word(image, 1 + below(7), 2); break;
@@ -1049,6 +1095,13 @@ static void plant(struct set *s, enum fault fault) {
     case ALL_SLOTS: chain_all(index, 5); break;
     case ALL_BUT_ONE: chain_all(index, 6); break;
     case LONG_LAST: chain_all(index, 5), image[128 + 17] = (uint8_t)(81 + below(175)); break;
+    case BAD_BITS: set_kind_word(image, 1, 80, bits); break;
+    case BAD_TAIL: set_tail(image); break;
+    case REMOVE_LENGTH: set_record(image, 5, 2, 9, 5, 1 + below(80)); break;
+    case BITS_AND_KIND: set_kind_word(image, 3, 81, bits); break;
+    case KIND_AND_LENGTH: set_kind_word(image, below(2) ? 0 : 3 + (unsigned)below(253), 81, 0); break;
+    case LENGTH_AND_TAIL: set_tail(image), image[128 + 16] = 2; break;
+    case TAIL_THEN_BITS: set_tail(image), set_kind_word(image, 3, 81, bits); break;
     default: break;
     }
 }
@@ -1106,6 +1159,8 @@ static void directed(const struct directed *c, enum which which) {
         differ("in directed case %td: the answer is not %u", c - cases, c->answer);
     if (1 << which & (IN_WRITE | IN_REMOVE | IN_GET | IN_LOCATE))
         same_number("a directed case's slots compared", compared, slots_due(c));
+    if (which == RECOVER && named != slot_at_fault[c->fault])
+        differ("in directed case %td: the slot named is not %" PRIu32, c - cases, slot_at_fault[c->fault]);
     close_set(s);
 }
 
@@ -1130,11 +1185,11 @@ static uint64_t least_met(uint64_t times[WHICH][ANSWERS], const char *const rule
 
 static const char *const answers[WHICH] = {
     [FORMAT] = "0 1",
-    [RECOVER] = "0 1 2 3 4 5 6 7 8",
+    [RECOVER] = "0 1 2 3 4 5 6 7 8 22 23 24",
     [INSERT] = "0 1 2 3 4 9 10 11 12 20",
     [REPLACE] = "0 1 2 3 4 9 10 11 21",
     [REMOVE] = "0 100 1 2 3 4 9 11",
-    [GET] = "0 100 1 2 3 4 6 11 13",
+    [GET] = "0 100 1 2 3 4 11 13 23",
     [LOCATE] = "0 100 1 2 3 4 11",
     [NEW] = "0 1 2 3 4 9 11 12 17 19",
     [ACKNOWLEDGE] = "0 101 1 2 3 4 9 11 18",
@@ -1147,7 +1202,7 @@ static const char *const answers[WHICH] = {
 /* those that come with the slots compared */
 static const char *const far_answers[WHICH] = {
     [INSERT] = "0 9 11 12 20", [REPLACE] = "0 9 11 21", [REMOVE] = "0 100 9 11",
-    [GET] = "0 100 6 13",      [LOCATE] = "0 100",
+    [GET] = "0 100 13 23",     [LOCATE] = "0 100",
 };
 
 /* ---- the run */
@@ -1155,6 +1210,7 @@ static const char *const far_answers[WHICH] = {
 static void round_of_calls(void) {
     for (int i = 0; i < 200; i++) {
         images();
+        damaged();
         garbage();
         lengths();
     }
@@ -1163,11 +1219,26 @@ static void round_of_calls(void) {
     medium_history();
 }
 
+static int only_damaged(uint64_t wanted) {
+    uint64_t refused = 0;
+    memset(met, 0, sizeof met);
+    for (calls = 0; calls < wanted;)
+        damaged();
+    printf("%" PRIu64 " damaged images", calls);
+    for (unsigned k = 1; k < ABSENT; k++)
+        if (met[RECOVER][k])
+            printf(", %" PRIu64 " times %u", met[RECOVER][k], k), refused += met[RECOVER][k];
+    printf("; %" PRIu64 " refused, each with its slot: no difference (%.0f s)\n", refused, seconds());
+    return 0;
+}
+
 int main(int count, char **word) {
     uint64_t wanted = count > 2 ? strtoull(word[2], NULL, 10) : CALLS, least, far_least;
     begin_chance("differential", count > 1 ? word[1] : NULL);
     for (int i = 0; i < 20; i++)
         all_directed();
+    if (count > 3 && !strcmp(word[3], "damaged"))
+        return only_damaged(wanted);
     while (calls < wanted)
         round_of_calls();
     for (unsigned k = 0; k < LARGE; k++)

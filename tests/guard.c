@@ -147,12 +147,12 @@ static void begin(enum which which, const enum what *writable) {
     }
 }
 
-/* Answers the number of the refusal. A refused call has compared no more slots than there are. */
+/* Answers the number of the refusal. What stands above it, the slots compared or recovery's slot, is at most N. */
 static uint32_t end(uint64_t code, const enum what *writable) {
-    const uint32_t number = ORDERSET_REFUSAL(code), compared = ORDERSET_REFUSED_COMPARED(code);
+    const uint32_t number = ORDERSET_REFUSAL(code), above = ORDERSET_REFUSED_COMPARED(code);
     answers[call][code != 0]++;
-    if ((code && !number) || (compared && compared >= piece[IMAGE].length / ORDERSET_SLOT_BYTES)) {
-        show("refusal %" PRIu32 " with %" PRIu32 " slots compared", number, compared);
+    if ((code && !number) || (above && above >= piece[IMAGE].length / ORDERSET_SLOT_BYTES)) {
+        show("refusal %" PRIu32 " with %" PRIu32 " above it", number, above);
         exit(1);
     }
     for (; *writable != PIECES; writable++) {

@@ -1,4 +1,4 @@
-/* The order set of document 01, with insert and replace (A.2) and the slots compared (A.4) as document 02 has them, and its order book (A.1) as a plain
+/* The order set of document 01 as document 02 changes it (A.2, A.4, A.5, A.6), and its order book (A.1), as a plain
  * program. The quotations are their sentences. */
 #include "model.h"
 
@@ -32,7 +32,7 @@ enum kind { BROKEN, EMPTY, PUT, REMOVE, ILL }; /* ILL: valid, with another kind 
 struct slot {
     enum kind kind;
     int bad_mark;
-    int bad_record;
+    int fault; /* of the record of a valid slot: 6, 22, 23 or 24, else 0 */
     uint64_t key, version, highest; /* highest: the highest version on a whole line of it, 0 if none is whole */
 };
 
@@ -40,19 +40,22 @@ static uint8_t value_byte(const uint8_t *slot, size_t i) {
     return i < 32 ? slot[24 + i] : slot[72 + (i - 32)];
 }
 
-/* "6 when a valid slot has another kind, bits above the length byte, a length over 80, a nonzero byte past the length, or a remove with a length" */
-static int record_is_bad(const uint8_t *slot) {
+/* "6 keeps only bits above the length byte", "22 when the kind is neither 1 nor 2, 23 when the length is wrong for the kind or over 80, and 24 when a byte past
+ * the length is nonzero; within a slot they follow 6 in that order" */
+static int record_fault(const uint8_t *slot) {
     uint64_t word = m_word(slot, 2);
     unsigned kind = word & 0xff;
     size_t size = word >> 8 & 0xff;
+    if (word >> 16)
+        return 6;
     if (kind != 1 && kind != 2)
-        return 1;
-    if (word >> 16 || size > 80)
-        return 1;
+        return 22;
+    if (size > 80 || (kind == 2 && size > 0))
+        return 23;
     for (size_t i = size; i < 80; i++)
         if (value_byte(slot, i))
-            return 1;
-    return kind == 2 && size > 0;
+            return 24;
+    return 0;
 }
 
 /* "A line is whole when its mark equals its close bit", "A slot is valid when both lines are whole and carry the same version, at least 1" */
@@ -79,7 +82,7 @@ static struct slot look(const uint8_t *image, uint32_t s) {
     }
     unsigned kind = m_word(slot, 2) & 0xff;
     seen.kind = kind == 1 ? PUT : kind == 2 ? REMOVE : ILL;
-    seen.bad_record = record_is_bad(slot);
+    seen.fault = record_fault(slot);
     return seen;
 }
 
@@ -174,15 +177,20 @@ static void build(const struct slot *slot, uint32_t n, const struct entry *valid
     free(chain);
 }
 
-static int recover_slots(const struct slot *slot, uint32_t n, struct entry *valid, uint8_t *live, struct m_index *index) {
+static struct m_recovered no(int refusal, uint32_t slot) {
+    return (struct m_recovered){refusal, slot};
+}
+
+/* "Recovery shall name the lowest slot at fault and what in it" */
+static struct m_recovered recover_slots(const struct slot *slot, uint32_t n, struct entry *valid, uint8_t *live, struct m_index *index) {
     uint32_t count = 0;
     uint64_t highest = 0;
     for (uint32_t s = 1; s <= n; s++)
         if (slot[s].bad_mark)
-            return 5;
+            return no(5, 0);
     for (uint32_t s = 1; s <= n; s++) {
-        if (slot[s].bad_record)
-            return 6;
+        if (slot[s].fault)
+            return no(slot[s].fault, s);
         if (slot[s].highest > highest)
             highest = slot[s].highest;
         if (slot[s].kind == PUT || slot[s].kind == REMOVE)
@@ -191,31 +199,31 @@ static int recover_slots(const struct slot *slot, uint32_t n, struct entry *vali
     qsort(valid, count, sizeof *valid, by_version);
     for (uint32_t i = 1; i < count; i++)
         if (valid[i].version == valid[i - 1].version)
-            return 7;
+            return no(7, 0);
     uint32_t found = mark_live(slot, valid, count, live);
     if (found == n)
-        return 8;
+        return no(8, 0);
     build(slot, n, valid, count, live, index);
     index->state.live = found;
     index->state.version = highest + 1;
-    return 0;
+    return no(0, 0);
 }
 
-int m_recover(const uint8_t *image, size_t length, struct m_index *index) {
-    int refusal = refuse_lent(image, length, index->heads_length, index->next_length);
-    if (refusal)
-        return refusal;
+struct m_recovered m_recover(const uint8_t *image, size_t length, struct m_index *index) {
+    struct m_recovered recovered = no(refuse_lent(image, length, index->heads_length, index->next_length), 0);
+    if (recovered.refusal)
+        return recovered;
     uint32_t n = m_slots(length);
     struct slot *slot = calloc(n + 1, sizeof *slot);
     struct entry *valid = calloc(n + 1, sizeof *valid);
     uint8_t *live = calloc(n + 1, 1);
     for (uint32_t s = 1; s <= n; s++)
         slot[s] = look(image, s);
-    refusal = recover_slots(slot, n, valid, live, index);
+    recovered = recover_slots(slot, n, valid, live, index);
     free(slot);
     free(valid);
     free(live);
-    return refusal;
+    return recovered;
 }
 
 /* ---- the key's chain */
@@ -393,7 +401,7 @@ struct m_got m_get(const uint8_t *image, size_t length, const struct m_index *in
     const uint8_t *slot = image + 128 * (size_t)walk.slot;
     size_t size = slot[17];
     if (size > 80)
-        return (struct m_got){.refusal = 6, .compared = walk.compared};
+        return (struct m_got){.refusal = 23, .compared = walk.compared};
     if (room < size)
         return (struct m_got){.refusal = 13, .compared = walk.compared};
     for (size_t i = 0; i < size; i++)
@@ -425,7 +433,7 @@ struct order {
 static struct order order_of(const uint8_t *image, size_t length, const struct m_index *index, uint64_t key) {
     uint8_t bytes[80];
     struct m_got got = m_get(image, length, index, key, bytes, sizeof bytes);
-    if (got.refusal && got.refusal != 6)
+    if (got.refusal && got.refusal != 23)
         return (struct order){.refusal = got.refusal};
     if (got.refusal || got.absent || got.length != 24)
         return (struct order){.refusal = 18};

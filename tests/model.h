@@ -1,4 +1,5 @@
-/* model.h: the order set of document 01 and the order book of document 02, written from their sentences for the tests. Plain and slow, and nothing of the archive is used in it. */
+/* model.h: the order set of document 01 as document 02 changes it, and its order book, written from their sentences for
+ * the tests. Plain and slow, and nothing of the archive is used in it. */
 #ifndef MODEL_H
 #define MODEL_H
 
@@ -50,9 +51,15 @@ struct m_place {
     uint32_t compared;
 };
 
+/* A refusal of recovery and the slot that it names, 0 for none; refusal 0: accepted. */
+struct m_recovered {
+    int refusal;
+    uint32_t slot;
+};
+
 uint32_t m_slots(size_t length); /* N, or 0 where no image has that length */
 int m_format(uint8_t *image, size_t length);
-int m_recover(const uint8_t *image, size_t length, struct m_index *index);
+struct m_recovered m_recover(const uint8_t *image, size_t length, struct m_index *index);
 struct m_change m_insert(const uint8_t *image, size_t length, struct m_index *index, uint64_t key, const uint8_t *bytes, size_t size);
 struct m_change m_replace(const uint8_t *image, size_t length, struct m_index *index, uint64_t key, const uint8_t *bytes, size_t size);
 struct m_change m_remove(const uint8_t *image, size_t length, struct m_index *index, uint64_t key);

@@ -205,10 +205,10 @@ static void start(void) {
     fill(heads, sizeof heads);
     fill(next, sizeof next);
     point(); /* recovery writes nothing to the image: a strike in it is one before or after it, with the index lost */
-    uint32_t code = orderset_recover(visible, length, heads, heads_length, next, n + 1, state, version);
+    uint64_t code = orderset_recover(visible, length, heads, heads_length, next, n + 1, state, version);
     point();
     if (code)
-        lost("recovery refuses: %" PRIu32, code);
+        lost("recovery refuses: %" PRIu32 ", slot %" PRIu32, ORDERSET_REFUSAL(code), ORDERSET_FAULT_SLOT(code));
     check();
 }
 

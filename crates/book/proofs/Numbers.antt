@@ -1,4 +1,4 @@
--- The numbers of a book step: 10, 13, 20, 21 and 6 never show. Assumes nothing.
+-- The numbers of a book step: 10, 13, 20, 21 and 23 never show. Assumes nothing.
 use mathlib.Core.Path.{_≡_, refl, sym, subst}
 use mathlib.Core.Bool.{Bool, true, false, cond}
 use mathlib.Core.Logic.{inl, inr}
@@ -23,8 +23,8 @@ use Rattle.book.specs.declared.Order.{Order}
 
 -- ---- lists of numbers
 
--- 6 becomes 18
-get-in : (k : ℕ) → In k roomyGetRefusals → In (cond (eqb k 6) 18 k) stepRefusals
+-- 23 becomes 18
+get-in : (k : ℕ) → In k roomyGetRefusals → In (cond (eqb k 23) 18 k) stepRefusals
 get-in k (inl e) = rw e (one-of 1 stepRefusals refl)
 get-in k (inr (inl e)) = rw e (one-of 2 stepRefusals refl)
 get-in k (inr (inr (inl e))) = rw e (one-of 3 stepRefusals refl)

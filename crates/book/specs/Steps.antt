@@ -85,12 +85,12 @@ pub data Sought : Type 0 where
   order : Order → Sought
   none-there : (number : ℕ) → Sought
 
--- "18 when another step's key is not held or holds no book record"; so is a length byte over the limit, for which get has 6
+-- "18 when another step's key is not held or holds no book record"; so is a length byte over the limit, for which get has 23
 unfoldable pub soughtIn : (out : List ℕ) → Answer → Sought
 soughtIn out (gives []) = none-there 18
 soughtIn out (gives (size ∷ values)) = cond (isOrder (take size out)) (order (orderOf (take size out))) (none-there 18)
 soughtIn out absent = none-there 18
-soughtIn out (refused number) = none-there (cond (eqb number 6) 18 number)
+soughtIn out (refused number) = none-there (cond (eqb number 23) 18 number)
 
 unfoldable pub soughtBy : GetResult → Sought
 soughtBy r = soughtIn (r .out) (r .answer)

@@ -18,7 +18,7 @@ use orderset::locate;
 fn sought_number(number: u32) -> u32
     ensures { λ r. ⌜ r ≡ soughtNumber number ⌝ }
 {
-    if number == 6 {
+    if number == 23 {
         return 18;
     }
     number

@@ -78,7 +78,7 @@ module _ (l size m : ℕ) (e : m ≡ limit l) where
   value-fits h = sym (say-false _ _ _ (le-ltb (limit l) size (omega arith)))
 
 module _ (l n size m : ℕ) (e : m ≡ limit l) where
-  pub too-long : m < n → 6 ≡ lengthFault l n size
+  pub too-long : m < n → 23 ≡ lengthFault l n size
   unfolding lengthFault
   too-long h = sym (say-true _ _ _ (lt-ltb (limit l) n (omega arith)))
 

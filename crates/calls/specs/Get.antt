@@ -35,11 +35,11 @@ getEnd r out = reported (record { answer = getSays (r .got); out = out }) (r .co
 abbrev pub slotLength : (l : ℕ) → (image : List ℕ) → ℕ → ℕ
 slotLength l image s = lengthOf (lineA (word image) s (l + 1))
 
--- "6 when the slot's length byte exceeds 80; 13 when the lent output is shorter than the value"
+-- "23 when .. the length is .. over 80" (document 02, A.5: "Get's length refusal becomes 23 too"); "13 when the lent output is shorter than the value"
 unfoldable pub lengthFault : (l n size : ℕ) → ℕ
-lengthFault l n size = say (ltb (limit l) n) 6 (say (ltb size n) 13 0)
+lengthFault l n size = say (ltb (limit l) n) 23 (say (ltb size n) 13 0)
 
--- "11 (chain); then the plain answer absent"; then 6 and 13
+-- "11 (chain); then the plain answer absent"; then 23 and 13
 unfoldable pub getLaterFault : (l : ℕ) → (image : List ℕ) → (size : ℕ) → Found → ℕ
 getLaterFault l image size (At slot prev compared) = lengthFault l (slotLength l image slot) size
 getLaterFault l image size (Missing prev compared) = 0

@@ -1,4 +1,6 @@
-// Recovers an image of three slots, whole and with one or two bytes changed, and prints the answer and the index each time. Every refusal from 1 to 8 is among them.
+// Recovers an image of three slots, whole and with one or two bytes changed, and prints the answer and the index each time. Every refusal of
+// recovery is among them, with the slot that it names.
+use orderset::Recovered;
 use orderset::recover;
 
 // Slot 1: a put of key 7, version 2, one byte. Slot 2: its remove, version 4. Slot 3: a put of key 8, version 3, no bytes.
@@ -29,9 +31,21 @@ fn set_byte(image: &mut [u8], place: usize, byte: u8) {
     }
 }
 
+// The slot that a refusal names.
+fn show_slot(r: Recovered) {
+    match r {
+        Recovered::Rebuilt(_) => {}
+        Recovered::Refused { number: _, slot } => {
+            show::text(b" slot");
+            show::number(slot as u64);
+        }
+    }
+}
+
 fn show_recover(image: &[u8], heads: &mut [u32], next: &mut [u32]) {
     let r = recover(image, heads, next);
     show::recovered(r);
+    show_slot(r);
     show::index(heads, next);
 }
 
@@ -101,6 +115,13 @@ fn main() {
     with(153, 1, 511, 0);
     with(200, 1, 511, 0);
     with(273, 1, 511, 0);
+    with(400, 0, 511, 0);
+    with(146, 1, 144, 3);
+    with(144, 3, 145, 81);
+    with(145, 81, 153, 1);
+    with(153, 1, 274, 1);
+    with(274, 1, 401, 1);
+    with(272, 3, 312, 10);
     with(440, 8, 504, 8);
     with(440, 4, 504, 4);
     with(272, 1, 264, 9);

@@ -13,14 +13,14 @@ use Rattle.prelude.specs.Members.{All, none-left, one-more, slotNumbers}
 use Rattle.cutrule.specs.Rule.{AllRight}
 use Rattle.cutrule.proofs.CutRule.{cut-rule}
 use Rattle.prelude.specs.Refusal.{say, orElse, unlessRefused}
-use Rattle.prelude.specs.Range.{anyOf, tabulate, greatest, topmost, count}
+use Rattle.prelude.specs.Range.{anyOf, tabulate, greatest, topmost, lowest, atLowest, count}
 use Rattle.layout.specs.Size.{slotsOf, slotsIn}
 use Rattle.layout.specs.Line.{lineTop, versionFault}
 use Rattle.layout.specs.Slot.{paired, slotTop, verdictOf, lineVerdict, isValid}
 use Rattle.layout.specs.Record.{keyFrom, keyOf, valuePlace, slotWord, valueWord, valueByte, valueFront, valueOf}
 use Rattle.layout.specs.Content.{made, contentBy, contentOf, content, topOf}
 use Rattle.layout.specs.Header.{headerWord, headerFault, imageFault, indexFault, lentFault}
-use Rattle.layout.specs.Fault.{markFault, kindFault, wordFault, tailFault, faultOf, recordFault}
+use Rattle.layout.specs.Fault.{markFault, kindFault, longest, wordFault, tailFault, faultOf, recordFault}
 use Rattle.stores.specs.Store.{zipped, played}
 use Rattle.stores.specs.Written.{marked, placedWord, bodyA, bodyB, run, lineStores, recordStores}
 use Rattle.stores.specs.Play.{halfFault, halvesFault, playFault, counted, playResult, wordNumbers, values}
@@ -42,7 +42,7 @@ use Rattle.prelude.proofs.Fills.{zeros}
 -- THE SESSION answers as document 01 says, with the outputs of its gets; recovery accepts its formatted image, which has two slots
 session-computed : (answers 1 fresh session ≡ expected) × (outputs 1 fresh session ≡ expectedOutputs)
     × (recoverFault 1 (formatted 1 384) (length oneHead) (length twoSlots) ≡ 0) × (slotsIn (formatted 1 384) ≡ 2)
-unfolding word setBytes setWord say orElse unlessRefused anyOf tabulate slotsOf lineTop paired slotTop verdictOf lineVerdict isValid keyFrom keyOf valuePlace slotWord valueWord valueByte valueFront valueOf made contentBy contentOf content topOf headerWord headerFault imageFault indexFault lentFault markFault kindFault wordFault tailFault faultOf recordFault zipped played marked placedWord bodyA bodyB run lineStores recordStores halfFault halvesFault playFault counted playResult filter insert sorted isRecord keyIn weight greatest topmost count nextVersion decider valueIn valueAt mapOf decidingPut live spare liveCount sharedVersion allLive rankOf slotNumbers ordered chainOf reuseOf start ahead setNext setStart setLast link firstOf lastOf after nextIn chained takeFirst linkNew append insertNew replaceHeld removeHeld keyFault isFound roomFault versionFault reuseFault walk search chainFault slotsFault recoverFault chainsOf placeOf recoveredIndex recoveredState recovered recoverResult formatted unchanged changed writeLentFault writeLaterFault writeFault writeDone writeResult heldFault removeLaterFault removeFault removeDone removeResult lengthFault getLaterFault getFault getDone getResult calledChange calledGet called wordNumbers values playing finished noState worldAfter recoveredWorld imageCut stepBy answers outputs small oneHead twoSlots cutAt fresh session expected expectedOutputs
+unfolding word setBytes setWord say orElse unlessRefused anyOf tabulate slotsOf lineTop paired slotTop verdictOf lineVerdict isValid keyFrom keyOf valuePlace slotWord valueWord valueByte valueFront valueOf made contentBy contentOf content topOf headerWord headerFault imageFault indexFault lentFault markFault kindFault longest wordFault tailFault faultOf recordFault zipped played marked placedWord bodyA bodyB run lineStores recordStores halfFault halvesFault playFault counted playResult filter insert sorted isRecord keyIn weight greatest topmost lowest atLowest count nextVersion decider valueIn valueAt mapOf decidingPut live spare liveCount sharedVersion allLive rankOf slotNumbers ordered chainOf reuseOf start ahead setNext setStart setLast link firstOf lastOf after nextIn chained takeFirst linkNew append insertNew replaceHeld removeHeld keyFault isFound roomFault versionFault reuseFault walk search chainFault slotsFault recoverFault chainsOf placeOf recoveredIndex recoveredState recovered recoverResult formatted unchanged changed writeLentFault writeLaterFault writeFault writeDone writeResult heldFault removeLaterFault removeFault removeDone removeResult lengthFault getLaterFault getFault getDone getResult calledChange calledGet called wordNumbers values playing finished noState worldAfter recoveredWorld imageCut stepBy answers outputs small oneHead twoSlots cutAt fresh session expected expectedOutputs
 session-computed = (refl, refl, refl, refl)
 
 pub session-answers : answers 1 fresh session ≡ expected

@@ -41,7 +41,7 @@ formatCall r answer = record { returns = refusalIn (r .answer); answer = answere
 
 -- ---- recover
 
--- what a call of recover returns, 0 or a refusal's number, and the lent state and index after it
+-- what a call of recover returns, 0 or a refusal's number and slot, and the lent state and index after it
 pub record RecoverCall : Type 0 where
   pub returns : ℕ
   pub state : List ℕ
@@ -62,7 +62,7 @@ recoveredValues (refused number) lent = lent
 unfoldable pub recoverCall : Result → State → RecoverCall
 recoverCall r s =
     record {
-      returns = refusalIn (r .answer);
+      returns = refusalIn (r .answer) + 2 ^ 32 * r .slot;
       state = recoveredValues (r .answer) (stateValues s);
       heads = r .heads;
       next = r .next;

@@ -1,21 +1,29 @@
 -- The numbers with which each call is refused, whatever it is given. Assumes nothing.
-use mathlib.Core.Path.{_≡_, refl, sym, subst}
-use mathlib.Core.Bool.{Bool, true, false}
+use mathlib.Core.Path.{_≡_, refl, sym, ap, _∙_, subst}
+use mathlib.Core.Bool.{Bool, true, false, cond}
 use mathlib.Core.Logic.{_⊎_, inl, inr}
 use mathlib.Core.List.{List}
 use Prim.Native.Nat.{ℕ, zero, suc, _≤_}
 use native.Mathlib.Omega.{arith}
-use lib.Dec.{ltb}
+use lib.Dec.{eqb, ltb}
 use lib.ListN.{length}
-use borrow.Author.Tests.{le-ltb, ltb-false}
+use borrow.Author.Tests.{ne-eqb, le-ltb, ltb-false}
+use Rattle.words.specs.Word.{word}
 use Rattle.prelude.specs.Members.{In}
+use Rattle.prelude.specs.Range.{anyOf, lowest, atLowest}
 use Rattle.prelude.specs.Refusal.{say, orElse, unlessRefused}
-use Rattle.prelude.specs.Answer.{Answer, refused}
+use Rattle.prelude.specs.Answer.{Answer, gives, absent, refused}
 use Rattle.prelude.proofs.defs.Among.{isOne}
-use Rattle.prelude.proofs.Among.{one-of}
-use Rattle.prelude.proofs.Refusals.{say-false}
+use Rattle.prelude.proofs.Among.{one-of, among}
+use Rattle.prelude.proofs.Lowest.{Lowest, nowhere, there, lowest-is}
+use Rattle.prelude.proofs.Refusals.{say-false, orElse-first}
+use Rattle.layout.specs.Size.{slotsIn}
+use Rattle.layout.specs.Slot.{lineVerdict, isValid}
+use Rattle.layout.specs.Content.{content, tableOf}
+use Rattle.layout.specs.Fault.{markFault, wordFault, faultOf, recordFault}
+use Rattle.table.specs.Table.{sharedVersion, allLive}
 use Rattle.layout.specs.Record.{limit}
-use Rattle.layout.specs.Line.{versionFault}
+use Rattle.layout.specs.Line.{lineA, lineB, versionFault}
 use Rattle.layout.specs.Header.{headerFault, imageFault, indexFault, lentFault}
 use Rattle.index.specs.Walk.{search, chainFault}
 use Rattle.index.specs.Change.{keyFault, isFound, roomFault, reuseFault}
@@ -24,11 +32,11 @@ use Rattle.index.specs.declared.Mode.the-variants.{Insert, Replace}
 use Rattle.index.specs.declared.State.{State}
 use Rattle.index.specs.declared.Found.{Found}
 use Rattle.index.specs.declared.Found.the-variants.{At, Missing, BadChain}
-use Rattle.recovery.specs.Recover.{Result, slotsFault, recovered, recoverFault, refusedResult, recoverResult}
+use Rattle.recovery.specs.Recover.{Result, slotsFault, slotsNamed, recovered, recoverFault, recoverSlot, refusedResult, recoverResult}
 use Rattle.calls.specs.Format.{FormatResult, formatFault, formatResult}
 use Rattle.calls.specs.Change.{ChangeResult, unchanged, changed, writeLentFault, writeLaterFault, writeFault, writeDone, writeResult, heldFault, removeLaterFault, removeFault, removeDone, removeResult}
 use Rattle.calls.specs.Get.{GetResult, lengthFault, getLaterFault, getFault, getDone, getResult}
-use Rattle.face.specs.Numbers.{Numbered, AnswersAsAsked, formatRefusals, recoverRefusals, writeRefusals, askedRefusals, removeRefusals, getRefusals, roomyGetRefusals, locateRefusals}
+use Rattle.face.specs.Numbers.{Numbered, AnswersAsAsked, formatRefusals, silentRefusals, slotRefusals, recoverRefusals, Names, a-slot, no-slot, writeRefusals, askedRefusals, removeRefusals, getRefusals, roomyGetRefusals, locateRefusals}
 use Rattle.calls.specs.Locate.{locateFault, locateDone, locateResult}
 
 -- ---- rows of refusals
@@ -113,6 +121,12 @@ asked-due ks Replace a BadChain n live later z d = absurd (omega arith)
 
 -- ---- what a call answers
 
+gives-refused : (values : List ℕ) (k : ℕ) → gives values ≡ refused k → ⊥
+gives-refused values k e = let z : _≡_ {A = ℕ} 0 1 = cc in omega arith
+
+same-number : (i k : ℕ) → refused i ≡ refused k → i ≡ k
+same-number i k e = cc
+
 -- a call that is refused where its fault is not 0
 module _ {A : Type 0} (ks : List ℕ) (answer : A → Answer) (refusing : ℕ → A) (told : (k : ℕ) → answer (refusing k) ≡ refused k) where
   numbered : (fault : ℕ) → Due ks fault → (new : A) → Numbered ks (answer new) → Numbered ks (answer (unlessRefused fault new (refusing fault)))
@@ -128,14 +142,96 @@ format-numbered l image =
     numbered formatRefusals (λ (r : FormatResult). r .answer) (λ fault. record { answer = refused fault; bytes = image }) (λ k. refl) _
     (say-due formatRefusals _ 1 0 (one-of 1 formatRefusals refl) (none-due formatRefusals)) _ tt
 
--- RECOVER: 1 to 8
-pub recover-numbered : (l : ℕ) (image heads next : List ℕ)
-    → Numbered recoverRefusals (recoverResult l image heads next .answer)
-unfolding recoverResult recovered recoverFault slotsFault
-recover-numbered l image heads next =
-    numbered recoverRefusals (λ (r : Result). r .answer) (λ fault. refusedResult fault heads next) (λ k. refl) _
-    (else-due recoverRefusals _ _ (lent-due recoverRefusals refl refl refl refl l image (length heads) (length next))
-    (say-due recoverRefusals _ 5 _ (one-of 5 recoverRefusals refl) (say-due recoverRefusals _ 6 _ (one-of 6 recoverRefusals refl) (say-due recoverRefusals _ 7 _ (one-of 7 recoverRefusals refl) (say-due recoverRefusals _ 8 0 (one-of 8 recoverRefusals refl) (none-due recoverRefusals)))))) _ tt
+-- ---- recover
+
+-- 0, or a refusal with the slot that it names
+abbrev DueAt : (n k slot : ℕ) → Type 0
+DueAt n k slot = (k ≡ 0) ⊎ Names n k slot
+
+silent-due : (n k : ℕ) → Due silentRefusals k → DueAt n k 0
+silent-due n k (inl e) = inl e
+silent-due n k (inr i) = inr (no-slot i refl)
+
+-- the fault of a record: 6, 22, 23, 24
+record-due : (l : ℕ) (m : ℕ → ℕ) (s : ℕ) → Due slotRefusals (recordFault l m s)
+unfolding recordFault faultOf wordFault
+record-due l m s = go (isValid (lineVerdict (lineA m s) (lineB m s)))
+  where
+    ks : List ℕ
+    ks = slotRefusals
+
+    go : (b : Bool) → Due slotRefusals (cond b (faultOf l (lineA m s) (lineB m s)) 0)
+    go true =
+        else-due ks _ _
+        (say-due ks _ 6 _ (one-of 6 ks refl) (say-due ks _ 22 _ (one-of 22 ks refl) (say-due ks _ 23 0 (one-of 23 ks refl) (none-due ks))))
+        (say-due ks _ 24 0 (one-of 24 ks refl) (none-due ks))
+    go false = none-due ks
+
+module _ (l : ℕ) (m : ℕ → ℕ) (n : ℕ) where
+  late : ℕ
+  late = say (sharedVersion (content l m) n) 7 (say (allLive (content l m) n) 8 0)
+
+  late-due : Due silentRefusals late
+  unfolding late
+  late-due =
+      say-due silentRefusals _ 7 _ (one-of 7 silentRefusals refl) (say-due silentRefusals _ 8 0 (one-of 8 silentRefusals refl) (none-due silentRefusals))
+
+  lowest-names : (s : ℕ) → Lowest (recordFault l m) n s → DueAt n (orElse (say (eqb s 0) 0 (recordFault l m s)) late) s
+  unfolding say orElse
+  lowest-names s (nowhere e z) =
+      subst (λ (t : ℕ). DueAt n (orElse (say (eqb t 0) 0 (recordFault l m t)) late) t) (sym e) (silent-due n late late-due)
+  lowest-names s (there i p b) =
+      subst (λ (k : ℕ). DueAt n k s)
+      (sym (ap (λ (k : ℕ). orElse k late) (say-false (eqb s 0) 0 _ (ne-eqb s 0 (λ e. omega arith))) ∙ orElse-first (recordFault l m s) late p))
+      (at (record-due l m s))
+    where
+      at : Due slotRefusals (recordFault l m s) → DueAt n (recordFault l m s) s
+      at (inl e) = inl e
+      at (inr j) = inr (a-slot j i)
+
+  slots-names : DueAt n (slotsFault l m n) (slotsNamed l m n)
+  unfolding slotsFault slotsNamed atLowest say late
+  slots-names = go (anyOf (markFault m) 1 n)
+    where
+      go : (b : Bool) → DueAt n (say b 5 (orElse (atLowest (recordFault l m) n) late)) (say b 0 (lowest (recordFault l m) n))
+      go true = inr (no-slot (one-of 5 silentRefusals refl) refl)
+      go false = lowest-names (lowest (recordFault l m) n) (lowest-is (recordFault l m) n)
+
+module _ (l : ℕ) (image heads next : List ℕ) where
+  fault-names : DueAt (slotsIn image) (recoverFault l image (length heads) (length next)) (recoverSlot l image (length heads) (length next))
+  unfolding recoverFault recoverSlot orElse unlessRefused
+  fault-names = go (lentFault l image (length heads) (length next)) (lent-due silentRefusals refl refl refl refl l image (length heads) (length next))
+    where
+      go : (k : ℕ) → Due silentRefusals k
+          → DueAt (slotsIn image) (orElse k (slotsFault l (word image) (slotsIn image))) (unlessRefused k (slotsNamed l (word image) (slotsIn image)) 0)
+      go zero d = slots-names l (word image) (slotsIn image)
+      go (suc k) d = silent-due (slotsIn image) (suc k) d
+
+  -- RECOVER'S SLOT: 6, 22, 23 and 24 name a slot of the image, the other refusals none
+  pub recover-names : (k : ℕ) → recoverResult l image heads next .answer ≡ refused k → Names (slotsIn image) k (recoverResult l image heads next .slot)
+  unfolding recoverResult recovered unlessRefused
+  recover-names k = go _ _ fault-names
+    where
+      left : (fault slot : ℕ) → Result
+      left fault slot = unlessRefused fault (recovered (tableOf l image) (slotsIn image) (length heads)) (refusedResult fault slot heads next)
+
+      go : (fault slot : ℕ) → DueAt (slotsIn image) fault slot → left fault slot .answer ≡ refused k → Names (slotsIn image) k (left fault slot .slot)
+      go zero slot d e = absurd (gives-refused _ k e)
+      go (suc fault) slot (inl z) e = absurd (omega arith)
+      go (suc fault) slot (inr d) e = subst (λ (x : ℕ). Names (slotsIn image) x slot) (same-number (suc fault) k e) d
+
+  -- RECOVER: these numbers
+  pub recover-numbered : Numbered recoverRefusals (recoverResult l image heads next .answer)
+  recover-numbered = go (recoverResult l image heads next .answer) refl
+    where
+      go : (a : Answer) → recoverResult l image heads next .answer ≡ a → Numbered recoverRefusals a
+      go (gives values) e = tt
+      go absent e = tt
+      go (refused k) e = by (recover-names k e)
+        where
+          by : Names (slotsIn image) k (recoverResult l image heads next .slot) → In k recoverRefusals
+          by (a-slot i s) = among slotRefusals recoverRefusals refl k i
+          by (no-slot i z) = among silentRefusals recoverRefusals refl k i
 
 -- ---- what a locate or a get says of the key
 
@@ -255,18 +351,18 @@ module _ (l : ℕ) (image heads next : List ℕ) (key : ℕ) where
       numbered ks (λ (r : GetResult). r .answer) (λ fault. record { answer = refused fault; out = out }) (λ k. refl) _
       (else-due ks _ _ (lent-due ks a b c d l image (length heads) (length next)) (later-due ks e (length out) h _)) _ (get-done ks e out _)
 
-  -- GET: 1, 2, 3, 4, 11, 6, 13; without 13 where the output has room for any value
+  -- GET: 1, 2, 3, 4, 11, 23, 13; without 13 where the output has room for any value
   pub get-numbered : (out : List ℕ) → Numbered getRefusals (getResult l image heads next key out .answer)
   unfolding lengthFault
   get-numbered out =
-      get-by getRefusals refl refl refl refl refl out (λ n. say-due getRefusals _ 6 _ (one-of 6 getRefusals refl) (say-due getRefusals _ 13 0 (one-of 13 getRefusals refl) (none-due getRefusals)))
+      get-by getRefusals refl refl refl refl refl out (λ n. say-due getRefusals _ 23 _ (one-of 23 getRefusals refl) (say-due getRefusals _ 13 0 (one-of 13 getRefusals refl) (none-due getRefusals)))
 
-  roomy-due : (ks : List ℕ) → isOne 6 ks ≡ true → (n size : ℕ) → limit l ≤ size → Due ks (lengthFault l n size)
+  roomy-due : (ks : List ℕ) → isOne 23 ks ≡ true → (n size : ℕ) → limit l ≤ size → Due ks (lengthFault l n size)
   unfolding lengthFault say
-  roomy-due ks six n size h = go (ltb (limit l) n) refl
+  roomy-due ks long n size h = go (ltb (limit l) n) refl
     where
-      go : (b : Bool) → ltb (limit l) n ≡ b → Due ks (say b 6 (say (ltb size n) 13 0))
-      go true t = inr (one-of 6 ks six)
+      go : (b : Bool) → ltb (limit l) n ≡ b → Due ks (say b 23 (say (ltb size n) 13 0))
+      go true t = inr (one-of 23 ks long)
       go false t = inl (say-false _ 13 0 (le-ltb size n (omega (arith, ltb-false (limit l) n t))))
 
   pub roomy-get-numbered : (out : List ℕ) → limit l ≤ length out → Numbered roomyGetRefusals (getResult l image heads next key out .answer)

@@ -1,7 +1,8 @@
 -- The numbers with which each call is refused, whatever image, index and state it is given. Demand 1: "a refusal carries a number from the papers".
-use mathlib.Core.List.{List, [], _∷_}
+use mathlib.Core.List.{List, [], _∷_, _++_}
 use Prim.Native.Nat.{ℕ}
-use Rattle.prelude.specs.Members.{In}
+use mathlib.Core.Path.{_≡_}
+use Rattle.prelude.specs.Members.{In, Slot}
 use Rattle.index.specs.declared.Mode.{Mode}
 use Rattle.index.specs.declared.Mode.the-variants.{Insert, Replace}
 use Rattle.prelude.specs.Answer.{Answer, gives, absent, refused}
@@ -25,9 +26,21 @@ AnswersAsAsked Replace (refused number) = ⊥
 abbrev pub formatRefusals : List ℕ
 formatRefusals = 1 ∷ []
 
--- recover
+-- recover: those of its refusals that name no slot
+abbrev pub silentRefusals : List ℕ
+silentRefusals = 1 ∷ 2 ∷ 3 ∷ 4 ∷ 5 ∷ 7 ∷ 8 ∷ []
+
+-- and those that name one
+abbrev pub slotRefusals : List ℕ
+slotRefusals = 6 ∷ 22 ∷ 23 ∷ 24 ∷ []
+
 abbrev pub recoverRefusals : List ℕ
-recoverRefusals = 1 ∷ 2 ∷ 3 ∷ 4 ∷ 5 ∷ 6 ∷ 7 ∷ 8 ∷ []
+recoverRefusals = silentRefusals ++ slotRefusals
+
+-- the slot that a refusal of recover with this number names: one of the slots 1 to n, or 0 for none
+pub data Names (n number slot : ℕ) : Type 0 where
+  a-slot : In number slotRefusals → Slot n slot → Names n number slot
+  no-slot : In number silentRefusals → slot ≡ 0 → Names n number slot
 
 -- insert and replace: a replace is never refused for room
 abbrev pub writeRefusals : Mode → List ℕ
@@ -45,11 +58,11 @@ removeRefusals = 1 ∷ 2 ∷ 3 ∷ 4 ∷ 11 ∷ 9 ∷ []
 
 -- get
 abbrev pub getRefusals : List ℕ
-getRefusals = 1 ∷ 2 ∷ 3 ∷ 4 ∷ 11 ∷ 6 ∷ 13 ∷ []
+getRefusals = 1 ∷ 2 ∷ 3 ∷ 4 ∷ 11 ∷ 23 ∷ 13 ∷ []
 
 -- get, where the output has room for any value
 abbrev pub roomyGetRefusals : List ℕ
-roomyGetRefusals = 1 ∷ 2 ∷ 3 ∷ 4 ∷ 11 ∷ 6 ∷ []
+roomyGetRefusals = 1 ∷ 2 ∷ 3 ∷ 4 ∷ 11 ∷ 23 ∷ []
 
 -- locate
 abbrev pub locateRefusals : List ℕ

@@ -18,13 +18,13 @@ use layout_code::header::lent_fault;
 use layout_code::header::slot_count;
 use layout_code::value::copy_value;
 
-// 6 or 13 for a value of n bytes and an output of this size, else 0.
+// 23 or 13 for a value of n bytes and an output of this size, else 0.
 fn length_fault(l: usize, n: usize, size: usize) -> u32
     requires { ⌜ Layout l ⌝ }
     ensures { λ r. ⌜ r ≡ lengthFault l n size ⌝ }
 {
     if value_limit(l) < n {
-        return 6;
+        return 23;
     }
     if size < n {
         return 13;
@@ -32,7 +32,7 @@ fn length_fault(l: usize, n: usize, size: usize) -> u32
     0
 }
 
-// 11 (chain), 6 or 13 by what the key's chain has, else 0.
+// 11 (chain), 23 or 13 by what the key's chain has, else 0.
 fn get_later_fault(image: &[u8], l: usize, size: usize, found: Found) -> u32
     requires { ⌜ Layout l × FoundInside l (now image) found ⌝ }
     ensures { λ r. ⌜ r ≡ getLaterFault l (now (image .entry)) size found ⌝ }

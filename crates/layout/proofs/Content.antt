@@ -13,9 +13,9 @@ use Rattle.layout.specs.Line.{lineA, lineB, whole, versionOf, lineTop}
 use Rattle.layout.specs.Slot.{paired, slotTop, verdictOf, lineVerdict}
 use Rattle.layout.specs.Record.{kindOf, lengthOf, keyOf, limit, valueByte, valueFront, valueOf}
 use Rattle.layout.specs.Content.{broken, empty, putRecord, removeRecord, made, contentBy, contentOf, content, top, topOf}
-use Rattle.layout.specs.Fault.{wordFault, tailFault, faultOf}
+use Rattle.layout.specs.Fault.{wordFault, faultOf}
 use Rattle.layout.specs.declared.Verdict.the-variants.{Valid, Empty, Broken}
-use Rattle.prelude.proofs.Any.{or-none}
+use Rattle.prelude.proofs.Refusals.{orElse-zero}
 use Rattle.layout.proofs.RecordFields.{within}
 use Rattle.prelude.proofs.Tabulate.{tabulate-length}
 
@@ -201,9 +201,9 @@ unfolding valueOf valueFront
 value-length l A B = tabulate-length (valueByte l A B) 0 (lengthOf (A (l + 1)))
 
 -- without a fault the length is within the limit
-pub length-bound : (l : ℕ) (A B : ℕ → ℕ) → faultOf l A B ≡ false → lengthOf (A (l + 1)) ≤ limit l
+pub length-bound : (l : ℕ) (A B : ℕ → ℕ) → faultOf l A B ≡ 0 → lengthOf (A (l + 1)) ≤ limit l
 unfolding faultOf
-length-bound l A B e = within l (A (l + 1)) _ refl (or-none (wordFault l (A (l + 1))) (tailFault l A B (lengthOf (A (l + 1)))) e .0)
+length-bound l A B e = within l (A (l + 1)) _ refl (orElse-zero (wordFault l (A (l + 1))) _ e .0)
 
 -- ---- a slot whose marks and stamps are zero is empty
 

@@ -7,9 +7,10 @@ use lib.Dec.{eqb, ltb, leb}
 use borrow.Author.Tests.{eq-eqb, ne-eqb, lt-ltb, le-ltb, le-leb, lt-leb, ltb-false}
 use Rattle.layout.specs.Line.{lineA}
 use Rattle.layout.specs.Record.{kindOf, lengthOf, limit}
-use Rattle.layout.specs.Fault.{kindFault, wordFault, tailFault, faultOf}
+use Rattle.layout.specs.Fault.{kindFault, longest, wordFault, tailFault, faultOf}
+use Rattle.prelude.specs.Refusal.{say}
 use Rattle.prelude.proofs.Choice.{pick-true, pick-false}
-use Rattle.prelude.proofs.Any.{or-none}
+use Rattle.prelude.proofs.Refusals.{say-true, say-false, say-zero, orElse-first, orElse-later}
 
 -- the low word of the key, and the kind word
 pub low-at : (m : ℕ → ℕ) (s : ℕ) → m (16 * s + 1) ≡ lineA m s 1
@@ -21,62 +22,62 @@ second-at m s = ap m (omega arith)
 pub kind-at : (m : ℕ → ℕ) (l s : ℕ) → l ≤ 2 → m (16 * s + l + 1) ≡ lineA m s (l + 1)
 kind-at m l s h = ap m (omega arith)
 
--- ---- word_fault: k says whether the kind is a fault
+-- ---- word_fault: k says whether the kind is a fault, most is the greatest length of that kind
 
-module _
-    (l w kind size most : ℕ) (a-kind : kind ≡ kindOf w) (a-size : size ≡ lengthOf w) (a-limit : most ≡ limit l) (k : Bool)
-    (e : k ≡ kindFault kind) where
-  which : k ≡ kindFault (kindOf w)
-  which = e ∙ ap kindFault a-kind
+pub bad-bits : (l w : ℕ) → 65536 ≤ w → 6 ≡ wordFault l w
+unfolding wordFault
+bad-bits l w h = sym (say-true (leb 65536 w) 6 _ (le-leb 65536 w h))
 
-  pub bad-kind : k ≡ true → true ≡ wordFault l w
+module _ (l w kind : ℕ) (h : w < 65536) (a-kind : kind ≡ kindOf w) (k : Bool) (e : k ≡ kindFault kind) where
+  past-bits : say k 22 (say (ltb (longest l kind) (lengthOf w)) 23 0) ≡ wordFault l w
   unfolding wordFault
-  bad-kind t = sym (pick-true (kindFault (kindOf w)) _ _ (sym which ∙ t))
+  past-bits = rw (e, a-kind) (sym (say-false (leb 65536 w) 6 _ (lt-leb 65536 w h)))
 
-  module _ (t : k ≡ false) where
-    pub bad-bits : 65536 ≤ w → true ≡ wordFault l w
-    unfolding wordFault
-    bad-bits h = sym (pick-false (kindFault (kindOf w)) _ _ (sym which ∙ t) ∙ pick-true (leb 65536 w) _ _ (le-leb 65536 w h))
+  pub bad-kind : k ≡ true → 22 ≡ wordFault l w
+  bad-kind t = sym (say-true k 22 _ t) ∙ past-bits
 
-    module _ (h : w < 65536) where
-      pub bad-length : most < size → true ≡ wordFault l w
-      unfolding wordFault
-      bad-length p =
-          sym
-          (pick-false (kindFault (kindOf w)) _ _ (sym which ∙ t) ∙ pick-false (leb 65536 w) _ _ (lt-leb 65536 w h)
-          ∙ pick-true (ltb (limit l) (lengthOf w)) _ _ (lt-ltb (limit l) (lengthOf w) (omega (arith, p, a-size, a-limit))))
+  module _ (t : k ≡ false) (most size : ℕ) (a-most : most ≡ longest l kind) (a-size : size ≡ lengthOf w) where
+    past-kind : say (ltb most size) 23 0 ≡ wordFault l w
+    past-kind = rw (a-most, a-size) (sym (say-false k 22 _ t) ∙ past-bits)
 
-      left-to-kind : size ≤ most → wordFault l w ≡ cond (eqb kind 2) (ltb 0 size) false
-      unfolding wordFault
-      left-to-kind p =
-          pick-false (kindFault (kindOf w)) _ _ (sym which ∙ t) ∙ pick-false (leb 65536 w) _ _ (lt-leb 65536 w h)
-          ∙ pick-false (ltb (limit l) (lengthOf w)) _ _ (le-ltb (limit l) (lengthOf w) (omega (arith, p, a-size, a-limit)))
-          ∙ ap₂ (λ (x y : ℕ). cond (eqb x 2) (ltb 0 y) false) (sym a-kind) (sym a-size)
+    pub bad-length : most < size → 23 ≡ wordFault l w
+    bad-length p = sym (say-true (ltb most size) 23 0 (lt-ltb most size p)) ∙ past-kind
 
-      pub a-remove : size ≤ most → kind ≡ 2 → ltb 0 size ≡ wordFault l w
-      a-remove p z = sym (left-to-kind p ∙ pick-true (eqb kind 2) _ _ (eq-eqb kind 2 z))
+    pub no-word-fault : size ≤ most → 0 ≡ wordFault l w
+    no-word-fault p = sym (say-false (ltb most size) 23 0 (le-ltb most size p)) ∙ past-kind
 
-      pub no-remove : size ≤ most → (kind ≡ 2 → ⊥) → false ≡ wordFault l w
-      no-remove p z = sym (left-to-kind p ∙ pick-false (eqb kind 2) _ _ (ne-eqb kind 2 z))
+longest-most : (l kind : ℕ) → longest l kind ≤ limit l
+unfolding longest
+longest-most l kind = go (eqb kind 2)
+  where
+    go : (b : Bool) → cond b 0 (limit l) ≤ limit l
+    go true = omega arith
+    go false = omega arith
 
 -- without a fault by the kind word the length is within the limit
-pub within : (l kind size : ℕ) → size ≡ lengthOf kind → wordFault l kind ≡ false → size ≤ limit l
+pub within : (l w size : ℕ) → size ≡ lengthOf w → wordFault l w ≡ 0 → size ≤ limit l
 unfolding wordFault
-within l kind size e clear =
-    let kind-fine = or-none (kindFault (kindOf kind)) _ clear in
-    let bits-fine = or-none (leb 65536 kind) _ (kind-fine .1) in
-    let low = ltb-false (limit l) (lengthOf kind) (or-none (ltb (limit l) (lengthOf kind)) _ (bits-fine .1) .0) in
-    omega arith
+within l w size e clear =
+    let bits = say-zero (leb 65536 w) 6 _ clear (omega arith) in
+    let kind = say-zero (kindFault (kindOf w)) 22 _ (bits .1) (omega arith) in
+    let long = say-zero (ltb (longest l (kindOf w)) (lengthOf w)) 23 _ (kind .1) (omega arith) in
+    omega (arith, ltb-false (longest l (kindOf w)) (lengthOf w) (long .0), longest-most l (kindOf w))
 
--- ---- record_fault: kind is the kind word, and t says whether it is a fault by itself
+-- ---- record_fault: w is the kind word, and t its fault by itself
 
-module _ (l : ℕ) (A B : ℕ → ℕ) (kind : ℕ) (e : kind ≡ A (l + 1)) (t : Bool) (f : t ≡ wordFault l kind) where
-  pub fault-by-word : t ≡ true → true ≡ faultOf l A B
+module _ (l : ℕ) (A B : ℕ → ℕ) (w : ℕ) (e : w ≡ A (l + 1)) (t : ℕ) (f : t ≡ wordFault l w) where
+  pub fault-by-word : (t ≡ 0 → ⊥) → t ≡ faultOf l A B
   unfolding faultOf
-  fault-by-word h = sym (pick-true (wordFault l (A (l + 1))) _ _ (ap (wordFault l) (sym e) ∙ sym f ∙ h))
+  fault-by-word ne = f ∙ ap (wordFault l) e ∙ sym (orElse-first (wordFault l (A (l + 1))) _ (λ z. ne (f ∙ ap (wordFault l) e ∙ z)))
 
-  pub fault-by-tail : t ≡ false → (size : ℕ) → size ≡ lengthOf kind → (r : Bool) → r ≡ tailFault l A B size → r ≡ faultOf l A B
-  unfolding faultOf
-  fault-by-tail h size z r w =
-      w ∙ ap (tailFault l A B) z ∙ ap (λ (x : ℕ). tailFault l A B (lengthOf x)) e
-      ∙ sym (pick-false (wordFault l (A (l + 1))) _ _ (ap (wordFault l) (sym e) ∙ sym f ∙ h))
+  module _ (z : t ≡ 0) (size : ℕ) (a-size : size ≡ lengthOf w) (r : Bool) (g : r ≡ tailFault l A B size) where
+    past-word : say r 24 0 ≡ faultOf l A B
+    unfolding faultOf
+    past-word =
+        rw (g, a-size, e) (sym (orElse-later (wordFault l (A (l + 1))) _ (sym (f ∙ ap (wordFault l) e) ∙ z)))
+
+    pub fault-by-tail : r ≡ true → 24 ≡ faultOf l A B
+    fault-by-tail h = sym (say-true r 24 0 h) ∙ past-word
+
+    pub no-fault : r ≡ false → 0 ≡ faultOf l A B
+    no-fault h = sym (say-false r 24 0 h) ∙ past-word

@@ -1,7 +1,10 @@
--- What recovery's refusals 5 and 6 ask of one slot. Document 01, "What each operation may say no to".
+-- What recovery's refusals 5, 6, 22, 23 and 24 ask of one slot. Document 01, "What each operation may say no to"; document 02, A.5: "6 keeps only bits above the
+-- length byte", "22 when the kind is neither 1 nor 2, 23 when the length is wrong for the kind or over 80, and 24 when a byte past the length is nonzero; within a
+-- slot they follow 6 in that order".
 use mathlib.Core.Bool.{Bool, true, false, cond, not}
 use Prim.Native.Nat.{ℕ, _+_, _-_}
 use lib.Dec.{eqb, ltb, leb}
+use Rattle.prelude.specs.Refusal.{say, orElse}
 use Rattle.prelude.specs.Range.{anyOf}
 use Rattle.layout.specs.Line.{lineA, lineB}
 use Rattle.layout.specs.Slot.{lineVerdict, isValid}
@@ -11,24 +14,27 @@ use Rattle.layout.specs.Record.{kindOf, lengthOf, limit, valueByte}
 unfoldable pub markFault : (ℕ → ℕ) → ℕ → Bool
 markFault m s = cond (ltb 1 (lineA m s 0)) true (ltb 1 (lineB m s 0))
 
--- "another kind"
+-- "the kind is neither 1 nor 2"
 unfoldable pub kindFault : ℕ → Bool
 kindFault kind = cond (eqb kind 1) false (cond (eqb kind 2) false true)
 
--- "6 when a valid slot has another kind, bits above the length byte, a length over 80 .. or a remove with a length": by the kind word
-unfoldable pub wordFault : (l w : ℕ) → Bool
+-- the greatest length of a record of this kind: "A remove record has length 0"
+unfoldable pub longest : (l kind : ℕ) → ℕ
+longest l kind = cond (eqb kind 2) 0 (limit l)
+
+-- by the kind word: 6, 22, 23
+unfoldable pub wordFault : (l w : ℕ) → ℕ
 wordFault l w =
-    cond (kindFault (kindOf w)) true
-    (cond (leb 65536 w) true (cond (ltb (limit l) (lengthOf w)) true (cond (eqb (kindOf w) 2) (ltb 0 (lengthOf w)) false)))
+    say (leb 65536 w) 6 (say (kindFault (kindOf w)) 22 (say (ltb (longest l (kindOf w)) (lengthOf w)) 23 0))
 
 -- a byte of the value from position `size` on is not zero
 unfoldable pub tailFault : (l : ℕ) → (A B : ℕ → ℕ) → (size : ℕ) → Bool
 tailFault l A B size = anyOf (λ k. not (eqb (valueByte l A B k) 0)) size (limit l - size)
 
--- or "a nonzero byte past the length"
-unfoldable pub faultOf : (l : ℕ) → (A B : ℕ → ℕ) → Bool
-faultOf l A B = cond (wordFault l (A (l + 1))) true (tailFault l A B (lengthOf (A (l + 1))))
+-- the fault of the record in lines A and B: by its kind word, then 24; 0 for none
+unfoldable pub faultOf : (l : ℕ) → (A B : ℕ → ℕ) → ℕ
+faultOf l A B = orElse (wordFault l (A (l + 1))) (say (tailFault l A B (lengthOf (A (l + 1)))) 24 0)
 
--- 6 asks it of a valid slot alone
-unfoldable pub recordFault : (l : ℕ) → (ℕ → ℕ) → ℕ → Bool
-recordFault l m s = cond (isValid (lineVerdict (lineA m s) (lineB m s))) (faultOf l (lineA m s) (lineB m s)) false
+-- the fault of slot s: only the record of a valid slot has one
+unfoldable pub recordFault : (l : ℕ) → (ℕ → ℕ) → ℕ → ℕ
+recordFault l m s = cond (isValid (lineVerdict (lineA m s) (lineB m s))) (faultOf l (lineA m s) (lineB m s)) 0

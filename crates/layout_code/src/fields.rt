@@ -1,4 +1,4 @@
-// The fields of the record in a slot, and refusal 6. `l` is the layout.
+// The fields of the record in a slot, and its fault: 6, 22, 23 or 24. `l` is the layout.
 ghost use mathlib.Core.Path.{_≡_};
 ghost use Prim.Native.Nat.{_+_, _*_, _≤_};
 ghost use lib.Dec.{eqb};
@@ -6,7 +6,7 @@ ghost use lib.ListN.{length};
 ghost use Rattle.words.specs.Word.{word};
 ghost use Rattle.layout.specs.Line.{lineA, lineB};
 ghost use Rattle.layout.specs.Record.{keyOf, kindOf, lengthOf, limit};
-ghost use Rattle.layout.specs.Fault.{kindFault, wordFault, tailFault, faultOf};
+ghost use Rattle.layout.specs.Fault.{kindFault, longest, wordFault, tailFault, faultOf};
 ghost use Rattle.layout.specs.inner.Inside.{SlotInside};
 ghost use Rattle.layout.specs.inner.Key.{keyWith, highWord};
 use crate::value::value_word;
@@ -101,26 +101,33 @@ fn kind_fault(kind: u64) -> bool
     true
 }
 
-// Is the kind word wrong by itself?
-fn word_fault(l: usize, w: u64) -> bool
+// The greatest length of a record of this kind: a remove has none.
+fn kind_limit(l: usize, kind: u64) -> usize
+    requires { ⌜ l ≤ 2 ⌝ }
+    ensures { λ r. ⌜ r ≡ longest l kind ⌝ }
+{
+    if kind != 2 {
+        return value_limit(l);
+    }
+    0
+}
+
+// The fault of the kind word by itself: 6, 22 or 23, else 0.
+fn word_fault(l: usize, w: u64) -> u32
     requires { ⌜ l ≤ 2 ⌝ }
     ensures { λ r. ⌜ r ≡ wordFault l w ⌝ }
 {
-    let kind = kind_of(w);
-    let size = length_of(w);
-    if kind_fault(kind) {
-        return true;
-    }
     if 65536 <= w {
-        return true;
+        return 6;
     }
-    if value_limit(l) < size {
-        return true;
+    let kind = kind_of(w);
+    if kind_fault(kind) {
+        return 22;
     }
-    if kind == 2 {
-        return 0 < size;
+    if kind_limit(l, kind) < length_of(w) {
+        return 23;
     }
-    false
+    0
 }
 
 // Is a byte of the value from position size on not zero? Word by word, the first one from position size % 8 on.
@@ -142,14 +149,18 @@ fn tail_fault(image: &[u8], l: usize, s: usize, size: usize) -> bool
     false
 }
 
-// Has the record in slot s a fault (6)? Asked of valid slots.
-pub fn record_fault(image: &[u8], l: usize, s: usize) -> bool
+// The fault of the record in slot s: 6, 22, 23 or 24, else 0. Asked of valid slots.
+pub fn record_fault(image: &[u8], l: usize, s: usize) -> u32
     requires { ⌜ SlotInside (now image) l s ⌝ }
     ensures { λ r. ⌜ r ≡ faultOf l (lineA (word (now (image .entry))) s) (lineB (word (now (image .entry))) s) ⌝ }
 {
     let w = kind_word(image, l, s);
-    if word_fault(l, w) {
-        return true;
+    let fault = word_fault(l, w);
+    if fault != 0 {
+        return fault;
     }
-    tail_fault(image, l, s, length_of(w))
+    if tail_fault(image, l, s, length_of(w)) {
+        return 24;
+    }
+    0
 }

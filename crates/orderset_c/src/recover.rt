@@ -7,7 +7,7 @@ use crate::state::keep_state;
 use orderset::Recovered;
 use orderset::recover;
 
-// The index of the image is rebuilt; the answer is the state beside it.
+// The index of the image is rebuilt; the answer is the state beside it. Returned is 0, or the refusal + 2^32 × the slot that it names.
 #[no_mangle]
 pub extern "C" fn orderset_recover(
     image: &[u8],
@@ -15,12 +15,12 @@ pub extern "C" fn orderset_recover(
     next: &mut [u32],
     state: &mut [u32; 3],
     version: &mut [u64; 1],
-) -> u32
+) -> u64
     ensures { λ r. ⌜ recoverLeft r (stateFrom (now (state .exit)) (now (version .exit))) (now (heads .exit)) (now (next .exit)) ≡ recoverCall (recoverResult 1 (now (image .entry)) (now (heads .entry)) (now (next .entry))) (stateFrom (now (state .entry)) (now (version .entry))) ⌝ }
 {
     let recovered = recover(image, heads, next);
     match recovered {
-        Recovered::Refused(number) => number,
+        Recovered::Refused { number, slot } => number as u64 + 4294967296 * (slot as u64),
         Recovered::Rebuilt(after) => {
             keep_state(after, state, version);
             0

@@ -16,6 +16,7 @@ use Rattle.layout.specs.Content.{content, tableOf}
 use Rattle.layout.specs.Header.{headerWord, headerFault, imageFault, indexFault, lentFault}
 use Rattle.layout.specs.Fault.{markFault, recordFault}
 use Rattle.prelude.proofs.Any.{or-none, any-none, any-clear}
+use Rattle.prelude.proofs.Lowest.{all-clear}
 use Rattle.prelude.proofs.Refusals.{say-false, say-zero, orElse-later, orElse-zero}
 use Rattle.layout.proofs.Size.{Long, long}
 use Rattle.table.specs.Table.{liveCount}
@@ -85,10 +86,10 @@ unfolding markFault
 right-marks m s h =
     pick-false (ltb 1 (lineA m s 0)) _ _ (le-ltb 1 (lineA m s 0) (h .0)) ∙ le-ltb 1 (lineB m s 0) (h .1)
 
--- what 5, 6, 7 and 8 leave
+-- what the refusals of the slots leave
 pub record RightSlots (l : ℕ) (m : ℕ → ℕ) (n : ℕ) : Type 0 where
   pub marks : (s : ℕ) → Slot n s → BitMarks m s
-  pub records : (s : ℕ) → Slot n s → recordFault l m s ≡ false
+  pub records : (s : ℕ) → Slot n s → recordFault l m s ≡ 0
   pub distinct : Distinct (content l m) n
   pub room : liveCount (content l m) n < n
 
@@ -98,7 +99,7 @@ module _ (l : ℕ) (m : ℕ → ℕ) (n : ℕ) where
       let clear = slots-clear l m n e in
       record {
         marks = λ s i. passed-marks m s (slots-none (markFault m) n (clear .marks) s i);
-        records = slots-none (recordFault l m) n (clear .records);
+        records = clear .records;
         distinct = shared-distinct (content l m) n (clear .versions);
         room = all-room (content l m) n (clear .room);
       }
@@ -107,7 +108,7 @@ module _ (l : ℕ) (m : ℕ → ℕ) (n : ℕ) where
   unfolding slotsFault
   right-slots h =
       say-false _ _ _ (slots-free (markFault m) n (λ s i. right-marks m s (h .marks s i)))
-      ∙ say-false _ _ _ (slots-free (recordFault l m) n (h .records))
+      ∙ orElse-later _ _ (all-clear (recordFault l m) n (h .records))
       ∙ say-false _ _ _ (distinct-shared (content l m) n (h .distinct))
       ∙ say-false _ _ _ (room-all (content l m) n (h .room))
 

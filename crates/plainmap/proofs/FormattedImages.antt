@@ -13,7 +13,8 @@ use Rattle.layout.specs.declared.Verdict.{Verdict}
 use Rattle.layout.specs.declared.Verdict.the-variants.{Empty}
 use Rattle.layout.specs.Fault.{markFault, faultOf, recordFault}
 use Rattle.layout.specs.Content.{tableOf}
-use Rattle.prelude.proofs.Refusals.{say-false}
+use Rattle.prelude.proofs.Refusals.{say-false, orElse-later}
+use Rattle.prelude.proofs.Lowest.{all-clear}
 use Rattle.layout.proofs.Content.{verdict-empty, paired-by}
 use Rattle.layout.proofs.Size.{long}
 use Rattle.prelude.proofs.Any.{any-clear}
@@ -48,16 +49,16 @@ module _ (l len : ℕ) (ne : slotsOf len ≡ 0 → ⊥) (b : l < 2 ^ 64) (s : �
       }))
       (ap (λ (x : ℕ). x / 2) (zero-at (2 * s) 7 (omega arith)))
 
-  no-record : recordFault l (words-of l len) s ≡ false
+  no-record : recordFault l (words-of l len) s ≡ 0
   unfolding recordFault isValid
-  no-record = ap (λ (v : Verdict). cond (isValid v) (faultOf l (lineA (words-of l len) s) (lineB (words-of l len) s)) false) is-empty
+  no-record = ap (λ (v : Verdict). cond (isValid v) (faultOf l (lineA (words-of l len) s) (lineB (words-of l len) s)) 0) is-empty
 
--- 5, 6, 7 and 8 do not hold, and the index is that of a set without records: every slot in reuse, in slot order, live 0, version 1
+-- no refusal of the slots is due, and the index is that of a set without records: every slot in reuse, in slot order, live 0, version 1
 pub formatted-slots : (l len : ℕ) → (slotsOf len ≡ 0 → ⊥) → l < 2 ^ 64 → slotsFault l (word (formatted l len)) (slotsOf len) ≡ 0
 unfolding slotsFault
 formatted-slots l len ne b =
     say-false _ _ _ (any-clear _ 1 (slotsOf len) (λ i h. no-mark l len ne b (1 + i) (omega arith)))
-    ∙ say-false _ _ _ (any-clear _ 1 (slotsOf len) (λ i h. no-record l len ne b (1 + i) (omega arith)))
+    ∙ orElse-later _ _ (all-clear (recordFault l (word (formatted l len))) (slotsOf len) (λ s i. no-record l len ne b s (i .0)))
     ∙ unwritten-fine (tableOf l (formatted l len)) (slotsOf len) (λ s i. formatted-content l l len s ne b (i .0))
     (omega (arith, long len ne .low))
 

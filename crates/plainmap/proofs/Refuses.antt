@@ -122,7 +122,7 @@ module _ (f : Table) (n key : ℕ) (chain : List ℕ) where
   unfolding getLaterFault lengthFault sizeOf
   get-checks l image size keeps found (sees-held xs ys v d p i q e m u) =
       let k = keeps _ v i e u in
-      say-false _ 6 _ (le-ltb (limit l) _ (omega (arith, k .size, k .fits)))
+      say-false _ 23 _ (le-ltb (limit l) _ (omega (arith, k .size, k .fits)))
       ∙ ap (λ (x : ℕ). say (ltb size x) 13 0) (k .size ∙ sym (ap sizeOf m))
   get-checks l image size keeps found (sees-absent p m) = sym (say-false _ 13 0 (le-ltb size _ (omega (arith, ap sizeOf m))))
 

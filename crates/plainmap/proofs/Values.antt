@@ -27,7 +27,7 @@ use Rattle.plainmap.specs.Claims.{slotsMap}
 use Rattle.plainmap.proofs.AcceptedImages.{RightSlots, accepted-right}
 
 -- a valid slot without a fault has none by its lines
-valid-fault : (l : ℕ) (m : ℕ → ℕ) (s v : ℕ) → ValidAt (lineA m s) (lineB m s) v → recordFault l m s ≡ false → faultOf l (lineA m s) (lineB m s) ≡ false
+valid-fault : (l : ℕ) (m : ℕ → ℕ) (s v : ℕ) → ValidAt (lineA m s) (lineB m s) v → recordFault l m s ≡ 0 → faultOf l (lineA m s) (lineB m s) ≡ 0
 unfolding recordFault isValid
 valid-fault l m s v h e =
     sym

@@ -8,7 +8,7 @@ use Rattle.layout.specs.Header.{imageFault, indexFault}
 use Rattle.recovery.specs.Recover.{slotsFault}
 use Rattle.layout.specs.Size.{slotsIn}
 
--- "an accepted image, one that recovery does not refuse": 1, 2, 3 and 5 to 8 are not due. 4 is about the lent index
+-- "an accepted image, one that recovery does not refuse": neither 1, 2, 3 nor a refusal of the slots is due. 4 is about the lent index
 pub record Accepted (l : ℕ) (image : List ℕ) : Type 0 where
   pub header : imageFault l image ≡ 0
   pub records : slotsFault l (word image) (slotsIn image) ≡ 0

@@ -7,6 +7,7 @@ pub mod Tabulate
 pub mod Fills
 pub mod Count
 pub mod Most
+pub mod Lowest
 pub mod Lists
 pub mod Sums
 pub mod defs

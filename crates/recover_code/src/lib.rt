@@ -21,7 +21,10 @@ fn recover_in(image: &[u8], l: usize, heads: &mut [u32], next: &mut [u32]) -> Re
 {
     let fault = lent_fault(image, l, heads.len(), next.len());
     if fault != 0 {
-        return Recovered::Refused(fault);
+        return Recovered::Refused {
+            number: fault,
+            slot: 0,
+        };
     }
     let n = slot_count(image.len());
     if n < 64 {

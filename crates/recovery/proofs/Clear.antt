@@ -1,18 +1,20 @@
--- What slots that recovery does not refuse are: none of 5, 6, 7 and 8 is due. Assumes nothing.
+-- What slots that recovery does not refuse are: none of their refusals is due. Assumes nothing.
 use mathlib.Core.Path.{_≡_}
 use mathlib.Core.Bool.{false}
 use Prim.Native.Nat.{ℕ}
 use native.Mathlib.Omega.{arith}
-use Rattle.prelude.specs.Range.{anyOf}
+use Rattle.prelude.specs.Range.{anyOf, atLowest}
+use Rattle.prelude.specs.Members.{Slot}
+use Rattle.prelude.proofs.Lowest.{clear-at}
 use Rattle.layout.specs.Content.{content}
 use Rattle.layout.specs.Fault.{markFault, recordFault}
-use Rattle.prelude.proofs.Refusals.{say-zero}
+use Rattle.prelude.proofs.Refusals.{say-zero, orElse-zero}
 use Rattle.table.specs.Table.{sharedVersion, allLive}
 use Rattle.recovery.specs.Recover.{slotsFault}
 
 pub record Clear (l : ℕ) (m : ℕ → ℕ) (n : ℕ) : Type 0 where
   pub marks : anyOf (markFault m) 1 n ≡ false
-  pub records : anyOf (recordFault l m) 1 n ≡ false
+  pub records : (s : ℕ) → Slot n s → recordFault l m s ≡ 0
   pub versions : sharedVersion (content l m) n ≡ false
   pub room : allLive (content l m) n ≡ false
 
@@ -20,7 +22,7 @@ pub slots-clear : (l : ℕ) (m : ℕ → ℕ) (n : ℕ) → slotsFault l m n ≡
 unfolding slotsFault
 slots-clear l m n z =
     let a = say-zero _ 5 _ z (omega arith) in
-    let b = say-zero _ 6 _ (a .1) (omega arith) in
+    let b = orElse-zero (atLowest (recordFault l m) n) _ (a .1) in
     let c = say-zero _ 7 _ (b .1) (omega arith) in
     let d = say-zero _ 8 _ (c .1) (omega arith) in
-    record { marks = a .0; records = b .0; versions = c .0; room = d .0 }
+    record { marks = a .0; records = clear-at (recordFault l m) n (b .0); versions = c .0; room = d .0 }

@@ -1,4 +1,4 @@
--- What judging needs: the refusals 5 to 8, and the arranged slots of an accepted image. Assumes nothing.
+-- What judging needs: the refusals of the slots, and the arranged slots of an accepted image. Assumes nothing.
 use mathlib.Core.Path.{_≡_, sym, ap, ap₂, _∙_}
 use mathlib.Core.Bool.{Bool, true, false, cond}
 use mathlib.Core.Logic.{_⊎_, inl, inr}
@@ -10,8 +10,8 @@ use lib.ListN.{length, getD}
 use Rattle.words.specs.Word.{AreBytes, word}
 use Rattle.words.proofs.Laws.{word-range}
 use Rattle.prelude.proofs.Choice.{pick-true, pick-false, split}
-use Rattle.prelude.specs.Refusal.{say}
-use Rattle.prelude.specs.Range.{anyOf}
+use Rattle.prelude.specs.Refusal.{say, orElse}
+use Rattle.prelude.specs.Range.{anyOf, atLowest}
 use Rattle.layout.specs.Record.{Layout}
 use Rattle.layout.specs.Line.{lineA, lineB, whole, versionOf, lineTop}
 use Rattle.layout.specs.Slot.{slotTop}
@@ -29,10 +29,10 @@ use Rattle.prelude.proofs.Lists.{slots-in, AllSlots}
 use Rattle.sorting.proofs.Whole.{whole-sorted}
 use Rattle.prelude.proofs.Most.{greatest-least}
 use Rattle.table.proofs.Distinct.{shared-distinct}
-use Rattle.recovery.specs.Recover.{slotsFault}
+use Rattle.recovery.specs.Recover.{slotsFault, slotsNamed}
 use Rattle.recovery.specs.inner.Scan.{keyAt, Scanned}
 use Rattle.recovery.specs.inner.Decide.{equalNeighbours, decided, placedCount, livePlace, Within, NoneOrAll}
-use Rattle.recovery.specs.inner.Judge.{foundFault, Judgement}
+use Rattle.recovery.specs.inner.Judge.{foundFault, foundSlot, Judgement}
 use Rattle.recovery.specs.declared.Scan.{Scan}
 use Rattle.recovery.proofs.Clear.{slots-clear}
 use Rattle.recovery.proofs.Orders.{whole-order, whole-within}
@@ -109,9 +109,16 @@ module _ (l : ℕ) (image : List ℕ) (n b : ℕ) (ranks lows highs places₁ or
   fault-is : foundFault (all .mark) (all .fault) shared live-count n ≡ slotsFault l (word image) n
   unfolding foundFault slotsFault f
   fault-is =
-      ap₂ (λ (x y : Bool). say x 5 (say y 6 (say shared 7 (say (eqb live-count n) 8 0)))) (s .marks-are) (s .faults-are)
-      ∙ ap (λ (z : Bool). say (anyOf (markFault (word image)) 1 n) 5 (say (anyOf (recordFault l (word image)) 1 n) 6 (say z 7 (say (eqb live-count n) 8 0)))) shared-is
-      ∙ ap (λ (k : ℕ). say (anyOf (markFault (word image)) 1 n) 5 (say (anyOf (recordFault l (word image)) 1 n) 6 k)) late
+      ap₂ (λ (x : Bool) (y : ℕ). say x 5 (orElse y (say shared 7 (say (eqb live-count n) 8 0)))) (s .marks-are) (s .fault-is)
+      ∙ ap (λ (z : Bool). say (anyOf (markFault (word image)) 1 n) 5 (orElse records (say z 7 (say (eqb live-count n) 8 0)))) shared-is
+      ∙ ap (λ (k : ℕ). say (anyOf (markFault (word image)) 1 n) 5 (orElse records k)) late
+    where
+      records : ℕ
+      records = atLowest (recordFault l (word image)) n
+
+  slot-is : foundSlot (all .mark) (all .slot) ≡ slotsNamed l (word image) n
+  unfolding foundSlot slotsNamed
+  slot-is = ap₂ (λ (x : Bool) (y : ℕ). say x 0 y) (s .marks-are) (s .slot-is)
 
   none-shared : slotsFault l (word image) n ≡ 0 → sharedVersion f n ≡ false
   unfolding f
@@ -125,12 +132,13 @@ module _ (l : ℕ) (image : List ℕ) (n b : ℕ) (ranks lows highs places₁ or
         greatest-least (λ t. topOf (tableOf l image t)) n (2 ^ 63 - 1) (λ t i. let h = top-small l image t bytes in omega arith),
       )
 
-  pub judged : (fault : ℕ) → fault ≡ foundFault (all .mark) (all .fault) shared live-count n
-      → Judgement l (word image) n b order places (record { fault = fault; live = live-count; top = all .top })
+  pub judged : (fault slot : ℕ) → fault ≡ foundFault (all .mark) (all .fault) shared live-count n → slot ≡ foundSlot (all .mark) (all .slot)
+      → Judgement l (word image) n b order places (record { fault = fault; slot = slot; live = live-count; top = all .top })
   unfolding f nextVersion
-  judged fault e =
+  judged fault slot e d =
       record {
         fault-is = e ∙ fault-is;
+        slot-is = d ∙ slot-is;
         arranged =
             λ z.
             let fine = none-shared (sym (e ∙ fault-is) ∙ z) in

@@ -6,16 +6,14 @@ use lib.ListN.{length}
 use Rattle.layout.specs.Size.{slotsIn}
 use Rattle.layout.specs.Content.{tableOf}
 use Rattle.prelude.proofs.Refusals.{taken-leaves}
-use Rattle.recovery.specs.Recover.{recoverFault, recovered, recoverResult, refusedResult}
+use Rattle.recovery.specs.Recover.{recoverFault, recovered, recoverResult}
 
 -- a recovery that is not refused leaves the recovered index
 pub recovery-taken : (l : ℕ) (image heads next : List ℕ) → recoverFault l image (length heads) (length next) ≡ 0
     → recoverResult l image heads next ≡ recovered (tableOf l image) (slotsIn image) (length heads)
 unfolding recoverResult
 recovery-taken l image heads next z =
-    taken-leaves (recovered (tableOf l image) (slotsIn image) (length heads))
-    (refusedResult (recoverFault l image (length heads) (length next)) heads next)
-    (recoverFault l image (length heads) (length next)) z
+    taken-leaves (recovered (tableOf l image) (slotsIn image) (length heads)) _ (recoverFault l image (length heads) (length next)) z
 
 pub same-recovery : (l : ℕ) (image heads next heads′ next′ : List ℕ) → length heads ≡ length heads′ → length next ≡ length next′
     → recoverFault l image (length heads) (length next) ≡ 0 → recoverResult l image heads next ≡ recoverResult l image heads′ next′

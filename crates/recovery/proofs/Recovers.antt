@@ -24,7 +24,7 @@ use Rattle.index.specs.inner.Parts.{PartsOf}
 use Rattle.index.specs.inner.Build.{build, placeIn, unbuilt, Ordered}
 use Rattle.index.specs.declared.State.{State}
 use Rattle.layout.proofs.Lents.{lent-sized, lent-heads, lent-slots}
-use Rattle.recovery.specs.Recover.{Result, stateValues, recoverSays, slotsFault, recoverFault, recoveredIndex, recoveredState, recovered, recoverResult, recoverEnd, recoverState, refusedResult}
+use Rattle.recovery.specs.Recover.{Result, stateValues, recoverSays, recoverNames, slotsFault, slotsNamed, recoverFault, recoverSlot, recoveredIndex, recoveredState, recovered, recoverResult, recoverEnd, recoverState, refusedResult}
 use Rattle.recovery.specs.inner.Decide.{livePlace, Within}
 use Rattle.recovery.specs.inner.Judge.{Ready, Roomy, Judgeable, Arranged, Judgement, Left, answerBy}
 use Rattle.recovery.specs.declared.Judged.{Judged}
@@ -32,56 +32,64 @@ use Rattle.recovery.specs.declared.Recovered.{Recovered}
 use Rattle.recovery.specs.declared.Recovered.the-variants.{Rebuilt, Refused}
 use Rattle.recovery.proofs.Rebuilt.{arranged-index, arranged-place, ordered-whole}
 use Rattle.recovery.proofs.Orders.{whole-within}
+use Rattle.recovery.proofs.Lent.{recovery-taken}
 
--- the result by the refusal's number
+-- the result by the refusal's number and the slot that it names
 module _ (l : ℕ) (image heads next : List ℕ) (fault : ℕ) (e : recoverFault l image (length heads) (length next) ≡ fault) where
-  result-refused : (fault ≡ 0 → ⊥) → refusedResult fault heads next ≡ recoverResult l image heads next
+  result-refused : (slot : ℕ) → recoverSlot l image (length heads) (length next) ≡ slot → (fault ≡ 0 → ⊥)
+      → refusedResult fault slot heads next ≡ recoverResult l image heads next
   unfolding recoverResult
-  result-refused ne =
+  result-refused slot d ne =
       sym
-      (refused-keeps (recovered (tableOf l image) (slotsIn image) (length heads))
-      (refusedResult (recoverFault l image (length heads) (length next)) heads next)
+      (refused-keeps (recovered (tableOf l image) (slotsIn image) (length heads)) _
       (recoverFault l image (length heads) (length next)) (λ z. ne (sym e ∙ z))
-      ∙ ap (λ (k : ℕ). refusedResult k heads next) e)
+      ∙ ap₂ (λ (k s : ℕ). refusedResult k s heads next) e d)
 
   result-taken : fault ≡ 0 → recovered (tableOf l image) (slotsIn image) (length heads) ≡ recoverResult l image heads next
-  unfolding recoverResult
-  result-taken z =
-      sym
-      (taken-leaves (recovered (tableOf l image) (slotsIn image) (length heads))
-      (refusedResult (recoverFault l image (length heads) (length next)) heads next)
-      (recoverFault l image (length heads) (length next)) (e ∙ z))
+  result-taken z = sym (recovery-taken l image heads next (e ∙ z))
 
 -- 1 to 4
 pub lent-refused : (l : ℕ) (image heads next : List ℕ) (fault : ℕ) → fault ≡ lentFault l image (length heads) (length next) → (fault ≡ 0 → ⊥)
-    → refusedResult fault heads next ≡ recoverResult l image heads next
-unfolding recoverFault
+    → refusedResult fault 0 heads next ≡ recoverResult l image heads next
+unfolding recoverFault recoverSlot
 lent-refused l image heads next fault e ne =
-    result-refused l image heads next fault (orElse-first _ _ (λ z. ne (e ∙ z)) ∙ sym e) ne
+    result-refused l image heads next fault (orElse-first _ _ (λ z. ne (e ∙ z)) ∙ sym e) 0
+    (refused-keeps (slotsNamed l (word image) (slotsIn image)) 0 _ (λ z. ne (e ∙ z))) ne
 
 zero-or-not : (k : ℕ) → (k ≡ 0) ⊎ (k ≡ 0 → ⊥)
 zero-or-not zero = inl refl
 zero-or-not (suc k) = inr (λ e. omega arith)
 
--- 5 to 8, and the index
+-- the refusals of the slots, and the index
 module _ (l : ℕ) (image heads next : List ℕ) (n : ℕ) (ready : Ready image l heads next n) where
   by-slots : (fault : ℕ) → fault ≡ slotsFault l (word image) n → recoverFault l image (length heads) (length next) ≡ fault
   unfolding recoverFault
   by-slots fault e = orElse-later _ _ (ready .lent) ∙ ap (slotsFault l (word image)) (ready .sized .slot-count) ∙ sym e
 
-  slots-refused : (fault : ℕ) → fault ≡ slotsFault l (word image) n → (fault ≡ 0 → ⊥)
-      → refusedResult fault heads next ≡ recoverResult l image heads next
-  slots-refused fault e ne = result-refused l image heads next fault (by-slots fault e) ne
+  slots-refused : (fault slot : ℕ) → fault ≡ slotsFault l (word image) n → slot ≡ slotsNamed l (word image) n → (fault ≡ 0 → ⊥)
+      → refusedResult fault slot heads next ≡ recoverResult l image heads next
+  unfolding recoverSlot
+  slots-refused fault slot e d ne =
+      result-refused l image heads next fault (by-slots fault e) slot
+      (taken-leaves (slotsNamed l (word image) (slotsIn image)) 0 _ (ready .lent)
+      ∙ ap (slotsNamed l (word image)) (ready .sized .slot-count) ∙ sym d)
+      ne
 
   -- the result of an index with this live count and this next version
   shown : Index → (live-count version : ℕ) → Result
   shown i live-count version =
-      record { answer = gives (stateValues (stateOf i live-count version)); state = stateOf i live-count version; heads = i .heads; next = i .next }
+      record {
+        answer = gives (stateValues (stateOf i live-count version));
+        slot = 0;
+        state = stateOf i live-count version;
+        heads = i .heads;
+        next = i .next;
+      }
 
   slots-taken : (fault : ℕ) → fault ≡ slotsFault l (word image) n → fault ≡ 0 → (order places heads′ next′ : List ℕ) (live-count top : ℕ) (r : State)
       → Arranged (tableOf l image) n (length heads) order places live-count top
       → PartsOf heads′ next′ r (build (placeIn places) (unbuilt (replicate (length heads) 0) (replicate (length next) 0)) order) live-count (top + 1)
-      → record { answer = gives (stateValues r); state = r; heads = heads′; next = next′ } ≡ recoverResult l image heads next
+      → record { answer = gives (stateValues r); slot = 0; state = r; heads = heads′; next = next′ } ≡ recoverResult l image heads next
   unfolding shown recovered recoveredState
   slots-taken fault e z order places heads′ next′ live-count top r a h =
       ap (λ (i : Index). shown i (r .live) (r .version)) (h .index ∙ built)
@@ -105,25 +113,28 @@ module _ (l : ℕ) (image heads next : List ℕ) (n : ℕ) (ready : Ready image 
 -- both ways of a call, by the refusal's number
 pub slots-answered : (l : ℕ) (image heads next order places : List ℕ) (n : ℕ) (found : Judged) (heads′ next′ : List ℕ) (state : State) (r : Recovered)
     → Ready image l heads next n → Judgement l (word image) n (length heads) order places found
-    → Left (found .fault) heads next order places (found .live) (found .top) heads′ next′ state → r ≡ answerBy (found .fault) state
+    → Left (found .fault) heads next order places (found .live) (found .top) heads′ next′ state → r ≡ answerBy (found .fault) (found .slot) state
     → recoverEnd r heads′ next′ ≡ recoverResult l image heads next
-unfolding recoverSays recoverState answerBy
+unfolding recoverSays recoverNames recoverState answerBy
 slots-answered l image heads next order places n found heads′ next′ state r ready j v q = go (zero-or-not fault)
   where
     fault : ℕ
     fault = found .fault
 
-    says : (w : Recovered) → answerBy fault state ≡ w → recoverEnd r heads′ next′ ≡ recoverEnd w heads′ next′
+    slot : ℕ
+    slot = found .slot
+
+    says : (w : Recovered) → answerBy fault slot state ≡ w → recoverEnd r heads′ next′ ≡ recoverEnd w heads′ next′
     says w u = ap (λ (x : Recovered). recoverEnd x heads′ next′) (q ∙ u)
 
     go : (fault ≡ 0) ⊎ (fault ≡ 0 → ⊥) → recoverEnd r heads′ next′ ≡ recoverResult l image heads next
     go (inl z) =
-        says (Rebuilt state) (pick-true (eqb fault 0) (Rebuilt state) (Refused fault) (eq-eqb fault 0 z))
+        says (Rebuilt state) (pick-true (eqb fault 0) (Rebuilt state) (Refused fault slot) (eq-eqb fault 0 z))
         ∙ slots-taken l image heads next n ready fault (j .fault-is) z order places heads′ next′ (found .live) (found .top) state (j .arranged z) (v .rebuilt z)
     go (inr ne) =
-        says (Refused fault) (pick-false (eqb fault 0) (Rebuilt state) (Refused fault) (ne-eqb fault 0 ne))
-        ∙ ap₂ (λ (h x : List ℕ). recoverEnd (Refused fault) h x) (v .kept ne .0) (v .kept ne .1)
-        ∙ slots-refused l image heads next n ready fault (j .fault-is) ne
+        says (Refused fault slot) (pick-false (eqb fault 0) (Rebuilt state) (Refused fault slot) (ne-eqb fault 0 ne))
+        ∙ ap₂ (λ (h x : List ℕ). recoverEnd (Refused fault slot) h x) (v .kept ne .0) (v .kept ne .1)
+        ∙ slots-refused l image heads next n ready fault slot (j .fault-is) (j .slot-is) ne
 
 -- ---- rebuild can write
 

@@ -13,7 +13,9 @@ use borrow.Author.Tests.{eq-eqb, ne-eqb}
 use Rattle.words.specs.Word.{AreBytes, word}
 use Rattle.words.proofs.Laws.{word-range}
 use Rattle.prelude.proofs.Choice.{pick-true, pick-false}
-use Rattle.prelude.specs.Range.{anyOf, greatest}
+use Rattle.prelude.specs.Refusal.{say, orElse}
+use Rattle.prelude.specs.Range.{anyOf, greatest, lowest, atLowest}
+use Rattle.prelude.proofs.Lowest.{at-lowest-next}
 use Rattle.layout.specs.Line.{lineA, lineB, lineTop}
 use Rattle.layout.specs.Slot.{paired, verdictOf, lineVerdict, slotVerdict, isValid}
 use Rattle.layout.specs.Record.{Layout, kindOf, keyOf, valueOf}
@@ -26,7 +28,7 @@ use Rattle.layout.proofs.KeyWords.{no-high, key-parts}
 use Rattle.table.specs.Table.{keyIn}
 use Rattle.table.specs.Order.{rankOf}
 use Rattle.index.specs.Index.{headOf}
-use Rattle.recovery.specs.inner.Scan.{putPlace, Scannable, validSummary, Summed, keyAt, Scanned}
+use Rattle.recovery.specs.inner.Scan.{putPlace, Scannable, validSummary, Summed, Joined, keyAt, Scanned}
 use Rattle.recovery.specs.inner.Decide.{NoneOrAll}
 use Rattle.recovery.specs.declared.Summary.{Summary}
 use Rattle.recovery.specs.declared.Scan.{Scan}
@@ -42,11 +44,11 @@ put-place kind key b r h e = ap (λ (k : ℕ). k + 1) e ∙ sym (pick-false (eqb
 
 -- ---- what is kept of one slot
 
-abbrev kept : (version : ℕ) → (mark : Bool) → (low high place : ℕ) → (fault : Bool) → Summary
+abbrev kept : (version : ℕ) → (mark : Bool) → (low high place fault : ℕ) → Summary
 kept version mark low high place fault =
     record { rank = 2 + version; low = low; high = high; place = place; top = version; mark = mark; fault = fault }
 
-pub valid-is : (l : ℕ) (m : ℕ → ℕ) (s b version : ℕ) (mark : Bool) (low high kind place : ℕ) (fault : Bool) → Layout l → low ≡ lineA m s 1
+pub valid-is : (l : ℕ) (m : ℕ → ℕ) (s b version : ℕ) (mark : Bool) (low high kind place fault : ℕ) → Layout l → low ≡ lineA m s 1
     → high ≡ highWord l (lineA m s) → kind ≡ kindOf (lineA m s (l + 1))
     → ((h : ℕ) → place ≡ cond (eqb kind 2) 0 (headOf (keyWith low h) b + 1)) → fault ≡ faultOf l (lineA m s) (lineB m s)
     → record { rank = 2 + version; low = low; high = high; place = place; top = version; mark = mark; fault = fault }
@@ -76,9 +78,9 @@ module _ (l : ℕ) (m : ℕ → ℕ) (s b : ℕ) (verdict : Verdict) (e : verdic
   unfolding content contentOf slotVerdict
   content-by v h = ap (contentBy l (lineA m s) (lineB m s)) (sym h ∙ e)
 
-  fault-by : (v : Verdict) → verdict ≡ v → cond (isValid v) (faultOf l (lineA m s) (lineB m s)) false ≡ recordFault l m s
+  fault-by : (v : Verdict) → verdict ≡ v → cond (isValid v) (faultOf l (lineA m s) (lineB m s)) 0 ≡ recordFault l m s
   unfolding recordFault slotVerdict
-  fault-by v h = ap (λ (w : Verdict). cond (isValid w) (faultOf l (lineA m s) (lineB m s)) false) (sym h ∙ e)
+  fault-by v h = ap (λ (w : Verdict). cond (isValid w) (faultOf l (lineA m s) (lineB m s)) 0) (sym h ∙ e)
 
   pub summed-valid : (version : ℕ) → verdict ≡ Valid version → Layout l → (r : Summary) → r ≡ validSummary l m s b version mark → Summed l m s b r
   unfolding contentBy made isValid validSummary
@@ -95,7 +97,7 @@ module _ (l : ℕ) (m : ℕ → ℕ) (s b : ℕ) (verdict : Verdict) (e : verdic
         fault-is = ap (λ (y : Summary). y .fault) x ∙ fault-by (Valid version) v;
       }
 
-  pub summed-empty : verdict ≡ Empty → Summed l m s b (record { rank = 1; low = 0; high = 0; place = 0; top = 0; mark = mark; fault = false })
+  pub summed-empty : verdict ≡ Empty → Summed l m s b (record { rank = 1; low = 0; high = 0; place = 0; top = 0; mark = mark; fault = 0 })
   unfolding contentBy isValid rankOf keyIn putPlace topOf
   summed-empty v =
       let it = content-by Empty v in
@@ -110,7 +112,7 @@ module _ (l : ℕ) (m : ℕ → ℕ) (s b : ℕ) (verdict : Verdict) (e : verdic
       }
 
   pub summed-broken : (top : ℕ) → verdict ≡ Broken top
-      → Summed l m s b (record { rank = 0; low = 0; high = 0; place = 0; top = top; mark = mark; fault = false })
+      → Summed l m s b (record { rank = 0; low = 0; high = 0; place = 0; top = top; mark = mark; fault = 0 })
   unfolding contentBy isValid rankOf keyIn putPlace topOf
   summed-broken top v =
       let it = content-by (Broken top) v in
@@ -246,24 +248,23 @@ keys-next g lows highs after k low high l e w h s p q = by-cases (ℕ-discrete s
     other i = ap₂ (λ (x y : ℕ). keyWith x y) (getD-set-other lows (suc k) s low 0 i) (w .others s i) ∙ h s p (omega arith)
 
 scanned-none : (l : ℕ) (m : ℕ → ℕ) (b : ℕ) (ranks lows highs places : List ℕ)
-    → Scanned l m 0 b ranks lows highs places (record { mark = false; fault = false; top = 0 })
-unfolding anyOf greatest
+    → Scanned l m 0 b ranks lows highs places (record { mark = false; fault = 0; slot = 0; top = 0 })
+unfolding anyOf greatest lowest atLowest say
 scanned-none l m b ranks lows highs places =
     record {
       listed =
           record { rank-at = λ s p q. absurd (omega arith); key-at = λ s p q. absurd (omega arith); place-at = λ s p q. absurd (omega arith) };
       marks-are = refl;
-      faults-are = refl;
+      fault-is = refl;
+      slot-is = refl;
       top-is = refl;
     }
 
 scanned-next : (l : ℕ) (m : ℕ → ℕ) (k b : ℕ) (ranks lows highs places after : List ℕ) (all next : Scan) (slot : Summary)
     → Scanned l m k b ranks lows highs places all → suc k < length ranks → suc k < length lows → suc k < length places
-    → HighSet highs after (suc k) (slot .high) → Summed l m (suc k) b slot
-    → (next .mark ≡ cond (all .mark) true (slot .mark)) × (next .fault ≡ cond (all .fault) true (slot .fault))
-    × (next .top ≡ max (all .top) (slot .top))
+    → HighSet highs after (suc k) (slot .high) → Summed l m (suc k) b slot → Joined all slot (suc k) next
     → Scanned l m (suc k) b (set ranks (suc k) (slot .rank)) (set lows (suc k) (slot .low)) after (set places (suc k) (slot .place)) next
-unfolding greatest
+unfolding greatest lowest
 scanned-next l m k b ranks lows highs places after all next slot g r y p w here j =
     record {
       listed =
@@ -273,13 +274,14 @@ scanned-next l m k b ranks lows highs places after all next slot g r y p w here 
                 keys-next (λ i. keyIn (content l m i)) lows highs after k (slot .low) (slot .high) y (here .key-is) w (g .listed .key-at);
             place-at = entries-next (λ i. putPlace b (content l m i)) places k (slot .place) p (here .place-is) (g .listed .place-at);
           };
-      marks-are = j .0 ∙ ap₂ (λ (u v : Bool). cond u true v) (g .marks-are) (here .mark-is) ∙ with-last (markFault m);
-      faults-are = j .1 ∙ ap₂ (λ (u v : Bool). cond u true v) (g .faults-are) (here .fault-is) ∙ with-last (recordFault l m);
-      top-is = j .2 ∙ ap₂ max (g .top-is) (here .top-is);
+      marks-are = j .mark-is ∙ ap₂ (λ (u v : Bool). cond u true v) (g .marks-are) (here .mark-is) ∙ with-last;
+      fault-is = j .fault-is ∙ ap₂ orElse (g .fault-is) (here .fault-is) ∙ sym (at-lowest-next (recordFault l m) k);
+      slot-is = j .slot-is ∙ ap₂ (λ (x y : ℕ). orElse x (say (eqb y 0) 0 (suc k))) (g .slot-is) (here .fault-is);
+      top-is = j .top-is ∙ ap₂ max (g .top-is) (here .top-is);
     }
   where
-    with-last : (q : ℕ → Bool) → cond (anyOf q 1 k) true (q (suc k)) ≡ anyOf q 1 (suc k)
-    with-last q = ap (λ (i : ℕ). cond (anyOf q 1 k) true (q i)) (omega arith) ∙ sym (any-last q 1 k)
+    with-last : cond (anyOf (markFault m) 1 k) true (markFault m (suc k)) ≡ anyOf (markFault m) 1 (suc k)
+    with-last = ap (λ (i : ℕ). cond (anyOf (markFault m) 1 k) true (markFault m i)) (omega arith) ∙ sym (any-last (markFault m) 1 k)
 
 scanned-at : (l : ℕ) (m : ℕ → ℕ) (i j b : ℕ) (ranks lows highs places : List ℕ) (all : Scan) → i ≡ j
     → Scanned l m i b ranks lows highs places all → Scanned l m j b ranks lows highs places all
@@ -296,7 +298,7 @@ pub record Scanning (l : ℕ) (m : ℕ → ℕ) (n b : ℕ) (ranks lows highs pl
   pub so-far : Scanned l m (s - 1) b ranks lows highs places all
 
 pub scan-start : (image : List ℕ) (l : ℕ) (ranks lows highs places : List ℕ) (n b : ℕ) → Scannable image l ranks lows highs places n b
-    → Scanning l (word image) n b ranks lows highs places (record { mark = false; fault = false; top = 0 }) 1
+    → Scanning l (word image) n b ranks lows highs places (record { mark = false; fault = 0; slot = 0; top = 0 }) 1
 scan-start image l ranks lows highs places n b g =
     record {
       low = omega arith;
@@ -310,9 +312,7 @@ scan-start image l ranks lows highs places n b g =
     }
 
 pub scan-next : (l : ℕ) (m : ℕ → ℕ) (n b : ℕ) (ranks lows highs places after : List ℕ) (all next : Scan) (slot : Summary) (s : ℕ)
-    → Scanning l m n b ranks lows highs places all s → s ≤ n → Summed l m s b slot → HighSet highs after s (slot .high)
-    → (next .mark ≡ cond (all .mark) true (slot .mark)) × (next .fault ≡ cond (all .fault) true (slot .fault))
-    × (next .top ≡ max (all .top) (slot .top))
+    → Scanning l m n b ranks lows highs places all s → s ≤ n → Summed l m s b slot → HighSet highs after s (slot .high) → Joined all slot s next
     → Scanning l m n b (set ranks s (slot .rank)) (set lows s (slot .low)) after (set places s (slot .place)) next (s + 1)
 scan-next l m n b ranks lows highs places after all next slot zero g h here w j = absurd (omega (arith, g .low))
 scan-next l m n b ranks lows highs places after all next slot (suc k) g h here w j =

@@ -1,4 +1,4 @@
--- Recovery. Document 01, "The index" and "What each operation may say no to", Recover.
+-- Recovery. Document 01, "The index" and "What each operation may say no to", Recover; document 02, A.5: "Recovery shall name the lowest slot at fault and what in it".
 use mathlib.Core.Bool.{cond}
 use mathlib.Core.List.{List, [], _∷_}
 use Prim.Native.Nat.{ℕ}
@@ -6,7 +6,7 @@ use lib.ListN.{length}
 use Rattle.words.specs.Word.{word}
 use Rattle.prelude.specs.Refusal.{say, orElse, unlessRefused}
 use Rattle.prelude.specs.Answer.{Answer, gives, refused}
-use Rattle.prelude.specs.Range.{anyOf}
+use Rattle.prelude.specs.Range.{anyOf, lowest, atLowest}
 use Rattle.layout.specs.Size.{slotsIn}
 use Rattle.layout.specs.Content.{content, Table, tableOf}
 use Rattle.layout.specs.Header.{lentFault}
@@ -19,9 +19,10 @@ use Rattle.index.specs.declared.State.{State}
 use Rattle.recovery.specs.declared.Recovered.{Recovered}
 use Rattle.recovery.specs.declared.Recovered.the-variants.{Rebuilt, Refused}
 
--- recovery's answer, and the state and the index that it leaves
+-- recovery's answer, the slot that a refusal names (0 for none), and the state and the index that it leaves
 pub record Result : Type 0 where
   pub answer : Answer
+  pub slot : ℕ
   pub state : State
   pub heads : List ℕ
   pub next : List ℕ
@@ -32,7 +33,12 @@ stateValues s = s .first ∷ s .last ∷ s .live ∷ s .version ∷ []
 
 unfoldable pub recoverSays : Recovered → Answer
 recoverSays (Rebuilt s) = gives (stateValues s)
-recoverSays (Refused number) = refused number
+recoverSays (Refused number slot) = refused number
+
+-- the slot that the answer names
+unfoldable pub recoverNames : Recovered → ℕ
+recoverNames (Rebuilt s) = 0
+recoverNames (Refused number slot) = slot
 
 -- the state beside the rebuilt index; with a refusal there is none, and zeros stand for it
 unfoldable pub noState : State
@@ -40,18 +46,27 @@ noState = record { first = 0; last = 0; live = 0; version = 0 }
 
 unfoldable pub recoverState : Recovered → State
 recoverState (Rebuilt s) = s
-recoverState (Refused number) = noState
+recoverState (Refused number slot) = noState
 
--- 5, 6, 7, 8, each over all slots before the next
+-- 5; then "the lowest slot at fault and what in it": 6, 22, 23 or 24; then 7, 8. Each over all slots before the next
 unfoldable pub slotsFault : (l : ℕ) → (m : ℕ → ℕ) → (n : ℕ) → ℕ
 slotsFault l m n =
     say (anyOf (markFault m) 1 n) 5
-    (say (anyOf (recordFault l m) 1 n) 6 (say (sharedVersion (content l m) n) 7 (say (allLive (content l m) n) 8 0)))
+    (orElse (atLowest (recordFault l m) n) (say (sharedVersion (content l m) n) 7 (say (allLive (content l m) n) 8 0)))
 
--- 1 to 8 in their order
+-- the slot that these name: the lowest one at fault, where 5 does not come first; 5, 7 and 8 name none
+unfoldable pub slotsNamed : (l : ℕ) → (m : ℕ → ℕ) → (n : ℕ) → ℕ
+slotsNamed l m n = say (anyOf (markFault m) 1 n) 0 (lowest (recordFault l m) n)
+
+-- 1 to 4, and then those of the slots
 unfoldable pub recoverFault : (l : ℕ) → (image : List ℕ) → (heads next : ℕ) → ℕ
 recoverFault l image heads next =
     orElse (lentFault l image heads next) (slotsFault l (word image) (slotsIn image))
+
+-- the slot that a refusal names; 1 to 4 name none
+unfoldable pub recoverSlot : (l : ℕ) → (image : List ℕ) → (heads next : ℕ) → ℕ
+recoverSlot l image heads next =
+    unlessRefused (lentFault l image heads next) (slotsNamed l (word image) (slotsIn image)) 0
 
 -- "Each live slot is in its head's chain, each spare slot in the one reuse chain": the chains, and the chain of each slot
 unfoldable pub chainsOf : Table → (n b : ℕ) → Chain → List ℕ
@@ -72,21 +87,24 @@ unfoldable pub recovered : Table → (n b : ℕ) → Result
 recovered f n b =
     record {
       answer = gives (stateValues (recoveredState f n b));
+      slot = 0;
       state = recoveredState f n b;
       heads = recoveredIndex f n b .heads;
       next = recoveredIndex f n b .next;
     }
 
 -- a refused recovery leaves the index as it was lent
-abbrev pub refusedResult : (number : ℕ) → (heads next : List ℕ) → Result
-refusedResult number heads next = record { answer = refused number; state = noState; heads = heads; next = next }
+abbrev pub refusedResult : (number slot : ℕ) → (heads next : List ℕ) → Result
+refusedResult number slot heads next =
+    record { answer = refused number; slot = slot; state = noState; heads = heads; next = next }
 
 unfoldable pub recoverResult : (l : ℕ) → (image heads next : List ℕ) → Result
 recoverResult l image heads next =
     unlessRefused (recoverFault l image (length heads) (length next))
     (recovered (tableOf l image) (slotsIn image) (length heads))
-    (refusedResult (recoverFault l image (length heads) (length next)) heads next)
+    (refusedResult (recoverFault l image (length heads) (length next)) (recoverSlot l image (length heads) (length next)) heads next)
 
 -- what a call of recover with this answer left
 abbrev pub recoverEnd : Recovered → (heads next : List ℕ) → Result
-recoverEnd r heads next = record { answer = recoverSays r; state = recoverState r; heads = heads; next = next }
+recoverEnd r heads next =
+    record { answer = recoverSays r; slot = recoverNames r; state = recoverState r; heads = heads; next = next }

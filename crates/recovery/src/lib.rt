@@ -2,14 +2,14 @@
 
 use index::State;
 
-// Recovery's answer: the state beside the rebuilt index, or a refusal.
+// Recovery's answer: the state beside the rebuilt index, or a refusal with the slot that it names, 0 for none.
 pub enum Recovered {
     Rebuilt(State),
-    Refused(u32),
+    Refused { number: u32, slot: u32 },
 }
 
 // What is kept of one slot: its rank in recovery's order, the low and the high word of its key, its chain as a number (0 is the reuse chain),
-// the highest version on a whole line, and whether it has a bad mark (5) or a bad record (6).
+// the highest version on a whole line, whether it has a bad mark (5), and the fault of its record (6, 22, 23 or 24, else 0).
 pub struct Summary {
     pub rank: u64,
     pub low: u64,
@@ -17,19 +17,23 @@ pub struct Summary {
     pub place: u32,
     pub top: u64,
     pub mark: bool,
-    pub fault: bool,
+    pub fault: u32,
 }
 
-// What all slots together say: a bad mark, a bad record, and the highest version on a whole line.
+// What all slots together say: a bad mark, the fault of the lowest slot at fault and that slot (0 and 0 for none), and the highest version on a
+// whole line.
 pub struct Scan {
     pub mark: bool,
-    pub fault: bool,
+    pub fault: u32,
+    pub slot: u32,
     pub top: u64,
 }
 
-// What recovery finds before it writes anything: a refusal from 5 to 8 or 0, the live count, and the highest version on a whole line.
+// What recovery finds before it writes anything: the refusal of the slots or 0, the slot that it names, the live count, and the highest version
+// on a whole line.
 pub struct Judged {
     pub fault: u32,
+    pub slot: u32,
     pub live: u32,
     pub top: u64,
 }

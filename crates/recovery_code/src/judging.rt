@@ -1,7 +1,7 @@
-// The refusals 5 to 8, and the order and the chain of each slot. Nothing lent but scratch lists is written.
+// The refusals of the slots, and the order and the chain of each slot. Nothing lent but scratch lists is written.
 ghost use mathlib.Core.Path.{_≡_};
 ghost use Rattle.words.specs.Word.{word};
-ghost use Rattle.recovery.specs.inner.Judge.{Judgeable, foundFault, Judgement};
+ghost use Rattle.recovery.specs.inner.Judge.{Judgeable, foundFault, foundSlot, Judgement};
 use crate::ordering::any_equal_neighbours;
 use crate::ordering::count_placed;
 use crate::ordering::decide;
@@ -10,15 +10,15 @@ use crate::ordering::order_by_rank;
 use crate::scanning::scan;
 use recovery::Judged;
 
-// 5, 6, 7 or 8 by what was found, else 0.
-fn found_fault(mark: bool, fault: bool, shared: bool, live: u32, n: u32) -> u32
+// The refusal of the slots by what was found, else 0: 5, the fault of the lowest slot at fault, 7, 8.
+fn found_fault(mark: bool, fault: u32, shared: bool, live: u32, n: u32) -> u32
     ensures { λ r. ⌜ r ≡ foundFault mark fault shared live n ⌝ }
 {
     if mark {
         return 5;
     }
-    if fault {
-        return 6;
+    if fault != 0 {
+        return fault;
     }
     if shared {
         return 7;
@@ -27,6 +27,16 @@ fn found_fault(mark: bool, fault: bool, shared: bool, live: u32, n: u32) -> u32
         return 8;
     }
     0
+}
+
+// The slot that it names: 5 names none.
+fn found_slot(mark: bool, slot: u32) -> u32
+    ensures { λ r. ⌜ r ≡ foundSlot mark slot ⌝ }
+{
+    if mark {
+        return 0;
+    }
+    slot
 }
 
 // Judges the slots of the image with the lent scratch lists.
@@ -55,6 +65,7 @@ pub fn judge(
     let fault = found_fault(all.mark, all.fault, shared, live, n as u32);
     Judged {
         fault,
+        slot: found_slot(all.mark, all.slot),
         live,
         top: all.top,
     }

@@ -59,14 +59,17 @@ fn rebuild_accepted(
     rebuild(heads, next, order, places, live, top)
 }
 
-// The refusal, or the state.
-fn answer(fault: u32, state: State) -> Recovered
-    ensures { λ r. ⌜ r ≡ answerBy fault state ⌝ }
+// The refusal with the slot that it names, or the state.
+fn answer(fault: u32, slot: u32, state: State) -> Recovered
+    ensures { λ r. ⌜ r ≡ answerBy fault slot state ⌝ }
 {
     if fault == 0 {
         return Recovered::Rebuilt(state);
     }
-    Recovered::Refused(fault)
+    Recovered::Refused {
+        number: fault,
+        slot,
+    }
 }
 
 // Recovers with the lent scratch lists.
@@ -102,5 +105,5 @@ pub fn recover_with(
     );
     let fault = judged.fault;
     let state = rebuild_accepted(heads, next, order, places, fault, judged.live, judged.top);
-    answer(fault, state)
+    answer(fault, judged.slot, state)
 }

@@ -1,13 +1,14 @@
 // One pass over the slots of an image.
 ghost use mathlib.Core.Path.{_≡_};
-ghost use mathlib.Core.Bool.{cond, true};
-ghost use Prim.Native.Nat.{ℕ, _+_, _≤_, _<_, _^_, max};
+ghost use mathlib.Core.Bool.{cond};
+ghost use Prim.Native.Nat.{ℕ, _+_, _≤_, _<_, _^_};
 ghost use lib.Dec.{eqb};
 ghost use Rattle.words.specs.Word.{word};
+ghost use Rattle.prelude.specs.Refusal.{say, orElse};
 ghost use Rattle.layout.specs.inner.Inside.{SlotInside};
 ghost use Rattle.layout.specs.inner.Key.{keyWith};
 ghost use Rattle.index.specs.Index.{headOf};
-ghost use Rattle.recovery.specs.inner.Scan.{Scannable, validSummary, Summed, Scanned};
+ghost use Rattle.recovery.specs.inner.Scan.{Scannable, validSummary, Summed, Joined, Scanned};
 use index_code::head::head_of;
 use layout::Verdict;
 use layout_code::fields::record_fault;
@@ -65,7 +66,7 @@ fn summary(image: &[u8], l: usize, s: usize, b: usize) -> Summary
             place: 0,
             top: 0,
             mark,
-            fault: false,
+            fault: 0,
         },
         Verdict::Broken(top) => Summary {
             rank: 0,
@@ -74,18 +75,39 @@ fn summary(image: &[u8], l: usize, s: usize, b: usize) -> Summary
             place: 0,
             top,
             mark,
-            fault: false,
+            fault: 0,
         },
     }
 }
 
-// A scan with one slot more.
-fn joined(scan: Scan, slot: Summary) -> Scan
-    ensures { λ r. ⌜ (r .mark ≡ cond (scan .mark) true (slot .mark)) × (r .fault ≡ cond (scan .fault) true (slot .fault)) × (r .top ≡ max (scan .top) (slot .top)) ⌝ }
+// The first number unless it is 0, then the second.
+fn first_of(a: u32, b: u32) -> u32
+    ensures { λ r. ⌜ r ≡ orElse a b ⌝ }
+{
+    if a != 0 {
+        return a;
+    }
+    b
+}
+
+// Slot s where it has a fault, else 0.
+fn slot_at_fault(fault: u32, s: u32) -> u32
+    ensures { λ r. ⌜ r ≡ say (eqb fault 0) 0 s ⌝ }
+{
+    if fault == 0 {
+        return 0;
+    }
+    s
+}
+
+// A scan with slot s joined.
+fn joined(scan: Scan, slot: Summary, s: u32) -> Scan
+    ensures { λ r. ⌜ Joined scan slot s r ⌝ }
 {
     Scan {
         mark: scan.mark || slot.mark,
-        fault: scan.fault || slot.fault,
+        fault: first_of(scan.fault, slot.fault),
+        slot: first_of(scan.slot, slot_at_fault(slot.fault, s)),
         top: greater(scan.top, slot.top),
     }
 }
@@ -106,7 +128,8 @@ pub fn scan(
 {
     let mut all = Scan {
         mark: false,
-        fault: false,
+        fault: 0,
+        slot: 0,
         top: 0,
     };
     let mut s = 1;
@@ -118,7 +141,7 @@ pub fn scan(
             highs[s] = slot.high;
         }
         places[s] = slot.place;
-        all = joined(all, slot);
+        all = joined(all, slot, s as u32);
         s += 1;
     }
     all

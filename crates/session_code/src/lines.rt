@@ -43,7 +43,7 @@ fn recovered(reply: Reply, n: u64, image: &[u8], heads: &mut [u32], next: &mut [
                 waiting: Waiting::Nothing,
             },
         },
-        Recovered::Refused(number) => Stepped {
+        Recovered::Refused { number, slot: _ } => Stepped {
             reply: Reply::Refused(number),
             session: start(),
         },

@@ -16,8 +16,9 @@ use Rattle.layout.specs.Line.{whole, versionOf}
 use Rattle.layout.specs.Slot.{paired}
 use Rattle.layout.specs.Record.{keyOf, keyWord, kindWord, kindOf, lengthOf, limit, slotWord, valueWord, valueByte, valueFront, valueOf}
 use Rattle.layout.specs.Content.{made, contentOf}
-use Rattle.layout.specs.Fault.{kindFault, wordFault, tailFault, faultOf}
+use Rattle.layout.specs.Fault.{kindFault, longest, wordFault, tailFault, faultOf}
 use Rattle.prelude.proofs.Any.{any-clear}
+use Rattle.prelude.proofs.Refusals.{say-false, orElse-later}
 use Rattle.prelude.proofs.Tabulate.{tabulate-list}
 use Rattle.layout.proofs.KeyWords.{key-again}
 use Rattle.layout.proofs.Places.{place-A, place-B}
@@ -134,19 +135,21 @@ module _ (l stampA stampB key kind : ℕ) (value : List ℕ) (version : ℕ) (fi
   no-kind (a-put e) = rw e
   no-kind (a-remove e _) = rw e
 
-  no-length : Lawful kind value → cond (eqb kind 2) (ltb 0 (length value)) false ≡ false
-  no-length (a-put e) = rw e
-  no-length (a-remove e f) = rw (e, f)
+  no-length : Lawful kind value → length value ≤ longest l kind
+  unfolding longest
+  no-length (a-put e) = rw e (omega (arith, fine .size))
+  no-length (a-remove e f) = rw (e, f) (omega arith)
 
-  no-word : Lawful kind value → wordFault l (A (l + 1)) ≡ false
+  no-word : Lawful kind value → wordFault l (A (l + 1)) ≡ 0
   unfolding wordFault
   no-word good =
-      pick-false (kindFault (kindOf (A (l + 1)))) _ _ (ap kindFault the-kind ∙ no-kind good)
-      ∙ pick-false (leb 65536 (A (l + 1))) _ _ (lt-leb 65536 (A (l + 1)) (omega (arith, the-kind-word, fine .size, fine .kind-fits)))
-      ∙ pick-false (ltb (limit l) (lengthOf (A (l + 1)))) _ _ (le-ltb (limit l) (lengthOf (A (l + 1))) (omega (arith, the-length, fine .size)))
-      ∙ ap₂ (λ (x y : ℕ). cond (eqb x 2) (ltb 0 y) false) the-kind the-length ∙ no-length good
+      say-false (leb 65536 (A (l + 1))) 6 _ (lt-leb 65536 (A (l + 1)) (omega (arith, the-kind-word, fine .size, fine .kind-fits)))
+      ∙ say-false (kindFault (kindOf (A (l + 1)))) 22 _ (ap kindFault the-kind ∙ no-kind good)
+      ∙ say-false (ltb (longest l (kindOf (A (l + 1)))) (lengthOf (A (l + 1)))) 23 _
+      (ap₂ (λ (x y : ℕ). ltb (longest l x) y) the-kind the-length ∙ le-ltb (longest l kind) (length value) (no-length good))
 
-  pub the-fault : Lawful kind value → faultOf l A B ≡ false
+  pub the-fault : Lawful kind value → faultOf l A B ≡ 0
   unfolding faultOf
   the-fault good =
-      pick-false (wordFault l (A (l + 1))) _ _ (no-word good) ∙ ap (tailFault l A B) the-length ∙ no-tail
+      orElse-later (wordFault l (A (l + 1))) _ (no-word good)
+      ∙ say-false (tailFault l A B (lengthOf (A (l + 1)))) 24 0 (ap (tailFault l A B) the-length ∙ no-tail)

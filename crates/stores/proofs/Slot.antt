@@ -112,19 +112,19 @@ module _ (l key kind : ℕ) (value : List ℕ) (version : ℕ) (fine : Fields l 
       go (no-pair x y e) = now-broken x y (slotTop A′ B′) slot-top (broken-content l A′ B′ e)
 
   -- a slot without a fault stays so
-  pub slot-fault : Lawful kind value → cond (isValid (lineVerdict A B)) (faultOf l A B) false ≡ false
-      → cond (isValid (lineVerdict A′ B′)) (faultOf l A′ B′) false ≡ false
+  pub slot-fault : Lawful kind value → cond (isValid (lineVerdict A B)) (faultOf l A B) 0 ≡ 0
+      → cond (isValid (lineVerdict A′ B′)) (faultOf l A′ B′) 0 ≡ 0
   unfolding isValid
   slot-fault good h = go way
     where
-      either : (x : Bool) → cond x false false ≡ false
+      either : (x : Bool) → _≡_ {A = ℕ} (cond x 0 0) 0
       either true = refl
       either false = refl
 
-      go : Way → cond (isValid (lineVerdict A′ B′)) (faultOf l A′ B′) false ≡ false
-      go (as-was x y e f) = ap₂ (λ (S T : ℕ → ℕ). cond (isValid (lineVerdict S T)) (faultOf l S T) false) e f ∙ h
+      go : Way → cond (isValid (lineVerdict A′ B′)) (faultOf l A′ B′) 0 ≡ 0
+      go (as-was x y e f) = ap₂ (λ (S T : ℕ → ℕ). cond (isValid (lineVerdict S T)) (faultOf l S T) 0) e f ∙ h
       go (all-new x y u w) =
-          ap (λ (t : Bool). cond (isValid (lineVerdict A′ B′)) t false)
+          ap (λ (t : ℕ). cond (isValid (lineVerdict A′ B′)) t 0)
           (the-fault l stampA stampB key kind value version fine A′ B′ u w good)
           ∙ either (isValid (lineVerdict A′ B′))
       go (no-pair x y e) = pick-false (isValid (lineVerdict A′ B′)) _ _ (ap isValid (verdict-broken A′ B′ e))

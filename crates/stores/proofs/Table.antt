@@ -1,6 +1,6 @@
 -- THE TABLE LAW: what a record's stores make of the contents of the slots, whatever a cut leaves of them. Assumes nothing.
 use mathlib.Core.Path.{_≡_, sym, ap, ap₂, _∙_}
-use mathlib.Core.Bool.{false, cond}
+use mathlib.Core.Bool.{cond}
 use mathlib.Core.Logic.{_⊎_, by-cases}
 use mathlib.Core.List.{List, [], _++_, append-nil}
 use Prim.Native.Nat.{ℕ, _+_, _*_, _/_, _≤_, _<_}
@@ -37,7 +37,7 @@ module _ (l : ℕ) (counts m : ℕ → ℕ) (ss : List Store) (t : ℕ) (none : 
 
   pub spare-fault : recordFault l (afterCut counts ss m) t ≡ recordFault l m t
   unfolding recordFault
-  spare-fault = ap₂ (λ (A B : ℕ → ℕ). cond (isValid (lineVerdict A B)) (faultOf l A B) false) spare-A spare-B
+  spare-fault = ap₂ (λ (A B : ℕ → ℕ). cond (isValid (lineVerdict A B)) (faultOf l A B) 0) spare-A spare-B
 
 -- ---- any stores that write a record into slot s
 
@@ -57,7 +57,7 @@ module _ (l : ℕ) (counts m : ℕ → ℕ) (ss : List Store) (s key kind : ℕ)
   unfolding content
   carried-content = slot-cut l key kind value version fine _ _ _ _ _ _ (counts (2 * s)) (counts (2 * s + 1)) over cut-A cut-B
 
-  pub carried-fault : Lawful kind value → recordFault l m s ≡ false → recordFault l (afterCut counts ss m) s ≡ false
+  pub carried-fault : Lawful kind value → recordFault l m s ≡ 0 → recordFault l (afterCut counts ss m) s ≡ 0
   unfolding recordFault
   carried-fault = slot-fault l key kind value version fine _ _ _ _ _ _ (counts (2 * s)) (counts (2 * s + 1)) over cut-A cut-B
 
@@ -149,7 +149,7 @@ table-law l counts m s key kind value version fine good above =
         (λ e. rw e (mark-own counts m ss (2 * s + 1) version (bodyB l value) (has .line-B) (rw e at h)))
         (λ ne2. mark-off counts m ss n (record-off l m s key kind value version n (λ (e : n / 2 ≡ s). omega arith)) h))
 
-    faults-kept : (t : ℕ) → recordFault l m t ≡ false → recordFault l (afterCut counts ss m) t ≡ false
+    faults-kept : (t : ℕ) → recordFault l m t ≡ 0 → recordFault l (afterCut counts ss m) t ≡ 0
     faults-kept t h =
         by-cases (ℕ-discrete t s)
         (λ e. rw e (carried-fault l counts m ss s key kind value version has fine above good (rw e at h)))

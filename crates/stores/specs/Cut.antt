@@ -52,6 +52,6 @@ pub record Written (l : ℕ) (m m′ : ℕ → ℕ) (s key kind : ℕ) (value : 
   pub here : SlotCut (content l m s) (made kind version key value) (content l m′ s) version a b
   pub elsewhere : (i : ℕ) → (i / 16 ≡ s → ⊥) → m′ i ≡ m i
   pub marks : (n : ℕ) → line m n 0 ≤ 1 → line m′ n 0 ≤ 1
-  pub faults : (t : ℕ) → recordFault l m t ≡ false → recordFault l m′ t ≡ false
+  pub faults : (t : ℕ) → recordFault l m t ≡ 0 → recordFault l m′ t ≡ 0
   pub top-below : top m′ s ≤ version
   pub top-full : (8 ≤ a) ⊎ (8 ≤ b) → top m′ s ≡ version

@@ -27,7 +27,7 @@ soughtWith state ordered filled =
 
 -- the number of a get's refusal, as a step says it
 unfoldable pub soughtNumber : (number : ℕ) → ℕ
-soughtNumber number = cond (eqb number 6) 18 number
+soughtNumber number = cond (eqb number 23) 18 number
 
 -- ---- what a step is to do
 

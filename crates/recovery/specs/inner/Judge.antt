@@ -5,7 +5,7 @@ use mathlib.Core.List.{List}
 use Prim.Native.Nat.{ℕ, suc, _+_, _-_, _*_, _^_, _≤_, _<_}
 use lib.Dec.{eqb}
 use lib.ListN.{length, getD, replicate}
-use Rattle.prelude.specs.Refusal.{say}
+use Rattle.prelude.specs.Refusal.{say, orElse}
 use Rattle.layout.specs.Content.{content, Table}
 use Rattle.layout.specs.Header.{lentFault}
 use Rattle.layout.specs.Record.{Layout}
@@ -16,7 +16,7 @@ use Rattle.index.specs.declared.State.{State}
 use Rattle.prelude.specs.Members.{slotNumbers}
 use Rattle.table.specs.Table.{liveCount, nextVersion}
 use Rattle.table.specs.Order.{ordered}
-use Rattle.recovery.specs.Recover.{slotsFault}
+use Rattle.recovery.specs.Recover.{slotsFault, slotsNamed}
 use Rattle.recovery.specs.inner.Decide.{livePlace}
 use Rattle.recovery.specs.declared.Judged.{Judged}
 use Rattle.recovery.specs.declared.Recovered.{Recovered}
@@ -56,9 +56,13 @@ pub record Roomy (ranks lows highs places order by-key scratch : List ℕ) (n : 
   pub by-key-room : n < length by-key
   pub scratch-room : n < length scratch
 
--- 5, 6, 7, 8 from what was found
-unfoldable pub foundFault : (mark fault shared : Bool) → (live n : ℕ) → ℕ
-foundFault mark fault shared live n = say mark 5 (say fault 6 (say shared 7 (say (eqb live n) 8 0)))
+-- the refusal of the slots from what was found: 5, the fault of the lowest slot at fault, 7, 8
+unfoldable pub foundFault : (mark : Bool) → (fault : ℕ) → (shared : Bool) → (live n : ℕ) → ℕ
+foundFault mark fault shared live n = say mark 5 (orElse fault (say shared 7 (say (eqb live n) 8 0)))
+
+-- the slot that it names
+unfoldable pub foundSlot : (mark : Bool) → (slot : ℕ) → ℕ
+foundSlot mark slot = say mark 0 slot
 
 -- of an accepted table f: the order of all slots, the chain of each as a number, the live count and the highest version
 pub record Arranged (f : Table) (n b : ℕ) (order places : List ℕ) (live top : ℕ) : Type 0 where
@@ -71,6 +75,7 @@ pub record Arranged (f : Table) (n b : ℕ) (order places : List ℕ) (live top 
 -- what judging answers: the refusal, and of an accepted image the arranged slots
 pub record Judgement (l : ℕ) (m : ℕ → ℕ) (n b : ℕ) (order places : List ℕ) (r : Judged) : Type 0 where
   pub fault-is : r .fault ≡ slotsFault l m n
+  pub slot-is : r .slot ≡ slotsNamed l m n
   pub arranged : r .fault ≡ 0 → Arranged (content l m) n b order places (r .live) (r .top)
 
 -- what is left of the lent heads and next: the chains of the order and the state r beside them, or with a refusal what was lent
@@ -79,5 +84,5 @@ pub record Left (fault : ℕ) (heads next order places : List ℕ) (live top : �
       → PartsOf heads′ next′ r (build (placeIn places) (unbuilt (replicate (length heads) 0) (replicate (length next) 0)) order) live (top + 1)
   pub kept : (fault ≡ 0 → ⊥) → (heads′ ≡ heads) × (next′ ≡ next)
 
-unfoldable pub answerBy : ℕ → State → Recovered
-answerBy fault state = cond (eqb fault 0) (Rebuilt state) (Refused fault)
+unfoldable pub answerBy : (fault slot : ℕ) → State → Recovered
+answerBy fault slot state = cond (eqb fault 0) (Rebuilt state) (Refused fault slot)

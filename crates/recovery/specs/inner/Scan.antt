@@ -1,11 +1,12 @@
 -- What recovery's scan of the slots keeps: rank, key and place of each slot, and what all slots together say. A key is kept as its low and its high word.
 use mathlib.Core.Path.{_≡_}
-use mathlib.Core.Bool.{Bool, cond}
+use mathlib.Core.Bool.{Bool, true, cond}
 use mathlib.Core.List.{List}
-use Prim.Native.Nat.{ℕ, _+_, _-_, _*_, _≤_, _<_}
+use Prim.Native.Nat.{ℕ, _+_, _-_, _*_, _≤_, _<_, max}
 use lib.Dec.{eqb}
 use lib.ListN.{length, getD}
-use Rattle.prelude.specs.Range.{anyOf, greatest}
+use Rattle.prelude.specs.Refusal.{say, orElse}
+use Rattle.prelude.specs.Range.{anyOf, greatest, lowest, atLowest}
 use Rattle.layout.specs.Line.{lineA, lineB}
 use Rattle.layout.specs.Record.{Layout, keyOf, kindOf}
 use Rattle.layout.specs.Content.{Content, broken, empty, putRecord, removeRecord, content, topOf, Table}
@@ -60,6 +61,13 @@ pub record Summed (l : ℕ) (m : ℕ → ℕ) (s b : ℕ) (r : Summary) : Type 0
   pub mark-is : r .mark ≡ markFault m s
   pub fault-is : r .fault ≡ recordFault l m s
 
+-- r is a scan with slot s joined, of which `slot` is kept
+pub record Joined (scan : Scan) (slot : Summary) (s : ℕ) (r : Scan) : Type 0 where
+  pub mark-is : r .mark ≡ cond (scan .mark) true (slot .mark)
+  pub fault-is : r .fault ≡ orElse (scan .fault) (slot .fault)
+  pub slot-is : r .slot ≡ orElse (scan .slot) (say (eqb (slot .fault) 0) 0 s)
+  pub top-is : r .top ≡ max (scan .top) (slot .top)
+
 -- the key of slot x by its words in two lists: past the end of highs the high word is 0
 unfoldable pub keyAt : (lows highs : List ℕ) → ℕ → ℕ
 keyAt lows highs x = keyWith (getD lows x 0) (getD highs x 0)
@@ -74,5 +82,6 @@ pub record Listed (f : Table) (n b : ℕ) (ranks lows highs places : List ℕ) :
 pub record Scanned (l : ℕ) (m : ℕ → ℕ) (n b : ℕ) (ranks lows highs places : List ℕ) (r : Scan) : Type 0 where
   pub listed : Listed (content l m) n b ranks lows highs places
   pub marks-are : r .mark ≡ anyOf (markFault m) 1 n
-  pub faults-are : r .fault ≡ anyOf (recordFault l m) 1 n
+  pub fault-is : r .fault ≡ atLowest (recordFault l m) n
+  pub slot-is : r .slot ≡ lowest (recordFault l m) n
   pub top-is : r .top ≡ greatest (λ s. topOf (content l m s)) n

@@ -1,7 +1,7 @@
 -- `recovery_code::judging::found_fault` meets its contract. Assumes nothing.
 use borrow.Author.Needs.{needs}
 use borrow.Author.Tests.{eq-eqb, ne-eqb}
-use Rattle.prelude.proofs.Refusals.{say-true, say-false}
+use Rattle.prelude.proofs.Refusals.{say-true, say-false, orElse-first, orElse-later}
 use Rattle.recovery.specs.inner.Judge.{foundFault}
 use Rattle.recovery_code.proofs.judging.found_fault.Statement.{statement}
 use Rattle.recovery_code.proofs.judging.found_fault.Tie as tie
@@ -12,7 +12,7 @@ found-fault-spec =
     tie.close
     (tie.spec
     (λ c. search (say-true, needs))
-    (λ c. search (say-true, say-false, needs))
-    (λ c. search (say-true, say-false, needs))
-    (λ c. search (say-true, say-false, needs, eq-eqb _ _ (c .if4 .taken)))
-    (λ c. search (say-false, needs, ne-eqb _ _ (c .if4 .left))))
+    (λ c. search (say-false, orElse-first, needs))
+    (λ c. search (say-true, say-false, orElse-later, needs))
+    (λ c. search (say-true, say-false, orElse-later, needs, eq-eqb _ _ (c .if4 .taken)))
+    (λ c. search (say-false, orElse-later, needs, ne-eqb _ _ (c .if4 .left))))

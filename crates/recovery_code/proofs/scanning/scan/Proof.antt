@@ -22,6 +22,9 @@ summary-requires c κs =
 slice-write-highs : tie.Need-slice-write-highs Inv-loop μ-loop
 slice-write-highs c = high-inside _ _ _ (c .before .before .before .loop .highs) (c .if1 .taken) (c .before .before .before .loop .inv .highs-size) (c .before .before .loop-test .taken)
 
+cast-joined : tie.Need-cast-joined Inv-loop μ-loop
+cast-joined c = omega (arith, c .before .before .loop-test .taken, c .before .before .before .before .before .before .before .before .before .pre .few)
+
 loop-again : tie.Need-loop-again Inv-loop μ-loop
 loop-again c =
     scan-next _ _ _ _ _ _ _ _ _ _ _ _ _ (c .before .before .before .before .loop .inv) (c .before .before .before .loop-test .taken) (c .before .before .summary .ensures)
@@ -40,8 +43,9 @@ scan-spec =
     (λ c. search needs) (λ c. search needs) (λ c. search needs)
     (λ c. search needs) (λ c. search needs)
     slice-write-highs
-    (λ c. search needs) (λ c. search needs) (λ c κs. search needs) (λ c. search needs)
-    (λ c. search needs)
+    (λ c. search needs) (λ c. search needs)
+    cast-joined
+    (λ c κs. search needs) (λ c. search needs) (λ c. search needs)
     loop-again
     (λ c. c .before .loop .inv .ranks-size ∙ sym (c .before .before .before .before .before .before .before .pre .ranks-size))
     (λ c. c .before .loop .inv .lows-size ∙ sym (c .before .before .before .before .before .before .before .pre .lows-size))
