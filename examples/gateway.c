@@ -102,6 +102,7 @@ static const char *const refusals[] = {
     "its kind is neither put nor remove",
     "its length is over 80, or it is a remove with a length",
     "a value byte past its length is not zero",
+    "more than one slot is broken; no power cut leaves that: look at the memory, and whether all was made durable",
 };
 
 static const char *words_of(uint32_t number) {

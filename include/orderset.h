@@ -163,7 +163,9 @@ enum orderset_refusal {
     ORDERSET_NOT_HELD = 21,         /* in replace: the key is not held */
     ORDERSET_BAD_KIND = 22,         /* the kind of a valid slot is neither put nor remove */
     ORDERSET_BAD_LENGTH = 23,       /* the length of a valid slot is over 80, or a remove's is not 0; in get: over 80 */
-    ORDERSET_BAD_TAIL = 24          /* a value byte of a valid slot past its length is not zero */
+    ORDERSET_BAD_TAIL = 24,         /* a value byte of a valid slot past its length is not zero */
+    ORDERSET_BROKEN_SLOTS = 25      /* more than one slot is broken: no power cut leaves that; look at the memory, and
+                                       whether every start made the image durable */
 };
 
 /* Makes an empty image of the bytes. answer: {ORDERSET_GIVEN, N}. Refusals: 1. A cut during format is not covered:
@@ -171,10 +173,10 @@ enum orderset_refusal {
 ORDERSET_CALL uint32_t orderset_format(uint8_t *image, size_t image_length, uint64_t answer[ORDERSET_FORMAT_ANSWER]);
 
 /* Rebuilds heads, next, state and version from the image, whatever they held. The image is only read; if it may hold
- * stores that are not durable, make it durable first (above). Refusals: 1, 2, 3, 4, 5; then 6, 22, 23, 24; 7, 8.
+ * stores that are not durable, make it durable first (above). Refusals: 1, 2, 3, 4, 5; then 6, 22, 23, 24; 7, 25, 8.
  *
- * Returns 0, or the refusal + 2^32 * the slot that it names. 6, 22, 23 and 24 name the lowest slot at fault, and of what
- * is wrong in it the first in that order; the other refusals name none.
+ * Returns 0, or the refusal + 2^32 * the slot that it names. 6, 22, 23 and 24 name the lowest slot at fault, and of
+ * what is wrong in it the first in that order; the other refusals name none.
  *
  * Its scratch is on the stack. Measured: 140 KB for N below 4,096, 664 KB below 16,384, and 2.24 MB from there on. Give
  * the thread 3 MiB, or 1 MiB where N is below 16,384. A Rust thread has 2 MiB unless it is told otherwise, and so has a

@@ -869,7 +869,8 @@ enum fault {
     SOUND, BAD_LENGTH, UNFORMATTED, BAD_HEADER, NO_HEADS, MANY_HEADS, BAD_NEXT, BAD_MARK, BAD_KIND, SAME_VERSION,
     ALL_LIVE, ABOVE_N, ROUND, FULL, LAST_VERSION, NO_FIRST, NO_LAST, FIRST_NEXT, NO_LIVE, LONG_RECORD, OUT_OF_ORDER,
     OUTSIDE, ONE_LINE, TWO_LENGTHS, OTHER_STATE, ALL_FILLED, OTHER_SIZE, LARGE_ORDER, ALL_SLOTS, ALL_BUT_ONE, LONG_LAST,
-    BAD_BITS, BAD_TAIL, REMOVE_LENGTH, BITS_AND_KIND, KIND_AND_LENGTH, LENGTH_AND_TAIL, TAIL_THEN_BITS, FAULTS
+    BAD_BITS, BAD_TAIL, REMOVE_LENGTH, BITS_AND_KIND, KIND_AND_LENGTH, LENGTH_AND_TAIL, TAIL_THEN_BITS, ONE_BROKEN,
+    TWO_BROKEN, SAME_AND_BROKEN, FAULTS
 };
 
 /* the slot that recovery names */
@@ -915,6 +916,9 @@ static const struct directed {
     {IN_RECOVER, 23, LENGTH_AND_TAIL, 0, 0},
     {IN_RECOVER, 24, TAIL_THEN_BITS, 0, 0},
     {IN_RECOVER, 7, SAME_VERSION, 0, 0},
+    {IN_RECOVER, DONE, ONE_BROKEN, 0, 0},
+    {IN_RECOVER, 25, TWO_BROKEN, 0, 0},
+    {IN_RECOVER, 7, SAME_AND_BROKEN, 0, 0},
     {IN_RECOVER, 8, ALL_LIVE, 0, 0},
     {IN_CHANGE | IN_GET | IN_LOCATE, DONE, SOUND, 7, 33},
     {IN_REPLACE | IN_GET, DONE, SOUND, 8, 80},
@@ -1101,6 +1105,9 @@ static void plant(struct set *s, enum fault fault) {
     case BITS_AND_KIND: set_kind_word(image, 3, 81, bits); break;
     case KIND_AND_LENGTH: set_kind_word(image, below(2) ? 0 : 3 + (unsigned)below(253), 81, 0); break;
     case LENGTH_AND_TAIL: set_tail(image), image[128 + 16] = 2; break;
+    case ONE_BROKEN: break_slot(image, 1 + (uint32_t)below(6), (int)below(2)); break;
+    case TWO_BROKEN: break_slot(image, 1 + (uint32_t)below(3), (int)below(2)), break_slot(image, 4, 0); break;
+    case SAME_AND_BROKEN: set_record(image, 5, 1, 9, 2, 5), break_slot(image, 3, 0), break_slot(image, 6, 1); break;
     case TAIL_THEN_BITS: set_tail(image), set_kind_word(image, 3, 81, bits); break;
     default: break;
     }
@@ -1185,7 +1192,7 @@ static uint64_t least_met(uint64_t times[WHICH][ANSWERS], const char *const rule
 
 static const char *const answers[WHICH] = {
     [FORMAT] = "0 1",
-    [RECOVER] = "0 1 2 3 4 5 6 7 8 22 23 24",
+    [RECOVER] = "0 1 2 3 4 5 6 7 8 22 23 24 25",
     [INSERT] = "0 1 2 3 4 9 10 11 12 20",
     [REPLACE] = "0 1 2 3 4 9 10 11 21",
     [REMOVE] = "0 100 1 2 3 4 9 11",

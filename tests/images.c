@@ -51,14 +51,15 @@ static uint32_t *any_order(uint32_t n) {
 
 void any_image(uint8_t *image, uint32_t n, uint64_t keys) {
     uint64_t gap = below(2) ? 1 : 1 + below((1ull << 62) / (n + 1)), spares = below(4);
+    uint32_t breaks = below(8) ? 1 : n; /* how many slots may be broken: mostly one, as a cut leaves it */
     uint64_t base = below(4) ? gap * below(3) : (1ull << 63) - 1 - gap * n - below(3);
     uint32_t *rank = any_order(n);
     m_format(image, 128 * (n + 1ul));
     for (uint32_t i = 1; i <= n; i++) {
         uint8_t *slot = image + 128 * (size_t)i;
         uint64_t key = any_key(keys), kind = below(8);
-        if (kind == 7 && spares == 1)
-            fill(slot, 128), m_set_word(slot, 0, below(2)), m_set_word(slot, 8, below(2)),
+        if (kind == 7 && spares == 1 && breaks)
+            breaks--, fill(slot, 128), m_set_word(slot, 0, below(2)), m_set_word(slot, 8, below(2)),
                 m_set_word(slot, 7, 2 * chance() + !m_word(slot, 0));
         else if (kind == 6 && spares >= 1)
             memset(slot, 0, 128), m_set_word(slot, 1, chance());
@@ -68,8 +69,8 @@ void any_image(uint8_t *image, uint32_t n, uint64_t keys) {
             set_record(image, i, 1, key, base + gap * rank[i], below(81));
         if (kind < 4 && below(2))
             set_record(image, i, 1, key, base + gap * rank[i], 24), order_bytes(slot + 24);
-        if (kind == 5 && spares >= 2 && below(2))
-            m_set_word(slot, below(2) ? 7 : 15, 2 * below(gap * n) + below(2));
+        if (kind == 5 && spares >= 2 && breaks && below(2))
+            breaks--, m_set_word(slot, below(2) ? 7 : 15, 2 * below(gap * n) + below(2));
     }
     free(rank);
 }

@@ -12,7 +12,7 @@ void set_record(uint8_t *image, uint32_t slot, unsigned kind, uint64_t key, uint
 void order_bytes(uint8_t bytes[24]);
 
 /* An image slot by slot: put and remove records of a few keys with distinct versions, half of the puts orders of the
- * book, empty slots, slots that a cut broke. Usually accepted. */
+ * book, empty slots, a slot that a cut broke. Usually accepted; sometimes several slots are broken. */
 void any_image(uint8_t *image, uint32_t n, uint64_t keys);
 
 /* One fault, of any kind that the rules name, or a word of garbage. */

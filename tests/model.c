@@ -184,6 +184,7 @@ static struct m_recovered no(int refusal, uint32_t slot) {
 /* "Recovery shall name the lowest slot at fault and what in it" */
 static struct m_recovered recover_slots(const struct slot *slot, uint32_t n, struct entry *valid, uint8_t *live, struct m_index *index) {
     uint32_t count = 0;
+    uint32_t broken = 0;
     uint64_t highest = 0;
     for (uint32_t s = 1; s <= n; s++)
         if (slot[s].bad_mark)
@@ -191,6 +192,7 @@ static struct m_recovered recover_slots(const struct slot *slot, uint32_t n, str
     for (uint32_t s = 1; s <= n; s++) {
         if (slot[s].fault)
             return no(slot[s].fault, s);
+        broken += slot[s].kind == BROKEN;
         if (slot[s].highest > highest)
             highest = slot[s].highest;
         if (slot[s].kind == PUT || slot[s].kind == REMOVE)
@@ -200,6 +202,8 @@ static struct m_recovered recover_slots(const struct slot *slot, uint32_t n, str
     for (uint32_t i = 1; i < count; i++)
         if (valid[i].version == valid[i - 1].version)
             return no(7, 0);
+    if (broken > 1) /* "25 when more than one slot is broken, after 7 and before 8" */
+        return no(25, 0);
     uint32_t found = mark_live(slot, valid, count, live);
     if (found == n)
         return no(8, 0);

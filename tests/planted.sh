@@ -176,6 +176,10 @@ fault differential '6 of a later slot is said first' tests/model.c \
     'DIFFERENCE in the code: archive 24, model 6'
 fault differential 'a remove with a length is taken' tests/model.c 's/ \|\| \(kind == 2 \&\& size > 0\)//' \
     'DIFFERENCE in the code: archive 23, model 0'
+fault differential 'one broken slot is refused' tests/model.c 's/if \(broken > 1\)/if (broken > 0)/' \
+    'DIFFERENCE in the code: archive 0, model 25'
+fault differential 'two broken slots are accepted' tests/model.c 's/if \(broken > 1\)/if (broken > 2)/' \
+    'DIFFERENCE in the code: archive 25, model 0'
 fault differential 'the slot after the one at fault is named' tests/model.c \
     's/return no\(slot\[s\].fault, s\);/return no(slot[s].fault, s + 1);/' 'DIFFERENCE in the slot named'
 

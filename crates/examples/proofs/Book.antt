@@ -22,7 +22,7 @@ use Rattle.stores.specs.Written.{marked, placedWord, bodyA, bodyB, run, lineSto
 use Rattle.stores.specs.Play.{halfFault, halvesFault, playFault, counted, playResult, wordNumbers, values}
 use Rattle.prelude.specs.Filter.{filter}
 use Rattle.sorting.specs.Sorted.{insert, sorted}
-use Rattle.table.specs.Table.{isRecord, keyIn, weight, nextVersion, decider, valueIn, valueAt, mapOf, decidingPut, live, spare, liveCount, sharedVersion, allLive}
+use Rattle.table.specs.Table.{isRecord, keyIn, weight, nextVersion, decider, valueIn, valueAt, mapOf, decidingPut, live, spare, liveCount, sharedVersion, isBroken, brokenCount, brokenLimit, manyBroken, allLive}
 use Rattle.table.specs.Order.{rankOf, ordered, chainOf, reuseOf}
 use Rattle.index.specs.Index.{start, ahead, setNext, setStart, setLast, link}
 use Rattle.index.specs.Chained.{firstOf, lastOf, after, nextIn, chained}
@@ -60,7 +60,7 @@ history-computed : (bookAnswers 1 emptyBook history ≡ historyAnswers) × (tota
     × (recoverFault 1 (formatted 1 512) (length oneHead) (length threeSlots) ≡ 0) × (slotsIn (formatted 1 512) ≡ 3)
     × ((key : ℕ) → emptyMap key ≡ none) × (historyMap 7 ≡ some (orderBytes filled30))
     × (historyMap 8 ≡ none)
-unfolding word setBytes setWord say orElse unlessRefused anyOf tabulate slotsOf lineTop paired slotTop verdictOf lineVerdict isValid keyFrom keyOf valuePlace slotWord valueWord valueByte valueFront valueOf made contentBy contentOf content topOf headerWord headerFault imageFault indexFault lentFault markFault kindFault longest wordFault tailFault faultOf recordFault zipped played marked placedWord bodyA bodyB run lineStores recordStores halfFault halvesFault playFault counted playResult filter insert sorted isRecord keyIn weight greatest topmost lowest atLowest count nextVersion decider valueIn valueAt mapOf decidingPut live spare liveCount sharedVersion allLive rankOf slotNumbers ordered chainOf reuseOf start ahead setNext setStart setLast link firstOf lastOf after nextIn chained takeFirst linkNew append insertNew replaceHeld removeHeld keyFault isFound roomFault versionFault reuseFault walk search chainFault slotsFault recoverFault chainsOf placeOf recoveredIndex recoveredState recovered recoverResult formatted unchanged changed writeLentFault writeLaterFault writeFault writeDone writeResult heldFault removeLaterFault removeFault removeDone removeResult lengthFault getLaterFault getFault getDone getResult calledChange calledGet called wordNumbers values playing finished noState worldAfter recoveredWorld imageCut stepBy holder isHeld updates updated plainNext plainStep sizeOf ruleFault refuses locateFault locateDone locateResult calledLocate plainEvent allStand orderBytes orderOf isState isOrder sent acknowledged filledBy idle changeAnswers asChange soughtIn soughtBy seek newAt newResult alreadyAt acknowledgeAt acknowledgeResult quantityFault fillBy fillAt fillResult withdrawAt withdrawResult booked orderIn orderFault bookFault callBy stepCall callFault stepFault updatesBy stepUpdates bookLeaving ofHeld orderedIn filledIn withdrawnIn counts totalOf mapAtEnd openTotal oneHead bookAnswers threeSlots bookCut emptyBook history historyAnswers historyTotals historyKeys totals filled30
+unfolding word setBytes setWord say orElse unlessRefused anyOf tabulate slotsOf lineTop paired slotTop verdictOf lineVerdict isValid keyFrom keyOf valuePlace slotWord valueWord valueByte valueFront valueOf made contentBy contentOf content topOf headerWord headerFault imageFault indexFault lentFault markFault kindFault longest wordFault tailFault faultOf recordFault zipped played marked placedWord bodyA bodyB run lineStores recordStores halfFault halvesFault playFault counted playResult filter insert sorted isRecord keyIn weight greatest topmost lowest atLowest count nextVersion decider valueIn valueAt mapOf decidingPut live spare liveCount sharedVersion isBroken brokenCount brokenLimit manyBroken allLive rankOf slotNumbers ordered chainOf reuseOf start ahead setNext setStart setLast link firstOf lastOf after nextIn chained takeFirst linkNew append insertNew replaceHeld removeHeld keyFault isFound roomFault versionFault reuseFault walk search chainFault slotsFault recoverFault chainsOf placeOf recoveredIndex recoveredState recovered recoverResult formatted unchanged changed writeLentFault writeLaterFault writeFault writeDone writeResult heldFault removeLaterFault removeFault removeDone removeResult lengthFault getLaterFault getFault getDone getResult calledChange calledGet called wordNumbers values playing finished noState worldAfter recoveredWorld imageCut stepBy holder isHeld updates updated plainNext plainStep sizeOf ruleFault refuses locateFault locateDone locateResult calledLocate plainEvent allStand orderBytes orderOf isState isOrder sent acknowledged filledBy idle changeAnswers asChange soughtIn soughtBy seek newAt newResult alreadyAt acknowledgeAt acknowledgeResult quantityFault fillBy fillAt fillResult withdrawAt withdrawResult booked orderIn orderFault bookFault callBy stepCall callFault stepFault updatesBy stepUpdates bookLeaving ofHeld orderedIn filledIn withdrawnIn counts totalOf mapAtEnd openTotal oneHead bookAnswers threeSlots bookCut emptyBook history historyAnswers historyTotals historyKeys totals filled30
 history-computed = (refl, refl, refl, refl, λ key. refl, refl, refl)
 
 pub history-answers : bookAnswers 1 emptyBook history ≡ historyAnswers

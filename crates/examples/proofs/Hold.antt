@@ -17,7 +17,7 @@ use Rattle.stores.specs.Store.{zipped, played}
 use Rattle.stores.specs.Play.{wordNumbers, values, halfFault, halvesFault, playFault, counted, playResult}
 use Rattle.stores.specs.Written.{marked, placedWord, bodyA, bodyB, run, lineStores, recordStores}
 use Rattle.sorting.specs.Sorted.{insert, sorted}
-use Rattle.table.specs.Table.{isRecord, keyIn, weight, nextVersion, decider, valueIn, valueAt, mapOf, decidingPut, live, spare, liveCount, sharedVersion, allLive}
+use Rattle.table.specs.Table.{isRecord, keyIn, weight, nextVersion, decider, valueIn, valueAt, mapOf, decidingPut, live, spare, liveCount, sharedVersion, isBroken, brokenCount, brokenLimit, manyBroken, allLive}
 use Rattle.table.specs.Order.{rankOf, ordered, chainOf, reuseOf}
 use Rattle.index.specs.Index.{setNext, setStart, setLast, link}
 use Rattle.index.specs.Chained.{firstOf, lastOf, after, nextIn, chained}
@@ -31,5 +31,5 @@ use Rattle.plainmap.specs.World.{calledChange, calledGet, called, playing, fini
 use Rattle.examples.specs.Examples.{bit, answer, verdict, held, formatNumbers, ends, words, over, leftover, recoveredSet, afterCalls, callAnswers, liveCounts, blank, emptySet, lateSet, removal, removedSet, get7, examples, equal, agree}
 
 pub examples-hold : agree examples ≡ true
-unfolding word setBytes setWord say orElse unlessRefused anyOf tabulate greatest topmost lowest atLowest count slotNumbers filter slotsOf lineTop paired slotTop verdictOf lineVerdict slotVerdict isValid keyFrom keyOf valuePlace slotWord valueWord valueByte valueFront valueOf made contentBy contentOf content top topOf headerWord headerFault imageFault indexFault lentFault markFault kindFault longest wordFault tailFault faultOf recordFault zipped played wordNumbers values halfFault halvesFault playFault counted playResult marked placedWord bodyA bodyB run lineStores recordStores insert sorted isRecord keyIn weight nextVersion decider valueIn valueAt mapOf decidingPut live spare liveCount sharedVersion allLive rankOf ordered chainOf reuseOf setNext setStart setLast link firstOf lastOf after nextIn chained walk search chainFault takeFirst linkNew append insertNew replaceHeld removeHeld keyFault isFound roomFault versionFault reuseFault noState slotsFault recoverFault chainsOf placeOf recoveredIndex recoveredState recovered recoverResult formatFault formatted formatResult unchanged changed writeLentFault writeLaterFault writeFault writeDone writeResult heldFault removeLaterFault removeFault removeDone removeResult lengthFault getLaterFault getFault getDone getResult calledChange calledGet called playing finished worldAfter recoveredWorld bit answer verdict held formatNumbers ends words over leftover recoveredSet afterCalls callAnswers liveCounts blank emptySet lateSet removal removedSet get7 examples equal agree
+unfolding word setBytes setWord say orElse unlessRefused anyOf tabulate greatest topmost lowest atLowest count slotNumbers filter slotsOf lineTop paired slotTop verdictOf lineVerdict slotVerdict isValid keyFrom keyOf valuePlace slotWord valueWord valueByte valueFront valueOf made contentBy contentOf content top topOf headerWord headerFault imageFault indexFault lentFault markFault kindFault longest wordFault tailFault faultOf recordFault zipped played wordNumbers values halfFault halvesFault playFault counted playResult marked placedWord bodyA bodyB run lineStores recordStores insert sorted isRecord keyIn weight nextVersion decider valueIn valueAt mapOf decidingPut live spare liveCount sharedVersion isBroken brokenCount brokenLimit manyBroken allLive rankOf ordered chainOf reuseOf setNext setStart setLast link firstOf lastOf after nextIn chained walk search chainFault takeFirst linkNew append insertNew replaceHeld removeHeld keyFault isFound roomFault versionFault reuseFault noState slotsFault recoverFault chainsOf placeOf recoveredIndex recoveredState recovered recoverResult formatFault formatted formatResult unchanged changed writeLentFault writeLaterFault writeFault writeDone writeResult heldFault removeLaterFault removeFault removeDone removeResult lengthFault getLaterFault getFault getDone getResult calledChange calledGet called playing finished worldAfter recoveredWorld bit answer verdict held formatNumbers ends words over leftover recoveredSet afterCalls callAnswers liveCounts blank emptySet lateSet removal removedSet get7 examples equal agree
 examples-hold = refl

@@ -26,7 +26,7 @@ use Rattle.stores.specs.Written.{marked, placedWord, bodyA, bodyB, run, lineSto
 use Rattle.stores.specs.Play.{halfFault, halvesFault, playFault, counted, playResult, wordNumbers, values}
 use Rattle.prelude.specs.Filter.{filter}
 use Rattle.sorting.specs.Sorted.{insert, sorted}
-use Rattle.table.specs.Table.{isRecord, keyIn, weight, nextVersion, decider, valueIn, valueAt, mapOf, decidingPut, live, spare, liveCount, sharedVersion, allLive}
+use Rattle.table.specs.Table.{isRecord, keyIn, weight, nextVersion, decider, valueIn, valueAt, mapOf, decidingPut, live, spare, liveCount, sharedVersion, isBroken, brokenCount, brokenLimit, manyBroken, allLive}
 use Rattle.table.specs.Order.{rankOf, ordered, chainOf, reuseOf}
 use Rattle.index.specs.Index.{start, ahead, setNext, setStart, setLast, link}
 use Rattle.index.specs.Chained.{firstOf, lastOf, after, nextIn, chained}
@@ -42,7 +42,7 @@ use Rattle.prelude.proofs.Fills.{zeros}
 -- THE SESSION answers as document 01 says, with the outputs of its gets; recovery accepts its formatted image, which has two slots
 session-computed : (answers 1 fresh session ≡ expected) × (outputs 1 fresh session ≡ expectedOutputs)
     × (recoverFault 1 (formatted 1 384) (length oneHead) (length twoSlots) ≡ 0) × (slotsIn (formatted 1 384) ≡ 2)
-unfolding word setBytes setWord say orElse unlessRefused anyOf tabulate slotsOf lineTop paired slotTop verdictOf lineVerdict isValid keyFrom keyOf valuePlace slotWord valueWord valueByte valueFront valueOf made contentBy contentOf content topOf headerWord headerFault imageFault indexFault lentFault markFault kindFault longest wordFault tailFault faultOf recordFault zipped played marked placedWord bodyA bodyB run lineStores recordStores halfFault halvesFault playFault counted playResult filter insert sorted isRecord keyIn weight greatest topmost lowest atLowest count nextVersion decider valueIn valueAt mapOf decidingPut live spare liveCount sharedVersion allLive rankOf slotNumbers ordered chainOf reuseOf start ahead setNext setStart setLast link firstOf lastOf after nextIn chained takeFirst linkNew append insertNew replaceHeld removeHeld keyFault isFound roomFault versionFault reuseFault walk search chainFault slotsFault recoverFault chainsOf placeOf recoveredIndex recoveredState recovered recoverResult formatted unchanged changed writeLentFault writeLaterFault writeFault writeDone writeResult heldFault removeLaterFault removeFault removeDone removeResult lengthFault getLaterFault getFault getDone getResult calledChange calledGet called wordNumbers values playing finished noState worldAfter recoveredWorld imageCut stepBy answers outputs small oneHead twoSlots cutAt fresh session expected expectedOutputs
+unfolding word setBytes setWord say orElse unlessRefused anyOf tabulate slotsOf lineTop paired slotTop verdictOf lineVerdict isValid keyFrom keyOf valuePlace slotWord valueWord valueByte valueFront valueOf made contentBy contentOf content topOf headerWord headerFault imageFault indexFault lentFault markFault kindFault longest wordFault tailFault faultOf recordFault zipped played marked placedWord bodyA bodyB run lineStores recordStores halfFault halvesFault playFault counted playResult filter insert sorted isRecord keyIn weight greatest topmost lowest atLowest count nextVersion decider valueIn valueAt mapOf decidingPut live spare liveCount sharedVersion isBroken brokenCount brokenLimit manyBroken allLive rankOf slotNumbers ordered chainOf reuseOf start ahead setNext setStart setLast link firstOf lastOf after nextIn chained takeFirst linkNew append insertNew replaceHeld removeHeld keyFault isFound roomFault versionFault reuseFault walk search chainFault slotsFault recoverFault chainsOf placeOf recoveredIndex recoveredState recovered recoverResult formatted unchanged changed writeLentFault writeLaterFault writeFault writeDone writeResult heldFault removeLaterFault removeFault removeDone removeResult lengthFault getLaterFault getFault getDone getResult calledChange calledGet called wordNumbers values playing finished noState worldAfter recoveredWorld imageCut stepBy answers outputs small oneHead twoSlots cutAt fresh session expected expectedOutputs
 session-computed = (refl, refl, refl, refl)
 
 pub session-answers : answers 1 fresh session ≡ expected

@@ -62,7 +62,7 @@ recoveredValues (refused number) lent = lent
 unfoldable pub recoverCall : Result → State → RecoverCall
 recoverCall r s =
     record {
-      returns = refusalIn (r .answer) + 2 ^ 32 * r .slot;
+      returns = returnedWith (r .answer) (r .slot);
       state = recoveredValues (r .answer) (stateValues s);
       heads = r .heads;
       next = r .next;

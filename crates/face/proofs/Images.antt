@@ -16,7 +16,7 @@ use Rattle.plainmap.specs.World.{recoveredWorld}
 use Rattle.plainmap.specs.Plain.{PlainMap}
 use Rattle.plainmap.specs.Accepted.{Accepted, RightSize}
 use Rattle.plainmap.specs.Claims.{slotsMap, Reads}
-use Rattle.plainmap.proofs.AcceptedImages.{accepted-recovers}
+use Rattle.plainmap.proofs.AcceptedImages.{RightSlots, accepted-right, accepted-recovers}
 use Rattle.plainmap.proofs.CallLists.{recovered-reads}
 use Rattle.face.specs.Recovers.{Recovers}
 
@@ -34,6 +34,7 @@ accepted-gives l image m a h =
       accepts = λ heads next s. recovery-answers l image heads next a s;
       reads = λ heads next s.
           subst (λ (x : PlainMap). Reads l (recoveredWorld l image heads next) x) (fun-ext h) (recovered-reads l image heads next a s);
+      few-broken = accepted-right l image a .few-broken;
       keys = keysTo (tableOf l image) (slotsIn image) (slotsIn image);
       held = map-keys (tableOf l image) (slotsIn image) m h;
       count = live-keys (tableOf l image) (slotsIn image) m h;

@@ -21,7 +21,7 @@ use Rattle.layout.specs.Size.{slotsIn}
 use Rattle.layout.specs.Slot.{lineVerdict, isValid}
 use Rattle.layout.specs.Content.{content, tableOf}
 use Rattle.layout.specs.Fault.{markFault, wordFault, faultOf, recordFault}
-use Rattle.table.specs.Table.{sharedVersion, allLive}
+use Rattle.table.specs.Table.{sharedVersion, manyBroken, allLive}
 use Rattle.layout.specs.Record.{limit}
 use Rattle.layout.specs.Line.{lineA, lineB, versionFault}
 use Rattle.layout.specs.Header.{headerFault, imageFault, indexFault, lentFault}
@@ -36,7 +36,7 @@ use Rattle.recovery.specs.Recover.{Result, slotsFault, slotsNamed, recovered, r
 use Rattle.calls.specs.Format.{FormatResult, formatFault, formatResult}
 use Rattle.calls.specs.Change.{ChangeResult, unchanged, changed, writeLentFault, writeLaterFault, writeFault, writeDone, writeResult, heldFault, removeLaterFault, removeFault, removeDone, removeResult}
 use Rattle.calls.specs.Get.{GetResult, lengthFault, getLaterFault, getFault, getDone, getResult}
-use Rattle.face.specs.Numbers.{Numbered, AnswersAsAsked, formatRefusals, silentRefusals, slotRefusals, recoverRefusals, Names, a-slot, no-slot, writeRefusals, askedRefusals, removeRefusals, getRefusals, roomyGetRefusals, locateRefusals}
+use Rattle.face.specs.Numbers.{Numbered, AnswersAsAsked, formatRefusals, noSlotRefusals, slotRefusals, recoverRefusals, Names, a-slot, no-slot, writeRefusals, askedRefusals, removeRefusals, getRefusals, roomyGetRefusals, locateRefusals}
 use Rattle.calls.specs.Locate.{locateFault, locateDone, locateResult}
 
 -- ---- rows of refusals
@@ -148,9 +148,9 @@ format-numbered l image =
 abbrev DueAt : (n k slot : ℕ) → Type 0
 DueAt n k slot = (k ≡ 0) ⊎ Names n k slot
 
-silent-due : (n k : ℕ) → Due silentRefusals k → DueAt n k 0
-silent-due n k (inl e) = inl e
-silent-due n k (inr i) = inr (no-slot i refl)
+no-slot-due : (n k : ℕ) → Due noSlotRefusals k → DueAt n k 0
+no-slot-due n k (inl e) = inl e
+no-slot-due n k (inr i) = inr (no-slot i refl)
 
 -- the fault of a record: 6, 22, 23, 24
 record-due : (l : ℕ) (m : ℕ → ℕ) (s : ℕ) → Due slotRefusals (recordFault l m s)
@@ -169,17 +169,18 @@ record-due l m s = go (isValid (lineVerdict (lineA m s) (lineB m s)))
 
 module _ (l : ℕ) (m : ℕ → ℕ) (n : ℕ) where
   late : ℕ
-  late = say (sharedVersion (content l m) n) 7 (say (allLive (content l m) n) 8 0)
+  late = say (sharedVersion (content l m) n) 7 (say (manyBroken (content l m) n) 25 (say (allLive (content l m) n) 8 0))
 
-  late-due : Due silentRefusals late
+  late-due : Due noSlotRefusals late
   unfolding late
   late-due =
-      say-due silentRefusals _ 7 _ (one-of 7 silentRefusals refl) (say-due silentRefusals _ 8 0 (one-of 8 silentRefusals refl) (none-due silentRefusals))
+      say-due noSlotRefusals _ 7 _ (one-of 7 noSlotRefusals refl)
+      (say-due noSlotRefusals _ 25 _ (one-of 25 noSlotRefusals refl) (say-due noSlotRefusals _ 8 0 (one-of 8 noSlotRefusals refl) (none-due noSlotRefusals)))
 
   lowest-names : (s : ℕ) → Lowest (recordFault l m) n s → DueAt n (orElse (say (eqb s 0) 0 (recordFault l m s)) late) s
   unfolding say orElse
   lowest-names s (nowhere e z) =
-      subst (λ (t : ℕ). DueAt n (orElse (say (eqb t 0) 0 (recordFault l m t)) late) t) (sym e) (silent-due n late late-due)
+      subst (λ (t : ℕ). DueAt n (orElse (say (eqb t 0) 0 (recordFault l m t)) late) t) (sym e) (no-slot-due n late late-due)
   lowest-names s (there i p b) =
       subst (λ (k : ℕ). DueAt n k s)
       (sym (ap (λ (k : ℕ). orElse k late) (say-false (eqb s 0) 0 _ (ne-eqb s 0 (λ e. omega arith))) ∙ orElse-first (recordFault l m s) late p))
@@ -194,18 +195,18 @@ module _ (l : ℕ) (m : ℕ → ℕ) (n : ℕ) where
   slots-names = go (anyOf (markFault m) 1 n)
     where
       go : (b : Bool) → DueAt n (say b 5 (orElse (atLowest (recordFault l m) n) late)) (say b 0 (lowest (recordFault l m) n))
-      go true = inr (no-slot (one-of 5 silentRefusals refl) refl)
+      go true = inr (no-slot (one-of 5 noSlotRefusals refl) refl)
       go false = lowest-names (lowest (recordFault l m) n) (lowest-is (recordFault l m) n)
 
 module _ (l : ℕ) (image heads next : List ℕ) where
   fault-names : DueAt (slotsIn image) (recoverFault l image (length heads) (length next)) (recoverSlot l image (length heads) (length next))
   unfolding recoverFault recoverSlot orElse unlessRefused
-  fault-names = go (lentFault l image (length heads) (length next)) (lent-due silentRefusals refl refl refl refl l image (length heads) (length next))
+  fault-names = go (lentFault l image (length heads) (length next)) (lent-due noSlotRefusals refl refl refl refl l image (length heads) (length next))
     where
-      go : (k : ℕ) → Due silentRefusals k
+      go : (k : ℕ) → Due noSlotRefusals k
           → DueAt (slotsIn image) (orElse k (slotsFault l (word image) (slotsIn image))) (unlessRefused k (slotsNamed l (word image) (slotsIn image)) 0)
       go zero d = slots-names l (word image) (slotsIn image)
-      go (suc k) d = silent-due (slotsIn image) (suc k) d
+      go (suc k) d = no-slot-due (slotsIn image) (suc k) d
 
   -- RECOVER'S SLOT: 6, 22, 23 and 24 name a slot of the image, the other refusals none
   pub recover-names : (k : ℕ) → recoverResult l image heads next .answer ≡ refused k → Names (slotsIn image) k (recoverResult l image heads next .slot)
@@ -231,7 +232,7 @@ module _ (l : ℕ) (image heads next : List ℕ) where
         where
           by : Names (slotsIn image) k (recoverResult l image heads next .slot) → In k recoverRefusals
           by (a-slot i s) = among slotRefusals recoverRefusals refl k i
-          by (no-slot i z) = among silentRefusals recoverRefusals refl k i
+          by (no-slot i z) = among noSlotRefusals recoverRefusals refl k i
 
 -- ---- what a locate or a get says of the key
 

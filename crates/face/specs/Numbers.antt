@@ -27,20 +27,20 @@ abbrev pub formatRefusals : List ℕ
 formatRefusals = 1 ∷ []
 
 -- recover: those of its refusals that name no slot
-abbrev pub silentRefusals : List ℕ
-silentRefusals = 1 ∷ 2 ∷ 3 ∷ 4 ∷ 5 ∷ 7 ∷ 8 ∷ []
+abbrev pub noSlotRefusals : List ℕ
+noSlotRefusals = 1 ∷ 2 ∷ 3 ∷ 4 ∷ 5 ∷ 7 ∷ 25 ∷ 8 ∷ []
 
 -- and those that name one
 abbrev pub slotRefusals : List ℕ
 slotRefusals = 6 ∷ 22 ∷ 23 ∷ 24 ∷ []
 
 abbrev pub recoverRefusals : List ℕ
-recoverRefusals = silentRefusals ++ slotRefusals
+recoverRefusals = noSlotRefusals ++ slotRefusals
 
 -- the slot that a refusal of recover with this number names: one of the slots 1 to n, or 0 for none
 pub data Names (n number slot : ℕ) : Type 0 where
   a-slot : In number slotRefusals → Slot n slot → Names n number slot
-  no-slot : In number silentRefusals → slot ≡ 0 → Names n number slot
+  no-slot : In number noSlotRefusals → slot ≡ 0 → Names n number slot
 
 -- insert and replace: a replace is never refused for room
 abbrev pub writeRefusals : Mode → List ℕ

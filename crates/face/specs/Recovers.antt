@@ -1,12 +1,12 @@
 -- What recovery gives of an image, by the plain map. Document 01, "The plain map and the cut rule".
 use mathlib.Core.Path.{_≡_}
 use mathlib.Core.List.{List}
-use Prim.Native.Nat.{ℕ}
+use Prim.Native.Nat.{ℕ, _≤_}
 use lib.ListN.{length}
 use Rattle.prelude.specs.Answer.{refusalIn}
 use Rattle.layout.specs.Size.{slotsIn}
 use Rattle.layout.specs.Content.{tableOf}
-use Rattle.table.specs.Table.{liveCount}
+use Rattle.table.specs.Table.{brokenCount, brokenLimit, liveCount}
 use Rattle.table.specs.Keys.{Keys}
 use Rattle.recovery.specs.Recover.{recoverResult}
 use Rattle.plainmap.specs.World.{recoveredWorld}
@@ -20,6 +20,8 @@ pub record Recovers (l : ℕ) (image : List ℕ) (m : PlainMap) : Type 0 where
   pub map : (key : ℕ) → slotsMap l image key ≡ m key
   pub accepts : (heads next : List ℕ) → RightSize image heads next → refusalIn (recoverResult l image heads next .answer) ≡ 0
   pub reads : (heads next : List ℕ) → RightSize image heads next → Reads l (recoveredWorld l image heads next) m
+  -- document 02, A.6: "calls and cuts never lead to 25", "a cut leaves at most one"
+  pub few-broken : brokenCount (tableOf l image) (slotsIn image) ≤ brokenLimit
   -- there is a list of the keys that the plain map holds, and the length of every such list is the live count
   pub keys : List ℕ
   pub held : Keys m keys

@@ -13,7 +13,14 @@ use layout_code::header::slot_count;
 use words_code::read_word;
 
 // Locate, in layout l.
-fn locate_in(image: &[u8], l: usize, heads: &[u32], next: &[u32], low: u64, high: u64) -> LocateAnswer
+fn locate_in(
+    image: &[u8],
+    l: usize,
+    heads: &[u32],
+    next: &[u32],
+    low: u64,
+    high: u64,
+) -> LocateAnswer
     requires { ⌜ Layout l ⌝ }
     ensures { λ r. ⌜ locateEnd r ≡ reported (locateResult l (now (image .entry)) (now (heads .entry)) (now (next .entry)) (keyWith low high)) (keyCompared l (now (image .entry)) (now (heads .entry)) (now (next .entry)) (keyWith low high)) ⌝ }
 {

@@ -3,6 +3,7 @@ ghost use mathlib.Core.Path.{_≡_};
 ghost use Rattle.face.specs.Set.{recoverResult};
 ghost use Rattle.exports.specs.State.{stateFrom};
 ghost use Rattle.exports.specs.Call.{recoverLeft, recoverCall};
+use crate::answer::refused_with;
 use crate::state::keep_state;
 use orderset::Recovered;
 use orderset::recover;
@@ -20,7 +21,7 @@ pub extern "C" fn orderset_recover(
 {
     let recovered = recover(image, heads, next);
     match recovered {
-        Recovered::Refused { number, slot } => number as u64 + 4294967296 * (slot as u64),
+        Recovered::Refused { number, slot } => refused_with(number, slot),
         Recovered::Rebuilt(after) => {
             keep_state(after, state, version);
             0

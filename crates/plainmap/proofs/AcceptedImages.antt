@@ -19,10 +19,11 @@ use Rattle.prelude.proofs.Any.{or-none, any-none, any-clear}
 use Rattle.prelude.proofs.Lowest.{all-clear}
 use Rattle.prelude.proofs.Refusals.{say-false, say-zero, orElse-later, orElse-zero}
 use Rattle.layout.proofs.Size.{Long, long}
-use Rattle.table.specs.Table.{liveCount}
+use Rattle.table.specs.Table.{brokenCount, brokenLimit, liveCount}
 use Rattle.prelude.specs.Members.{Slot}
 use Rattle.table.proofs.defs.Write.{Distinct}
 use Rattle.table.proofs.Distinct.{shared-distinct, distinct-shared}
+use Rattle.table.proofs.Broken.{many-few, few-many}
 use Rattle.table.proofs.LiveCount.{all-room, room-all}
 use Rattle.recovery.specs.Recover.{slotsFault, recoverFault}
 use Rattle.recovery.proofs.Clear.{slots-clear}
@@ -91,6 +92,7 @@ pub record RightSlots (l : ℕ) (m : ℕ → ℕ) (n : ℕ) : Type 0 where
   pub marks : (s : ℕ) → Slot n s → BitMarks m s
   pub records : (s : ℕ) → Slot n s → recordFault l m s ≡ 0
   pub distinct : Distinct (content l m) n
+  pub few-broken : brokenCount (content l m) n ≤ brokenLimit
   pub room : liveCount (content l m) n < n
 
 module _ (l : ℕ) (m : ℕ → ℕ) (n : ℕ) where
@@ -101,6 +103,7 @@ module _ (l : ℕ) (m : ℕ → ℕ) (n : ℕ) where
         marks = λ s i. passed-marks m s (slots-none (markFault m) n (clear .marks) s i);
         records = clear .records;
         distinct = shared-distinct (content l m) n (clear .versions);
+        few-broken = many-few (content l m) n (clear .few-broken);
         room = all-room (content l m) n (clear .room);
       }
 
@@ -110,6 +113,7 @@ module _ (l : ℕ) (m : ℕ → ℕ) (n : ℕ) where
       say-false _ _ _ (slots-free (markFault m) n (λ s i. right-marks m s (h .marks s i)))
       ∙ orElse-later _ _ (all-clear (recordFault l m) n (h .records))
       ∙ say-false _ _ _ (distinct-shared (content l m) n (h .distinct))
+      ∙ say-false _ _ _ (few-many (content l m) n (h .few-broken))
       ∙ say-false _ _ _ (room-all (content l m) n (h .room))
 
 -- ---- an accepted image

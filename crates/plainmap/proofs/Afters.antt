@@ -110,15 +110,15 @@ module _ (l : ℕ) (w : World) (call : Call) (accepted : Accepted l (w .image)) 
     same-slots : slotsIn struck ≡ slotsIn (w .image)
     same-slots =
         ap slotsOf
-        (struck-length l (w .image) (w .state .first) key kind value a b accepted (wr .fields) (wr .lawful) (wr .slot) (wr .free) (wr .small) p q)
+        (struck-length l (w .image) (w .state .first) key kind value a b accepted (wr .fields) (wr .lawful) (wr .slot) (wr .free) (wr .broken) (wr .small) p q)
 
     table-is : TableCut (tableOf l (w .image)) (tableOf l struck) (w .state .first) (nextRecord l (w .image) key kind value) a b
     table-is =
-        struck-table l (w .image) (w .state .first) key kind value a b accepted (wr .fields) (wr .lawful) (wr .slot) (wr .free) (wr .small) p q
+        struck-table l (w .image) (w .state .first) key kind value a b accepted (wr .fields) (wr .lawful) (wr .slot) (wr .free) (wr .broken) (wr .small) p q
 
     stays-accepted : Accepted l struck
     stays-accepted =
-        struck-accepted l (w .image) (w .state .first) key kind value a b accepted (wr .fields) (wr .lawful) (wr .slot) (wr .free) (wr .small) p q
+        struck-accepted l (w .image) (w .state .first) key kind value a b accepted (wr .fields) (wr .lawful) (wr .slot) (wr .free) (wr .broken) (wr .small) p q
         (λ x y. wr .room)
 
     record-map : (k : ℕ)

@@ -20,10 +20,11 @@ use Rattle.prelude.proofs.Refusals.{say-zero, orElse-zero, taken-leaves, refuse
 use Rattle.stores.specs.Cut.{Fields, Lawful, a-put, a-remove}
 use Rattle.table.specs.Table.{mapOf, live, liveCount, nextVersion, isHeld}
 use Rattle.prelude.specs.Members.{Slot}
-use Rattle.table.proofs.defs.Write.{Free, only, isPut, upd}
+use Rattle.table.proofs.defs.Write.{Free, BrokenAt, only, isPut, upd}
 use Rattle.table.proofs.defs.Reuse.{Spares}
-use Rattle.table.specs.Reuse.{HiddenFirst}
+use Rattle.table.specs.Reuse.{HiddenFirst, BrokenFirst}
 use Rattle.table.proofs.Hidden.{head-free}
+use Rattle.table.proofs.Broken.{head-broken}
 use Rattle.index.specs.Index.{Index, Chain, reuse, head, headOf, indexOf, stateOf}
 use Rattle.index.specs.Walk.{search, chainFault}
 use Rattle.index.specs.Change.{insertNew, replaceHeld, removeHeld, keyFault, isFound, roomFault}
@@ -57,6 +58,8 @@ pub record WroteRecord (l : ℕ) (w : World) (key kind : ℕ) (value : List ℕ)
   pub small : nextVersion (tableOf l (w .image)) (slotsIn (w .image)) < 2 ^ 63
   pub slot : Slot (slotsIn (w .image)) (w .state .first)
   pub free : Free (tableOf l (w .image)) (slotsIn (w .image)) (only (w .state .first))
+  -- "A broken slot is always reused first": the slot is broken where any is
+  pub broken : BrokenAt (tableOf l (w .image)) (slotsIn (w .image)) (w .state .first)
   pub room :
       liveCount (upd (tableOf l (w .image)) (w .state .first) (nextRecord l (w .image) key kind value)) (slotsIn (w .image)) < slotsIn (w .image)
   -- only a held key is removed
@@ -153,6 +156,7 @@ module _ (l : ℕ) (lay : Layout l) (w : World) (chains : Chain → List ℕ) (g
             small = omega (arith, g .next-version);
             slot = spares .slot s (inl refl);
             free = head-free f n s rest spares (subst (HiddenFirst f n) e (g .hidden));
+            broken = head-broken f n s rest spares (subst (BrokenFirst f) e (g .broken));
             room = room;
             held = held;
             sound = sound;

@@ -15,14 +15,14 @@ use Rattle.table.specs.Table.{keyIn, decider, mapOf, live, liveCount, nextVersi
 use Rattle.prelude.specs.Members.{Slot}
 use Rattle.table.proofs.defs.Write.{Above, Record, Free, only, isPut, upd, holder}
 use Rattle.table.proofs.defs.Reuse.{Spares, appended, joins}
-use Rattle.table.specs.Reuse.{HiddenFirst}
+use Rattle.table.specs.Reuse.{HiddenFirst, BrokenFirst}
 use Rattle.prelude.proofs.Choice.{true-false}
 use Rattle.table.proofs.OneSlot.{upd-same, upd-other, weight-key}
 use Rattle.table.proofs.Held.{held-or, Held, held, unheld, some-none, holder-held, holder-none}
 use Rattle.table.proofs.Write.{above-next, write-live, write-live-own, write-next}
 use Rattle.table.proofs.LiveCount.{room, count-new, count-over, count-removed}
 use Rattle.table.proofs.Hidden.{head-free}
-use Rattle.table.proofs.Reuse.{write-hidden}
+use Rattle.table.proofs.Reuse.{write-hidden, write-broken}
 use Rattle.index.specs.Index.{Index, Chain, reuse, head, headOf, indexOf, stateOf}
 use Rattle.index.specs.Change.{insertNew, replaceHeld, removeHeld}
 use Rattle.index.specs.Linked.{endOf, Sits}
@@ -149,7 +149,8 @@ module _
     write-sound j alive chains′ q d room ea =
         sound-parts l image′ j alive (w .state .version + 1) n b (upd f s c) chains′ en ef
         (ap (indexFault n b) (sym (g .index .next-size)) ∙ g .size) q
-        (subst (HiddenFirst (upd f s c) n) (sym d) (write-hidden f n s (nextVersion f n) key c rest r above sp hf)) room ea
+        (subst (HiddenFirst (upd f s c) n) (sym d) (write-hidden f n s (nextVersion f n) key c rest r above sp hf))
+        (subst (BrokenFirst (upd f s c)) (sym d) (write-broken f n s (nextVersion f n) key c rest r above sp hf (subst (BrokenFirst f) e (g .broken)))) room ea
         (omega (arith, g .next-version, write-next f n s (nextVersion f n) key c at free r above))
 
     -- a put of a key that is not held

@@ -9,11 +9,11 @@ use Rattle.prelude.specs.Members.{In}
 use Rattle.layout.specs.Content.{Table, tableOf}
 use Rattle.table.specs.Table.{live, liveCount, nextVersion}
 use Rattle.table.proofs.defs.Write.{Distinct}
-use Rattle.table.specs.Reuse.{HiddenFirst}
+use Rattle.table.specs.Reuse.{HiddenFirst, BrokenFirst}
 use Rattle.prelude.proofs.Count.{Gap, gap}
 use Rattle.table.proofs.LiveCount.{room-spare}
 use Rattle.table.proofs.Distinct.{distinct-apart}
-use Rattle.table.proofs.Recovery.{recovery-hidden}
+use Rattle.table.proofs.Recovery.{recovery-hidden, recovery-broken}
 use Rattle.index.specs.Index.{Index, Chain, reuse, stateOf}
 use Rattle.index.specs.Linked.{Sits}
 use Rattle.index.proofs.Sits.{sits-has}
@@ -45,13 +45,14 @@ room-starts f n b i chains g h = go (room-spare f n h)
 
 pub sound-parts : (l : ℕ) (image : List ℕ) (i : Index) (alive version n b : ℕ) (f : Table) (chains : Chain → List ℕ)
     → slotsIn image ≡ n → tableOf l image ≡ f → indexFault n b (n + 1) ≡ 0 → Sits n b (placeOf f n b) i chains → HiddenFirst f n (chains reuse)
-    → liveCount f n < n → alive ≡ liveCount f n → version ≡ nextVersion f n
+    → BrokenFirst f (chains reuse) → liveCount f n < n → alive ≡ liveCount f n → version ≡ nextVersion f n
     → Sound l (record { image = image; heads = i .heads; next = i .next; state = stateOf i alive version }) chains
-sound-parts l image i alive version n b f chains en ef size g hf room ea ev =
+sound-parts l image i alive version n b f chains en ef size g hf bf room ea ev =
     record {
       size = ap₂ (λ (x y : ℕ). indexFault (slotsIn image) x y) (g .heads-size) (g .next-size) ∙ ap (λ (x : ℕ). indexFault x b (n + 1)) en ∙ size;
       index = rw (en, ef, g .heads-size) g;
       hidden = rw (en, ef) hf;
+      broken = rw ef bf;
       some-spare = room-starts f n b i chains g room;
       live-count = ea ∙ sym (ap₂ liveCount ef en);
       next-version = ev ∙ sym (ap₂ nextVersion ef en);
@@ -67,7 +68,8 @@ recovered-parts l image b few d room size =
     sound-parts l image (recoveredIndex (tableOf l image) (slotsIn image) b) (liveCount (tableOf l image) (slotsIn image))
     (nextVersion (tableOf l image) (slotsIn image)) (slotsIn image) b (tableOf l image)
     (chainsOf (tableOf l image) (slotsIn image) b) refl refl size (recovered-sits (tableOf l image) (slotsIn image) b few)
-    (recovery-hidden (tableOf l image) (slotsIn image) (distinct-apart (tableOf l image) (slotsIn image) d)) room refl refl
+    (recovery-hidden (tableOf l image) (slotsIn image) (distinct-apart (tableOf l image) (slotsIn image) d))
+    (recovery-broken (tableOf l image) (slotsIn image)) room refl refl
 
 -- RECOVERY LEAVES A SOUND INDEX
 pub recovered-sound : (l : ℕ) (image heads next : List ℕ) → Accepted l image → RightSize image heads next

@@ -17,9 +17,10 @@ use Rattle.stores.specs.Store.{Store, played, standing}
 use Rattle.stores.specs.Written.{recordStores}
 use Rattle.stores.specs.Cut.{SlotCut, now-old as slot-kept, now-new as slot-done, now-broken as slot-lost, Fields, Lawful, Written}
 use Rattle.stores.proofs.Bytes.{played-length, image-law}
-use Rattle.table.specs.Table.{nextVersion, liveCount}
+use Rattle.table.specs.Table.{brokenCount, brokenLimit, nextVersion, liveCount}
 use Rattle.prelude.specs.Members.{Slot}
-use Rattle.table.proofs.defs.Write.{Distinct, upd, only, Record, Free}
+use Rattle.table.proofs.defs.Write.{Distinct, upd, only, Record, Free, BrokenAt}
+use Rattle.table.proofs.Broken.{few-broken}
 use Rattle.table.proofs.OneSlot.{upd-same, upd-other}
 use Rattle.table.proofs.Write.{put-record, remove-record, above-next, lose-count, lose-distinct, write-distinct}
 use Rattle.plainmap.specs.World.{playing}
@@ -59,7 +60,13 @@ module _ (f f′ : Table) (s : ℕ) (others : (t : ℕ) → (t ≡ s → ⊥) �
   table-cut c version a b p q (slot-done x y e) = done (omega arith) (omega arith) (one-changed c e)
   table-cut c version a b p q (slot-lost x y t h e) = lost (λ u v. y (omega arith) (omega arith)) t (one-changed (broken t) e)
 
--- 7 and 8
+-- 7, 25 and 8
+pub cut-few : (f f′ : Table) (n s : ℕ) (c : Content) (a b : ℕ) → BrokenAt f n s → TableCut f f′ s c a b → brokenCount f n ≤ brokenLimit
+    → brokenCount f′ n ≤ brokenLimit
+cut-few f f′ n s c a b first (kept x y e) h = rw e h
+cut-few f f′ n s c a b first (done x y e) h = rw e (few-broken f n s c first h)
+cut-few f f′ n s c a b first (lost x t e) h = rw e (few-broken f n s (broken t) first h)
+
 module _ (f f′ : Table) (n s key : ℕ) (c : Content) (a b : ℕ) (slot : Slot n s) (free : Free f n (only s)) (r : Record c (nextVersion f n) key) where
   pub cut-distinct : TableCut f f′ s c a b → Distinct f n → Distinct f′ n
   cut-distinct (kept x y e) d = subst (λ (g : Table). Distinct g n) (sym e) d
@@ -87,7 +94,7 @@ struckImage l image s key kind value a b = playing image (nextStores l image s k
 
 module _ (l : ℕ) (image : List ℕ) (s key kind : ℕ) (value : List ℕ) (a b : ℕ)
     (accepted : Accepted l image) (fields : Fields l key kind value) (lawful : Lawful kind value)
-    (slot : Slot (slotsIn image) s) (free : Free (tableOf l image) (slotsIn image) (only s))
+    (slot : Slot (slotsIn image) s) (free : Free (tableOf l image) (slotsIn image) (only s)) (first-broken : BrokenAt (tableOf l image) (slotsIn image) s)
     (small : nextVersion (tableOf l image) (slotsIn image) < 2 ^ 63) (first : a ≤ 8) (second : b ≤ 8) where
   inside : 128 * (s + 1) ≤ length image
   inside = omega (arith, slot, accepted-long l image accepted .size)
@@ -129,6 +136,11 @@ module _ (l : ℕ) (image : List ℕ) (s key kind : ℕ) (value : List ℕ) (a b
       table-cut (tableOf l image) (tableOf l (struckImage l image s key kind value a b)) s (struck-written .others)
       (nextRecord l image key kind value) _ a b first second (struck-written .here)
 
+  -- NEVER 25: no cut leaves more broken slots than the limit
+  pub struck-few : brokenCount (tableOf l (struckImage l image s key kind value a b)) (slotsIn image) ≤ brokenLimit
+  struck-few =
+      cut-few (tableOf l image) _ (slotsIn image) s _ a b first-broken struck-table (accepted-right l image accepted .few-broken)
+
   struck-header : RightHeader l (struckImage l image s key kind value a b)
   struck-header =
       record {
@@ -152,6 +164,7 @@ module _ (l : ℕ) (image : List ℕ) (s key kind : ℕ) (value : List ℕ) (a b
         distinct =
             cut-distinct (tableOf l image) _ (slotsIn image) s key _ a b slot free (made-record kind _ key value) struck-table
             (old .distinct);
+        few-broken = struck-few;
         room =
             cut-room (tableOf l image) _ (slotsIn image) s key _ a b slot free (made-record kind _ key value) struck-table full
             (old .room);

@@ -4,7 +4,7 @@ use mathlib.Core.List.{List, _∷_}
 use Prim.Native.Nat.{ℕ}
 use lib.ListN.{length}
 use Rattle.table.specs.Table.{liveCount, nextVersion}
-use Rattle.table.specs.Reuse.{HiddenFirst}
+use Rattle.table.specs.Reuse.{HiddenFirst, BrokenFirst}
 use Rattle.index.specs.Index.{Chain, reuse, indexOf}
 use Rattle.index.specs.Linked.{Sits}
 use Rattle.recovery.specs.Recover.{placeOf}
@@ -28,6 +28,8 @@ pub record Sound (l : ℕ) (w : World) (chains : Chain → List ℕ) : Type 0 wh
       (indexOf (w .heads) (w .next) (w .state)) chains
   -- in reuse no slot stands after a remove that decides its key and hides that slot's record
   pub hidden : HiddenFirst (tableOf l (w .image)) (slotsIn (w .image)) (chains reuse)
+  -- document 02, A.6: "A broken slot is always reused first"; an accepted image has at most one
+  pub broken : BrokenFirst (tableOf l (w .image)) (chains reuse)
   -- reuse is not empty
   pub some-spare : Starts (chains reuse)
   pub live-count : w .state .live ≡ liveCount (tableOf l (w .image)) (slotsIn (w .image))

@@ -5,6 +5,7 @@ use Prim.Native.Nat.{ℕ, zero, suc, _≤_, _<_}
 use native.Mathlib.Omega.{arith}
 use lib.Dec.{eqb}
 use borrow.Author.Tests.{eqb-true, eqb-false}
+use Rattle.prelude.proofs.Choice.{true-false}
 use Rattle.prelude.specs.Range.{count}
 use Rattle.prelude.specs.Members.{Slot}
 
@@ -81,3 +82,30 @@ count-gap p (suc n) h = go (p (suc n)) refl (count-gap p n) h
     go : (b : Bool) → p (suc n) ≡ b → (count p n < n → Gap p n) → step b (count p n) < suc n → Gap p (suc n)
     go true e ih l = wider (ih (omega arith))
     go false e ih l = gap (suc n) (omega arith) e
+
+-- where each that passes one test passes another, no more pass it
+pub count-fewer : (p q : ℕ → Bool) (n : ℕ) → ((t : ℕ) → Slot n t → q t ≡ true → p t ≡ true) → count q n ≤ count p n
+unfolding count
+count-fewer p q zero h = omega arith
+count-fewer p q (suc n) h = go (q (suc n)) refl (p (suc n)) refl (count-fewer p q n (λ t i. h t (omega arith)))
+  where
+    go : (x : Bool) → q (suc n) ≡ x → (y : Bool) → p (suc n) ≡ y → count q n ≤ count p n → step x (count q n) ≤ step y (count p n)
+    go true e true d ih = omega arith
+    go true e false d ih = absurd (true-false (h (suc n) (omega arith) e) d)
+    go false e true d ih = omega arith
+    go false e false d ih = ih
+
+-- where only one slot may pass it, at most one does
+pub count-one : (p : ℕ → Bool) (n s : ℕ) → ((t : ℕ) → Slot n t → (t ≡ s → ⊥) → p t ≡ false) → count p n ≤ 1
+unfolding count
+count-one p zero s h = omega arith
+count-one p (suc n) s h = go (eqb s (suc n)) refl (count-one p n s (λ t i. h t (omega arith)))
+  where
+    last : (b : Bool) → count p n ≡ 0 → step b (count p n) ≤ 1
+    last true z = omega arith
+    last false z = omega arith
+
+    go : (b : Bool) → eqb s (suc n) ≡ b → count p n ≤ 1 → step (p (suc n)) (count p n) ≤ 1
+    go true e ih =
+        let at = eqb-true s (suc n) e in last (p (suc n)) (count-none p n (λ t i. h t (omega arith) (λ q. omega arith)))
+    go false e ih = rw (h (suc n) (omega arith) (λ q. eqb-false s (suc n) e (sym q))) ih

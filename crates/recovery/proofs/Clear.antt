@@ -9,13 +9,14 @@ use Rattle.prelude.proofs.Lowest.{clear-at}
 use Rattle.layout.specs.Content.{content}
 use Rattle.layout.specs.Fault.{markFault, recordFault}
 use Rattle.prelude.proofs.Refusals.{say-zero, orElse-zero}
-use Rattle.table.specs.Table.{sharedVersion, allLive}
+use Rattle.table.specs.Table.{sharedVersion, manyBroken, allLive}
 use Rattle.recovery.specs.Recover.{slotsFault}
 
 pub record Clear (l : ℕ) (m : ℕ → ℕ) (n : ℕ) : Type 0 where
   pub marks : anyOf (markFault m) 1 n ≡ false
   pub records : (s : ℕ) → Slot n s → recordFault l m s ≡ 0
   pub versions : sharedVersion (content l m) n ≡ false
+  pub few-broken : manyBroken (content l m) n ≡ false
   pub room : allLive (content l m) n ≡ false
 
 pub slots-clear : (l : ℕ) (m : ℕ → ℕ) (n : ℕ) → slotsFault l m n ≡ 0 → Clear l m n
@@ -24,5 +25,6 @@ slots-clear l m n z =
     let a = say-zero _ 5 _ z (omega arith) in
     let b = orElse-zero (atLowest (recordFault l m) n) _ (a .1) in
     let c = say-zero _ 7 _ (b .1) (omega arith) in
-    let d = say-zero _ 8 _ (c .1) (omega arith) in
-    record { marks = a .0; records = clear-at (recordFault l m) n (b .0); versions = c .0; room = d .0 }
+    let d = say-zero _ 25 _ (c .1) (omega arith) in
+    let e = say-zero _ 8 _ (d .1) (omega arith) in
+    record { marks = a .0; records = clear-at (recordFault l m) n (b .0); versions = c .0; few-broken = d .0; room = e .0 }

@@ -5,7 +5,7 @@ use mathlib.Core.Logic.{_⊎_, inl, inr}
 use mathlib.Core.List.{List}
 use Prim.Native.Nat.{ℕ, suc, _+_, _-_, _*_, _^_, _≤_, _<_}
 use native.Mathlib.Omega.{arith}
-use lib.Dec.{eqb}
+use lib.Dec.{eqb, ltb}
 use lib.ListN.{length, getD}
 use Rattle.words.specs.Word.{AreBytes, word}
 use Rattle.words.proofs.Laws.{word-range}
@@ -22,7 +22,7 @@ use Rattle.layout.proofs.Content.{top-is}
 use Rattle.sorting.specs.Sorted.{sorted}
 use Rattle.prelude.specs.Members.{slotNumbers}
 use Rattle.sorting.proofs.Order.{sorted-alike}
-use Rattle.table.specs.Table.{liveCount, nextVersion, sharedVersion, allLive}
+use Rattle.table.specs.Table.{brokenCount, brokenLimit, liveCount, nextVersion, sharedVersion, manyBroken, allLive}
 use Rattle.table.specs.Order.{rankOf, ordered}
 use Rattle.table.proofs.defs.Write.{Distinct}
 use Rattle.prelude.proofs.Lists.{slots-in, AllSlots}
@@ -97,20 +97,24 @@ module _ (l : ℕ) (image : List ℕ) (n b : ℕ) (ranks lows highs places₁ or
         counted ∙ ap (λ (p : List ℕ). placedCount p n) done
         ∙ counted-live f n b ranks lows highs places₁ order by-key (s .listed) size apart-versions order-is keyed
 
-  late : say (sharedVersion f n) 7 (say (eqb live-count n) 8 0) ≡ say (sharedVersion f n) 7 (say (allLive f n) 8 0)
-  unfolding allLive
+  -- 7, 25 and 8 by these tests and this live count
+  abbrev lateBy : (shared : Bool) → (broken live : ℕ) → ℕ
+  lateBy shared broken live = say shared 7 (say (ltb brokenLimit broken) 25 (say (eqb live n) 8 0))
+
+  late : lateBy (sharedVersion f n) (all .broken) live-count ≡ say (sharedVersion f n) 7 (say (manyBroken f n) 25 (say (allLive f n) 8 0))
+  unfolding allLive manyBroken f
   late = go (split (sharedVersion f n))
     where
       go : (sharedVersion f n ≡ true) ⊎ (sharedVersion f n ≡ false)
-          → say (sharedVersion f n) 7 (say (eqb live-count n) 8 0) ≡ say (sharedVersion f n) 7 (say (eqb (liveCount f n) n) 8 0)
+          → lateBy (sharedVersion f n) (all .broken) live-count ≡ lateBy (sharedVersion f n) (brokenCount f n) (liveCount f n)
       go (inl e) = say-true (sharedVersion f n) 7 _ e ∙ sym (say-true (sharedVersion f n) 7 _ e)
-      go (inr e) = ap (λ (x : ℕ). say (sharedVersion f n) 7 (say (eqb x n) 8 0)) (live-is e)
+      go (inr e) = ap₂ (lateBy (sharedVersion f n)) (s .broken-is) (live-is e)
 
-  fault-is : foundFault (all .mark) (all .fault) shared live-count n ≡ slotsFault l (word image) n
+  fault-is : foundFault (all .mark) (all .fault) shared (all .broken) live-count n ≡ slotsFault l (word image) n
   unfolding foundFault slotsFault f
   fault-is =
-      ap₂ (λ (x : Bool) (y : ℕ). say x 5 (orElse y (say shared 7 (say (eqb live-count n) 8 0)))) (s .marks-are) (s .fault-is)
-      ∙ ap (λ (z : Bool). say (anyOf (markFault (word image)) 1 n) 5 (orElse records (say z 7 (say (eqb live-count n) 8 0)))) shared-is
+      ap₂ (λ (x : Bool) (y : ℕ). say x 5 (orElse y (lateBy shared (all .broken) live-count))) (s .marks-are) (s .fault-is)
+      ∙ ap (λ (z : Bool). say (anyOf (markFault (word image)) 1 n) 5 (orElse records (lateBy z (all .broken) live-count))) shared-is
       ∙ ap (λ (k : ℕ). say (anyOf (markFault (word image)) 1 n) 5 (orElse records k)) late
     where
       records : ℕ
@@ -132,7 +136,7 @@ module _ (l : ℕ) (image : List ℕ) (n b : ℕ) (ranks lows highs places₁ or
         greatest-least (λ t. topOf (tableOf l image t)) n (2 ^ 63 - 1) (λ t i. let h = top-small l image t bytes in omega arith),
       )
 
-  pub judged : (fault slot : ℕ) → fault ≡ foundFault (all .mark) (all .fault) shared live-count n → slot ≡ foundSlot (all .mark) (all .slot)
+  pub judged : (fault slot : ℕ) → fault ≡ foundFault (all .mark) (all .fault) shared (all .broken) live-count n → slot ≡ foundSlot (all .mark) (all .slot)
       → Judgement l (word image) n b order places (record { fault = fault; slot = slot; live = live-count; top = all .top })
   unfolding f nextVersion
   judged fault slot e d =

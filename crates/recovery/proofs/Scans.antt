@@ -14,7 +14,7 @@ use Rattle.words.specs.Word.{AreBytes, word}
 use Rattle.words.proofs.Laws.{word-range}
 use Rattle.prelude.proofs.Choice.{pick-true, pick-false}
 use Rattle.prelude.specs.Refusal.{say, orElse}
-use Rattle.prelude.specs.Range.{anyOf, greatest, lowest, atLowest}
+use Rattle.prelude.specs.Range.{anyOf, greatest, lowest, atLowest, count}
 use Rattle.prelude.proofs.Lowest.{at-lowest-next}
 use Rattle.layout.specs.Line.{lineA, lineB, lineTop}
 use Rattle.layout.specs.Slot.{paired, verdictOf, lineVerdict, slotVerdict, isValid}
@@ -25,10 +25,12 @@ use Rattle.layout.specs.Fault.{markFault, faultOf, recordFault}
 use Rattle.layout.specs.declared.Verdict.{Verdict}
 use Rattle.layout.specs.declared.Verdict.the-variants.{Valid, Empty, Broken}
 use Rattle.layout.proofs.KeyWords.{no-high, key-parts}
-use Rattle.table.specs.Table.{keyIn}
+use Rattle.prelude.proofs.Count.{count-most}
+use Rattle.table.specs.Table.{keyIn, isBroken, brokenCount}
+use Rattle.table.proofs.Broken.{rank-broken}
 use Rattle.table.specs.Order.{rankOf}
 use Rattle.index.specs.Index.{headOf}
-use Rattle.recovery.specs.inner.Scan.{putPlace, Scannable, validSummary, Summed, Joined, keyAt, Scanned}
+use Rattle.recovery.specs.inner.Scan.{putPlace, Scannable, validSummary, Summed, ScanWith, keyAt, Scanned}
 use Rattle.recovery.specs.inner.Decide.{NoneOrAll}
 use Rattle.recovery.specs.declared.Summary.{Summary}
 use Rattle.recovery.specs.declared.Scan.{Scan}
@@ -248,8 +250,8 @@ keys-next g lows highs after k low high l e w h s p q = by-cases (ℕ-discrete s
     other i = ap₂ (λ (x y : ℕ). keyWith x y) (getD-set-other lows (suc k) s low 0 i) (w .others s i) ∙ h s p (omega arith)
 
 scanned-none : (l : ℕ) (m : ℕ → ℕ) (b : ℕ) (ranks lows highs places : List ℕ)
-    → Scanned l m 0 b ranks lows highs places (record { mark = false; fault = 0; slot = 0; top = 0 })
-unfolding anyOf greatest lowest atLowest say
+    → Scanned l m 0 b ranks lows highs places (record { mark = false; fault = 0; slot = 0; broken = 0; top = 0 })
+unfolding anyOf greatest lowest atLowest say brokenCount count
 scanned-none l m b ranks lows highs places =
     record {
       listed =
@@ -257,14 +259,15 @@ scanned-none l m b ranks lows highs places =
       marks-are = refl;
       fault-is = refl;
       slot-is = refl;
+      broken-is = refl;
       top-is = refl;
     }
 
 scanned-next : (l : ℕ) (m : ℕ → ℕ) (k b : ℕ) (ranks lows highs places after : List ℕ) (all next : Scan) (slot : Summary)
     → Scanned l m k b ranks lows highs places all → suc k < length ranks → suc k < length lows → suc k < length places
-    → HighSet highs after (suc k) (slot .high) → Summed l m (suc k) b slot → Joined all slot (suc k) next
+    → HighSet highs after (suc k) (slot .high) → Summed l m (suc k) b slot → ScanWith all slot (suc k) next
     → Scanned l m (suc k) b (set ranks (suc k) (slot .rank)) (set lows (suc k) (slot .low)) after (set places (suc k) (slot .place)) next
-unfolding greatest lowest
+unfolding greatest lowest brokenCount count
 scanned-next l m k b ranks lows highs places after all next slot g r y p w here j =
     record {
       listed =
@@ -277,6 +280,10 @@ scanned-next l m k b ranks lows highs places after all next slot g r y p w here 
       marks-are = j .mark-is ∙ ap₂ (λ (u v : Bool). cond u true v) (g .marks-are) (here .mark-is) ∙ with-last;
       fault-is = j .fault-is ∙ ap₂ orElse (g .fault-is) (here .fault-is) ∙ sym (at-lowest-next (recordFault l m) k);
       slot-is = j .slot-is ∙ ap₂ (λ (x y : ℕ). orElse x (say (eqb y 0) 0 (suc k))) (g .slot-is) (here .fault-is);
+      broken-is =
+          j .broken-is
+          ∙ ap₂ (λ (x : Bool) (y : ℕ). cond x (suc y) y)
+          (ap (λ (x : ℕ). eqb x 0) (here .rank-is) ∙ rank-broken (content l m (suc k))) (g .broken-is);
       top-is = j .top-is ∙ ap₂ max (g .top-is) (here .top-is);
     }
   where
@@ -298,7 +305,7 @@ pub record Scanning (l : ℕ) (m : ℕ → ℕ) (n b : ℕ) (ranks lows highs pl
   pub so-far : Scanned l m (s - 1) b ranks lows highs places all
 
 pub scan-start : (image : List ℕ) (l : ℕ) (ranks lows highs places : List ℕ) (n b : ℕ) → Scannable image l ranks lows highs places n b
-    → Scanning l (word image) n b ranks lows highs places (record { mark = false; fault = 0; slot = 0; top = 0 }) 1
+    → Scanning l (word image) n b ranks lows highs places (record { mark = false; fault = 0; slot = 0; broken = 0; top = 0 }) 1
 scan-start image l ranks lows highs places n b g =
     record {
       low = omega arith;
@@ -312,7 +319,7 @@ scan-start image l ranks lows highs places n b g =
     }
 
 pub scan-next : (l : ℕ) (m : ℕ → ℕ) (n b : ℕ) (ranks lows highs places after : List ℕ) (all next : Scan) (slot : Summary) (s : ℕ)
-    → Scanning l m n b ranks lows highs places all s → s ≤ n → Summed l m s b slot → HighSet highs after s (slot .high) → Joined all slot s next
+    → Scanning l m n b ranks lows highs places all s → s ≤ n → Summed l m s b slot → HighSet highs after s (slot .high) → ScanWith all slot s next
     → Scanning l m n b (set ranks s (slot .rank)) (set lows s (slot .low)) after (set places s (slot .place)) next (s + 1)
 scan-next l m n b ranks lows highs places after all next slot zero g h here w j = absurd (omega (arith, g .low))
 scan-next l m n b ranks lows highs places after all next slot (suc k) g h here w j =
@@ -329,6 +336,13 @@ scan-next l m n b ranks lows highs places after all next slot (suc k) g h here w
           (scanned-at l m (suc k - 1) k b ranks lows highs places all (omega arith) (g .so-far))
           (omega (arith, g .ranks-size)) (omega (arith, g .lows-size)) (omega (arith, g .places-size)) w here j);
     }
+
+-- at most all slots are broken
+pub broken-few : (l : ℕ) (m : ℕ → ℕ) (n b : ℕ) (ranks lows highs places : List ℕ) (all : Scan) (s : ℕ)
+    → Scanning l m n b ranks lows highs places all s → all .broken ≤ n
+unfolding brokenCount
+broken-few l m n b ranks lows highs places all s g =
+    omega (arith, g .low, g .high, g .so-far .broken-is, count-most (λ t. isBroken (content l m t)) (s - 1))
 
 pub scan-end : (l : ℕ) (m : ℕ → ℕ) (n b : ℕ) (ranks lows highs places : List ℕ) (all : Scan) (s : ℕ)
     → Scanning l m n b ranks lows highs places all s → n < s → Scanned l m n b ranks lows highs places all

@@ -17,11 +17,12 @@ use Rattle.sorting.specs.Sorted.{sorted}
 use Rattle.prelude.specs.Members.{In, slotNumbers, Slot}
 use Rattle.sorting.proofs.Order.{sorted-rising}
 use Rattle.sorting.proofs.Counts.{flat}
-use Rattle.table.specs.Table.{isRecord, keyIn, nextVersion, decidingPut, live, spare, liveCount, sharedVersion, allLive}
+use Rattle.table.specs.Table.{isRecord, isBroken, keyIn, nextVersion, decidingPut, live, spare, liveCount, sharedVersion, manyBroken, allLive}
 use Rattle.table.specs.Order.{rankOf, ordered, chainOf, reuseOf}
 use Rattle.prelude.proofs.Lists.{slots-in}
 use Rattle.prelude.proofs.Count.{count-none}
 use Rattle.table.proofs.LiveCount.{room-all}
+use Rattle.table.proofs.Broken.{few-many, none-broken}
 use Rattle.prelude.proofs.Most.{greatest-least}
 use Rattle.recovery.proofs.defs.Fresh.{Fresh}
 
@@ -95,9 +96,15 @@ module _ (f : Table) (n : ℕ) (blank : (s : ℕ) → Slot n s → f s ≡ empty
   pub unwritten-room : 1 ≤ n → allLive f n ≡ false
   unwritten-room some = room-all f n (omega (arith, unwritten-count))
 
-  -- neither 7 nor 8
-  pub unwritten-fine : 1 ≤ n → say (sharedVersion f n) 7 (say (allLive f n) 8 0) ≡ 0
-  unwritten-fine some = say-false _ 7 _ unwritten-shared ∙ say-false _ 8 _ (unwritten-room some)
+  unwritten-whole : (s : ℕ) → Slot n s → isBroken (f s) ≡ false
+  unfolding isBroken
+  unwritten-whole s i = ap isBroken (blank s i)
+
+  -- neither 7, 25 nor 8
+  pub unwritten-fine : 1 ≤ n → say (sharedVersion f n) 7 (say (manyBroken f n) 25 (say (allLive f n) 8 0)) ≡ 0
+  unwritten-fine some =
+      say-false _ 7 _ unwritten-shared ∙ say-false _ 25 _ (few-many f n (none-broken f n unwritten-whole))
+      ∙ say-false _ 8 _ (unwritten-room some)
 
   -- THE FORMATTED TABLE
   pub formatted-recovery : 1 ≤ n → Fresh f n

@@ -1,4 +1,4 @@
--- Recovery. Document 01, "The index" and "What each operation may say no to", Recover; document 02, A.5: "Recovery shall name the lowest slot at fault and what in it".
+-- Recovery. Document 01, "The index" and "What each operation may say no to", Recover; document 02, A.5: "Recovery shall name the lowest slot at fault and what in it"; A.6: "25 when more than one slot is broken".
 use mathlib.Core.Bool.{cond}
 use mathlib.Core.List.{List, [], _∷_}
 use Prim.Native.Nat.{ℕ}
@@ -11,7 +11,7 @@ use Rattle.layout.specs.Size.{slotsIn}
 use Rattle.layout.specs.Content.{content, Table, tableOf}
 use Rattle.layout.specs.Header.{lentFault}
 use Rattle.layout.specs.Fault.{markFault, recordFault}
-use Rattle.table.specs.Table.{keyIn, live, liveCount, nextVersion, sharedVersion, allLive}
+use Rattle.table.specs.Table.{keyIn, live, liveCount, nextVersion, sharedVersion, manyBroken, allLive}
 use Rattle.table.specs.Order.{chainOf, reuseOf}
 use Rattle.index.specs.Index.{Index, Chain, reuse, head, headOf, stateOf}
 use Rattle.index.specs.Chained.{chained}
@@ -48,13 +48,14 @@ unfoldable pub recoverState : Recovered → State
 recoverState (Rebuilt s) = s
 recoverState (Refused number slot) = noState
 
--- 5; then "the lowest slot at fault and what in it": 6, 22, 23 or 24; then 7, 8. Each over all slots before the next
+-- 5; then "the lowest slot at fault and what in it": 6, 22, 23 or 24; then 7, 25 ("after 7 and before 8"), 8. Each over all slots before the next
 unfoldable pub slotsFault : (l : ℕ) → (m : ℕ → ℕ) → (n : ℕ) → ℕ
 slotsFault l m n =
     say (anyOf (markFault m) 1 n) 5
-    (orElse (atLowest (recordFault l m) n) (say (sharedVersion (content l m) n) 7 (say (allLive (content l m) n) 8 0)))
+    (orElse (atLowest (recordFault l m) n)
+    (say (sharedVersion (content l m) n) 7 (say (manyBroken (content l m) n) 25 (say (allLive (content l m) n) 8 0))))
 
--- the slot that these name: the lowest one at fault, where 5 does not come first; 5, 7 and 8 name none
+-- the slot that these name: the lowest one at fault, where 5 does not come first; 5, 7, 25 and 8 name none
 unfoldable pub slotsNamed : (l : ℕ) → (m : ℕ → ℕ) → (n : ℕ) → ℕ
 slotsNamed l m n = say (anyOf (markFault m) 1 n) 0 (lowest (recordFault l m) n)
 

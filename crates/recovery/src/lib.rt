@@ -20,12 +20,13 @@ pub struct Summary {
     pub fault: u32,
 }
 
-// What all slots together say: a bad mark, the fault of the lowest slot at fault and that slot (0 and 0 for none), and the highest version on a
-// whole line.
+// What all slots together say: a bad mark, the fault of the lowest slot at fault and that slot (0 and 0 for none), how many are broken, and the
+// highest version on a whole line.
 pub struct Scan {
     pub mark: bool,
     pub fault: u32,
     pub slot: u32,
+    pub broken: u32,
     pub top: u64,
 }
 

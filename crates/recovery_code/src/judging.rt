@@ -10,9 +10,12 @@ use crate::ordering::order_by_rank;
 use crate::scanning::scan;
 use recovery::Judged;
 
-// The refusal of the slots by what was found, else 0: 5, the fault of the lowest slot at fault, 7, 8.
-fn found_fault(mark: bool, fault: u32, shared: bool, live: u32, n: u32) -> u32
-    ensures { λ r. ⌜ r ≡ foundFault mark fault shared live n ⌝ }
+// More broken slots than this are refused with 25.
+const BROKEN_LIMIT: u32 = 1;
+
+// The refusal of the slots by what was found, else 0: 5, the fault of the lowest slot at fault, 7, 25, 8.
+fn found_fault(mark: bool, fault: u32, shared: bool, broken: u32, live: u32, n: u32) -> u32
+    ensures { λ r. ⌜ r ≡ foundFault mark fault shared broken live n ⌝ }
 {
     if mark {
         return 5;
@@ -22,6 +25,9 @@ fn found_fault(mark: bool, fault: u32, shared: bool, live: u32, n: u32) -> u32
     }
     if shared {
         return 7;
+    }
+    if BROKEN_LIMIT < broken {
+        return 25;
     }
     if live == n {
         return 8;
@@ -62,7 +68,7 @@ pub fn judge(
     order_by_key(lows, highs, order, by_key, scratch);
     decide(lows, highs, by_key, places, n);
     let live = count_placed(places, n);
-    let fault = found_fault(all.mark, all.fault, shared, live, n as u32);
+    let fault = found_fault(all.mark, all.fault, shared, all.broken, live, n as u32);
     Judged {
         fault,
         slot: found_slot(all.mark, all.slot),

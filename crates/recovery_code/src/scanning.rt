@@ -1,14 +1,14 @@
 // One pass over the slots of an image.
 ghost use mathlib.Core.Path.{_≡_};
 ghost use mathlib.Core.Bool.{cond};
-ghost use Prim.Native.Nat.{ℕ, _+_, _≤_, _<_, _^_};
+ghost use Prim.Native.Nat.{ℕ, suc, _+_, _≤_, _<_, _^_};
 ghost use lib.Dec.{eqb};
 ghost use Rattle.words.specs.Word.{word};
 ghost use Rattle.prelude.specs.Refusal.{say, orElse};
 ghost use Rattle.layout.specs.inner.Inside.{SlotInside};
 ghost use Rattle.layout.specs.inner.Key.{keyWith};
 ghost use Rattle.index.specs.Index.{headOf};
-ghost use Rattle.recovery.specs.inner.Scan.{Scannable, validSummary, Summed, Joined, Scanned};
+ghost use Rattle.recovery.specs.inner.Scan.{Scannable, validSummary, Summed, ScanWith, Scanned};
 use index_code::head::head_of;
 use layout::Verdict;
 use layout_code::fields::record_fault;
@@ -100,14 +100,27 @@ fn slot_at_fault(fault: u32, s: u32) -> u32
     s
 }
 
+// The broken slots and one more of this rank, which is 0 for a broken slot alone.
+fn broken_with(broken: u32, rank: u64) -> u32
+    requires { ⌜ broken < 65536 ⌝ }
+    ensures { λ r. ⌜ r ≡ cond (eqb rank 0) (suc broken) broken ⌝ }
+{
+    if rank == 0 {
+        return broken + 1;
+    }
+    broken
+}
+
 // A scan with slot s joined.
 fn joined(scan: Scan, slot: Summary, s: u32) -> Scan
-    ensures { λ r. ⌜ Joined scan slot s r ⌝ }
+    requires { ⌜ scan .broken < 65536 ⌝ }
+    ensures { λ r. ⌜ ScanWith scan slot s r ⌝ }
 {
     Scan {
         mark: scan.mark || slot.mark,
         fault: first_of(scan.fault, slot.fault),
         slot: first_of(scan.slot, slot_at_fault(slot.fault, s)),
+        broken: broken_with(scan.broken, slot.rank),
         top: greater(scan.top, slot.top),
     }
 }
@@ -130,6 +143,7 @@ pub fn scan(
         mark: false,
         fault: 0,
         slot: 0,
+        broken: 0,
         top: 0,
     };
     let mut s = 1;

@@ -4,6 +4,7 @@ pub mod Held
 pub mod Write
 pub mod LiveCount
 pub mod Hidden
+pub mod Broken
 pub mod Appended
 pub mod Reuse
 pub mod Search

@@ -16,7 +16,8 @@ use Rattle.table.specs.Table.{keyIn, weight, live, spare}
 use Rattle.table.specs.Order.{rankOf, ordered, chainOf, reuseOf}
 use Rattle.table.proofs.defs.Write.{ApartByKey}
 use Rattle.table.proofs.defs.Reuse.{Spares}
-use Rattle.table.specs.Reuse.{Hides, hides, HiddenFirst}
+use Rattle.table.specs.Reuse.{Hides, hides, HiddenFirst, BrokenFirst}
+use Rattle.table.proofs.Broken.{rising-broken}
 use Rattle.table.proofs.defs.Chains.{Chains}
 use Rattle.table.proofs.OneSlot.{puts, Says, weight-put, weight-remove, removes, says}
 use Rattle.prelude.proofs.Choice.{both-left, both-right, both}
@@ -63,6 +64,10 @@ recovery-rising f n = rising-sorted (λ t. rankOf (f t)) (filter (spare f n) (sl
 pub recovery-hidden : (f : Table) (n : ℕ) → ApartByKey f n → HiddenFirst f n (reuseOf f n)
 recovery-hidden f n d =
     rising-hidden f n (reuseOf f n) d (λ t i. recovery-spares f n .slot t i) (recovery-spares f n .once) (recovery-rising f n)
+
+-- and the broken slots
+pub recovery-broken : (f : Table) (n : ℕ) → BrokenFirst f (reuseOf f n)
+recovery-broken f n = rising-broken f (reuseOf f n) (recovery-rising f n)
 
 -- slot t is live and its key belongs to head i
 abbrev chosen : Table → ℕ → (ℕ → ℕ) → ℕ → ℕ → Bool

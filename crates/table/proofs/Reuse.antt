@@ -12,14 +12,15 @@ use Rattle.prelude.specs.Members.{In, Slot}
 use Rattle.table.specs.Table.{weight, decider, live}
 use Rattle.table.proofs.defs.Write.{Above, isPut, holder, upd, only, Record, Free}
 use Rattle.table.proofs.defs.Reuse.{Spares, joins}
-use Rattle.table.specs.Reuse.{Hides, hides, HiddenFirst}
-use Rattle.table.proofs.OneSlot.{one-key, weight-put, upd-other, upd-same}
+use Rattle.table.specs.Reuse.{Hides, hides, HiddenFirst, BrokenFirst}
+use Rattle.table.proofs.OneSlot.{one-key, weight-put, weight-counts, upd-other, upd-same}
 use Rattle.prelude.proofs.Choice.{true-false}
 use Rattle.prelude.proofs.Lists.{in-at}
 use Rattle.table.proofs.Map.{Turn, decider-weight, nobody, lives, same, lost, live-is, turn, Live}
 use Rattle.table.proofs.Held.{Held, held-or, holder-held, unheld, held, holder-none}
 use Rattle.table.proofs.Write.{write-decider, outside, quiet}
 use Rattle.table.proofs.Hidden.{head-free, hidden-carry, hidden-append}
+use Rattle.table.proofs.Broken.{record-whole, broken-append, broken-carry}
 use Rattle.table.proofs.Appended.{from-own, Joined, from-old, join-hidden, joined}
 
 -- the first slot of reuse gets the newest record of key k, the old slot and the slot are appended as they must be
@@ -105,3 +106,9 @@ module _ (f : Table) (n s w k : ℕ) (c : Content) (l : List ℕ) (r : Record c 
   write-hidden =
       hidden-append (upd f s c) n l (joins f n s k c) (hidden-carry f (upd f s c) n l carried (hf .1))
       (join-hidden (upd f s c) n (holder f n k) (isPut c) s never-hides) cross
+
+  -- the broken slots stay the first ones: what is appended is a record
+  pub write-broken : BrokenFirst f (s ∷ l) → BrokenFirst (upd f s c) (l ++ joins f n s k c)
+  write-broken b =
+      broken-append (upd f s c) l (joins f n s k c) (broken-carry f (upd f s c) l (λ x i. upd-other f s c x (off x i)) (b .1))
+      (λ t j. record-whole (upd f s c t) (weight-counts k (upd f s c t) (of-key t (joined (holder f n k) (isPut c) s t j))))

@@ -1,10 +1,12 @@
 -- The reuse chain as a list: a record stands before the remove that hides it. Document 01, "Traps": "Queueing a remove record before the record it hides: the withdrawn order returns."
+-- Broken slots stand before all others. Document 02, A.6: "A broken slot is always reused first".
 use mathlib.Core.Path.{_≡_}
+use mathlib.Core.Bool.{true}
 use mathlib.Core.List.{List, [], _∷_}
 use Prim.Native.Nat.{ℕ, _<_}
 use Rattle.layout.specs.Content.{removeRecord, Table}
 use Rattle.prelude.specs.Members.{In}
-use Rattle.table.specs.Table.{weight, decider}
+use Rattle.table.specs.Table.{isBroken, weight, decider}
 
 -- slot x is a remove that decides its key, and slot t holds a record of that key
 pub data Hides (f : Table) (n x t : ℕ) : Type 0 where
@@ -14,3 +16,8 @@ pub data Hides (f : Table) (n x t : ℕ) : Type 0 where
 abbrev pub HiddenFirst : Table → (n : ℕ) → List ℕ → Type 0
 HiddenFirst f n [] = Unit
 HiddenFirst f n (x ∷ l) = ((t : ℕ) → In t l → Hides f n x t → ⊥) × HiddenFirst f n l
+
+-- where a slot is broken, so is every one before it: the broken slots are the first ones
+abbrev pub BrokenFirst : Table → List ℕ → Type 0
+BrokenFirst f [] = Unit
+BrokenFirst f (x ∷ l) = ((t : ℕ) → In t l → isBroken (f t) ≡ true → isBroken (f x) ≡ true) × BrokenFirst f l

@@ -3,7 +3,7 @@ use mathlib.Core.Bool.{Bool, true, false, cond, not, _&&_}
 use mathlib.Core.Option.{Option, some, none}
 use mathlib.Core.List.{List, [], _∷_}
 use Prim.Native.Nat.{ℕ, zero, suc, _-_}
-use lib.Dec.{eqb}
+use lib.Dec.{eqb, ltb}
 use Rattle.prelude.specs.Range.{anyOf, greatest, topmost, count}
 use Rattle.layout.specs.Content.{Content, broken, empty, putRecord, removeRecord, topOf, Table}
 
@@ -13,6 +13,13 @@ isRecord (broken top) = false
 isRecord empty = false
 isRecord (putRecord version key value) = true
 isRecord (removeRecord version key) = true
+
+-- "Every other slot is broken"
+unfoldable pub isBroken : Content → Bool
+isBroken (broken top) = true
+isBroken empty = false
+isBroken (putRecord version key value) = false
+isBroken (removeRecord version key) = false
 
 -- the key of a record; 0 for any other content
 unfoldable pub keyIn : Content → ℕ
@@ -78,6 +85,18 @@ liveCount f n = count (live f n) n
 -- "7 when two valid slots share a version"
 unfoldable pub sharedVersion : Table → (n : ℕ) → Bool
 sharedVersion f n = anyOf (λ s. anyOf (λ t. isRecord (f s) && (isRecord (f t) && eqb (topOf (f s)) (topOf (f t)))) 1 (s - 1)) 1 n
+
+-- how many of the slots 1 to n are broken
+unfoldable pub brokenCount : Table → (n : ℕ) → ℕ
+brokenCount f n = count (λ s. isBroken (f s)) n
+
+-- document 02, A.6: "A broken slot is always reused first, so a cut leaves at most one"
+unfoldable pub brokenLimit : ℕ
+brokenLimit = 1
+
+-- "25 when more than one slot is broken"
+unfoldable pub manyBroken : Table → (n : ℕ) → Bool
+manyBroken f n = ltb brokenLimit (brokenCount f n)
 
 -- "8 when all N slots are live"
 unfoldable pub allLive : Table → (n : ℕ) → Bool

@@ -3,7 +3,7 @@ use mathlib.Core.Path.{_≡_}
 use mathlib.Core.Bool.{Bool, cond}
 use mathlib.Core.List.{List}
 use Prim.Native.Nat.{ℕ, suc, _+_, _-_, _*_, _^_, _≤_, _<_}
-use lib.Dec.{eqb}
+use lib.Dec.{eqb, ltb}
 use lib.ListN.{length, getD, replicate}
 use Rattle.prelude.specs.Refusal.{say, orElse}
 use Rattle.layout.specs.Content.{content, Table}
@@ -14,7 +14,7 @@ use Rattle.index.specs.inner.Parts.{PartsOf}
 use Rattle.index.specs.inner.Build.{build, placeIn, unbuilt}
 use Rattle.index.specs.declared.State.{State}
 use Rattle.prelude.specs.Members.{slotNumbers}
-use Rattle.table.specs.Table.{liveCount, nextVersion}
+use Rattle.table.specs.Table.{brokenLimit, liveCount, nextVersion}
 use Rattle.table.specs.Order.{ordered}
 use Rattle.recovery.specs.Recover.{slotsFault, slotsNamed}
 use Rattle.recovery.specs.inner.Decide.{livePlace}
@@ -56,9 +56,10 @@ pub record Roomy (ranks lows highs places order by-key scratch : List ℕ) (n : 
   pub by-key-room : n < length by-key
   pub scratch-room : n < length scratch
 
--- the refusal of the slots from what was found: 5, the fault of the lowest slot at fault, 7, 8
-unfoldable pub foundFault : (mark : Bool) → (fault : ℕ) → (shared : Bool) → (live n : ℕ) → ℕ
-foundFault mark fault shared live n = say mark 5 (orElse fault (say shared 7 (say (eqb live n) 8 0)))
+-- the refusal of the slots from what was found: 5, the fault of the lowest slot at fault, 7, 25, 8
+unfoldable pub foundFault : (mark : Bool) → (fault : ℕ) → (shared : Bool) → (broken live n : ℕ) → ℕ
+foundFault mark fault shared broken live n =
+    say mark 5 (orElse fault (say shared 7 (say (ltb brokenLimit broken) 25 (say (eqb live n) 8 0))))
 
 -- the slot that it names
 unfoldable pub foundSlot : (mark : Bool) → (slot : ℕ) → ℕ

@@ -2,7 +2,7 @@
 use mathlib.Core.Path.{_≡_}
 use mathlib.Core.Bool.{Bool, true, cond}
 use mathlib.Core.List.{List}
-use Prim.Native.Nat.{ℕ, _+_, _-_, _*_, _≤_, _<_, max}
+use Prim.Native.Nat.{ℕ, suc, _+_, _-_, _*_, _≤_, _<_, max}
 use lib.Dec.{eqb}
 use lib.ListN.{length, getD}
 use Rattle.prelude.specs.Refusal.{say, orElse}
@@ -12,7 +12,7 @@ use Rattle.layout.specs.Record.{Layout, keyOf, kindOf}
 use Rattle.layout.specs.Content.{Content, broken, empty, putRecord, removeRecord, content, topOf, Table}
 use Rattle.layout.specs.Fault.{markFault, faultOf, recordFault}
 use Rattle.layout.specs.inner.Key.{keyWith, highWord}
-use Rattle.table.specs.Table.{keyIn}
+use Rattle.table.specs.Table.{keyIn, brokenCount}
 use Rattle.table.specs.Order.{rankOf}
 use Rattle.index.specs.Index.{headOf}
 use Rattle.recovery.specs.declared.Summary.{Summary}
@@ -62,10 +62,12 @@ pub record Summed (l : ℕ) (m : ℕ → ℕ) (s b : ℕ) (r : Summary) : Type 0
   pub fault-is : r .fault ≡ recordFault l m s
 
 -- r is a scan with slot s joined, of which `slot` is kept
-pub record Joined (scan : Scan) (slot : Summary) (s : ℕ) (r : Scan) : Type 0 where
+pub record ScanWith (scan : Scan) (slot : Summary) (s : ℕ) (r : Scan) : Type 0 where
   pub mark-is : r .mark ≡ cond (scan .mark) true (slot .mark)
   pub fault-is : r .fault ≡ orElse (scan .fault) (slot .fault)
   pub slot-is : r .slot ≡ orElse (scan .slot) (say (eqb (slot .fault) 0) 0 s)
+  -- a broken slot has rank 0
+  pub broken-is : r .broken ≡ cond (eqb (slot .rank) 0) (suc (scan .broken)) (scan .broken)
   pub top-is : r .top ≡ max (scan .top) (slot .top)
 
 -- the key of slot x by its words in two lists: past the end of highs the high word is 0
@@ -84,4 +86,5 @@ pub record Scanned (l : ℕ) (m : ℕ → ℕ) (n b : ℕ) (ranks lows highs pla
   pub marks-are : r .mark ≡ anyOf (markFault m) 1 n
   pub fault-is : r .fault ≡ atLowest (recordFault l m) n
   pub slot-is : r .slot ≡ lowest (recordFault l m) n
+  pub broken-is : r .broken ≡ brokenCount (content l m) n
   pub top-is : r .top ≡ greatest (λ s. topOf (content l m s)) n

@@ -1,25 +1,24 @@
 -- `orderset_c::recover::orderset_recover` meets its contract. Assumes nothing.
 use borrow.Author.Needs.{needs}
 use Rattle.face.specs.Set.{recoverSays, recoverNames, recoverState}
-use Rattle.prelude.specs.Answer.{refusalIn}
-use Rattle.exports.specs.Call.{recoveredValues, recoverCall}
+use Rattle.exports.specs.Call.{returnedWith, recoveredValues, recoverCall}
 use Rattle.orderset_c.proofs.recover.orderset_recover.Statement.{statement}
 use Rattle.orderset_c.proofs.recover.orderset_recover.Tie as tie
 
 returns : tie.Need-returns
-unfolding refusalIn recoveredValues recoverCall recoverSays recoverNames recoverState
-returns c = rw (← (c .before .before .before .before .before .before .before .recover .ensures), c .before .recovered .given .1)
+unfolding returnedWith recoveredValues recoverCall recoverSays recoverNames recoverState
+returns c = rw (c .refused-with .ensures, ← (c .before .before .before .before .before .before .before .before .recover .ensures), c .before .before .recovered .given .1)
 
 returns-2 : tie.Need-returns-2
-unfolding refusalIn recoveredValues recoverCall recoverSays recoverNames recoverState
+unfolding returnedWith recoveredValues recoverCall recoverSays recoverNames recoverState
 returns-2 c = rw (← (c .before .before .before .before .before .before .before .before .before .before .recover .ensures), c .before .before .before .before .recovered2 .given .1, c .keep-state .ensures)
 
 pub orderset-recover-spec : {M : Type 1} → statement M
 orderset-recover-spec =
     tie.close
     (tie.spec
-    (λ c κs. search needs) (λ c. search needs) (λ c. search needs) (λ c. search needs) (λ c. search needs) (λ c. search needs)
-    (λ c. search needs) (λ c κs. search needs) (λ c. search needs) (λ c. search needs)
+    (λ c κs. search needs) (λ c. search needs) (λ c κs. search needs) (λ c. search needs) (λ c κs. search needs)
+    (λ c. search needs) (λ c. search needs)
     returns
     (λ c. search needs) (λ c. search needs)
     returns-2)

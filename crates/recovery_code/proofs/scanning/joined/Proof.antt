@@ -10,13 +10,14 @@ use Rattle.recovery_code.proofs.scanning.joined.Tie as tie
 returns : tie.Need-returns
 returns c =
     record {
-      mark-is = ⊎-elim (λ w. or-left _ _ _ (w .0 .taken) (w .1)) (λ w. or-right _ _ _ (w .0 .left) (w .1)) (c .before .before .before .before .if1 .came);
-      fault-is = c .before .before .before .first-of .ensures;
-      slot-is = c .before .first-of2 .ensures ∙ ap (orElse _) (c .before .before .slot-at-fault .ensures);
+      mark-is = ⊎-elim (λ w. or-left _ _ _ (w .0 .taken) (w .1)) (λ w. or-right _ _ _ (w .0 .left) (w .1)) (c .before .before .before .before .before .if1 .came);
+      fault-is = c .before .before .before .before .first-of .ensures;
+      slot-is = c .before .before .first-of2 .ensures ∙ ap (orElse _) (c .before .before .before .slot-at-fault .ensures);
+      broken-is = c .before .broken-with .ensures;
       top-is = c .greater .ensures;
     }
 
 pub joined-spec : {M : Type 1} → statement M
 joined-spec =
     tie.close
-    (tie.spec (λ c κs. search needs) (λ c κs. search needs) (λ c κs. search needs) (λ c κs. search needs) returns)
+    (tie.spec (λ c κs. search needs) (λ c κs. search needs) (λ c κs. search needs) (λ c κs. search needs) (λ c κs. search needs) returns)

@@ -5,7 +5,7 @@ use Prim.Native.Nat.{_+_, _-_}
 use native.Mathlib.Omega.{arith}
 use borrow.Author.Needs.{needs}
 use Rattle.words.specs.Word.{word}
-use Rattle.recovery.proofs.Scans.{high-inside, high-set, high-left, Scanning, scan-start, scan-next, scan-end}
+use Rattle.recovery.proofs.Scans.{high-inside, high-set, high-left, Scanning, scan-start, scan-next, broken-few, scan-end}
 use Rattle.recovery_code.proofs.scanning.scan.Statement.{statement}
 use Rattle.recovery_code.proofs.scanning.scan.Tie as tie
 
@@ -24,6 +24,10 @@ slice-write-highs c = high-inside _ _ _ (c .before .before .before .loop .highs)
 
 cast-joined : tie.Need-cast-joined Inv-loop μ-loop
 cast-joined c = omega (arith, c .before .before .loop-test .taken, c .before .before .before .before .before .before .before .before .before .pre .few)
+
+joined-requires : tie.Need-joined-requires Inv-loop μ-loop
+joined-requires c κs =
+    omega (arith, broken-few _ _ _ _ _ _ _ _ _ _ (c .before .before .before .loop .inv), c .before .before .before .before .before .before .before .before .before .pre .few)
 
 loop-again : tie.Need-loop-again Inv-loop μ-loop
 loop-again c =
@@ -45,7 +49,8 @@ scan-spec =
     slice-write-highs
     (λ c. search needs) (λ c. search needs)
     cast-joined
-    (λ c κs. search needs) (λ c. search needs) (λ c. search needs)
+    joined-requires
+    (λ c. search needs) (λ c. search needs)
     loop-again
     (λ c. c .before .loop .inv .ranks-size ∙ sym (c .before .before .before .before .before .before .before .pre .ranks-size))
     (λ c. c .before .loop .inv .lows-size ∙ sym (c .before .before .before .before .before .before .before .pre .lows-size))
