@@ -1,21 +1,20 @@
 // Prints the lines of its input and carries them out on a set of at most four slots: the calls of the set and the steps of the book, with the
 // image's own index and with others, and with cuts. A line is a name and numbers. One that ends in a colon is a call, and what it answers and
 // leaves is printed after it; another sets a part of the set or, if it has no such name, is only printed.
-mod call;
+mod change;
+mod image;
 mod lines;
 mod names;
+mod read;
 mod set;
 mod step;
 
-use call::changed;
-use call::formatted;
-use call::listed;
-use call::played;
-use call::recovered;
-use call::show_get;
-use call::show_stores;
-use call::show_total;
-use call::show_word;
+use change::changed;
+use image::formatted;
+use image::listed;
+use image::played;
+use image::recovered;
+use image::show_word;
 use lines::is_asked;
 use lines::numbers;
 use lines::until;
@@ -27,9 +26,12 @@ use names::RECOVER;
 use names::STORES;
 use names::TOTAL;
 use names::WORD;
+use read::show_get;
 use set::Set;
 use set::set_up;
+use set::show_stores;
 use set::start;
+use step::show_total;
 use words_code::padded_word;
 
 fn carry_out(set: Set, name: u64, n: [u64; 5]) -> Set {

@@ -17,7 +17,7 @@ pub struct Fronts {
     pub next: usize,
 }
 
-// The quantities that the steps of the book moved; `step` is the one whose stores were handed out last, or 0, and `quantity` what it moves.
+// The quantities that steps moved; `step` is the name of the call that handed the stores out, or 0, and `quantity` what that moves if it is a step.
 pub struct Book {
     pub ordered: u64,
     pub filled: u64,
@@ -92,7 +92,6 @@ fn low(n: u64) -> u32 {
     (n % 4294967296) as u32
 }
 
-// state FIRST LAST LIVE VERSION
 fn state_of(n: [u64; 5]) -> State {
     State {
         first: low(n[1]),
@@ -102,7 +101,6 @@ fn state_of(n: [u64; 5]) -> State {
     }
 }
 
-// lend BYTES HEADS NEXT
 fn fronts_of(n: [u64; 5]) -> Fronts {
     Fronts {
         image: n[1] as usize,
@@ -111,7 +109,7 @@ fn fronts_of(n: [u64; 5]) -> Fronts {
     }
 }
 
-// byte PLACE BYTE; store NUMBER WORD, for the word of one store; index HEAD NEXT NEXT NEXT, for the first head and slots 1 to 3; state and lend
+// A line that sets a part of the set; another changes nothing.
 pub fn set_up(set: Set, name: u64, n: [u64; 5]) -> Set {
     let mut after = set;
     let place = n[1] as usize;
@@ -143,4 +141,24 @@ pub fn set_up(set: Set, name: u64, n: [u64; 5]) -> Set {
         return after;
     }
     after
+}
+
+pub fn show_index(heads: &[u32; 2], next: &[u32; 5]) {
+    show::text(b" heads");
+    show::numbers(heads);
+    show::text(b" next");
+    show::numbers(next);
+}
+
+fn show_pairs(at: &[u32; 16], value: &[u64; 16]) {
+    show::numbers(at);
+    show::text(b"\n ");
+    show::values(value);
+}
+
+pub fn show_stores(set: Set) {
+    let stores = set.stores;
+    let at = stores.at;
+    let value = stores.value;
+    show_pairs(&at, &value);
 }

@@ -3,7 +3,9 @@ use crate::names::ACKNOWLEDGE;
 use crate::names::FILL;
 use crate::names::NEW;
 use crate::names::WITHDRAW;
+use crate::read::fetch;
 use crate::set::Book;
+use crate::set::Set;
 use book_code::BookChange;
 use book_code::BookOutcome;
 use book_code::acknowledge;
@@ -15,7 +17,7 @@ use orderset::State;
 use words_code::read_word;
 
 // The state after a step, whose answer is printed.
-fn told(r: BookChange) -> State {
+pub fn step_told(r: BookChange) -> State {
     let outcome = r.outcome;
     match outcome {
         BookOutcome::Stored { slot, version } => show::outcome(Outcome::Stored { slot, version }),
@@ -29,7 +31,7 @@ fn told(r: BookChange) -> State {
     s
 }
 
-// new KEY QUANTITY, acknowledge KEY, fill KEY QUANTITY or withdraw KEY
+// A step by its name; 0 where there is none of that name.
 pub fn take_step(
     image: &[u8],
     heads: &mut [u32],
@@ -40,24 +42,27 @@ pub fn take_step(
     quantity: u64,
     at: &mut [u32; 16],
     words: &mut [u64; 16],
-) -> State {
+) -> BookChange {
     if name == NEW {
-        return told(new(image, heads, next, s, key, quantity, at, words));
+        return new(image, heads, next, s, key, quantity, at, words);
     }
     if name == ACKNOWLEDGE {
-        return told(acknowledge(image, heads, next, s, key, at, words));
+        return acknowledge(image, heads, next, s, key, at, words);
     }
     if name == FILL {
-        return told(fill(image, heads, next, s, key, quantity, at, words));
+        return fill(image, heads, next, s, key, quantity, at, words);
     }
     if name == WITHDRAW {
-        return told(withdraw(image, heads, next, s, key, at, words));
+        return withdraw(image, heads, next, s, key, at, words);
     }
-    s
+    BookChange {
+        outcome: BookOutcome::Refused(0),
+        state: s,
+    }
 }
 
-// What is open of the order in these bytes: its second word less its third.
-pub fn open_in(bytes: &[u8; 80]) -> u64 {
+// The second word of these less the third: what is open of an order.
+fn open_in(bytes: &[u8; 80]) -> u64 {
     let ordered = read_word(bytes, 1);
     let filled = read_word(bytes, 2);
     if ordered < filled {
@@ -66,8 +71,15 @@ pub fn open_in(bytes: &[u8; 80]) -> u64 {
     ordered - filled
 }
 
+// What is open of this key's order.
+pub fn open_of(set: Set, key: u64) -> u64 {
+    let r = fetch(set, key, 80);
+    let out = r.out;
+    open_in(&out)
+}
+
 // The sum, or the highest number.
-pub fn sum(a: u64, b: u64) -> u64 {
+fn sum(a: u64, b: u64) -> u64 {
     let most = 18446744073709551615 - a;
     if most < b {
         return 18446744073709551615;
@@ -75,6 +87,7 @@ pub fn sum(a: u64, b: u64) -> u64 {
     a + b
 }
 
+// The quantity of the step that is wanted, 0 of another.
 fn when(step: u64, wanted: u64, quantity: u64) -> u64 {
     if step == wanted {
         return quantity;
@@ -82,19 +95,22 @@ fn when(step: u64, wanted: u64, quantity: u64) -> u64 {
     0
 }
 
-// The book after a step that stored: what is open of the order before it, and the quantity that was named.
+// The book after a call of this name, or 0 where it stored nothing, with the quantity that it named and what was open before it.
 pub fn handed_out(book: Book, step: u64, named: u64, open: u64) -> Book {
     let mut after = book;
     after.step = step;
-    after.quantity = sum(
-        when(step, WITHDRAW, open),
-        sum(when(step, NEW, named), when(step, FILL, named)),
-    );
+    after.quantity = named;
+    if step == WITHDRAW {
+        after.quantity = open;
+    }
     after
 }
 
-// The book after so many stores of each line were played: the quantity counts where all stand.
-pub fn played_in(book: Book, a: u64, b: u64) -> Book {
+// The book after a play of so many stores with this answer: what the step moves counts where all stand.
+pub fn played_in(book: Book, answer: u32, a: u64, b: u64) -> Book {
+    if answer != 0 {
+        return book;
+    }
     let mut after = book;
     after.step = 0;
     if a < 8 {
@@ -107,4 +123,14 @@ pub fn played_in(book: Book, a: u64, b: u64) -> Book {
     after.filled = sum(book.filled, when(book.step, FILL, book.quantity));
     after.withdrawn = sum(book.withdrawn, when(book.step, WITHDRAW, book.quantity));
     after
+}
+
+pub fn show_total(set: Set) {
+    let book = set.book;
+    show::number(book.ordered);
+    show::number(book.filled);
+    show::number(book.withdrawn);
+    let low = sum(open_of(set, 1), open_of(set, 2));
+    let high = sum(open_of(set, 3), open_of(set, 4));
+    show::number(sum(low, high));
 }

@@ -34,31 +34,19 @@ fn flush(p: Progress, out: &[u8]) -> Status {
     }
 }
 
-// One byte, unless a write failed; the output is written before a further line might lack room.
-fn take(
-    t: Status,
-    byte: u8,
-    image: &mut [u8],
-    heads: &mut [u32],
-    next: &mut [u32],
-    out: &mut [u8],
-) -> Status {
-    if !t.written {
-        return t;
-    }
-    let p = t.progress;
-    let q = take_byte(p, byte, image, heads, next, out);
-    if q.at < out.len() && 64 <= out.len() - q.at {
+// After a byte: the output is written before a further line might lack room.
+fn after_byte(p: Progress, out: &[u8]) -> Status {
+    if p.at < out.len() && 64 <= out.len() - p.at {
         return Status {
-            progress: q,
-            reading: t.reading,
+            progress: p,
+            reading: true,
             written: true,
         };
     }
-    flush(q, out)
+    flush(p, out)
 }
 
-// The bytes of one read.
+// The bytes of one read, up to a write that fails; where there are none, the input has ended.
 fn take_bytes(
     t: Status,
     input: &[u8],
@@ -68,48 +56,25 @@ fn take_bytes(
     out: &mut [u8],
 ) -> Status {
     let mut u = t;
+    u.reading = input.len() != 0;
     let mut i = 0;
-    while i < input.len() {
-        u = take(u, input[i], image, heads, next, out);
+    while i < input.len() && u.written {
+        let byte = input[i];
         i += 1;
+        let p = u.progress;
+        let q = take_byte(p, byte, image, heads, next, out);
+        u = after_byte(q, out);
     }
     u
 }
 
-// One read; where nothing comes, the input has ended.
-fn read_once(
-    t: Status,
-    input: &mut [u8],
-    image: &mut [u8],
-    heads: &mut [u32],
-    next: &mut [u32],
-    out: &mut [u8],
-) -> Status {
-    let got = libc::read(STDIN_FILENO, input);
-    let n = io::count(got, input);
-    if n == 0 {
-        let p = t.progress;
-        return Status {
-            progress: p,
-            reading: false,
-            written: t.written,
-        };
-    }
-    take_bytes(t, &input[..n], image, heads, next, out)
-}
-
-// The end of the input, unless a write failed.
-fn finish(t: Status, image: &mut [u8], heads: &mut [u32], next: &mut [u32], out: &mut [u8]) {
-    if !t.written {
-        return;
-    }
-    let p = t.progress;
-    let last = end_input(p, image, heads, next, out);
-    flush(last, out);
-}
-
-// The whole input. Its reads are counted, since nothing says that it ends.
-fn run(input: &mut [u8], image: &mut [u8], heads: &mut [u32], next: &mut [u32], out: &mut [u8]) {
+// The session of the whole input: a line of output for each line. The reads are counted, since nothing says that the input ends.
+pub fn run_session() {
+    let mut input = [0u8; 4096];
+    let mut out = [0u8; 4096];
+    let mut image = [0u8; 65536];
+    let mut heads = [0u32; 1];
+    let mut next = [0u32; 512];
     let mut t = Status {
         progress: open_stream(),
         reading: true,
@@ -117,18 +82,14 @@ fn run(input: &mut [u8], image: &mut [u8], heads: &mut [u32], next: &mut [u32], 
     };
     let mut reads = u64::MAX;
     while reads > 0 && t.reading {
-        t = read_once(t, input, image, heads, next, out);
+        let got = libc::read(STDIN_FILENO, &mut input);
+        let n = io::count(got, &input);
+        t = take_bytes(t, &input[..n], &mut image, &mut heads, &mut next, &mut out);
         reads -= 1;
     }
-    finish(t, image, heads, next, out);
-}
-
-// The session of the whole input: a line of output for each line.
-pub fn run_session() {
-    let mut input = [0u8; 65536];
-    let mut out = [0u8; 65536];
-    let mut image = [0u8; 65536];
-    let mut heads = [0u32; 1];
-    let mut next = [0u32; 512];
-    run(&mut input, &mut image, &mut heads, &mut next, &mut out);
+    if t.written {
+        let p = t.progress;
+        let last = end_input(p, &mut image, &mut heads, &mut next, &mut out);
+        flush(last, &out);
+    }
 }

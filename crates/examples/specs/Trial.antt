@@ -14,7 +14,7 @@ unfoldable pub answers : (l : ℕ) → World → List (Event Call) → List Answ
 answers l w [] = []
 answers l w (event ∷ events) = called l w (requestOf event) .answer ∷ answers l (step l w event) events
 
--- and the output that each leaves; a put and a remove have none
+-- and the output that each leaves; a get alone has one
 unfoldable pub outputs : (l : ℕ) → World → List (Event Call) → List (List ℕ)
 outputs l w [] = []
 outputs l w (event ∷ events) = called l w (requestOf event) .out ∷ outputs l (step l w event) events

@@ -11,7 +11,7 @@ answered n (gives values) lent = 1 ∷ values
 answered n absent lent = replicate n 0
 answered n (refused number) lent = lent
 
--- the same with the count of slots compared in its last word. Document 02, A.4
+-- the lent answer of n + 1 words: the same, and the count of slots compared in the last. Document 02, A.4
 unfoldable pub answeredWith : (n : ℕ) → Answer → (compared : ℕ) → (lent : List ℕ) → List ℕ
 answeredWith n (gives values) compared lent = 1 ∷ values ++ (compared ∷ [])
 answeredWith n absent compared lent = replicate n 0 ++ (compared ∷ [])

@@ -1,4 +1,4 @@
--- A write on a sound index leaves a sound index: a put of a new key, a put of a held key, a remove. Assumes nothing.
+-- A write on a sound index leaves a sound index: an insert, a replace, a remove. Assumes nothing.
 use mathlib.Core.Path.{_≡_, refl, sym, ap, ap₂, _∙_, subst}
 use mathlib.Core.Bool.{Bool, true, false, cond}
 use mathlib.Core.Option.{some, none}
@@ -153,7 +153,7 @@ module _
         (subst (BrokenFirst (upd f s c)) (sym d) (write-broken f n s (nextVersion f n) key c rest r above sp hf (subst (BrokenFirst f) e (g .broken)))) room ea
         (omega (arith, g .next-version, write-next f n s (nextVersion f n) key c at free r above))
 
-    -- a put of a key that is not held
+    -- an insert
     pub new-sound : (prev : ℕ) → mapOf f n key ≡ none → isPut c ≡ true → h < b → prev ≡ endOf 0 (chains (head h)) → liveCount f n + 1 < n
         → Sound l (after (insertNew i h prev) (w .state .live + 1))
         (withChain (withChain chains reuse rest) (head h) (chains (head h) ++ s ∷ []))

@@ -29,7 +29,7 @@ updates (remove key) = dropping key ∷ []
 updates (get key out) = []
 updates (locate key) = []
 
--- "A put gives its key the value, held before or not. A remove drops a held key"
+-- an insert or a replace gives its key the value; "A remove drops a held key"
 unfoldable pub updated : Update → PlainMap → PlainMap
 updated (giving key value) m k = cond (eqb k key) (some value) (m k)
 updated (dropping key) m k = cond (eqb k key) none (m k)

@@ -3,7 +3,7 @@ use face::State;
 use text::Parse;
 use text::Reply;
 
-// The cut that waits for the next accepted put or storing remove: how many stores of each line it leaves.
+// The cut that waits for the next accepted p, or r that stores: how many stores of each line it leaves.
 pub enum Waiting {
     Nothing,
     Counts { a: usize, b: usize },

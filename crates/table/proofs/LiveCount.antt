@@ -56,7 +56,7 @@ module _ (f : Table) (n s w k : ℕ) (c : Content) (i : Slot n s) (free : Free f
   own-spare : live f n s ≡ false
   own-spare = free .spare s i (eq-eqb s s refl)
 
-  -- a put of a new key: one more
+  -- an insert: one more
   pub count-new : mapOf f n k ≡ none → isPut c ≡ true → liveCount (upd f s c) n ≡ suc (liveCount f n)
   unfolding liveCount
   count-new m p =
@@ -86,7 +86,7 @@ module _ (f : Table) (n s w k : ℕ) (c : Content) (i : Slot n s) (free : Free f
   fewer j l =
       count-more rest (live f n) n (decider f n k) j (rest-out (decider f n k) refl) l (λ t q ne. rest-in t (λ e. ne (sym e)))
 
-  -- a put of a held key: as many
+  -- a replace: as many
   pub count-over : (v : List ℕ) → mapOf f n k ≡ some v → isPut c ≡ true → liveCount (upd f s c) n ≡ liveCount f n
   unfolding liveCount rest
   count-over v m p = go (held-or f n k)

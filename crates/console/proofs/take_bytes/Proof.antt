@@ -1,6 +1,6 @@
--- `console::take_bytes` meets its contract. Assumes nothing.
-use mathlib.Core.Path.{_≡_}
-use Prim.Native.Nat.{_-_, _≤_}
+-- `console::take_bytes` is safe and ends. Assumes nothing.
+use mathlib.Core.Path.{_≡_, _∙_}
+use Prim.Native.Nat.{_-_}
 use lib.ListN.{length}
 use borrow.Author.Needs.{needs}
 use Rattle.console.proofs.take_bytes.Statement.{statement}
@@ -8,11 +8,15 @@ use Rattle.console.proofs.take_bytes.Tie as tie
 
 abbrev Inv-loop : tie.InvT-loop
 Inv-loop input image₀ heads₀ next₀ out₀ u₀ i₀ image heads next out u i =
-    (i ≤ length input) × (length image ≡ length image₀) × (length heads ≡ length heads₀) × (length next ≡ length next₀)
-    × (length out ≡ length out₀)
+    (length image ≡ length image₀) × (length heads ≡ length heads₀) × (length next ≡ length next₀) × (length out ≡ length out₀)
 
 abbrev μ-loop : tie.MeasureT-loop
 μ-loop input image₀ heads₀ next₀ out₀ u₀ i₀ image heads next out u i = length input - i
+
+loop-again : tie.Need-loop-again Inv-loop μ-loop
+loop-again c =
+    let kept = c .before .before .before .before .before .before .before .before .before .before .take-byte .kept in let inv = c .before .before .before .before .before .before .before .before .before .before .before .before .before .before .before .before .before .before .before .loop .inv in
+    (kept .1 .1 .0 ∙ inv .0, kept .1 .1 .1 .0 ∙ inv .1, kept .1 .1 .1 .1 .0 ∙ inv .2, kept .1 .1 .1 .1 .1 .0 ∙ inv .3)
 
 pub take-bytes-spec : {M : Type 1} → statement M
 take-bytes-spec =
@@ -20,6 +24,9 @@ take-bytes-spec =
     (tie.spec
     Inv-loop
     μ-loop
-    (λ c. search needs) (λ c. search needs) (λ c κs. search needs) (λ c. search needs) (λ c. search needs)
-    (λ c. search needs) (λ c. search needs) (λ c. search needs) (λ c. search needs) (λ c. search needs)
+    (λ c. search needs) (λ c. search needs) (λ c. search needs) (λ c κs. search needs) (λ c κs. search needs)
+    (λ c. search needs)
+    loop-again
+    (λ c. search needs) (λ c. search needs) (λ c. search needs) (λ c. search needs) (λ c. search needs) (λ c. search needs)
+    (λ c. search needs) (λ c. search needs) (λ c. search needs)
     (λ c. search needs))

@@ -1,10 +1,10 @@
--- `cases::call::differing` is safe and ends. Assumes nothing.
+-- `cases::image::differing` is safe and ends. Assumes nothing.
 use Prim.Native.Nat.{_-_, _≤_}
 use mathlib.Core.Logic.{⊎-elim}
 use native.Mathlib.Omega.{arith}
 use borrow.Author.Needs.{needs}
-use Rattle.cases.proofs.call.differing.Statement.{statement}
-use Rattle.cases.proofs.call.differing.Tie as tie
+use Rattle.cases.proofs.image.differing.Statement.{statement}
+use Rattle.cases.proofs.image.differing.Tie as tie
 
 abbrev Inv-loop : tie.InvT-loop
 Inv-loop image before n₀ i₀ n i = (n ≤ i) × (i ≤ 640)

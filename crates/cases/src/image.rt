@@ -1,0 +1,116 @@
+// The calls on the image without a key: format, recover and both plays.
+ghost use Rattle.io.specs.Counts.{Counts};
+use crate::set::Set;
+use crate::set::lent;
+use crate::set::show_index;
+use crate::step::played_in;
+use orderset::Recovered;
+use orderset::State;
+use orderset::format;
+use orderset::play;
+use orderset::play_list;
+use orderset::recover;
+use words_code::read_word;
+
+pub fn formatted(set: Set) -> Set {
+    let mut image = set.image;
+    let fronts = lent(set);
+    let i = fronts.image;
+    show::formatted(format(&mut image[..i]));
+    let mut after = set;
+    after.image = image;
+    after
+}
+
+// The state that recovery leaves, or the one given.
+fn state_after(r: Recovered, s: State) -> State {
+    match r {
+        Recovered::Rebuilt(rebuilt) => rebuilt,
+        Recovered::Refused { number: _, slot: _ } => s,
+    }
+}
+
+pub fn recovered(set: Set) -> Set {
+    let image = set.image;
+    let mut heads = set.heads;
+    let mut next = set.next;
+    let fronts = lent(set);
+    let i = fronts.image;
+    let h = fronts.heads;
+    let k = fronts.next;
+    let r = recover(&image[..i], &mut heads[..h], &mut next[..k]);
+    show::recovered(r);
+    show_index(&heads, &next);
+    let s = set.state;
+    let state = state_after(r, s);
+    let mut after = set;
+    after.heads = heads;
+    after.next = next;
+    after.state = state;
+    after
+}
+
+// How many bytes of the two differ.
+fn differing(image: &[u8; 640], before: &[u8; 640]) -> u64 {
+    let mut n = 0;
+    let mut i = 0;
+    while i < 640 {
+        if image[i] != before[i] {
+            n += 1;
+        }
+        i += 1;
+    }
+    n
+}
+
+pub fn played(set: Set, n: [u64; 5]) -> Set {
+    let before = set.image;
+    let mut image = set.image;
+    let stores = set.stores;
+    let fronts = lent(set);
+    let i = fronts.image;
+    let answer = play(&mut image[..i], stores, n[1] as usize, n[2] as usize);
+    show::number(answer as u64);
+    show::text(b" changed");
+    show::number(differing(&image, &before));
+    let book = set.book;
+    let mut after = set;
+    after.image = image;
+    after.book = played_in(book, answer, n[1], n[2]);
+    after
+}
+
+// So many of these, or all.
+fn some_of(n: usize, list: &[u64]) -> usize
+    ensures { λ r. ⌜ Counts r (now (list .entry)) ⌝ }
+{
+    if n < list.len() {
+        return n;
+    }
+    list.len()
+}
+
+pub fn listed(set: Set, n: [u64; 5]) -> Set {
+    let mut image = set.image;
+    let fronts = lent(set);
+    let i = fronts.image;
+    let at = [(n[1] % 65536) as u32, (n[2] % 65536) as u32];
+    let value = [513, 18446744073709551615];
+    let v = some_of(n[3] as usize, &value);
+    show::number(play_list(&mut image[..i], &at, &value[..v]) as u64);
+    let mut after = set;
+    after.image = image;
+    after
+}
+
+fn word_of(image: &[u8; 640], i: usize) -> u64 {
+    if i < 80 {
+        return read_word(image, i);
+    }
+    0
+}
+
+pub fn show_word(set: Set, n: [u64; 5]) {
+    let image = set.image;
+    show::number(word_of(&image, n[1] as usize));
+}
