@@ -3,11 +3,11 @@ use mathlib.Core.Path.{_≡_, sym, ap, ap₂, _∙_}
 use mathlib.Core.Bool.{Bool, true, false, cond}
 use Prim.Native.Nat.{ℕ, _+_, _*_, _≤_, _<_}
 use native.Mathlib.Omega.{arith}
-use lib.Dec.{eqb, ltb, leb}
-use borrow.Author.Tests.{eq-eqb, ne-eqb, lt-ltb, le-ltb, le-leb, lt-leb, ltb-false}
+use lib.Dec.{eqb, ltb}
+use borrow.Author.Tests.{eq-eqb, ne-eqb, lt-ltb, le-ltb, ltb-false}
 use Rattle.layout.specs.Line.{lineA}
 use Rattle.layout.specs.Record.{kindOf, lengthOf, limit}
-use Rattle.layout.specs.Fault.{kindFault, longest, wordFault, tailFault, faultOf}
+use Rattle.layout.specs.Fault.{bitsFault, kindFault, longest, wordFault, tailFault, faultOf}
 use Rattle.prelude.specs.Refusal.{say}
 use Rattle.prelude.proofs.Choice.{pick-true, pick-false}
 use Rattle.prelude.proofs.Refusals.{say-true, say-false, say-zero, orElse-first, orElse-later}
@@ -22,16 +22,16 @@ second-at m s = ap m (omega arith)
 pub kind-at : (m : ℕ → ℕ) (l s : ℕ) → l ≤ 2 → m (16 * s + l + 1) ≡ lineA m s (l + 1)
 kind-at m l s h = ap m (omega arith)
 
--- ---- word_fault: k says whether the kind is a fault, most is the greatest length of that kind
+-- ---- word_fault: b says whether the bits above the length byte are a fault, k whether the kind is, most is the greatest length of that kind
 
-pub bad-bits : (l w : ℕ) → 65536 ≤ w → 6 ≡ wordFault l w
+pub bad-bits : (l w : ℕ) (b : Bool) → b ≡ bitsFault w → b ≡ true → 6 ≡ wordFault l w
 unfolding wordFault
-bad-bits l w h = sym (say-true (leb 65536 w) 6 _ (le-leb 65536 w h))
+bad-bits l w b e h = sym (say-true (bitsFault w) 6 _ (sym e ∙ h))
 
-module _ (l w kind : ℕ) (h : w < 65536) (a-kind : kind ≡ kindOf w) (k : Bool) (e : k ≡ kindFault kind) where
+module _ (l w kind : ℕ) (b : Bool) (eb : b ≡ bitsFault w) (h : b ≡ false) (a-kind : kind ≡ kindOf w) (k : Bool) (e : k ≡ kindFault kind) where
   past-bits : say k 22 (say (ltb (longest l kind) (lengthOf w)) 23 0) ≡ wordFault l w
   unfolding wordFault
-  past-bits = rw (e, a-kind) (sym (say-false (leb 65536 w) 6 _ (lt-leb 65536 w h)))
+  past-bits = rw (e, a-kind) (sym (say-false (bitsFault w) 6 _ (sym eb ∙ h)))
 
   pub bad-kind : k ≡ true → 22 ≡ wordFault l w
   bad-kind t = sym (say-true k 22 _ t) ∙ past-bits
@@ -58,7 +58,7 @@ longest-most l kind = go (eqb kind 2)
 pub within : (l w size : ℕ) → size ≡ lengthOf w → wordFault l w ≡ 0 → size ≤ limit l
 unfolding wordFault
 within l w size e clear =
-    let bits = say-zero (leb 65536 w) 6 _ clear (omega arith) in
+    let bits = say-zero (bitsFault w) 6 _ clear (omega arith) in
     let kind = say-zero (kindFault (kindOf w)) 22 _ (bits .1) (omega arith) in
     let long = say-zero (ltb (longest l (kindOf w)) (lengthOf w)) 23 _ (kind .1) (omega arith) in
     omega (arith, ltb-false (longest l (kindOf w)) (lengthOf w) (long .0), longest-most l (kindOf w))

@@ -5,7 +5,7 @@ use Prim.Native.Nat.{ℕ, _+_}
 use lib.Dec.{eqb}
 use Rattle.layout.specs.Line.{lineA, lineB}
 use Rattle.layout.specs.Slot.{slotTop, lineVerdict}
-use Rattle.layout.specs.Record.{kindOf, keyOf, valueOf}
+use Rattle.layout.specs.Record.{kindOf, numberOf, keyOf, valueOf}
 use Rattle.layout.specs.declared.Verdict.{Verdict}
 use Rattle.layout.specs.declared.Verdict.the-variants.{Valid, Empty, Broken}
 use Rattle.words.specs.Word.{word}
@@ -46,10 +46,18 @@ topOf empty = 0
 topOf (putRecord version key value) = version
 topOf (removeRecord version key) = version
 
--- the table of an image: what each slot holds
+-- a table: what each slot holds
 abbrev pub Table : Type 0
 Table = ℕ → Content
 
--- the table of an image that is given by its bytes
-abbrev pub tableOf : (l : ℕ) → (image : List ℕ) → Table
-tableOf l image = content l (word image)
+-- the number in the kind word of slot s
+abbrev pub numberIn : (l : ℕ) → (ℕ → ℕ) → ℕ → ℕ
+numberIn l m s = numberOf (lineA m s (l + 1))
+
+-- what the slots of an image hold that is given by its bytes, void records as the others
+abbrev pub contentsOf : (l : ℕ) → (image : List ℕ) → Table
+contentsOf l image = content l (word image)
+
+-- and the numbers in their kind words
+abbrev pub numbersOf : (l : ℕ) → (image : List ℕ) → ℕ → ℕ
+numbersOf l image = numberIn l (word image)

@@ -1,14 +1,13 @@
--- What recovery's refusals 5, 6, 22, 23 and 24 ask of one slot. Document 01, "What each operation may say no to"; document 02, A.5: "6 keeps only bits above the
--- length byte", "22 when the kind is neither 1 nor 2, 23 when the length is wrong for the kind or over 80, and 24 when a byte past the length is nonzero; within a
--- slot they follow 6 in that order".
+-- What recovery's refusals 5, 6, 22, 23 and 24 ask of one slot. Document 01, "What each operation may say no to"; document 02, A.5: "22 when the kind is neither 1 nor 2, 23 when the length is wrong for the kind or over 80, and 24 when a byte past the length is nonzero; within a
+-- slot they follow 6 in that order"; A.7: "Fault 6 now begins above bit 23 or at a number of 1 or over 8".
 use mathlib.Core.Bool.{Bool, true, false, cond, not}
-use Prim.Native.Nat.{ℕ, _+_, _-_}
+use Prim.Native.Nat.{ℕ, _+_, _-_, _^_}
 use lib.Dec.{eqb, ltb, leb}
 use Rattle.prelude.specs.Refusal.{say, orElse}
 use Rattle.prelude.specs.Range.{anyOf}
 use Rattle.layout.specs.Line.{lineA, lineB}
 use Rattle.layout.specs.Slot.{lineVerdict, isValid}
-use Rattle.layout.specs.Record.{kindOf, lengthOf, limit, valueByte}
+use Rattle.layout.specs.Record.{kindOf, lengthOf, numberOf, limit, valueByte}
 
 -- "5 when a mark in slots 1 to N is neither 0 nor 1"
 unfoldable pub markFault : (ℕ → ℕ) → ℕ → Bool
@@ -22,10 +21,14 @@ kindFault kind = cond (eqb kind 1) false (cond (eqb kind 2) false true)
 unfoldable pub longest : (l kind : ℕ) → ℕ
 longest l kind = cond (eqb kind 2) 0 (limit l)
 
+-- 6: "above bit 23 or at a number of 1 or over 8"
+unfoldable pub bitsFault : ℕ → Bool
+bitsFault w = cond (leb (2 ^ 24) w) true (cond (eqb (numberOf w) 1) true (ltb 8 (numberOf w)))
+
 -- by the kind word: 6, 22, 23
 unfoldable pub wordFault : (l w : ℕ) → ℕ
 wordFault l w =
-    say (leb 65536 w) 6 (say (kindFault (kindOf w)) 22 (say (ltb (longest l (kindOf w)) (lengthOf w)) 23 0))
+    say (bitsFault w) 6 (say (kindFault (kindOf w)) 22 (say (ltb (longest l (kindOf w)) (lengthOf w)) 23 0))
 
 -- a byte of the value from position `size` on is not zero
 unfoldable pub tailFault : (l : ℕ) → (A B : ℕ → ℕ) → (size : ℕ) → Bool

@@ -25,17 +25,21 @@ keyOf l A = keyFrom A 1 l
 abbrev pub keyWord : (key i : ℕ) → ℕ
 keyWord key i = key / (2 ^ 64) ^ i % 2 ^ 64
 
--- the kind word: "kind + 256 × length"
-abbrev pub kindWord : (kind size : ℕ) → ℕ
-kindWord kind size = kind + 256 * size
+-- the kind word: "kind + 256 × length"; document 02, A.7: "bits 16 to 23 of the kind word hold their number"
+abbrev pub kindWord : (kind size number : ℕ) → ℕ
+kindWord kind size number = kind + 256 * size + 65536 * number
 
 -- the kind in a kind word: its low byte
 abbrev pub kindOf : ℕ → ℕ
 kindOf w = w % 256
 
--- and the length: the byte above the kind. "bits above the length byte" are no part of it
+-- the length: the byte above the kind
 abbrev pub lengthOf : ℕ → ℕ
 lengthOf w = w / 256 % 256
+
+-- and the number: the byte above the length, of how many records share the version
+abbrev pub numberOf : ℕ → ℕ
+numberOf w = w / 65536 % 256
 
 -- the greatest length of a value: 80 in layout 1
 abbrev pub limit : ℕ → ℕ

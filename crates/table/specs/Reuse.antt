@@ -4,9 +4,10 @@ use mathlib.Core.Path.{_≡_}
 use mathlib.Core.Bool.{true}
 use mathlib.Core.List.{List, [], _∷_}
 use Prim.Native.Nat.{ℕ, _<_}
-use Rattle.layout.specs.Content.{removeRecord, Table}
+use Rattle.layout.specs.Content.{removeRecord, topOf, Table}
 use Rattle.prelude.specs.Members.{In}
-use Rattle.table.specs.Table.{isBroken, weight, decider}
+use Rattle.table.specs.Table.{isRecord, isBroken, weight, decider}
+use Rattle.table.specs.Taking.{highestValid, isRemove, older}
 
 -- slot x is a remove that decides its key, and slot t holds a record of that key
 pub data Hides (f : Table) (n x t : ℕ) : Type 0 where
@@ -21,3 +22,14 @@ HiddenFirst f n (x ∷ l) = ((t : ℕ) → In t l → Hides f n x t → ⊥) × 
 abbrev pub BrokenFirst : Table → List ℕ → Type 0
 BrokenFirst f [] = Unit
 BrokenFirst f (x ∷ l) = ((t : ℕ) → In t l → isBroken (f t) ≡ true → isBroken (f x) ≡ true) × BrokenFirst f l
+
+-- document 02, A.7: no older valid record of its key stands after a remove record
+abbrev pub OlderFirst : Table → List ℕ → Type 0
+OlderFirst f [] = Unit
+OlderFirst f (x ∷ l) = ((t : ℕ) → In t l → isRemove (f x) ≡ true → older f x t ≡ true → ⊥) × OlderFirst f l
+
+-- a slot of the highest valid version is the first only where all are of it
+abbrev pub HighestLast : Table → (n : ℕ) → List ℕ → Type 0
+HighestLast f n [] = Unit
+HighestLast f n (x ∷ l) =
+    isRecord (f x) ≡ true → topOf (f x) ≡ highestValid f n → (t : ℕ) → In t l → (isRecord (f t) ≡ true) × (topOf (f t) ≡ highestValid f n)

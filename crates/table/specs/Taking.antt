@@ -1,0 +1,42 @@
+-- Which slots a call may take. Document 02, A.7: "No call, single ones included, takes a slot of the highest valid version, or a remove record while an older valid
+-- record of its key remains in the image the call is given, even in a slot that the same call takes; it takes the first others in the reuse chain."
+use mathlib.Core.Bool.{Bool, true, false, cond, not, _&&_}
+use mathlib.Core.List.{List}
+use Prim.Native.Nat.{ℕ}
+use lib.Dec.{eqb, ltb}
+use lib.ListN.{take}
+use Rattle.prelude.specs.Range.{anyOf, greatest, count}
+use Rattle.prelude.specs.Filter.{filter}
+use Rattle.layout.specs.Content.{Content, broken, empty, putRecord, removeRecord, topOf, Table}
+use Rattle.table.specs.Table.{isRecord, keyIn, spare}
+
+-- the version of a valid slot, 0 for any other
+unfoldable pub validVersion : Content → ℕ
+validVersion c = cond (isRecord c) (topOf c) 0
+
+-- the highest valid version, 0 if no slot is valid
+unfoldable pub highestValid : Table → (n : ℕ) → ℕ
+highestValid f n = greatest (λ s. validVersion (f s)) n
+
+unfoldable pub isRemove : Content → Bool
+isRemove (broken top) = false
+isRemove empty = false
+isRemove (putRecord version key value) = false
+isRemove (removeRecord version key) = true
+
+-- slot t has an older valid record of the key of slot s
+unfoldable pub older : Table → (s t : ℕ) → Bool
+older f s t = isRecord (f t) && (eqb (keyIn (f t)) (keyIn (f s)) && ltb (topOf (f t)) (topOf (f s)))
+
+-- may slot s be taken?
+unfoldable pub mayTake : Table → (n s : ℕ) → Bool
+mayTake f n s =
+    cond (isRecord (f s)) (ltb (topOf (f s)) (highestValid f n) && not (isRemove (f s) && anyOf (older f s) 1 n)) true
+
+-- "the first others in the reuse chain": the first m slots of a chain that may be taken
+unfoldable pub takenOf : Table → (n m : ℕ) → (chain : List ℕ) → List ℕ
+takenOf f n m chain = take m (filter (mayTake f n) chain)
+
+-- how many spare slots may be taken
+unfoldable pub takeableCount : Table → (n : ℕ) → ℕ
+takeableCount f n = count (λ t. spare f n t && mayTake f n t) n
