@@ -14,7 +14,8 @@ use Rattle.prelude.specs.Refusal.{say, unlessRefused}
 use Rattle.prelude.specs.Answer.{gives, refused}
 use Rattle.layout.specs.Size.{slotsOf, slotsIn}
 use Rattle.layout.specs.Header.{headerWord, headerFault, imageFault}
-use Rattle.layout.specs.Content.{empty, tableOf}
+use Rattle.layout.specs.Content.{empty}
+use Rattle.table.specs.Complete.{tableOf}
 use Rattle.prelude.proofs.Refusals.{say-true, say-false}
 use Rattle.layout.proofs.Content.{blank-table}
 use Rattle.layout.proofs.Size.{long}

@@ -3,7 +3,7 @@ use mathlib.Core.List.{List}
 use Prim.Native.Nat.{ℕ}
 use Rattle.prelude.specs.Answer.{refuses}
 use Rattle.face.specs.Set.{World, Call, called, PlainMap, Update, updates, Typed, dueFault, Right}
-use Rattle.face.specs.Event.{Event, Leaving, leaving, requestOf, stepBy, allStand, plainEvent}
+use Rattle.face.specs.Event.{Event, Leaving, leaving, requestOf, stepBy, isWhole, plainEvent}
 use Rattle.book.specs.Steps.{Step, booked}
 use Rattle.book.specs.Plain.{bookLeaving, stepFault, stepUpdates, StepRight, TypedStep}
 
@@ -42,4 +42,4 @@ worldAfterRequest l w event = stepBy l (requestLeaves l) w event
 
 abbrev pub mapAfterRequest : (l : ℕ) → World → PlainMap → Event Request → PlainMap
 mapAfterRequest l w m event =
-    plainEvent (allStand event) (requestUpdates m (requestOf event)) (refuses (requestFault l w m (requestOf event))) m
+    plainEvent (isWhole (requestLeaves l) w event) (requestUpdates m (requestOf event)) (refuses (requestFault l w m (requestOf event))) m

@@ -5,24 +5,31 @@ use Prim.Native.Nat.{ℕ}
 use lib.ListN.{length}
 use Rattle.prelude.specs.Members.{All}
 use Rattle.prelude.specs.History.{Throughout}
-use Rattle.face.specs.Set.{World, PlainMap, recoverFault, recoveredWorld, slotsIn, slotsMap}
-use Rattle.face.specs.Event.{Event, requestOf, FitsBy}
-use Rattle.face.specs.Recovers.{Recovers}
-use Rattle.cutrule.specs.Request.{Request, RequestRight, TypedRequest, worldAfterRequest, mapAfterRequest}
+use Rattle.face.specs.Set.{World, PlainMap, recoverFault, Restart, restarted, slotsIn, slotsMap}
+use Rattle.face.specs.Event.{Event, done, struck, imageCut, requestOf, RestartFits, FitsBy}
+use Rattle.face.specs.Recovers.{Recovers, RecoversAlong}
+use Rattle.cutrule.specs.Request.{Request, requestLeaves, RequestRight, TypedRequest, worldAfterRequest, mapAfterRequest}
+
+-- after a cut recovery gives the plain map's next map, and so does each recovery after a cut among its opening stores
+abbrev pub CutRight : (l : ℕ) → World → PlainMap → Event Request → Type 0
+CutRight l w m (done request) = Unit
+CutRight l w m (struck request cut) =
+    RecoversAlong l (imageCut w (requestLeaves l w request) cut) (mapAfterRequest l w m (struck request cut)) (cut .restart .rounds)
 
 -- before each event and after the last: recovery gives the plain map m; each request is refused exactly where the rules refuse it, with their number, and answers as the
 -- plain map does otherwise
 abbrev pub AllRight : (l : ℕ) → World → PlainMap → List (Event Request) → Type 0
 AllRight l =
     Throughout (worldAfterRequest l) (mapAfterRequest l) (λ w m. Recovers l (w .image) m)
-    (λ w m event. RequestRight l w m (requestOf event))
+    (λ w m event. RequestRight l w m (requestOf event) × CutRight l w m event)
 
--- "The list starts from an accepted image, one that recovery does not refuse, with the index and state it leaves"; the plain map "starts as the accepted image's slots give it"
+-- "The list starts from an accepted image, one that recovery does not refuse, with the index and state it leaves", and its opening stores played, with any cuts among
+-- them; the plain map "starts as the accepted image's slots give it"
 abbrev pub CutRuleIn : (l : ℕ) → Type 0
 CutRuleIn l =
-    (image heads next : List ℕ) → recoverFault l image (length heads) (length next) ≡ 0
+    (image : List ℕ) (start : Restart) → recoverFault l image (length (start .heads)) (length (start .next)) ≡ 0 → RestartFits (slotsIn image) start
     → (events : List (Event Request)) → All (FitsBy (TypedRequest l) (slotsIn image)) events
-    → AllRight l (recoveredWorld l image heads next) (slotsMap l image) events
+    → RecoversAlong l image (slotsMap l image) (start .rounds) × AllRight l (restarted l image start) (slotsMap l image) events
 
 -- for the layout of document 01
 abbrev pub CutRule : Type 0

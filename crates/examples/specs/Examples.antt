@@ -9,7 +9,8 @@ use Rattle.words.specs.Word.{word}
 use Rattle.prelude.specs.Answer.{Answer, gives, absent, refused}
 use Rattle.layout.specs.Line.{whole, versionOf}
 use Rattle.layout.specs.Slot.{verdictOf, slotVerdict}
-use Rattle.layout.specs.Content.{content, tableOf}
+use Rattle.layout.specs.Content.{content}
+use Rattle.table.specs.Complete.{tableOf}
 use Rattle.layout.specs.declared.Verdict.{Verdict}
 use Rattle.layout.specs.declared.Verdict.the-variants.{Valid, Empty, Broken}
 use Rattle.stores.specs.Store.{Store}

@@ -7,7 +7,7 @@ use Rattle.prelude.specs.Answer.{gives, refusalIn}
 use Rattle.prelude.proofs.Refusals.{orElse-zero}
 use Rattle.layout.specs.Size.{slotsIn}
 use Rattle.layout.specs.Header.{imageFault, indexFault, lentFault}
-use Rattle.layout.specs.Content.{tableOf}
+use Rattle.table.specs.Complete.{tableOf}
 use Rattle.table.proofs.defs.Keys.{keysTo}
 use Rattle.table.proofs.KeyCount.{map-keys, live-keys}
 use Rattle.recovery.specs.Recover.{Result, stateValues, recoverFault, recovered, recoverResult}

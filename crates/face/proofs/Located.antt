@@ -3,7 +3,7 @@ use mathlib.Core.Path.{_≡_, refl}
 use mathlib.Core.Bool.{cond}
 use Prim.Native.Nat.{ℕ}
 use Rattle.prelude.specs.Answer.{gives, absent}
-use Rattle.layout.specs.Content.{tableOf}
+use Rattle.table.specs.Complete.{tableOf}
 use Rattle.layout.specs.Size.{slotsIn}
 use Rattle.table.specs.Table.{holder, isHeld}
 use Rattle.calls.specs.Locate.{locateResult}

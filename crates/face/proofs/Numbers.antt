@@ -19,7 +19,8 @@ use Rattle.prelude.proofs.Lowest.{Lowest, nowhere, there, lowest-is}
 use Rattle.prelude.proofs.Refusals.{say-false, orElse-first}
 use Rattle.layout.specs.Size.{slotsIn}
 use Rattle.layout.specs.Slot.{lineVerdict, isValid}
-use Rattle.layout.specs.Content.{content, tableOf}
+use Rattle.layout.specs.Content.{content}
+use Rattle.table.specs.Complete.{tableOf}
 use Rattle.layout.specs.Fault.{markFault, wordFault, faultOf, recordFault}
 use Rattle.table.specs.Table.{sharedVersion, manyBroken, allLive}
 use Rattle.layout.specs.Record.{limit}

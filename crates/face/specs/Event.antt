@@ -3,23 +3,22 @@
 use mathlib.Core.Path.{_≡_}
 use mathlib.Core.Bool.{Bool, true, cond}
 use mathlib.Core.List.{List}
-use Prim.Native.Nat.{ℕ, _≤_}
+use Prim.Native.Nat.{ℕ}
+use lib.Dec.{eqb}
 use lib.ListN.{length}
 use Rattle.layout.specs.Header.{indexFault}
-use Rattle.stores.specs.Store.{Store}
-use Rattle.stores.specs.Cut.{bothStand}
+use Rattle.prelude.specs.Members.{All}
+use Rattle.stores.specs.Store.{Store, played, standing}
 use Rattle.index.specs.declared.State.{State}
-use Rattle.plainmap.specs.World.{World, Call, Called, called, playing, recoveredWorld}
+use Rattle.plainmap.specs.World.{World, Call, Called, called, Restart, restarted}
 use Rattle.plainmap.specs.Plain.{PlainMap, Update, updates, plainStep}
 use Rattle.prelude.specs.Answer.{refuses}
 use Rattle.plainmap.specs.Claims.{Typed, dueFault}
 
--- a cut: a stores of the first line stand and b of the second; heads and next are lent to the recovery after it
+-- a cut: line n holds its first `counts n` stores, and what comes after it
 pub record Cut : Type 0 where
-  pub a : ℕ
-  pub b : ℕ
-  pub heads : List ℕ
-  pub next : List ℕ
+  pub counts : ℕ → ℕ
+  pub restart : Restart
 
 -- ---- events of any kind of request
 
@@ -37,7 +36,11 @@ pub record Leaving : Type 0 where
 
 -- the image that a cut leaves
 unfoldable pub imageCut : World → Leaving → Cut → List ℕ
-imageCut w r cut = playing (w .image) (r .stores) (cut .a) (cut .b)
+imageCut w r cut = played (standing (cut .counts) (r .stores)) (w .image)
+
+-- do all stores stand?
+unfoldable pub allStand : (counts : ℕ → ℕ) → List Store → Bool
+allStand counts ss = eqb (length (standing counts ss)) (length ss)
 
 module _ {A : Type 0} where
   -- the request of an event
@@ -49,32 +52,31 @@ module _ {A : Type 0} where
   unfoldable pub stepBy : (l : ℕ) → (leaves : World → A → Leaving) → World → Event A → World
   stepBy l leaves w (done request) =
       record {
-        image = playing (w .image) (leaves w request .stores) 8 8;
+        image = played (leaves w request .stores) (w .image);
         heads = leaves w request .heads;
         next = leaves w request .next;
         state = leaves w request .state;
       }
-  stepBy l leaves w (struck request cut) = recoveredWorld l (imageCut w (leaves w request) cut) (cut .heads) (cut .next)
+  stepBy l leaves w (struck request cut) = restarted l (imageCut w (leaves w request) cut) (cut .restart)
 
-  -- do all stores stand?
-  unfoldable pub allStand : Event A → Bool
-  allStand (done request) = true
-  allStand (struck request cut) = bothStand (cut .a) (cut .b)
+  -- do all stores of an event stand?
+  unfoldable pub isWhole : (leaves : World → A → Leaving) → World → Event A → Bool
+  isWhole leaves w (done request) = true
+  isWhole leaves w (struck request cut) = allStand (cut .counts) (leaves w request .stores)
 
 -- "A struck put or remove that was not refused takes its step, wholly done, if all its stores stand; else it is wholly absent and changes nothing"
 unfoldable pub plainEvent : (stand : Bool) → List Update → (isRefused : Bool) → PlainMap → PlainMap
 plainEvent stand us isRefused m = cond stand (plainStep us isRefused m) m
 
--- a line has eight stores; "That index has the right size when 4 is not due; B may be another": a cut in an image of n slots
-pub record CutFits (n : ℕ) (cut : Cut) : Type 0 where
-  pub few-a : cut .a ≤ 8
-  pub few-b : cut .b ≤ 8
-  pub size : indexFault n (length (cut .heads)) (length (cut .next)) ≡ 0
+-- "That index has the right size when 4 is not due; B may be another": of every recovery after a cut in an image of n slots
+pub record RestartFits (n : ℕ) (r : Restart) : Type 0 where
+  pub rounds : All (λ round. indexFault n (length (round .heads)) (length (round .next)) ≡ 0) (r .rounds)
+  pub size : indexFault n (length (r .heads)) (length (r .next)) ≡ 0
 
 -- an event in an image of n slots: its request's fields are numbers of their size, and its cut fits
 pub data FitsBy {A : Type 0} (TypedRequest : A → Type 0) (n : ℕ) : Event A → Type 0 where
   done-fits : {request : A} → TypedRequest request → FitsBy TypedRequest n (done request)
-  struck-fits : {request : A} {cut : Cut} → TypedRequest request → CutFits n cut → FitsBy TypedRequest n (struck request cut)
+  struck-fits : {request : A} {cut : Cut} → TypedRequest request → RestartFits n (cut .restart) → FitsBy TypedRequest n (struck request cut)
 
 -- ---- events of the set's calls
 
@@ -87,7 +89,7 @@ step l w event = stepBy l (λ v call. leaving (called l v call)) w event
 -- the plain map after an event in world w: it is told whether all stores stand, the updates, and whether the rules refuse the call
 abbrev pub mapAfterEvent : (l : ℕ) → World → PlainMap → Event Call → PlainMap
 mapAfterEvent l w m event =
-    plainEvent (allStand event) (updates (requestOf event)) (refuses (dueFault l w m (requestOf event))) m
+    plainEvent (isWhole (λ v call. leaving (called l v call)) w event) (updates (requestOf event)) (refuses (dueFault l w m (requestOf event))) m
 
 abbrev pub Fits : (l n : ℕ) → Event Call → Type 0
 Fits l n event = FitsBy (Typed l) n event

@@ -7,18 +7,18 @@ use lib.ListN.{length}
 use Rattle.prelude.specs.Answer.{gives}
 use Rattle.layout.specs.Size.{slotsOf, slotsIn}
 use Rattle.layout.specs.Header.{indexFault}
-use Rattle.stores.specs.Play.{playEnd, wordNumbers, values, playFault, playListResult}
+use Rattle.stores.specs.Play.{playEnd, wordNumbers, values, playFault, playListResult, playing, halfCounts}
 use Rattle.recovery.specs.Recover.{stateValues, recoverFault, recoverResult}
-use Rattle.stores.specs.Store.{Store}
+use Rattle.stores.specs.Store.{Store, played, standing}
 use Rattle.calls.specs.Change.{handedOut}
 use Rattle.calls.specs.Format.{formatted}
-use Rattle.plainmap.specs.World.{World, Call, write, remove, called, playing, finished, recoveredWorld}
+use Rattle.plainmap.specs.World.{World, Call, write, remove, called, finished, Restart, openedWorld, restarted, recoveredWorld}
 use Rattle.index.specs.declared.Mode.{Mode}
 use Rattle.plainmap.specs.Plain.{PlainMap}
 use Rattle.plainmap.specs.Accepted.{RightSize}
 use Rattle.plainmap.specs.Claims.{Typed, slotsMap, Right, Reads}
-use Rattle.face.specs.Event.{Event, step, mapAfterEvent, Fits}
-use Rattle.face.specs.Recovers.{Recovers}
+use Rattle.face.specs.Event.{Cut, Event, struck, leaving, imageCut, step, mapAfterEvent, RestartFits, Fits}
+use Rattle.face.specs.Recovers.{Recovers, RecoversAlong}
 
 -- an insert, a replace or a remove
 pub data Writes : Call → Type 0 where
@@ -54,15 +54,21 @@ pub record CallLaws (l : ℕ) : Type 0 where
 pub record SetLaws (l : ℕ) (Inv : World → PlainMap → Type 0) : Type 0 where
   -- ---- where the invariant holds
 
-  -- recovery of an accepted image establishes it, with the map of the slots
-  pub after-recovery : (image heads next : List ℕ) → recoverFault l image (length heads) (length next) ≡ 0
-      → Inv (recoveredWorld l image heads next) (slotsMap l image)
+  -- recovery of an accepted image establishes it, with the map of the slots, once its opening stores are played, with any cuts among them
+  pub after-recovery : (image : List ℕ) (r : Restart) → recoverFault l image (length (r .heads)) (length (r .next)) ≡ 0
+      → RestartFits (slotsIn image) r → Inv (restarted l image r) (slotsMap l image)
+  -- and recovery gives that map of each image on the way
+  pub along : (image : List ℕ) (r : Restart) → recoverFault l image (length (r .heads)) (length (r .next)) ≡ 0
+      → RestartFits (slotsIn image) r → RecoversAlong l image (slotsMap l image) (r .rounds)
   -- a formatted image is accepted, and its map is empty
   pub fresh : (len : ℕ) (heads next : List ℕ) → (slotsOf len ≡ 0 → ⊥) → indexFault (slotsOf len) (length heads) (length next) ≡ 0
-      → (recoverFault l (formatted l len) (length heads) (length next) ≡ 0) × Inv (recoveredWorld l (formatted l len) heads next) (λ k. none)
+      → (recoverFault l (formatted l len) (length heads) (length next) ≡ 0) × Inv (openedWorld l (formatted l len) heads next) (λ k. none)
   -- every event, struck or not, keeps it, with the plain map's next map
   pub keeps : (w : World) (m : PlainMap) → Inv w m → (event : Event Call) → Fits l (slotsIn (w .image)) event
       → Inv (step l w event) (mapAfterEvent l w m event)
+  -- and after a cut recovery gives that map of each image on the way
+  pub keeps-along : (w : World) (m : PlainMap) → Inv w m → (call : Call) (cut : Cut) → Fits l (slotsIn (w .image)) (struck call cut)
+      → RecoversAlong l (imageCut w (leaving (called l w call)) cut) (mapAfterEvent l w m (struck call cut)) (cut .restart .rounds)
   -- ---- what it says
 
   -- recovery refuses nothing and gives the plain map; so does get with the present index
@@ -78,6 +84,10 @@ pub record SetLaws (l : ℕ) (Inv : World → PlainMap → Type 0) : Type 0 wher
   -- play takes the stores of a call, if it has any, with any counts up to 8, and all of them as a list
   pub plays : (w : World) (m : PlainMap) → Inv w m → (call : Call) → Typed l call → (called l w call .stores ≡ [] → ⊥)
       → (a b : ℕ) → a ≤ 8 → b ≤ 8 → playFault (length (w .image)) (wordNumbers (called l w call .stores)) a b ≡ 0
+  -- and leaves what a cut with these counts leaves
+  pub plays-cut : (w : World) (m : PlainMap) → Inv w m → (call : Call) → Typed l call → (a b : ℕ) → a ≤ 8 → b ≤ 8
+      → playing (w .image) (called l w call .stores) a b ≡
+      played (standing (halfCounts (called l w call .stores) a b) (called l w call .stores)) (w .image)
   pub plays-list : (w : World) (m : PlainMap) → Inv w m → (call : Call) → Typed l call
       → playListResult (w .image) (wordNumbers (called l w call .stores)) (values (called l w call .stores)) ≡ playEnd 0 (finished l w call .image)
   -- the image is accepted, with every index of the right size

@@ -1,15 +1,16 @@
 -- What recovery gives of an image, by the plain map. Document 01, "The plain map and the cut rule".
 use mathlib.Core.Path.{_≡_}
-use mathlib.Core.List.{List}
+use mathlib.Core.List.{List, [], _∷_}
 use Prim.Native.Nat.{ℕ, _≤_}
 use lib.ListN.{length}
 use Rattle.prelude.specs.Answer.{refusalIn}
 use Rattle.layout.specs.Size.{slotsIn}
-use Rattle.layout.specs.Content.{tableOf}
+use Rattle.table.specs.Complete.{tableOf}
 use Rattle.table.specs.Table.{brokenCount, brokenLimit, liveCount}
 use Rattle.table.specs.Keys.{Keys}
+use Rattle.stores.specs.Play.{playEnd, playListResult, wordNumbers, values}
 use Rattle.recovery.specs.Recover.{recoverResult}
-use Rattle.plainmap.specs.World.{recoveredWorld}
+use Rattle.plainmap.specs.World.{recoveredWorld, openedWorld, Round, afterRound}
 use Rattle.plainmap.specs.Plain.{PlainMap}
 use Rattle.plainmap.specs.Accepted.{RightSize}
 use Rattle.plainmap.specs.Claims.{slotsMap, Reads}
@@ -20,12 +21,22 @@ pub record Recovers (l : ℕ) (image : List ℕ) (m : PlainMap) : Type 0 where
   pub map : (key : ℕ) → slotsMap l image key ≡ m key
   pub accepts : (heads next : List ℕ) → RightSize image heads next → refusalIn (recoverResult l image heads next .answer) ≡ 0
   pub reads : (heads next : List ℕ) → RightSize image heads next → Reads l (recoveredWorld l image heads next) m
-  -- document 02, A.6: "calls and cuts never lead to 25", "a cut leaves at most one"
+  -- document 02, A.6: "calls and cuts never lead to 25"; A.7: broken and void slots are "now eight together"
   pub few-broken : brokenCount (tableOf l image) (slotsIn image) ≤ brokenLimit
   -- there is a list of the keys that the plain map holds, and the length of every such list is the live count
   pub keys : List ℕ
   pub held : Keys m keys
   pub count : (ks : List ℕ) → Keys m ks → liveCount (tableOf l image) (slotsIn image) ≡ length ks
+  -- play takes its opening stores, of which there are at most eight
+  pub opens : (heads next : List ℕ) → RightSize image heads next
+      → playListResult image (wordNumbers (recoverResult l image heads next .stores)) (values (recoverResult l image heads next .stores)) ≡
+      playEnd 0 (openedWorld l image heads next .image)
+  pub few-opened : (heads next : List ℕ) → RightSize image heads next → length (recoverResult l image heads next .stores) ≤ 8
   pub again :
       (heads next heads′ next′ : List ℕ) → RightSize image heads next → length heads ≡ length heads′ → length next ≡ length next′
       → recoverResult l image heads next ≡ recoverResult l image heads′ next′
+
+-- so does recovery of each image that cuts among its opening stores leave. Document 02, A.7: "a cut among them is covered"
+abbrev pub RecoversAlong : (l : ℕ) → (image : List ℕ) → PlainMap → List Round → Type 0
+RecoversAlong l image m [] = Recovers l image m
+RecoversAlong l image m (r ∷ rs) = Recovers l image m × RecoversAlong l (afterRound l image r) m rs

@@ -5,17 +5,16 @@ pub use Rattle.layout.specs.Size.{slotsIn}
 pub use Rattle.layout.specs.Size.{slotsOf}
 pub use Rattle.layout.specs.Record.{Layout, limit}
 unfoldable pub use Rattle.layout.specs.Header.{indexFault}
-pub use Rattle.layout.specs.Content.{tableOf}
+pub use Rattle.table.specs.Complete.{tableOf}
 pub use Rattle.table.specs.Table.{holder, liveCount, nextVersion}
 unfoldable pub use Rattle.table.specs.Table.{isHeld}
 pub use Rattle.table.specs.Keys.{Holds, holds, Keys}
 -- stores and play
-pub use Rattle.stores.specs.Store.{Store}
+pub use Rattle.stores.specs.Store.{Store, played, standing}
 unfoldable pub use Rattle.stores.specs.Store.{zipped}
 pub use Rattle.stores.specs.Play.{Played, playEnd}
 pub use Rattle.stores.specs.Play.{playFault, playResult, playListResult}
-unfoldable pub use Rattle.stores.specs.Play.{wordNumbers, values}
-pub use Rattle.stores.specs.Cut.{bothStand}
+unfoldable pub use Rattle.stores.specs.Play.{wordNumbers, values, playing, halfCounts}
 -- the calls, each with what it answers and leaves
 pub use Rattle.index.specs.declared.State.{State}
 pub use Rattle.recovery.specs.Recover.{Result, stateValues}
@@ -43,7 +42,9 @@ unfoldable pub use Rattle.calls.specs.Locate.{locateSays}
 -- the world between calls, and the plain map
 pub use Rattle.plainmap.specs.World.{World, Call, write, remove, get, locate, Called}
 pub use Rattle.plainmap.specs.World.{outOf}
-unfoldable pub use Rattle.plainmap.specs.World.{calledChange, calledGet, calledLocate, called, playing, finished, worldAfter, recoveredWorld}
+unfoldable pub use Rattle.plainmap.specs.World.{calledChange, calledGet, calledLocate, called, finished, worldAfter, recoveredWorld, openedWorld, restarted}
+pub use Rattle.plainmap.specs.World.{Round, Restart}
+unfoldable pub use Rattle.plainmap.specs.World.{afterRound, afterRounds}
 pub use Rattle.plainmap.specs.Plain.{PlainMap, Update, giving, dropping}
 pub use Rattle.plainmap.specs.Plain.{sizeOf, plainOut}
 unfoldable pub use Rattle.plainmap.specs.Plain.{updates, updated, plainNext, plainStep, ruleFault, lengthAnswer, filled, plainAnswer}

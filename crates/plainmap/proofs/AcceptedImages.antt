@@ -12,7 +12,8 @@ use Rattle.prelude.proofs.Choice.{pick-false}
 use Rattle.prelude.specs.Range.{anyOf}
 use Rattle.layout.specs.Size.{slotsIn}
 use Rattle.layout.specs.Line.{lineA, lineB}
-use Rattle.layout.specs.Content.{content, tableOf}
+use Rattle.layout.specs.Content.{content}
+use Rattle.table.specs.Complete.{tableOf}
 use Rattle.layout.specs.Header.{headerWord, headerFault, imageFault, indexFault, lentFault}
 use Rattle.layout.specs.Fault.{markFault, recordFault}
 use Rattle.prelude.proofs.Any.{or-none, any-none, any-clear}

@@ -10,7 +10,8 @@ use lib.Dec.{eqb}
 use borrow.Author.Tests.{eq-eqb, ne-eqb}
 use Rattle.words.specs.Word.{word}
 use Rattle.layout.specs.Size.{slotsOf, slotsIn}
-use Rattle.layout.specs.Content.{Content, Table, tableOf}
+use Rattle.layout.specs.Content.{Content, Table}
+use Rattle.table.specs.Complete.{tableOf}
 use Rattle.stores.specs.Store.{Store, played, zipped}
 use Rattle.stores.specs.Written.{recordStores}
 use Rattle.stores.specs.Cut.{bothStand}

@@ -8,7 +8,8 @@ use native.Mathlib.Omega.{arith}
 use Rattle.words.specs.Word.{word}
 use Rattle.prelude.specs.Answer.{gives, absent}
 use Rattle.layout.specs.Size.{slotsOf, slotsIn}
-use Rattle.layout.specs.Content.{empty, Table, tableOf}
+use Rattle.layout.specs.Content.{empty, Table}
+use Rattle.table.specs.Complete.{tableOf}
 use Rattle.table.specs.Table.{weight, valueAt, mapOf, isHeld}
 use Rattle.prelude.specs.Members.{Slot, All}
 use Rattle.prelude.proofs.Histories.{throughout}

@@ -6,7 +6,7 @@ use native.Mathlib.Omega.{arith}
 use lib.ListN.{length}
 use Rattle.prelude.specs.Refusal.{unlessRefused}
 use Rattle.layout.specs.Size.{slotsIn}
-use Rattle.layout.specs.Content.{tableOf}
+use Rattle.table.specs.Complete.{tableOf}
 use Rattle.table.proofs.defs.Keys.{keysOf}
 use Rattle.table.proofs.Sharing.{keys-length, chain-keys}
 use Rattle.index.specs.Index.{Chain, head, headOf}

@@ -12,7 +12,7 @@ use Rattle.layout.specs.Slot.{lineVerdict, isValid}
 use Rattle.layout.specs.declared.Verdict.{Verdict}
 use Rattle.layout.specs.declared.Verdict.the-variants.{Empty}
 use Rattle.layout.specs.Fault.{markFault, faultOf, recordFault}
-use Rattle.layout.specs.Content.{tableOf}
+use Rattle.table.specs.Complete.{tableOf}
 use Rattle.prelude.proofs.Refusals.{say-false, orElse-later}
 use Rattle.prelude.proofs.Lowest.{all-clear}
 use Rattle.layout.proofs.Content.{verdict-empty, paired-by}

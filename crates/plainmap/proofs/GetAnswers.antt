@@ -10,7 +10,8 @@ use borrow.Author.Tests.{le-ltb}
 use Rattle.prelude.specs.Refusal.{unlessRefused}
 use Rattle.prelude.specs.Answer.{gives, absent, refused, refusalIn}
 use Rattle.prelude.proofs.Refusals.{say-false, taken-leaves}
-use Rattle.layout.specs.Content.{Table, tableOf}
+use Rattle.layout.specs.Content.{Table}
+use Rattle.table.specs.Complete.{tableOf}
 use Rattle.table.specs.Table.{valueIn, mapOf, live}
 use Rattle.prelude.specs.Members.{Slot}
 use Rattle.index.specs.Index.{Chain}

@@ -9,7 +9,8 @@ use Rattle.prelude.specs.Answer.{gives, absent, refusalIn}
 use Rattle.prelude.proofs.Refusals.{orElse-later, taken-leaves}
 use Rattle.layout.specs.Size.{slotsIn}
 use Rattle.layout.specs.Line.{lineA, lineB, versionOf}
-use Rattle.layout.specs.Content.{content, topOf, tableOf}
+use Rattle.layout.specs.Content.{content, topOf}
+use Rattle.table.specs.Complete.{tableOf}
 use Rattle.layout.proofs.Content.{put-at}
 use Rattle.table.specs.Table.{decider, holder, mapOf, isHeld}
 use Rattle.table.proofs.Map.{Live, lives, live-is}

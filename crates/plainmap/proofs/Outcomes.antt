@@ -14,7 +14,8 @@ use borrow.Author.Tests.{ltb-false}
 use Rattle.words.specs.Word.{AreBytes}
 use Rattle.prelude.specs.Answer.{absent, refused}
 use Rattle.layout.specs.Record.{limit, Layout}
-use Rattle.layout.specs.Content.{Content, made, Table, tableOf}
+use Rattle.layout.specs.Content.{Content, made, Table}
+use Rattle.table.specs.Complete.{tableOf}
 use Rattle.layout.specs.Header.{lentFault}
 use Rattle.prelude.proofs.Refusals.{say-zero, orElse-zero, taken-leaves, refused-keeps}
 use Rattle.stores.specs.Cut.{Fields, Lawful, a-put, a-remove}

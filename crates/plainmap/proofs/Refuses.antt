@@ -14,7 +14,8 @@ use Rattle.prelude.specs.Refusal.{say, orElse}
 use Rattle.layout.specs.Record.{limit}
 use Rattle.layout.specs.Header.{lentFault}
 use Rattle.prelude.proofs.Refusals.{say-false, orElse-later}
-use Rattle.layout.specs.Content.{Table, tableOf}
+use Rattle.layout.specs.Content.{Table}
+use Rattle.table.specs.Complete.{tableOf}
 use Rattle.table.specs.Table.{decider, valueIn, mapOf, live, liveCount, isHeld}
 use Rattle.prelude.specs.Members.{Slot}
 use Rattle.prelude.proofs.Count.{count-more}

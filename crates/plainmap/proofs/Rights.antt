@@ -12,7 +12,7 @@ use Rattle.table.specs.Table.{nextVersion, isHeld}
 use Rattle.calls.specs.Change.{ChangeResult, changed, unchanged}
 use Rattle.plainmap.specs.World.{World, Call, outOf, Called, calledChange, called, callKey, callCompared, write, remove, get, locate}
 use Rattle.layout.specs.Size.{slotsIn}
-use Rattle.layout.specs.Content.{tableOf}
+use Rattle.table.specs.Complete.{tableOf}
 use Rattle.plainmap.specs.Plain.{plainAnswer, plainOut, PlainMap, lengthAnswer}
 use Rattle.plainmap.specs.Claims.{slotsMap, dueFault, dueAnswer, Untouched, FewCompared, Right}
 use Rattle.plainmap.proofs.Outcomes.{Ran, ran-refused, ran-absent, ran-wrote}

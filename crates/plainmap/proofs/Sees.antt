@@ -9,7 +9,8 @@ use native.Mathlib.Omega.{arith}
 use lib.ListN.{length}
 use Rattle.prelude.proofs.Choice.{pick-true, pick-false, split}
 use Rattle.prelude.specs.Members.{In, Slot}
-use Rattle.layout.specs.Content.{Table, tableOf}
+use Rattle.layout.specs.Content.{Table}
+use Rattle.table.specs.Complete.{tableOf}
 use Rattle.table.specs.Table.{keyIn, decider, valueIn, valueAt, mapOf, live}
 use Rattle.table.proofs.defs.Reuse.{Spares}
 use Rattle.table.proofs.defs.Chains.{Chains}

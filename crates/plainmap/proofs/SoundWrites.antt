@@ -9,7 +9,8 @@ use native.Mathlib.Omega.{arith}
 use lib.Dec.{eqb}
 use lib.ListN.{length}
 use borrow.Author.Tests.{eqb-true, eq-eqb}
-use Rattle.layout.specs.Content.{Content, Table, tableOf}
+use Rattle.layout.specs.Content.{Content, Table}
+use Rattle.table.specs.Complete.{tableOf}
 use Rattle.layout.specs.Header.{indexFault}
 use Rattle.table.specs.Table.{keyIn, decider, mapOf, live, liveCount, nextVersion}
 use Rattle.prelude.specs.Members.{Slot}

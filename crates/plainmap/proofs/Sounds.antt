@@ -6,7 +6,8 @@ use native.Mathlib.Omega.{arith}
 use lib.ListN.{length}
 use Rattle.layout.specs.Header.{indexFault}
 use Rattle.prelude.specs.Members.{In}
-use Rattle.layout.specs.Content.{Table, tableOf}
+use Rattle.layout.specs.Content.{Table}
+use Rattle.table.specs.Complete.{tableOf}
 use Rattle.table.specs.Table.{live, liveCount, nextVersion}
 use Rattle.table.proofs.defs.Write.{Distinct}
 use Rattle.table.specs.Reuse.{HiddenFirst, BrokenFirst}

@@ -10,7 +10,8 @@ use lib.Dec.{eqb}
 use lib.ListN.{length}
 use Rattle.words.specs.Word.{word}
 use Rattle.layout.specs.Size.{slotsOf, slotsIn}
-use Rattle.layout.specs.Content.{Content, broken, putRecord, removeRecord, made, top, Table, tableOf}
+use Rattle.layout.specs.Content.{Content, broken, putRecord, removeRecord, made, top, Table}
+use Rattle.table.specs.Complete.{tableOf}
 use Rattle.layout.specs.Header.{headerWord}
 use Rattle.layout.proofs.Content.{top-is}
 use Rattle.stores.specs.Store.{Store, played, standing}

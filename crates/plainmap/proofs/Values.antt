@@ -11,7 +11,8 @@ use Rattle.prelude.proofs.Choice.{pick-true}
 use Rattle.layout.specs.Line.{lineA, lineB}
 use Rattle.layout.specs.Slot.{lineVerdict, isValid}
 use Rattle.layout.specs.Record.{limit, valueOf}
-use Rattle.layout.specs.Content.{putRecord, content, tableOf}
+use Rattle.layout.specs.Content.{putRecord, content}
+use Rattle.table.specs.Complete.{tableOf}
 use Rattle.layout.specs.Fault.{faultOf, recordFault}
 use Rattle.layout.proofs.Content.{ValidAt, PutAt, put-at, verdict-valid, value-length, length-bound}
 use Rattle.table.specs.Table.{valueIn, mapOf, live}

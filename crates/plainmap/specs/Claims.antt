@@ -9,12 +9,13 @@ use Rattle.layout.specs.Record.{limit}
 use Rattle.table.specs.Keys.{Keys, sharing}
 use Rattle.index.specs.Index.{headOf}
 use Rattle.table.specs.Table.{mapOf, holder, liveCount, nextVersion}
+use Rattle.table.specs.Taking.{takeableCount}
 use Rattle.index.specs.declared.Mode.{Mode}
 use Rattle.calls.specs.Get.{getResult}
 use Rattle.plainmap.specs.World.{World, Call, write, remove, get, locate, outOf, Called, called, callKey, callCompared}
 use Rattle.layout.specs.Size.{slotsIn}
-use Rattle.layout.specs.Content.{tableOf}
-use Rattle.plainmap.specs.Plain.{PlainMap, updates, plainStep, ruleFault, lengthAnswer, filled, plainAnswer, plainOut}
+use Rattle.table.specs.Complete.{tableOf}
+use Rattle.plainmap.specs.Plain.{PlainMap, Room, updates, plainStep, ruleFault, lengthAnswer, filled, plainAnswer, plainOut}
 
 -- the key of a call that writes has l words, and its value is bytes; of a get and a locate nothing is asked
 pub data Typed (l : ℕ) : Call → Type 0 where
@@ -29,11 +30,19 @@ slotsMap l image k = mapOf (tableOf l image) (slotsIn image) k
 
 -- ---- one call
 
+-- the room of a set, by what its image holds
+abbrev pub roomOf : (l : ℕ) → (image : List ℕ) → Room
+roomOf l image =
+    record {
+      slots = slotsIn image;
+      held = liveCount (tableOf l image) (slotsIn image);
+      takeable = takeableCount (tableOf l image) (slotsIn image);
+      version = nextVersion (tableOf l image) (slotsIn image);
+    }
+
 -- the rules' number for a call, by the plain map m and by what the image holds
 abbrev pub dueFault : (l : ℕ) → World → PlainMap → Call → ℕ
-dueFault l w m call =
-    ruleFault l (slotsIn (w .image)) (liveCount (tableOf l (w .image)) (slotsIn (w .image)))
-    (nextVersion (tableOf l (w .image)) (slotsIn (w .image))) m call
+dueFault l w m call = ruleFault l (roomOf l (w .image)) m call
 
 -- what the rules have it answer where they do not refuse it
 abbrev pub dueAnswer : (l : ℕ) → World → PlainMap → Call → Answer

@@ -16,7 +16,7 @@ use Rattle.calls.specs.Format.{formatted}
 use Rattle.index.specs.declared.Mode.the-variants.{Insert}
 use Rattle.calls.specs.Change.{writeFault}
 use Rattle.plainmap.specs.World.{World, Call, finished, recoveredWorld, called}
-use Rattle.layout.specs.Content.{tableOf}
+use Rattle.table.specs.Complete.{tableOf}
 use Rattle.plainmap.specs.Plain.{PlainMap}
 use Rattle.plainmap.specs.Accepted.{Accepted, RightSize}
 use Rattle.plainmap.specs.Sound.{Sound, Agrees}
@@ -47,11 +47,9 @@ pub record IsMap (l : ℕ) : Type 0 where
   -- the play of a list of its stores leaves that image too
   pub list-plays : (w : World) (m : PlainMap) → Agrees l w m → (call : Call) → Typed l call
       → playListResult (w .image) (wordNumbers (called l w call .stores)) (values (called l w call .stores)) ≡ playEnd 0 (finished l w call .image)
-  -- an insert meets 12 exactly where the value fits, the key is not held, and one slot is left that is not live. A replace never does: face/Numbers
-  pub room : (w : World) (chains : Chain → List ℕ) → Accepted l (w .image) → Sound l w chains → (key : ℕ) (value : List ℕ)
-      → (writeFault l (w .image) (w .heads) (w .next) (w .state) Insert key (length value) ≡ 12)
-      ↔ ((length value ≤ limit l) × (slotsMap l (w .image) key ≡ none)
-      × (liveCount (tableOf l (w .image)) (slotsIn (w .image)) + 1 ≡ slotsIn (w .image)))
+  -- a call that takes a slot takes the one that the taking rule names: the first that may be taken
+  pub takes : (w : World) (m : PlainMap) (agrees : Agrees l w m) → (0 < takeableCount (tableOf l (w .image)) (slotsIn (w .image)))
+      → takenOf (contentsOf l (w .image)) (slotsIn (w .image)) 1 (agrees .chains reuse) ≡ w .state .first ∷ []
   -- get with the recovered index gives the map that the slots of an accepted image give
   pub reads : (image heads next : List ℕ) → Accepted l image → RightSize image heads next → Reads l (recoveredWorld l image heads next) (slotsMap l image)
   -- a formatted image's map is empty

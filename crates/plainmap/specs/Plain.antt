@@ -1,5 +1,5 @@
 -- The plain map. Document 01, "The plain map and the cut rule".
-use mathlib.Core.Bool.{Bool, cond, not, _&&_}
+use mathlib.Core.Bool.{Bool, cond}
 use mathlib.Core.Option.{Option, some, none}
 use mathlib.Core.List.{List, [], _∷_, _++_}
 use Prim.Native.Nat.{ℕ, _+_}
@@ -11,6 +11,7 @@ use Rattle.layout.specs.Record.{limit}
 use Rattle.table.specs.Table.{isHeld}
 use Rattle.layout.specs.Line.{versionFault}
 use Rattle.index.specs.Change.{keyFault}
+use Rattle.calls.specs.Change.{insertsOf}
 use Rattle.plainmap.specs.World.{Call, write, remove, get, locate}
 
 -- "Its state is a set of keys with a value each, perhaps of 0 bytes"
@@ -50,16 +51,27 @@ unfoldable pub sizeOf : Option (List ℕ) → ℕ
 sizeOf none = 0
 sizeOf (some value) = length value
 
--- where the rules refuse a call on an image with its own index: n slots, `count` keys held, the next version. An insert with 10, 20, 12 or 9, a replace with 10, 21 or 9,
--- a remove with 9, a get with 13, a locate never
-unfoldable pub ruleFault : (l n count version : ℕ) → PlainMap → Call → ℕ
-ruleFault l n count version m (write mode key value) =
-    say (ltb (limit l) (length value)) 10
-    (orElse (keyFault mode (isHeld (m key)))
-    (say (not (isHeld (m key)) && leb n (count + 1)) 12 (versionFault version)))
-ruleFault l n count version m (remove key) = cond (isHeld (m key)) (versionFault version) 0
-ruleFault l n count version m (get key out) = say (ltb (length out) (sizeOf (m key))) 13 0
-ruleFault l n count version m (locate key) = 0
+-- of a set with its own index: how many slots it has, how many keys are held, how many slots may be taken, and the next version
+pub record Room : Type 0 where
+  pub slots : ℕ
+  pub held : ℕ
+  pub takeable : ℕ
+  pub version : ℕ
+
+-- document 02, A.7: "28 when too few slots may be taken or, by the live count, no spare slot would be left, in place of 12 as the rule on room, before 9"
+unfoldable pub roomRule : Room → (wanted inserts removes : ℕ) → ℕ
+roomRule r wanted inserts removes =
+    say (ltb (r .takeable) wanted) 28
+    (say (leb (r .slots + removes) (r .held + inserts)) 28 (versionFault (r .version)))
+
+-- where the rules refuse a call on an image with its own index: an insert with 10, 20, 28 or 9, a replace with 10, 21, 28 or 9, a remove with 28 or 9, a get with
+-- 13, a locate never
+unfoldable pub ruleFault : (l : ℕ) → Room → PlainMap → Call → ℕ
+ruleFault l r m (write mode key value) =
+    say (ltb (limit l) (length value)) 10 (orElse (keyFault mode (isHeld (m key))) (roomRule r 1 (insertsOf mode) 0))
+ruleFault l r m (remove key) = cond (isHeld (m key)) (roomRule r 1 0 1) 0
+ruleFault l r m (get key out) = say (ltb (length out) (sizeOf (m key))) 13 0
+ruleFault l r m (locate key) = 0
 
 -- "A get answers the value and its length, or absent"
 unfoldable pub lengthAnswer : Option (List ℕ) → Answer

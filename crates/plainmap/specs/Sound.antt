@@ -4,13 +4,14 @@ use mathlib.Core.List.{List, _∷_}
 use Prim.Native.Nat.{ℕ}
 use lib.ListN.{length}
 use Rattle.table.specs.Table.{liveCount, nextVersion}
-use Rattle.table.specs.Reuse.{HiddenFirst, BrokenFirst}
+use Rattle.table.specs.Reuse.{OlderFirst, HighestLast, BrokenFirst}
 use Rattle.index.specs.Index.{Chain, reuse, indexOf}
 use Rattle.index.specs.Linked.{Sits}
 use Rattle.recovery.specs.Recover.{placeOf}
 use Rattle.plainmap.specs.World.{World}
 use Rattle.layout.specs.Size.{slotsIn}
-use Rattle.layout.specs.Content.{tableOf}
+use Rattle.layout.specs.Content.{contentsOf, numbersOf}
+use Rattle.table.specs.Complete.{tableOf, NoneVoid}
 use Rattle.plainmap.specs.Accepted.{RightSize, Accepted}
 use Rattle.plainmap.specs.Plain.{PlainMap}
 use Rattle.plainmap.specs.Claims.{slotsMap}
@@ -26,18 +27,22 @@ pub record Sound (l : ℕ) (w : World) (chains : Chain → List ℕ) : Type 0 wh
   pub index :
       Sits (slotsIn (w .image)) (length (w .heads)) (placeOf (tableOf l (w .image)) (slotsIn (w .image)) (length (w .heads)))
       (indexOf (w .heads) (w .next) (w .state)) chains
-  -- in reuse no slot stands after a remove that decides its key and hides that slot's record
-  pub hidden : HiddenFirst (tableOf l (w .image)) (slotsIn (w .image)) (chains reuse)
-  -- document 02, A.6: "A broken slot is always reused first"; an accepted image has at most one
+  -- in reuse no older record of its key stands after a remove record
+  pub older : OlderFirst (tableOf l (w .image)) (chains reuse)
+  -- its first slot is of the highest valid version only where all are
+  pub highest : HighestLast (tableOf l (w .image)) (slotsIn (w .image)) (chains reuse)
+  -- document 02, A.6: "A broken slot is always reused first"
   pub broken : BrokenFirst (tableOf l (w .image)) (chains reuse)
   -- reuse is not empty
   pub some-spare : Starts (chains reuse)
   pub live-count : w .state .live ≡ liveCount (tableOf l (w .image)) (slotsIn (w .image))
   pub next-version : w .state .version ≡ nextVersion (tableOf l (w .image)) (slotsIn (w .image))
 
--- the image is accepted, the index is its own, and the map of its slots is m
+-- the image is accepted and no record in it is void, the index is its own, and the map of its slots is m
 pub record Agrees (l : ℕ) (w : World) (m : PlainMap) : Type 0 where
   pub accepted : Accepted l (w .image)
+  -- recovery's opening stores "are played and fenced before any other call"
+  pub none-void : NoneVoid (contentsOf l (w .image)) (numbersOf l (w .image)) (slotsIn (w .image))
   pub chains : Chain → List ℕ
   pub sound : Sound l w chains
   pub map : (k : ℕ) → slotsMap l (w .image) k ≡ m k

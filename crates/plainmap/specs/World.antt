@@ -1,10 +1,9 @@
 -- The lent image and index with the state beside them, and what calls and recovery make of them: nothing but the definitions that the contracts of the public calls cite.
-use mathlib.Core.List.{List, []}
+use mathlib.Core.List.{List, [], _∷_}
 use Prim.Native.Nat.{ℕ}
 use lib.ListN.{length}
 use Rattle.prelude.specs.Answer.{Answer}
-use Rattle.stores.specs.Store.{Store}
-use Rattle.stores.specs.Play.{wordNumbers, values, playResult}
+use Rattle.stores.specs.Store.{Store, played, standing}
 use Rattle.index.specs.declared.State.{State}
 use Rattle.recovery.specs.Recover.{Result, recoverResult}
 use Rattle.index.specs.declared.Mode.{Mode}
@@ -88,17 +87,11 @@ callCompared l w (remove key) = keyCompared l (w .image) (w .heads) (w .next) ke
 callCompared l w (get key out) = keyCompared l (w .image) (w .heads) (w .next) key
 callCompared l w (locate key) = keyCompared l (w .image) (w .heads) (w .next) key
 
--- ---- play
-
--- "play makes the counted stores, if there are any"; where there are none it is refused and changes nothing
-unfoldable pub playing : (image : List ℕ) → List Store → (a b : ℕ) → List ℕ
-playing image ss a b = playResult image (wordNumbers ss) (values ss) a b .bytes
-
 -- a call and then all its stores
 unfoldable pub finished : (l : ℕ) → World → Call → World
 finished l w call =
     record {
-      image = playing (w .image) (called l w call .stores) 8 8;
+      image = played (called l w call .stores) (w .image);
       heads = called l w call .heads;
       next = called l w call .next;
       state = called l w call .state;
@@ -113,3 +106,34 @@ worldAfter image r = record { image = image; heads = r .heads; next = r .next; s
 -- the same by recovery itself, with heads and next lent to it; where it refuses they stay, and the state is zeros
 unfoldable pub recoveredWorld : (l : ℕ) → (image heads next : List ℕ) → World
 recoveredWorld l image heads next = worldAfter image (recoverResult l image heads next)
+
+-- ---- recovery's opening stores. Document 02, A.7: "these are played and fenced before any other call, and a cut among them is covered"
+
+-- a recovery with heads and next lent to it, and a cut among its opening stores: line n holds its first `counts n`
+pub record Round : Type 0 where
+  pub heads : List ℕ
+  pub next : List ℕ
+  pub counts : ℕ → ℕ
+
+-- the image that it leaves
+unfoldable pub afterRound : (l : ℕ) → (image : List ℕ) → Round → List ℕ
+afterRound l image r = played (standing (r .counts) (recoverResult l image (r .heads) (r .next) .stores)) image
+
+-- "If power fails there, recovery runs again": some rounds, and then a recovery with heads and next lent to it, whose opening stores are all played
+pub record Restart : Type 0 where
+  pub rounds : List Round
+  pub heads : List ℕ
+  pub next : List ℕ
+
+unfoldable pub afterRounds : (l : ℕ) → (image : List ℕ) → List Round → List ℕ
+afterRounds l image [] = image
+afterRounds l image (r ∷ rs) = afterRounds l (afterRound l image r) rs
+
+-- recovery of an image and all its opening stores
+unfoldable pub openedWorld : (l : ℕ) → (image heads next : List ℕ) → World
+openedWorld l image heads next =
+    worldAfter (played (recoverResult l image heads next .stores) image) (recoverResult l image heads next)
+
+-- the set after a restart from an image
+unfoldable pub restarted : (l : ℕ) → (image : List ℕ) → Restart → World
+restarted l image r = openedWorld l (afterRounds l image (r .rounds)) (r .heads) (r .next)

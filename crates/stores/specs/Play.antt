@@ -1,7 +1,7 @@
 -- Play, with two counts and of a list. Document 01, "What each operation may say no to", Play. The stores are lent as word numbers and values.
 use mathlib.Core.Bool.{Bool, true, cond, not}
 use mathlib.Core.List.{List, [], _∷_, _++_}
-use Prim.Native.Nat.{ℕ, _+_, _*_, _%_}
+use Prim.Native.Nat.{ℕ, _+_, _*_, _/_, _%_}
 use lib.Dec.{eqb, ltb}
 use lib.ListN.{length, getD, take, drop}
 use Rattle.prelude.specs.Refusal.{say, unlessRefused}
@@ -66,3 +66,14 @@ playListResult image at value =
       answer = listFault (length image) at (length value);
       bytes = unlessRefused (listFault (length image) at (length value)) (played (zipped at value) image) image;
     }
+
+-- ---- for the laws of play
+
+-- the bytes that play with two counts leaves of an image: "play makes the counted stores, if there are any"
+unfoldable pub playing : (image : List ℕ) → List Store → (a b : ℕ) → List ℕ
+playing image ss a b = playResult image (wordNumbers ss) (values ss) a b .bytes
+
+-- its counts, by lines: a for the line of the first store, b for any other
+unfoldable pub halfCounts : List Store → (a b : ℕ) → ℕ → ℕ
+halfCounts [] a b n = b
+halfCounts (s ∷ ss) a b n = cond (eqb n (s .word / 8)) a b
