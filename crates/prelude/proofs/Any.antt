@@ -73,3 +73,12 @@ any-some p k (suc n) (suc i) h e = either (p k) _ (any-some p (suc k) n i (omega
     either : (a b : Bool) → b ≡ true → cond a true b ≡ true
     either true b q = refl
     either false b q = q
+
+-- the same for tests that are the same at these numbers
+pub any-same : (p q : ℕ → Bool) (k n : ℕ) → ((i : ℕ) → i < n → p (k + i) ≡ q (k + i)) → anyOf p k n ≡ anyOf q k n
+unfolding anyOf
+any-same p q k zero e = refl
+any-same p q k (suc n) e =
+    let a : k + 0 ≡ k = omega arith in
+    ap₂ (λ (b c : Bool). cond b true c) (ap p (sym a) ∙ e 0 (omega arith) ∙ ap q a)
+    (any-same p q (suc k) n (λ i h. let d : suc k + i ≡ k + suc i = omega arith in ap p d ∙ e (suc i) (omega arith) ∙ ap q (sym d)))

@@ -13,3 +13,4 @@ pub mod OneSlot
 pub mod KeyCount
 pub mod defs
 pub mod Sharing
+pub mod Alike
