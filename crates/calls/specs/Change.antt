@@ -2,7 +2,7 @@
 -- insert for a key not held, replace for one that is." None of them writes to the image.
 use mathlib.Core.List.{List, [], _∷_}
 use Prim.Native.Nat.{ℕ, _+_, _-_}
-use lib.Dec.{eqb, ltb}
+use lib.Dec.{ltb}
 use lib.ListN.{length}
 use Rattle.words.specs.Word.{word}
 use Rattle.prelude.specs.Refusal.{say, orElse, unlessRefused}
@@ -11,13 +11,17 @@ use Rattle.layout.specs.Size.{slotsIn}
 use Rattle.layout.specs.Record.{limit}
 use Rattle.layout.specs.Header.{lentFault}
 use Rattle.layout.specs.Line.{versionFault}
+use Rattle.layout.specs.Content.{contentsOf}
+use Rattle.table.specs.Taking.{mayTake}
 use Rattle.stores.specs.Store.{Store, zipped}
 use Rattle.stores.specs.Written.{recordStores}
 use Rattle.index.specs.Index.{Index, indexOf, stateOf, headOf}
 use Rattle.index.specs.Walk.{search, chainFault}
-use Rattle.index.specs.Change.{insertNew, replaceHeld, removeHeld, keyFault, isFound, roomFault, reuseFault}
+use Rattle.index.specs.Change.{insertNew, replaceHeld, removeHeld, keyFault, isFound}
+use Rattle.index.specs.Taking.{Taking, takeFrom, reuseFault, roomFault}
 use Rattle.index.specs.declared.State.{State}
 use Rattle.index.specs.declared.Mode.{Mode}
+use Rattle.index.specs.declared.Mode.the-variants.{Insert, Replace}
 use Rattle.index.specs.declared.Found.{Found}
 use Rattle.index.specs.declared.Found.the-variants.{At, Missing, BadChain}
 use Rattle.calls.specs.Compared.{Reported, reported, comparedAfter}
@@ -72,12 +76,27 @@ leftIn lent r =
 unfoldable pub unchanged : Answer → State → (heads next : List ℕ) → ChangeResult
 unchanged answer s heads next = record { answer = answer; state = s; stores = []; heads = heads; next = next }
 
--- a record of this kind is written into the first reuse slot: i is the index at exit. "each call that stores makes the next version one higher"
+-- ---- the slot that is taken
+
+-- the first `wanted` slots of the reuse chain that may be taken, by the image of n slots and the links
+unfoldable pub takingOf : (l : ℕ) → (image next : List ℕ) → (n first wanted : ℕ) → Taking
+takingOf l image next n first wanted = takeFrom (mayTake (contentsOf l image) n) next n first wanted
+
+-- the refusals of a call that takes these slots, inserts and removes so many keys and is not refused for its keys: "11 (reuse, or fewer live than are removed) now
+-- stands whole before 28", 28 "before 9"
+unfoldable pub storeFault : Taking → (n : ℕ) → State → (inserts removes : ℕ) → ℕ
+storeFault taking n s inserts removes =
+    orElse (reuseFault taking n (s .first) (s .last) (s .live) removes)
+    (orElse (roomFault taking n (s .live) inserts removes) (versionFault (s .version)))
+
+-- a record of this kind is written into the first reuse slot: i is the index at exit. With an index that is the image's own, the taking rule gives a call that wants
+-- one slot the first reuse slot or refuses it; "with an index not the image's own, only refusals are fixed, of single calls too". "each call that stores makes the
+-- next version one higher"
 unfoldable pub changed : (l : ℕ) → (image : List ℕ) → State → (key kind : ℕ) → List ℕ → Index → (live : ℕ) → ChangeResult
 changed l image s key kind value i live =
     record {
       answer = gives (s .first ∷ s .version ∷ []);
-      state = stateOf i live (s .version + 1);
+      state = stateOf i live (s .version + 1) (s .first);
       stores = recordStores l (word image) (s .first) key kind value (s .version);
       heads = i .heads;
       next = i .next;
@@ -89,17 +108,20 @@ changed l image s key kind value i live =
 unfoldable pub writeLentFault : (l : ℕ) → (image : List ℕ) → (heads next size : ℕ) → ℕ
 writeLentFault l image heads next size = orElse (lentFault l image heads next) (say (ltb (limit l) size) 10 0)
 
--- the refusals after these: 11 (chain); 20 or 21, "each straight after the chain check"; 12; 9; 11 (reuse)
-unfoldable pub writeLaterFault : Mode → Found → (next : List ℕ) → (n : ℕ) → State → ℕ
-writeLaterFault mode found next n s =
-    orElse (chainFault found)
-    (orElse (keyFault mode (isFound found))
-    (orElse (roomFault found n (s .live)) (orElse (versionFault (s .version)) (reuseFault next n (s .first) (s .last)))))
+-- how many keys a write inserts
+unfoldable pub insertsOf : Mode → ℕ
+insertsOf Insert = 1
+insertsOf Replace = 0
+
+-- the refusals after these: 11 (chain); 20 or 21, "each straight after the chain check"; 11 (reuse); 28; 9
+unfoldable pub writeLaterFault : Mode → Found → Taking → (n : ℕ) → State → ℕ
+writeLaterFault mode found taking n s =
+    orElse (chainFault found) (orElse (keyFault mode (isFound found)) (storeFault taking n s (insertsOf mode) 0))
 
 unfoldable pub writeFault : (l : ℕ) → (image heads next : List ℕ) → State → Mode → (key : ℕ) → (size : ℕ) → ℕ
 writeFault l image heads next s mode key size =
     orElse (writeLentFault l image (length heads) (length next) size)
-    (writeLaterFault mode (search l image heads next key) next (slotsIn image) s)
+    (writeLaterFault mode (search l image heads next key) (takingOf l image next (slotsIn image) (s .first) 1) (slotsIn image) s)
 
 -- "A put of a new key raises the live count by one"
 unfoldable pub writeDone : (l : ℕ) → (image heads next : List ℕ) → State → (key : ℕ) → List ℕ → Found → ChangeResult
@@ -122,21 +144,16 @@ writeCompared l image heads next key size =
 
 -- ---- remove
 
--- "9, 11 (reuse, or a live count of zero)"
-unfoldable pub heldFault : (next : List ℕ) → (n : ℕ) → State → ℕ
-heldFault next n s =
-    orElse (versionFault (s .version)) (orElse (reuseFault next n (s .first) (s .last)) (say (eqb (s .live) 0) 11 0))
-
--- the refusals after 1, 2, 3 and 4: 11 (chain); "then, if the key is not held, the plain answer absent"; then as above
-unfoldable pub removeLaterFault : Found → (next : List ℕ) → (n : ℕ) → State → ℕ
-removeLaterFault (At old prev compared) next n s = heldFault next n s
-removeLaterFault (Missing prev compared) next n s = 0
-removeLaterFault BadChain next n s = 11
+-- the refusals after 1, 2, 3 and 4: 11 (chain); "then, if the key is not held, the plain answer absent"; 11 (reuse, or a live count of zero); 28; 9
+unfoldable pub removeLaterFault : Found → Taking → (n : ℕ) → State → ℕ
+removeLaterFault (At old prev compared) taking n s = storeFault taking n s 0 1
+removeLaterFault (Missing prev compared) taking n s = 0
+removeLaterFault BadChain taking n s = 11
 
 unfoldable pub removeFault : (l : ℕ) → (image heads next : List ℕ) → State → (key : ℕ) → ℕ
 removeFault l image heads next s key =
     orElse (lentFault l image (length heads) (length next))
-    (removeLaterFault (search l image heads next key) next (slotsIn image) s)
+    (removeLaterFault (search l image heads next key) (takingOf l image next (slotsIn image) (s .first) 1) (slotsIn image) s)
 
 -- "a remove lowers it by one"; "the plain answer absent with no stores and no change"
 unfoldable pub removeDone : (l : ℕ) → (image heads next : List ℕ) → State → (key : ℕ) → Found → ChangeResult

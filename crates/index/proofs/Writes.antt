@@ -53,18 +53,18 @@ unfolding link linkHeads linkNext setNext setStart
 index-link heads next s h zero slot = refl
 index-link heads next s h (suc p) slot = rw (ne-eqb (suc p) 0 (λ e. omega arith))
 
-end-link : (heads next : List ℕ) (first last prev slot : ℕ) (live version : ℕ) → prev ≡ last
+end-link : (heads next : List ℕ) (first last prev slot : ℕ) (live version newest : ℕ) → prev ≡ last
     → setLast (link (record { heads = heads; next = next; first = first; last = last }) reuse prev slot) slot
-    ≡ indexOf heads (linkNext next prev slot) (appendState (record { first = first; last = prev; live = live; version = version }) slot)
+    ≡ indexOf heads (linkNext next prev slot) (appendState (record { first = first; last = prev; live = live; version = version; newest = newest }) slot)
 unfolding link linkNext setNext setStart setLast appendState
-end-link heads next first last zero slot live version e = refl
-end-link heads next first last (suc p) slot live version e = rw (ne-eqb (suc p) 0 (λ e. omega arith))
+end-link heads next first last zero slot live version newest e = refl
+end-link heads next first last (suc p) slot live version newest e = rw (ne-eqb (suc p) 0 (λ e. omega arith))
 
 pub index-append : (heads next : List ℕ) (s : State) (slot : ℕ)
     → append (indexOf heads next s) slot ≡ indexOf heads (appendNext next s slot) (appendState s slot)
 unfolding append appendNext setNext
 index-append heads next s slot =
-    end-link heads (set next slot 0) (s .first) (s .last) (s .last) slot (s .live) (s .version) refl
+    end-link heads (set next slot 0) (s .first) (s .last) (s .last) slot (s .live) (s .version) (s .newest) refl
 
 -- ---- the calls' changes
 
@@ -74,8 +74,8 @@ module _ (heads next : List ℕ) (s rest : State) (h prev : ℕ) (er : rest ≡ 
 
   pub insert-new : (heads′ next′ : List ℕ) → heads′ ≡ linkHeads heads h prev (s .first)
       → next′ ≡ linkNext (set next (s .first) 0) prev (s .first)
-      → PartsOf heads′ next′ (record { first = rest .first; last = rest .last; live = rest .live + 1; version = rest .version + 1 })
-      (insertNew (indexOf heads next s) h prev) (s .live + 1) (s .version + 1)
+      → PartsOf heads′ next′ (record { first = rest .first; last = rest .last; live = rest .live + 1; version = rest .version + 1; newest = s .first })
+      (insertNew (indexOf heads next s) h prev) (s .live + 1) (s .version + 1) (s .first)
   unfolding insertNew linkNew setNext
   insert-new heads′ next′ eh en =
       record {
@@ -85,6 +85,7 @@ module _ (heads next : List ℕ) (s rest : State) (h prev : ℕ) (er : rest ≡ 
             ∙ index-link heads (set next (s .first) 0) rest h prev (s .first) ∙ cc);
         live-count = omega (arith, taken-live next s rest er);
         next-version = omega (arith, taken-version next s rest er);
+        newest-slot = refl;
       }
 
   module _
@@ -92,8 +93,8 @@ module _ (heads next : List ℕ) (s rest : State) (h prev : ℕ) (er : rest ≡ 
       (en : next₂ ≡ appendNext next₁ rest old) where
     pub replace-held : heads′ ≡ linkHeads heads h prev (s .first)
         → next₁ ≡ linkNext (set next (s .first) (getD next old 0)) prev (s .first)
-        → PartsOf heads′ next₂ (record { first = back .first; last = back .last; live = back .live; version = back .version + 1 })
-        (replaceHeld (indexOf heads next s) h prev old) (s .live) (s .version + 1)
+        → PartsOf heads′ next₂ (record { first = back .first; last = back .last; live = back .live; version = back .version + 1; newest = s .first })
+        (replaceHeld (indexOf heads next s) h prev old) (s .live) (s .version + 1) (s .first)
     unfolding replaceHeld linkNew setNext
     replace-held eh e₁ =
         record {
@@ -104,12 +105,13 @@ module _ (heads next : List ℕ) (s rest : State) (h prev : ℕ) (er : rest ≡ 
               ∙ index-append _ _ rest old ∙ cc);
           live-count = append-live rest back old eb ∙ taken-live next s rest er;
           next-version = omega (arith, append-version rest back old eb, taken-version next s rest er);
+          newest-slot = refl;
         }
 
     pub remove-held : (next₃ : List ℕ) (all : State) → heads′ ≡ linkHeads heads h prev (getD next old 0)
         → next₁ ≡ linkNext next prev (getD next old 0) → all ≡ appendState back (s .first) → next₃ ≡ appendNext next₂ back (s .first)
-        → PartsOf heads′ next₃ (record { first = all .first; last = all .last; live = all .live - 1; version = all .version + 1 })
-        (removeHeld (indexOf heads next s) h prev old) (s .live - 1) (s .version + 1)
+        → PartsOf heads′ next₃ (record { first = all .first; last = all .last; live = all .live - 1; version = all .version + 1; newest = s .first })
+        (removeHeld (indexOf heads next s) h prev old) (s .live - 1) (s .version + 1) (s .first)
     unfolding removeHeld
     remove-held next₃ all eh e₁ ea e₃ =
         record {
@@ -123,4 +125,5 @@ module _ (heads next : List ℕ) (s rest : State) (h prev : ℕ) (er : rest ≡ 
               omega (arith, append-live back all (s .first) ea, append-live rest back old eb, taken-live next s rest er);
           next-version =
               omega (arith, append-version back all (s .first) ea, append-version rest back old eb, taken-version next s rest er);
+          newest-slot = refl;
         }

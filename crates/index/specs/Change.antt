@@ -1,8 +1,7 @@
--- What the calls write to the index, and the refusals that go by it. Document 01, "The index": "The index is written in this order."
+-- What the calls write to the index, and the refusals for the key. Document 01, "The index": "The index is written in this order."
 use mathlib.Core.Bool.{Bool, true, false, cond, not}
-use mathlib.Core.List.{List}
-use Prim.Native.Nat.{ℕ, _+_}
-use lib.Dec.{eqb, ltb, leb}
+use Prim.Native.Nat.{ℕ}
+use lib.Dec.{eqb}
 use lib.ListN.{getD}
 use Rattle.prelude.specs.Refusal.{say}
 use Rattle.index.specs.Index.{Index, Chain, reuse, head, setNext, setStart, setLast, link}
@@ -46,15 +45,3 @@ unfoldable pub isFound : Found → Bool
 isFound (At slot prev compared) = true
 isFound (Missing prev compared) = false
 isFound BadChain = false
-
--- "12 when the key is not held and the live count plus 1 is at least N"
-unfoldable pub roomFault : Found → (n live : ℕ) → ℕ
-roomFault (At slot prev compared) n live = 0
-roomFault (Missing prev compared) n live = say (leb n (live + 1)) 12 0
-roomFault BadChain n live = 0
-
--- "11 when the reuse chain's first or last slot is zero or above N, or the first's next is above N"
-unfoldable pub reuseFault : (next : List ℕ) → (n first last : ℕ) → ℕ
-reuseFault next n first last =
-    say (eqb first 0) 11
-    (say (ltb n first) 11 (say (eqb last 0) 11 (say (ltb n last) 11 (say (ltb n (getD next first 0)) 11 0))))

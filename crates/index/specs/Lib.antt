@@ -3,4 +3,5 @@ pub mod Walk
 pub mod Change
 pub mod Chained
 pub mod Linked
+pub mod Taking
 pub mod inner

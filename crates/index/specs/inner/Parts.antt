@@ -35,11 +35,12 @@ unfoldable pub liveAt : (live : ℕ) → Place → ℕ
 liveAt live (Held slot prev) = live
 liveAt live (NotHeld prev) = live + 1
 
--- heads, next and the state r are those of index i, with this live count and this next version
-pub record PartsOf (heads next : List ℕ) (r : State) (i : Index) (live version : ℕ) : Type 0 where
+-- heads, next and the state r are those of index i, with this live count, this next version and this first slot that the last call took
+pub record PartsOf (heads next : List ℕ) (r : State) (i : Index) (live version newest : ℕ) : Type 0 where
   pub index : indexOf heads next r ≡ i
   pub live-count : r .live ≡ live
   pub next-version : r .version ≡ version
+  pub newest-slot : r .newest ≡ newest
 
 -- ---- what `link`, `takeFirst` and `append` make of the parts
 
@@ -59,6 +60,7 @@ takeState next s =
       last = cond (eqb (getD next (s .first) 0) 0) 0 (s .last);
       live = s .live;
       version = s .version;
+      newest = s .newest;
     }
 
 -- next after a slot was appended to the reuse chain
@@ -68,4 +70,4 @@ appendNext next s slot = linkNext (set next slot 0) (s .last) slot
 -- and the state; heads stay
 unfoldable pub appendState : State → ℕ → State
 appendState s slot =
-    record { first = cond (eqb (s .last) 0) slot (s .first); last = slot; live = s .live; version = s .version }
+    record { first = cond (eqb (s .last) 0) slot (s .first); last = slot; live = s .live; version = s .version; newest = s .newest }
