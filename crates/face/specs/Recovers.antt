@@ -9,6 +9,7 @@ use Rattle.table.specs.Complete.{tableOf}
 use Rattle.table.specs.Table.{brokenCount, brokenLimit, liveCount}
 use Rattle.table.specs.Keys.{Keys}
 use Rattle.stores.specs.Play.{playEnd, playListResult, wordNumbers, values}
+use Rattle.recovery.specs.Opening.{storesIn}
 use Rattle.recovery.specs.Recover.{recoverResult}
 use Rattle.plainmap.specs.World.{recoveredWorld, openedWorld, Round, afterRound}
 use Rattle.plainmap.specs.Plain.{PlainMap}
@@ -29,9 +30,9 @@ pub record Recovers (l : ℕ) (image : List ℕ) (m : PlainMap) : Type 0 where
   pub count : (ks : List ℕ) → Keys m ks → liveCount (tableOf l image) (slotsIn image) ≡ length ks
   -- play takes its opening stores, of which there are at most eight
   pub opens : (heads next : List ℕ) → RightSize image heads next
-      → playListResult image (wordNumbers (recoverResult l image heads next .stores)) (values (recoverResult l image heads next .stores)) ≡
+      → playListResult image (wordNumbers (storesIn (recoverResult l image heads next .openings))) (values (storesIn (recoverResult l image heads next .openings))) ≡
       playEnd 0 (openedWorld l image heads next .image)
-  pub few-opened : (heads next : List ℕ) → RightSize image heads next → length (recoverResult l image heads next .stores) ≤ 8
+  pub few-opened : (heads next : List ℕ) → RightSize image heads next → length (storesIn (recoverResult l image heads next .openings)) ≤ 8
   pub again :
       (heads next heads′ next′ : List ℕ) → RightSize image heads next → length heads ≡ length heads′ → length next ≡ length next′
       → recoverResult l image heads next ≡ recoverResult l image heads′ next′

@@ -5,6 +5,7 @@ use lib.ListN.{length}
 use Rattle.prelude.specs.Answer.{Answer}
 use Rattle.stores.specs.Store.{Store, played, standing}
 use Rattle.index.specs.declared.State.{State}
+use Rattle.recovery.specs.Opening.{storesIn}
 use Rattle.recovery.specs.Recover.{Result, recoverResult}
 use Rattle.index.specs.declared.Mode.{Mode}
 use Rattle.calls.specs.Compared.{keyCompared}
@@ -117,7 +118,7 @@ pub record Round : Type 0 where
 
 -- the image that it leaves
 unfoldable pub afterRound : (l : ℕ) → (image : List ℕ) → Round → List ℕ
-afterRound l image r = played (standing (r .counts) (recoverResult l image (r .heads) (r .next) .stores)) image
+afterRound l image r = played (standing (r .counts) (storesIn (recoverResult l image (r .heads) (r .next) .openings))) image
 
 -- "If power fails there, recovery runs again": some rounds, and then a recovery with heads and next lent to it, whose opening stores are all played
 pub record Restart : Type 0 where
@@ -132,7 +133,7 @@ afterRounds l image (r ∷ rs) = afterRounds l (afterRound l image r) rs
 -- recovery of an image and all its opening stores
 unfoldable pub openedWorld : (l : ℕ) → (image heads next : List ℕ) → World
 openedWorld l image heads next =
-    worldAfter (played (recoverResult l image heads next .stores) image) (recoverResult l image heads next)
+    worldAfter (played (storesIn (recoverResult l image heads next .openings)) image) (recoverResult l image heads next)
 
 -- the set after a restart from an image
 unfoldable pub restarted : (l : ℕ) → (image : List ℕ) → Restart → World

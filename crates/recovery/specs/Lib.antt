@@ -1,3 +1,4 @@
+pub mod Opening
 pub mod Recover
 pub mod Represents
 pub mod inner

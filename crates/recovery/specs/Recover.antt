@@ -1,4 +1,5 @@
--- Recovery. Document 01, "The index" and "What each operation may say no to", Recover; document 02, A.5: "Recovery shall name the lowest slot at fault and what in it"; A.6: "25 when more than one slot is broken".
+-- Recovery. Document 01, "The index" and "What each operation may say no to", Recover; document 02, A.5: "Recovery shall name the lowest slot at fault and what in it"; A.6: "25 when more than one slot is broken"; A.7: "A void slot
+-- stands with the broken ones, in the reuse chain and in A.6's limit, now eight together".
 use mathlib.Core.Bool.{cond}
 use mathlib.Core.List.{List, [], _∷_}
 use Prim.Native.Nat.{ℕ}
@@ -8,22 +9,28 @@ use Rattle.prelude.specs.Refusal.{say, orElse, unlessRefused}
 use Rattle.prelude.specs.Answer.{Answer, gives, refused}
 use Rattle.prelude.specs.Range.{anyOf, lowest, atLowest}
 use Rattle.layout.specs.Size.{slotsIn}
-use Rattle.layout.specs.Content.{content, Table, tableOf}
+use Rattle.layout.specs.Content.{content, numberIn, Table}
 use Rattle.layout.specs.Header.{lentFault}
 use Rattle.layout.specs.Fault.{markFault, recordFault}
-use Rattle.table.specs.Table.{keyIn, live, liveCount, nextVersion, sharedVersion, manyBroken, allLive}
+use Rattle.table.specs.Table.{keyIn, live, liveCount, nextVersion, manyBroken, allLive}
+use Rattle.table.specs.Complete.{settled, tableOf}
+use Rattle.table.specs.Shared.{sharersFault}
 use Rattle.table.specs.Order.{chainOf, reuseOf}
 use Rattle.index.specs.Index.{Index, Chain, reuse, head, headOf, stateOf}
 use Rattle.index.specs.Chained.{chained}
 use Rattle.index.specs.declared.State.{State}
+use Rattle.stores.specs.Store.{Store}
+use Rattle.recovery.specs.Opening.{openingStores, openingsOf}
+use Rattle.recovery.specs.declared.Openings.{Openings}
 use Rattle.recovery.specs.declared.Recovered.{Recovered}
 use Rattle.recovery.specs.declared.Recovered.the-variants.{Rebuilt, Refused}
 
--- recovery's answer, the slot that a refusal names (0 for none), and the state and the index that it leaves
+-- recovery's answer, the slot that a refusal names (0 for none), the state, the opening stores, and the index that it leaves
 pub record Result : Type 0 where
   pub answer : Answer
   pub slot : ℕ
   pub state : State
+  pub openings : Openings
   pub heads : List ℕ
   pub next : List ℕ
 
@@ -31,29 +38,31 @@ pub record Result : Type 0 where
 abbrev pub stateValues : State → List ℕ
 stateValues s = s .first ∷ s .last ∷ s .live ∷ s .version ∷ []
 
-unfoldable pub recoverSays : Recovered → Answer
-recoverSays (Rebuilt s) = gives (stateValues s)
-recoverSays (Refused number slot) = refused number
-
--- the slot that the answer names
-unfoldable pub recoverNames : Recovered → ℕ
-recoverNames (Rebuilt s) = 0
-recoverNames (Refused number slot) = slot
-
 -- the state beside the rebuilt index; with a refusal there is none, and zeros stand for it
 unfoldable pub noState : State
-noState = record { first = 0; last = 0; live = 0; version = 0 }
+noState = record { first = 0; last = 0; live = 0; version = 0; newest = 0 }
 
-unfoldable pub recoverState : Recovered → State
-recoverState (Rebuilt s) = s
-recoverState (Refused number slot) = noState
+-- a refused recovery leaves the index as it was lent, and has no stores
+abbrev pub refusedResult : (number slot : ℕ) → (heads next : List ℕ) → Result
+refusedResult number slot heads next =
+    record { answer = refused number; slot = slot; state = noState; openings = openingsOf []; heads = heads; next = next }
+
+-- what a call of recover with this answer left
+unfoldable pub recoverEnd : Recovered → (heads next : List ℕ) → Result
+recoverEnd (Rebuilt state openings) heads next =
+    record { answer = gives (stateValues state); slot = 0; state = state; openings = openings; heads = heads; next = next }
+recoverEnd (Refused number slot) heads next = refusedResult number slot heads next
+
+-- 25, and then 8, by the settled table f
+unfoldable pub settledFault : Table → (n : ℕ) → ℕ
+settledFault f n = say (manyBroken f n) 25 (say (allLive f n) 8 0)
 
 -- 5; then "the lowest slot at fault and what in it": 6, 22, 23 or 24; then 7, 25 ("after 7 and before 8"), 8. Each over all slots before the next
 unfoldable pub slotsFault : (l : ℕ) → (m : ℕ → ℕ) → (n : ℕ) → ℕ
 slotsFault l m n =
     say (anyOf (markFault m) 1 n) 5
     (orElse (atLowest (recordFault l m) n)
-    (say (sharedVersion (content l m) n) 7 (say (manyBroken (content l m) n) 25 (say (allLive (content l m) n) 8 0))))
+    (say (sharersFault (content l m) (numberIn l m) n) 7 (settledFault (settled (content l m) (numberIn l m) n) n)))
 
 -- the slot that these name: the lowest one at fault, where 5 does not come first; 5, 7, 25 and 8 name none
 unfoldable pub slotsNamed : (l : ℕ) → (m : ℕ → ℕ) → (n : ℕ) → ℕ
@@ -80,32 +89,24 @@ placeOf f n b s = cond (live f n s) (head (headOf (keyIn (f s)) b)) reuse
 unfoldable pub recoveredIndex : Table → (n b : ℕ) → Index
 recoveredIndex f n b = chained n b (chainsOf f n b) (placeOf f n b)
 
--- "A state beside them holds the reuse chain's first and last slot, the live count and the next version"
+-- "A state beside them holds the reuse chain's first and last slot, the live count and the next version"; no call has taken a slot yet
 unfoldable pub recoveredState : Table → (n b : ℕ) → State
-recoveredState f n b = stateOf (recoveredIndex f n b) (liveCount f n) (nextVersion f n)
+recoveredState f n b = stateOf (recoveredIndex f n b) (liveCount f n) (nextVersion f n) 0
 
-unfoldable pub recovered : Table → (n b : ℕ) → Result
-recovered f n b =
+-- f is the settled table, and stores are those that open its void slots
+unfoldable pub recovered : Table → (n b : ℕ) → (stores : List Store) → Result
+recovered f n b stores =
     record {
       answer = gives (stateValues (recoveredState f n b));
       slot = 0;
       state = recoveredState f n b;
+      openings = openingsOf stores;
       heads = recoveredIndex f n b .heads;
       next = recoveredIndex f n b .next;
     }
 
--- a refused recovery leaves the index as it was lent
-abbrev pub refusedResult : (number slot : ℕ) → (heads next : List ℕ) → Result
-refusedResult number slot heads next =
-    record { answer = refused number; slot = slot; state = noState; heads = heads; next = next }
-
 unfoldable pub recoverResult : (l : ℕ) → (image heads next : List ℕ) → Result
 recoverResult l image heads next =
     unlessRefused (recoverFault l image (length heads) (length next))
-    (recovered (tableOf l image) (slotsIn image) (length heads))
+    (recovered (tableOf l image) (slotsIn image) (length heads) (openingStores l (word image) (slotsIn image)))
     (refusedResult (recoverFault l image (length heads) (length next)) (recoverSlot l image (length heads) (length next)) heads next)
-
--- what a call of recover with this answer left
-abbrev pub recoverEnd : Recovered → (heads next : List ℕ) → Result
-recoverEnd r heads next =
-    record { answer = recoverSays r; slot = recoverNames r; state = recoverState r; heads = heads; next = next }

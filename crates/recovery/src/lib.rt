@@ -2,9 +2,16 @@
 
 use index::State;
 
-// Recovery's answer: the state beside the rebuilt index, or a refusal with the slot that it names, 0 for none.
+// The opening stores: `count` of them, store i sets word at[i] of the image to value[i]. Entries from `count` on are zero.
+pub struct Openings {
+    pub count: u32,
+    pub at: [u32; 8],
+    pub value: [u64; 8],
+}
+
+// Recovery's answer: the state beside the rebuilt index with the opening stores, or a refusal with the slot that it names, 0 for none.
 pub enum Recovered {
-    Rebuilt(State),
+    Rebuilt { state: State, openings: Openings },
     Refused { number: u32, slot: u32 },
 }
 
@@ -30,11 +37,12 @@ pub struct Scan {
     pub top: u64,
 }
 
-// What recovery finds before it writes anything: the refusal of the slots or 0, the slot that it names, the live count, and the highest version
-// on a whole line.
+// What recovery finds before it writes anything: the refusal of the slots or 0, the slot that it names, the live count, the highest version on a
+// whole line, and the opening stores.
 pub struct Judged {
     pub fault: u32,
     pub slot: u32,
     pub live: u32,
     pub top: u64,
+    pub openings: Openings,
 }

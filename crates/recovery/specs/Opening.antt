@@ -1,0 +1,40 @@
+-- The stores that open the void slots. Document 02, A.7: "Recovery answers by value, with no lent list, one store for each void record, by slot, turning line A's mark
+-- against its close bit".
+use mathlib.Core.List.{List, [], _∷_}
+use Prim.Native.Nat.{ℕ, _*_}
+use lib.ListN.{length, getD, take}
+use Rattle.prelude.specs.Range.{tabulate}
+use Rattle.prelude.specs.Filter.{filter}
+use Rattle.prelude.specs.Members.{slotNumbers}
+use Rattle.layout.specs.Line.{lineA, firstWord}
+use Rattle.layout.specs.Content.{content, numberIn}
+use Rattle.table.specs.Complete.{isVoid}
+use Rattle.stores.specs.Store.{Store, zipped}
+use Rattle.stores.specs.Play.{wordNumbers, values}
+use Rattle.recovery.specs.declared.Openings.{Openings}
+
+-- the mark of line A is word 16 × s of the image; 1 − close bit opens a whole line
+unfoldable pub openingStore : (m : ℕ → ℕ) → (s : ℕ) → Store
+openingStore m s = record { word = 16 * s; value = firstWord (lineA m s 7) }
+
+-- the opening stores of these slots
+unfoldable pub openings : (m : ℕ → ℕ) → List ℕ → List Store
+openings m [] = []
+openings m (s ∷ slots) = openingStore m s ∷ openings m slots
+
+-- those of the image's void slots, by slot
+unfoldable pub openingStores : (l : ℕ) → (m : ℕ → ℕ) → (n : ℕ) → List Store
+openingStores l m n = openings m (filter (isVoid (content l m) (numberIn l m) n) (slotNumbers n))
+
+-- stores by value: entries past them are zero
+unfoldable pub openingsOf : List Store → Openings
+openingsOf ss =
+    record {
+      count = length ss;
+      at = tabulate (λ i. getD (wordNumbers ss) i 0) 0 8;
+      value = tabulate (λ i. getD (values ss) i 0) 0 8;
+    }
+
+-- and the stores back from them, as play takes them
+unfoldable pub storesIn : Openings → List Store
+storesIn o = zipped (take (o .count) (o .at)) (take (o .count) (o .value))
