@@ -20,7 +20,7 @@ run-once f a [] p r = tt
 run-once f a (x ∷ xs) p r = (self f x xs (λ y m. p y (inr m)) (r .1), run-once f (f x) xs (λ y m. p y (inr m)) (r .1))
 
 -- a list of different numbers from 1 to n has at most n elements
-at-most : (n : ℕ) (l : List ℕ) → Once l → ((x : ℕ) → In x l → (0 < x) × (x ≤ n)) → length l ≤ n
+pub at-most : (n : ℕ) (l : List ℕ) → Once l → ((x : ℕ) → In x l → (0 < x) × (x ≤ n)) → length l ≤ n
 at-most n l a h = omega (arith, no-longer l (slotNumbers n) a (λ x m. in-slots n x (let k = h x m in (k .0, k .1))), length-slots n)
 
 -- while reuse has a slot, no head's chain has all

@@ -14,4 +14,5 @@ pub mod Relinks
 pub mod Paths
 pub mod CallWrites
 pub mod ChainLengths
+pub mod Takings
 pub mod defs

@@ -1,2 +1,3 @@
 pub mod Linked
 pub mod SearchIn
+pub mod TakenIn
