@@ -1,5 +1,5 @@
 -- The laws as the set uses them: `place` says where each slot stands, and a call moves the slots that it names. Assumes nothing.
-use mathlib.Core.Path.{_≡_, refl, sym, ap, _∙_, fun-ext}
+use mathlib.Core.Path.{_≡_, refl, sym, ap, _∙_, fun-ext, subst}
 use mathlib.Core.Logic.{inl, inr, by-cases}
 use mathlib.Core.List.{List, [], _∷_, _++_}
 use mathlib.Core.Bool.{cond}
@@ -191,3 +191,23 @@ sits-build n b place i l g en eb a h k m = record {
   next-size = build-next _ _ _ ∙ en;
   heads-size = build-heads _ _ _ ∙ eb;
 }
+
+-- another place that agrees on the slots serves as well
+pub sits-places : (n b : ℕ) (place place′ : ℕ → Chain) (i : Index) (chains : Chain → List ℕ) → Sits n b place i chains
+    → ((x : ℕ) → 0 < x → x ≤ n → place′ x ≡ place x) → Sits n b place′ i chains
+sits-places n b place place′ i chains g h =
+    record {
+      formed =
+          subst (λ (o : ℕ → Owner). WellFormed i o chains)
+          (placed-alike n (placed n place) place′ (λ x l m. placed-in n place x l m ∙ ap of (sym (h x l m))) free-too) (g .formed);
+      next-size = g .next-size;
+      heads-size = g .heads-size;
+    }
+  where
+    free-too : (x : ℕ) → placed n place′ x ≡ free → placed n place x ≡ free
+    free-too x e = go (ranged n x)
+      where
+        go : Ranged n x → placed n place x ≡ free
+        go (nought z) = placed-zero n place x z
+        go (past l) = placed-past n place x l
+        go (within l m) = absurd (free-of (place′ x) (sym e ∙ placed-in n place′ x l m))
