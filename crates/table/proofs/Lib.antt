@@ -20,3 +20,9 @@ pub mod Taking
 pub mod Ranks
 pub mod Order
 pub mod ReuseOrder
+pub mod Same
+pub mod Changes
+pub mod Struck
+pub mod Unfinished
+pub mod Finished
+pub mod StruckAgreed
