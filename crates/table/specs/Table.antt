@@ -94,7 +94,7 @@ brokenCount f n = count (λ s. isBroken (f s)) n
 unfoldable pub brokenLimit : ℕ
 brokenLimit = 8
 
--- A.6: "25 when more than one slot is broken", with that limit
+-- 25, of the settled table
 unfoldable pub manyBroken : Table → (n : ℕ) → Bool
 manyBroken f n = ltb brokenLimit (brokenCount f n)
 
