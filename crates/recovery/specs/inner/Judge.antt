@@ -19,7 +19,8 @@ use Rattle.table.specs.Order.{ordered}
 use Rattle.table.specs.Complete.{settled}
 use Rattle.sorting.specs.Sorted.{sorted}
 use Rattle.recovery.specs.Recover.{slotsFault, slotsNamed}
-use Rattle.recovery.specs.Opening.{openingStores, openingsOf}
+use Rattle.stores.specs.Opening.{openingStores}
+use Rattle.recovery.specs.Opening.{voidSlots, openingsOf}
 use Rattle.recovery.specs.inner.Scan.{keyAt}
 use Rattle.recovery.specs.inner.Decide.{livePlace, Cleared}
 use Rattle.recovery.specs.declared.Openings.{Openings}
@@ -93,7 +94,7 @@ pub record Judgement (l : ℕ) (m : ℕ → ℕ) (n b : ℕ) (order places : Lis
   pub fault-is : r .fault ≡ slotsFault l m n
   pub slot-is : r .slot ≡ slotsNamed l m n
   pub arranged : r .fault ≡ 0 → Arranged (settled (content l m) (numberIn l m) n) n b order places (r .live) (r .top)
-  pub openings-are : r .fault ≡ 0 → r .openings ≡ openingsOf (openingStores l m n)
+  pub openings-are : r .fault ≡ 0 → r .openings ≡ openingsOf (openingStores m (voidSlots l m n))
 
 -- what is left of the lent heads and next: the chains of the order and the state r beside them, or with a refusal what was lent
 pub record Left (fault : ℕ) (heads next order places : List ℕ) (live top : ℕ) (heads′ next′ : List ℕ) (r : State) : Type 0 where
