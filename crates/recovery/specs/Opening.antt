@@ -1,30 +1,20 @@
 -- The stores that open the void slots. Document 02, A.7: "Recovery answers by value, with no lent list, one store for each void record, by slot, turning line A's mark
 -- against its close bit".
-use mathlib.Core.List.{List, [], _∷_}
-use Prim.Native.Nat.{ℕ, _*_}
+use mathlib.Core.List.{List}
+use Prim.Native.Nat.{ℕ}
 use lib.ListN.{length, getD, take}
 use Rattle.prelude.specs.Range.{tabulate}
 use Rattle.prelude.specs.Filter.{filter}
 use Rattle.prelude.specs.Members.{slotNumbers}
-use Rattle.layout.specs.Line.{lineA, firstWord}
 use Rattle.layout.specs.Content.{content, numberIn}
 use Rattle.table.specs.Complete.{isVoid}
 use Rattle.stores.specs.Store.{Store, zipped}
 use Rattle.stores.specs.Play.{wordNumbers, values}
 use Rattle.recovery.specs.declared.Openings.{Openings}
 
--- the mark of line A is word 16 × s of the image; 1 − close bit opens a whole line
-unfoldable pub openingStore : (m : ℕ → ℕ) → (s : ℕ) → Store
-openingStore m s = record { word = 16 * s; value = firstWord (lineA m s 7) }
-
--- the opening stores of these slots
-unfoldable pub openings : (m : ℕ → ℕ) → List ℕ → List Store
-openings m [] = []
-openings m (s ∷ slots) = openingStore m s ∷ openings m slots
-
--- those of the image's void slots, by slot
-unfoldable pub openingStores : (l : ℕ) → (m : ℕ → ℕ) → (n : ℕ) → List Store
-openingStores l m n = openings m (filter (isVoid (content l m) (numberIn l m) n) (slotNumbers n))
+-- the void slots, by slot; their stores are `openingStores m (voidSlots l m n)`
+unfoldable pub voidSlots : (l : ℕ) → (m : ℕ → ℕ) → (n : ℕ) → List ℕ
+voidSlots l m n = filter (isVoid (content l m) (numberIn l m) n) (slotNumbers n)
 
 -- stores by value: entries past them are zero
 unfoldable pub openingsOf : List Store → Openings

@@ -20,7 +20,8 @@ use Rattle.index.specs.Index.{Index, Chain, reuse, head, headOf, stateOf}
 use Rattle.index.specs.Chained.{chained}
 use Rattle.index.specs.declared.State.{State}
 use Rattle.stores.specs.Store.{Store}
-use Rattle.recovery.specs.Opening.{openingStores, openingsOf}
+use Rattle.stores.specs.Opening.{openingStores}
+use Rattle.recovery.specs.Opening.{voidSlots, openingsOf}
 use Rattle.recovery.specs.declared.Openings.{Openings}
 use Rattle.recovery.specs.declared.Recovered.{Recovered}
 use Rattle.recovery.specs.declared.Recovered.the-variants.{Rebuilt, Refused}
@@ -108,5 +109,5 @@ recovered f n b stores =
 unfoldable pub recoverResult : (l : ℕ) → (image heads next : List ℕ) → Result
 recoverResult l image heads next =
     unlessRefused (recoverFault l image (length heads) (length next))
-    (recovered (tableOf l image) (slotsIn image) (length heads) (openingStores l (word image) (slotsIn image)))
+    (recovered (tableOf l image) (slotsIn image) (length heads) (openingStores (word image) (voidSlots l (word image) (slotsIn image))))
     (refusedResult (recoverFault l image (length heads) (length next)) (recoverSlot l image (length heads) (length next)) heads next)

@@ -6,7 +6,7 @@ use Prim.Native.Nat.{ℕ, suc, _+_, _-_, _*_, _^_, _≤_, _<_}
 use lib.Dec.{eqb, ltb}
 use lib.ListN.{length, getD, replicate}
 use Rattle.prelude.specs.Refusal.{say, orElse}
-use Rattle.layout.specs.Content.{content, Table}
+use Rattle.layout.specs.Content.{content, numberIn, Table}
 use Rattle.layout.specs.Header.{lentFault}
 use Rattle.layout.specs.Record.{Layout}
 use Rattle.layout.specs.inner.Sized.{Sized}
@@ -16,8 +16,14 @@ use Rattle.index.specs.declared.State.{State}
 use Rattle.prelude.specs.Members.{slotNumbers}
 use Rattle.table.specs.Table.{brokenLimit, liveCount, nextVersion}
 use Rattle.table.specs.Order.{ordered}
+use Rattle.table.specs.Complete.{settled}
+use Rattle.sorting.specs.Sorted.{sorted}
 use Rattle.recovery.specs.Recover.{slotsFault, slotsNamed}
-use Rattle.recovery.specs.inner.Decide.{livePlace}
+use Rattle.stores.specs.Opening.{openingStores}
+use Rattle.recovery.specs.Opening.{voidSlots, openingsOf}
+use Rattle.recovery.specs.inner.Scan.{keyAt}
+use Rattle.recovery.specs.inner.Decide.{livePlace, Cleared}
+use Rattle.recovery.specs.declared.Openings.{Openings}
 use Rattle.recovery.specs.declared.Judged.{Judged}
 use Rattle.recovery.specs.declared.Recovered.{Recovered}
 use Rattle.recovery.specs.declared.Recovered.the-variants.{Rebuilt, Refused}
@@ -56,7 +62,17 @@ pub record Roomy (ranks lows highs places order by-key scratch : List ℕ) (n : 
   pub by-key-room : n < length by-key
   pub scratch-room : n < length scratch
 
--- the refusal of the slots from what was found: 5, the fault of the lowest slot at fault, 7, 25, 8
+-- the order of the slots 1 to n by rank, and that order by key
+pub record InOrder (ranks lows highs : List ℕ) (n : ℕ) (order by-key : List ℕ) : Type 0 where
+  pub by-rank : order ≡ sorted (λ x. getD ranks x 0) (slotNumbers n)
+  pub keyed : by-key ≡ sorted (keyAt lows highs) order
+
+-- the lists after the slots of a rank above the limit lost rank and place, in order again
+pub record Reordered (limit n : ℕ) (ranks lows highs places ranks′ places′ order by-key : List ℕ) : Type 0 where
+  pub cleared : Cleared limit n ranks places ranks′ places′
+  pub in-order : InOrder ranks′ lows highs n order by-key
+
+-- the refusal of the slots from what was found: 5, the fault of the lowest slot at fault, 7, 25, 8; `broken` counts void slots too
 unfoldable pub foundFault : (mark : Bool) → (fault : ℕ) → (shared : Bool) → (broken live n : ℕ) → ℕ
 foundFault mark fault shared broken live n =
     say mark 5 (orElse fault (say shared 7 (say (ltb brokenLimit broken) 25 (say (eqb live n) 8 0))))
@@ -65,7 +81,7 @@ foundFault mark fault shared broken live n =
 unfoldable pub foundSlot : (mark : Bool) → (slot : ℕ) → ℕ
 foundSlot mark slot = say mark 0 slot
 
--- of an accepted table f: the order of all slots, the chain of each as a number, the live count and the highest version
+-- of the settled table f of an accepted image: the order of all slots, the chain of each as a number, the live count and the highest version
 pub record Arranged (f : Table) (n b : ℕ) (order places : List ℕ) (live top : ℕ) : Type 0 where
   pub order-is : order ≡ ordered f (slotNumbers n)
   pub place-is : (s : ℕ) → 0 < s → s ≤ n → getD places s 0 ≡ livePlace f n b s
@@ -73,17 +89,18 @@ pub record Arranged (f : Table) (n b : ℕ) (order places : List ℕ) (live top 
   pub top-is : suc top ≡ nextVersion f n
   pub top-fits : top < 2 ^ 63
 
--- what judging answers: the refusal, and of an accepted image the arranged slots
+-- what judging answers: the refusal, and of an accepted image the arranged slots of its settled table and the stores that open its void slots
 pub record Judgement (l : ℕ) (m : ℕ → ℕ) (n b : ℕ) (order places : List ℕ) (r : Judged) : Type 0 where
   pub fault-is : r .fault ≡ slotsFault l m n
   pub slot-is : r .slot ≡ slotsNamed l m n
-  pub arranged : r .fault ≡ 0 → Arranged (content l m) n b order places (r .live) (r .top)
+  pub arranged : r .fault ≡ 0 → Arranged (settled (content l m) (numberIn l m) n) n b order places (r .live) (r .top)
+  pub openings-are : r .fault ≡ 0 → r .openings ≡ openingsOf (openingStores m (voidSlots l m n))
 
 -- what is left of the lent heads and next: the chains of the order and the state r beside them, or with a refusal what was lent
 pub record Left (fault : ℕ) (heads next order places : List ℕ) (live top : ℕ) (heads′ next′ : List ℕ) (r : State) : Type 0 where
   pub rebuilt : fault ≡ 0
-      → PartsOf heads′ next′ r (build (placeIn places) (unbuilt (replicate (length heads) 0) (replicate (length next) 0)) order) live (top + 1)
+      → PartsOf heads′ next′ r (build (placeIn places) (unbuilt (replicate (length heads) 0) (replicate (length next) 0)) order) live (top + 1) 0
   pub kept : (fault ≡ 0 → ⊥) → (heads′ ≡ heads) × (next′ ≡ next)
 
-unfoldable pub answerBy : (fault slot : ℕ) → State → Recovered
-answerBy fault slot state = cond (eqb fault 0) (Rebuilt state) (Refused fault slot)
+unfoldable pub answerBy : (fault slot : ℕ) → State → Openings → Recovered
+answerBy fault slot state openings = cond (eqb fault 0) (Rebuilt state openings) (Refused fault slot)

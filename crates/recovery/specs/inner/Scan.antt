@@ -74,10 +74,10 @@ pub record ScanWith (scan : Scan) (slot : Summary) (s : ℕ) (r : Scan) : Type 0
 unfoldable pub keyAt : (lows highs : List ℕ) → ℕ → ℕ
 keyAt lows highs x = keyWith (getD lows x 0) (getD highs x 0)
 
--- slots 1 to n are scanned into the lists
+-- the lists have the ranks and the places of the slots 1 to n, and the keys of the records among them
 pub record Listed (f : Table) (n b : ℕ) (ranks lows highs places : List ℕ) : Type 0 where
   pub rank-at : (s : ℕ) → 0 < s → s ≤ n → getD ranks s 0 ≡ rankOf (f s)
-  pub key-at : (s : ℕ) → 0 < s → s ≤ n → keyAt lows highs s ≡ keyIn (f s)
+  pub key-at : (s : ℕ) → 0 < s → s ≤ n → 2 ≤ rankOf (f s) → keyAt lows highs s ≡ keyIn (f s)
   pub place-at : (s : ℕ) → 0 < s → s ≤ n → getD places s 0 ≡ putPlace b (f s)
 
 -- what the scan of slots 1 to n leaves and answers
