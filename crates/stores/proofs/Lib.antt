@@ -4,6 +4,9 @@ pub mod Line
 pub mod Placed
 pub mod Fields
 pub mod Slot
+pub mod SlotStores
+pub mod Opened
+pub mod Confined
 pub mod Table
 pub mod Bytes
 pub mod Halves
