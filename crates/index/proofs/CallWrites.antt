@@ -9,7 +9,7 @@ use lib.Dec.{eqb}
 use lib.ListN.{length, getD}
 use borrow.Author.Tests.{eq-eqb, ne-eqb}
 use Rattle.index.specs.Index.{Chain, reuse, head, Index, start, ahead, setNext, setStart, setLast, link}
-use Rattle.index.specs.Change.{takeFirst, append, linkNew, insertNew, replaceHeld, removeHeld}
+use Rattle.index.specs.Change.{takeFirst, append, linkNew, insertAt, replaceAt, removeAt, insertNew, replaceHeld, removeHeld}
 use Rattle.prelude.specs.Members.{In}
 use Rattle.index.specs.Linked.{Run, endOf, Owner, free, of, Entry, Disjoint, WellFormed}
 use Rattle.index.proofs.defs.Linked.{give, withChain, Room}
@@ -158,29 +158,53 @@ pub append-heads : (i : Index) (s : ℕ) → length (append i s .heads) ≡ leng
 unfolding append setLast
 append-heads i s = link-heads _ _ _ _ ∙ set-heads _ _ _
 
+pub insert-at-next : (i : Index) (h prev s : ℕ) → length (insertAt i h prev s .next) ≡ length (i .next)
+unfolding insertAt
+insert-at-next i h prev s = linkNew-next _ _ _ _ _
+
+pub insert-at-heads : (i : Index) (h prev s : ℕ) → length (insertAt i h prev s .heads) ≡ length (i .heads)
+unfolding insertAt
+insert-at-heads i h prev s = linkNew-heads _ _ _ _ _
+
+pub replace-at-next : (i : Index) (h prev old s : ℕ) → length (replaceAt i h prev old s .next) ≡ length (i .next)
+unfolding replaceAt linkNew
+replace-at-next i h prev old s = simp (append-next, link-size, set-size)
+
+pub replace-at-heads : (i : Index) (h prev old s : ℕ) → length (replaceAt i h prev old s .heads) ≡ length (i .heads)
+unfolding replaceAt linkNew
+replace-at-heads i h prev old s = simp (append-heads, link-heads, set-heads)
+
+pub remove-at-next : (i : Index) (h prev old s : ℕ) → length (removeAt i h prev old s .next) ≡ length (i .next)
+unfolding removeAt
+remove-at-next i h prev old s = simp (append-next, link-size)
+
+pub remove-at-heads : (i : Index) (h prev old s : ℕ) → length (removeAt i h prev old s .heads) ≡ length (i .heads)
+unfolding removeAt
+remove-at-heads i h prev old s = simp (append-heads, link-heads)
+
 pub new-next : (i : Index) (h prev : ℕ) → length (insertNew i h prev .next) ≡ length (i .next)
 unfolding insertNew
-new-next i h prev = simp (linkNew-next, take-next)
+new-next i h prev = insert-at-next _ _ _ _ ∙ take-next i
 
 pub new-heads : (i : Index) (h prev : ℕ) → length (insertNew i h prev .heads) ≡ length (i .heads)
 unfolding insertNew
-new-heads i h prev = simp (linkNew-heads, take-heads)
+new-heads i h prev = insert-at-heads _ _ _ _ ∙ take-heads i
 
 pub held-next : (i : Index) (h prev old : ℕ) → length (replaceHeld i h prev old .next) ≡ length (i .next)
-unfolding replaceHeld linkNew
-held-next i h prev old = simp (append-next, link-size, set-size, take-next)
+unfolding replaceHeld
+held-next i h prev old = replace-at-next _ _ _ _ _ ∙ take-next i
 
 pub held-heads : (i : Index) (h prev old : ℕ) → length (replaceHeld i h prev old .heads) ≡ length (i .heads)
-unfolding replaceHeld linkNew
-held-heads i h prev old = simp (append-heads, link-heads, set-heads, take-heads)
+unfolding replaceHeld
+held-heads i h prev old = replace-at-heads _ _ _ _ _ ∙ take-heads i
 
 pub remove-next : (i : Index) (h prev old : ℕ) → length (removeHeld i h prev old .next) ≡ length (i .next)
 unfolding removeHeld
-remove-next i h prev old = simp (append-next, link-size, take-next)
+remove-next i h prev old = remove-at-next _ _ _ _ _ ∙ take-next i
 
 pub remove-heads : (i : Index) (h prev old : ℕ) → length (removeHeld i h prev old .heads) ≡ length (i .heads)
 unfolding removeHeld
-remove-heads i h prev old = simp (append-heads, link-heads, take-heads)
+remove-heads i h prev old = remove-at-heads _ _ _ _ _ ∙ take-heads i
 
 pub formed-at : (i j : Index) (o : ℕ → Owner) (c : Chain → List ℕ) → i ≡ j → WellFormed i o c → WellFormed j o c
 formed-at i j o c e g = rw (← e) g
@@ -188,95 +212,122 @@ formed-at i j o c e g = rw (← e) g
 pub formed-alike : (i : Index) (o p : ℕ → Owner) (c d : Chain → List ℕ) → o ≡ p → c ≡ d → WellFormed i o c → WellFormed i p d
 formed-alike i o p c d e f g = rw (← e, ← f) g
 
+-- ---- the changes for a slot s that nobody has
+
+module _
+    (i : Index) (owner : ℕ → Owner) (chains : Chain → List ℕ) (h prev s : ℕ) (g : WellFormed i owner chains) (t : Entry i s)
+    (f : owner s ≡ free) where
+  pub formed-insert-at : h < length (i .heads) → prev ≡ endOf 0 (chains (head h))
+      → WellFormed (insertAt i h prev s) (give owner s (of (head h))) (withChain chains (head h) (chains (head h) ++ s ∷ []))
+  unfolding insertAt
+  formed-insert-at a p = formed-link _ _ _ h s prev g a t f p
+
+  module _ (xs : List ℕ) (old : ℕ) (ys : List ℕ) (d : chains (head h) ≡ xs ++ old ∷ ys) (p : prev ≡ endOf 0 xs) where
+    held : Entry i old
+    held = slot-of _ _ _ (head h) xs old ys (g .disjoint) d
+
+    apart : old ≡ s → ⊥
+    apart n = free-of (head h) (sym f ∙ ap owner (sym n) ∙ owner-of _ _ _ (head h) xs old ys (g .disjoint) d)
+
+    pub formed-replace-at : WellFormed (replaceAt i h prev old s) (give (give owner s (of (head h))) old (of reuse))
+        (withChain (withChain chains reuse (chains reuse ++ old ∷ [])) (head h) (xs ++ s ∷ ys))
+    unfolding replaceAt
+    formed-replace-at =
+        let o = give (give owner old free) s (of (head h)) in
+        let c = withChain chains (head h) (xs ++ s ∷ ys) in
+        let k = linkNew i (head h) prev s (getD (i .next) old 0) in
+        let g₂ : WellFormed k o c = formed-replace _ _ _ h xs old s ys prev g d t f p in
+        let b : o old ≡ free = give-other (give owner old free) s (of (head h)) old apart ∙ give-same owner old free old refl in
+        let r : c reuse ≡ chains reuse = with-other chains (head h) (xs ++ s ∷ ys) reuse (reuse-apart h) in
+        formed-alike (append k old) _ _ _ _
+        (ap (λ (z : ℕ → Owner). give z old (of reuse)) (give-swap owner old s free (of (head h)) apart)
+        ∙ give-twice (give owner s (of (head h))) old free (of reuse))
+        (ap (λ (l : List ℕ). withChain c reuse (l ++ old ∷ [])) r
+        ∙ with-swap chains (head h) reuse (xs ++ s ∷ ys) (chains reuse ++ old ∷ []) (λ n. reuse-apart h (sym n)))
+        (formed-append _ _ _ old g₂ (slot-size i k old (linkNew-next i (head h) prev s (getD (i .next) old 0)) held) b)
+
+    pub formed-remove-at : WellFormed (removeAt i h prev old s) (give (give owner s (of reuse)) old (of reuse))
+        (withChain (withChain chains reuse (chains reuse ++ old ∷ s ∷ [])) (head h) (xs ++ ys))
+    unfolding removeAt
+    formed-remove-at =
+        let o = give owner old free in
+        let c = withChain chains (head h) (xs ++ ys) in
+        let k = link i (head h) prev (getD (i .next) old 0) in
+        let n : s ≡ old → ⊥ = λ q. apart (sym q) in
+        let z : length (k .next) ≡ length (i .next) = link-size i (head h) prev (getD (i .next) old 0) in
+        let g₂ : WellFormed k o c = formed-unlink _ _ _ h xs old ys prev g d p in
+        let r : c reuse ≡ chains reuse = with-other chains (head h) (xs ++ ys) reuse (reuse-apart h) in
+        let g₃ : WellFormed (append k old) (give owner old (of reuse)) (withChain c reuse (chains reuse ++ old ∷ [])) =
+        formed-alike (append k old) _ _ _ _ (give-twice owner old free (of reuse))
+        (ap (λ (l : List ℕ). withChain c reuse (l ++ old ∷ [])) r)
+        (formed-append _ _ _ old g₂ (slot-size i k old z held) (give-same owner old free old refl)) in
+        let b : give owner old (of reuse) s ≡ free = give-other owner old (of reuse) s n ∙ f in
+        formed-alike (append (append k old) s) _ _ _ _ (give-swap owner old s (of reuse) (of reuse) apart)
+        (ap (λ (l : List ℕ). withChain (withChain c reuse (chains reuse ++ old ∷ [])) reuse (l ++ s ∷ []))
+        (with-same c reuse (chains reuse ++ old ∷ []))
+        ∙ with-twice c reuse (chains reuse ++ old ∷ []) ((chains reuse ++ old ∷ []) ++ s ∷ [])
+        ∙ ap (λ (l : List ℕ). withChain c reuse l) (append-assoc (chains reuse) (old ∷ []) (s ∷ []))
+        ∙ with-swap chains (head h) reuse (xs ++ ys) (chains reuse ++ old ∷ s ∷ []) (λ q. reuse-apart h (sym q)))
+        (formed-append (append k old) _ _ s g₃ (slot-size i (append k old) s (append-next k old ∙ z) t) b)
+
+-- ---- the changes with the first reuse slot, f
+
 module _
     (i : Index) (owner : ℕ → Owner) (chains : Chain → List ℕ) (h prev f : ℕ) (rest : List ℕ) (g : WellFormed i owner chains)
     (e : chains reuse ≡ f ∷ rest) where
-  spare : Entry i f
-  spare = slot-of _ _ _ reuse [] f rest (g .disjoint) e
+  took : WellFormed (takeFirst i) (give owner f free) (withChain chains reuse rest)
+  took = formed-take _ _ _ _ _ g e
+
+  first : i .first ≡ f
+  first = first-is _ _ _ _ _ (g .disjoint) e
+
+  spare : Entry (takeFirst i) f
+  spare = slot-size i (takeFirst i) f (take-next i) (slot-of _ _ _ reuse [] f rest (g .disjoint) e)
+
+  none : give owner f free f ≡ free
+  none = give-same owner f free f refl
 
   kept : withChain chains reuse rest (head h) ≡ chains (head h)
   kept = with-other chains reuse rest (head h) (λ d. reuse-apart h (sym d))
+
+  -- what is appended to reuse comes after the rest
+  rest-then : (new : List ℕ) (zs : List ℕ)
+      → withChain (withChain (withChain chains reuse rest) reuse (withChain chains reuse rest reuse ++ new)) (head h) zs
+      ≡ withChain (withChain chains reuse (rest ++ new)) (head h) zs
+  rest-then new zs =
+      ap (λ (l : List ℕ). withChain (withChain (withChain chains reuse rest) reuse (l ++ new)) (head h) zs) (with-same chains reuse rest)
+      ∙ ap (λ (c : Chain → List ℕ). withChain c (head h) zs) (with-twice chains reuse rest (rest ++ new))
 
   -- an insert
   pub formed-new : h < length (i .heads) → prev ≡ endOf 0 (chains (head h))
       → WellFormed (insertNew i h prev) (give owner f (of (head h))) (withChain (withChain chains reuse rest) (head h) (chains (head h) ++ f ∷ []))
   unfolding insertNew
   formed-new a p =
-      formed-at _ _ _ _ (ap (λ (x : ℕ). linkNew (takeFirst i) (head h) prev x 0) (sym (first-is _ _ _ _ _ (g .disjoint) e)))
-      (formed-alike (linkNew (takeFirst i) (head h) prev f 0) _ _ _ _ (give-twice owner f free (of (head h)))
+      formed-at _ _ _ _ (ap (λ (x : ℕ). insertAt (takeFirst i) h prev x) (sym first))
+      (formed-alike (insertAt (takeFirst i) h prev f) _ _ _ _ (give-twice owner f free (of (head h)))
       (ap (λ (l : List ℕ). withChain (withChain chains reuse rest) (head h) (l ++ f ∷ [])) kept)
-      (formed-link _ _ _ h f prev (formed-take _ _ _ _ _ g e) (rw take-heads a)
-      (slot-size i (takeFirst i) f (take-next i) spare) (give-same owner f free f refl) (rw kept p)))
+      (formed-insert-at _ _ _ h prev f took spare none (rw take-heads a) (rw kept p)))
 
   module _ (xs : List ℕ) (old : ℕ) (ys : List ℕ) (d : chains (head h) ≡ xs ++ old ∷ ys) (p : prev ≡ endOf 0 xs) where
-    held : Entry i old
-    held = slot-of _ _ _ (head h) xs old ys (g .disjoint) d
-
-    apart : old ≡ f → ⊥
-    apart n =
-        reuse-apart h (of-of reuse (head h)
-        (sym (owner-of _ _ _ reuse [] f rest (g .disjoint) e) ∙ ap owner (sym n) ∙ owner-of _ _ _ (head h) xs old ys
-        (g .disjoint) d))
-
     -- a replace
     pub formed-held : WellFormed (replaceHeld i h prev old) (give (give owner f (of (head h))) old (of reuse))
         (withChain (withChain chains reuse (rest ++ old ∷ [])) (head h) (xs ++ f ∷ ys))
     unfolding replaceHeld
     formed-held =
-        let j = takeFirst i in
-        let o = give (give (give owner f free) old free) f (of (head h)) in
-        let c = withChain (withChain chains reuse rest) (head h) (xs ++ f ∷ ys) in
-        let k = linkNew j (head h) prev f (getD (j .next) old 0) in
-        let g₂ : WellFormed k o c =
-        formed-replace _ _ _ h xs old f ys prev (formed-take _ _ _ _ _ g e) (kept ∙ d)
-        (slot-size i j f (take-next i) spare) (give-same owner f free f refl) p in
-        let b : o old ≡ free =
-        give-other (give (give owner f free) old free) f (of (head h)) old apart ∙ give-same (give owner f free) old free old refl in
-        let r : c reuse ≡ rest =
-        with-other (withChain chains reuse rest) (head h) (xs ++ f ∷ ys) reuse (reuse-apart h) ∙ with-same chains reuse rest in
-        formed-at _ _ _ _ (ap (λ (x : ℕ). append (linkNew j (head h) prev x (getD (j .next) old 0)) old)
-        (sym (first-is _ _ _ _ _ (g .disjoint) e)))
-        (formed-alike (append k old) _ _ _ _
-        (ap (λ (z : ℕ → Owner). give z old (of reuse))
-        (give-swap (give owner f free) old f free (of (head h)) apart ∙ ap (λ (z : ℕ → Owner). give z old free)
-        (give-twice owner f free (of (head h))))
-        ∙ give-twice (give owner f (of (head h))) old free (of reuse))
-        (ap (λ (l : List ℕ). withChain c reuse (l ++ old ∷ [])) r
-        ∙ with-swap (withChain chains reuse rest) (head h) reuse (xs ++ f ∷ ys) (rest ++ old ∷ []) (λ n. reuse-apart h (sym n))
-        ∙ ap (λ (z : Chain → List ℕ). withChain z (head h) (xs ++ f ∷ ys)) (with-twice chains reuse rest (rest ++ old ∷ [])))
-        (formed-append _ _ _ old g₂ (slot-size i k old (linkNew-next j (head h) prev f (getD (j .next) old 0) ∙ take-next i) held) b))
+        formed-at _ _ _ _ (ap (λ (x : ℕ). replaceAt (takeFirst i) h prev old x) (sym first))
+        (formed-alike (replaceAt (takeFirst i) h prev old f) _ _ _ _
+        (ap (λ (z : ℕ → Owner). give z old (of reuse)) (give-twice owner f free (of (head h))))
+        (rest-then (old ∷ []) (xs ++ f ∷ ys))
+        (formed-replace-at _ _ _ h prev f took spare none xs old ys (kept ∙ d) p))
 
     -- a remove
     pub formed-remove : WellFormed (removeHeld i h prev old) (give owner old (of reuse))
         (withChain (withChain chains reuse (rest ++ old ∷ f ∷ [])) (head h) (xs ++ ys))
     unfolding removeHeld
     formed-remove =
-        let j = takeFirst i in
-        let o = give (give owner f free) old free in
-        let c = withChain (withChain chains reuse rest) (head h) (xs ++ ys) in
-        let k = link j (head h) prev (getD (j .next) old 0) in
-        let n : f ≡ old → ⊥ = λ q. apart (sym q) in
-        let s : length (k .next) ≡ length (i .next) = link-size j (head h) prev (getD (j .next) old 0) ∙ take-next i in
-        let g₂ : WellFormed k o c =
-        formed-unlink _ _ _ h xs old ys prev (formed-take _ _ _ _ _ g e)
-        (kept ∙ d) p in
-        let r : c reuse ≡ rest =
-        with-other (withChain chains reuse rest) (head h) (xs ++ ys) reuse (reuse-apart h) ∙ with-same chains reuse rest in
-        let g₃ : WellFormed (append k old) (give (give owner f free) old (of reuse)) (withChain c reuse (rest ++ old ∷ [])) =
-        formed-alike (append k old) _ _ _ _ (give-twice (give owner f free) old free (of reuse))
-        (ap (λ (l : List ℕ). withChain c reuse (l ++ old ∷ [])) r)
-        (formed-append _ _ _ old g₂ (slot-size i k old s held) (give-same (give owner f free) old free old refl)) in
-        let b : give (give owner f free) old (of reuse) f ≡ free =
-        give-other (give owner f free) old (of reuse) f n ∙ give-same owner f free f refl in
-        let m : give owner old (of reuse) f ≡ of reuse =
-        give-other owner old (of reuse) f n ∙ owner-of _ _ _ reuse [] f rest (g .disjoint) e in
-        formed-at _ _ _ _ (ap (λ (x : ℕ). append (append k old) x) (sym (first-is _ _ _ _ _ (g .disjoint) e)))
-        (formed-alike (append (append k old) f) _ _ _ _
-        (ap (λ (z : ℕ → Owner). give z f (of reuse)) (give-swap owner f old free (of reuse) n) ∙ give-twice
-        (give owner old (of reuse)) f free (of reuse) ∙ give-idle (give owner old (of reuse)) f (of reuse) m)
-        (ap (λ (l : List ℕ). withChain (withChain c reuse (rest ++ old ∷ [])) reuse (l ++ f ∷ [])) (with-same c reuse (rest ++ old ∷ []))
-        ∙ with-twice c reuse (rest ++ old ∷ []) ((rest ++ old ∷ []) ++ f ∷ [])
-        ∙ ap (λ (l : List ℕ). withChain c reuse l) (append-assoc rest (old ∷ []) (f ∷ []))
-        ∙ with-swap (withChain chains reuse rest) (head h) reuse (xs ++ ys) (rest ++ old ∷ f ∷ []) (λ q. reuse-apart h (sym q))
-        ∙ ap (λ (z : Chain → List ℕ). withChain z (head h) (xs ++ ys)) (with-twice chains reuse rest (rest ++ old ∷ f ∷ [])))
-        (formed-append (append k old) _ _ f g₃ (slot-size i (append k old) f (append-next k old ∙ s) spare) b))
+        formed-at _ _ _ _ (ap (λ (x : ℕ). removeAt (takeFirst i) h prev old x) (sym first))
+        (formed-alike (removeAt (takeFirst i) h prev old f) _ _ _ _
+        (ap (λ (z : ℕ → Owner). give z old (of reuse))
+        (give-twice owner f free (of reuse) ∙ give-idle owner f (of reuse) (owner-of _ _ _ reuse [] f rest (g .disjoint) e)))
+        (rest-then (old ∷ f ∷ []) (xs ++ ys))
+        (formed-remove-at _ _ _ h prev f took spare none xs old ys (kept ∙ d) p))

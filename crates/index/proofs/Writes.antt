@@ -8,7 +8,7 @@ use native.Mathlib.Omega.{arith}
 use lib.ListN.{length, getD, set}
 use borrow.Author.Tests.{eq-eqb, ne-eqb}
 use Rattle.index.specs.Index.{Index, reuse, head, indexOf, setNext, setStart, setLast, link}
-use Rattle.index.specs.Change.{takeFirst, append, linkNew, insertNew, replaceHeld, removeHeld}
+use Rattle.index.specs.Change.{takeFirst, append, linkNew, insertAt, replaceAt, removeAt, insertNew, replaceHeld, removeHeld}
 use Rattle.index.specs.inner.Parts.{PartsOf, linkHeads, linkNext, takeState, appendNext, appendState}
 use Rattle.index.specs.declared.State.{State}
 
@@ -76,7 +76,7 @@ module _ (heads next : List ℕ) (s rest : State) (h prev : ℕ) (er : rest ≡ 
       → next′ ≡ linkNext (set next (s .first) 0) prev (s .first)
       → PartsOf heads′ next′ (record { first = rest .first; last = rest .last; live = rest .live + 1; version = rest .version + 1; newest = s .first })
       (insertNew (indexOf heads next s) h prev) (s .live + 1) (s .version + 1) (s .first)
-  unfolding insertNew linkNew setNext
+  unfolding insertNew insertAt linkNew setNext
   insert-new heads′ next′ eh en =
       record {
         index =
@@ -95,7 +95,7 @@ module _ (heads next : List ℕ) (s rest : State) (h prev : ℕ) (er : rest ≡ 
         → next₁ ≡ linkNext (set next (s .first) (getD next old 0)) prev (s .first)
         → PartsOf heads′ next₂ (record { first = back .first; last = back .last; live = back .live; version = back .version + 1; newest = s .first })
         (replaceHeld (indexOf heads next s) h prev old) (s .live) (s .version + 1) (s .first)
-    unfolding replaceHeld linkNew setNext
+    unfolding replaceHeld replaceAt linkNew setNext
     replace-held eh e₁ =
         record {
           index =
@@ -112,7 +112,7 @@ module _ (heads next : List ℕ) (s rest : State) (h prev : ℕ) (er : rest ≡ 
         → next₁ ≡ linkNext next prev (getD next old 0) → all ≡ appendState back (s .first) → next₃ ≡ appendNext next₂ back (s .first)
         → PartsOf heads′ next₃ (record { first = all .first; last = all .last; live = all .live - 1; version = all .version + 1; newest = s .first })
         (removeHeld (indexOf heads next s) h prev old) (s .live - 1) (s .version + 1) (s .first)
-    unfolding removeHeld
+    unfolding removeHeld removeAt
     remove-held next₃ all eh e₁ ea e₃ =
         record {
           index =

@@ -23,17 +23,29 @@ linkNew i c prev s v = link (setNext i s v) c prev s
 unfoldable pub append : Index → ℕ → Index
 append i s = setLast (link (setNext i s 0) reuse (i .last) s) s
 
--- an insert: "A put of a new key takes the first reuse slot and links it at the end of its head's chain", whose last slot is prev
+-- an insert of a key whose record goes to slot s, already taken: it is linked at the end of its head's chain, whose last slot is prev
+unfoldable pub insertAt : Index → (h prev s : ℕ) → Index
+insertAt i h prev s = linkNew i (head h) prev s 0
+
+-- a replace: slot s "replaces the old slot in its chain; the old slot joins the end of the reuse chain"
+unfoldable pub replaceAt : Index → (h prev old s : ℕ) → Index
+replaceAt i h prev old s = append (linkNew i (head h) prev s (getD (i .next) old 0)) old
+
+-- a remove: it "unlinks the old slot, and appends to the reuse chain the old slot and then the slot just taken"
+unfoldable pub removeAt : Index → (h prev old s : ℕ) → Index
+removeAt i h prev old s = append (append (link i (head h) prev (getD (i .next) old 0)) old) s
+
+-- "A put of a new key takes the first reuse slot and links it at the end of its head's chain"
 unfoldable pub insertNew : Index → (h prev : ℕ) → Index
-insertNew i h prev = linkNew (takeFirst i) (head h) prev (i .first) 0
+insertNew i h prev = insertAt (takeFirst i) h prev (i .first)
 
--- a replace: "A put of a held key takes the first reuse slot, which replaces the old slot in its chain; the old slot joins the end of the reuse chain"
+-- "A put of a held key takes the first reuse slot, which replaces the old slot in its chain"
 unfoldable pub replaceHeld : Index → (h prev old : ℕ) → Index
-replaceHeld i h prev old = append (linkNew (takeFirst i) (head h) prev (i .first) (getD (takeFirst i .next) old 0)) old
+replaceHeld i h prev old = replaceAt (takeFirst i) h prev old (i .first)
 
--- "A remove takes the first reuse slot, unlinks the old slot, and appends to the reuse chain the old slot and then the slot just taken"
+-- "A remove takes the first reuse slot, unlinks the old slot"
 unfoldable pub removeHeld : Index → (h prev old : ℕ) → Index
-removeHeld i h prev old = append (append (link (takeFirst i) (head h) prev (getD (takeFirst i .next) old 0)) old) (i .first)
+removeHeld i h prev old = removeAt (takeFirst i) h prev old (i .first)
 
 -- document 02, A.2: "20 when insert meets a held key and 21 when replace meets an unheld one"
 unfoldable pub keyFault : Mode → (held : Bool) → ℕ
