@@ -4,11 +4,10 @@ use mathlib.Core.Path.{_≡_}
 use mathlib.Core.Bool.{Bool, true, cond}
 use mathlib.Core.List.{List}
 use Prim.Native.Nat.{ℕ}
-use lib.Dec.{eqb}
 use lib.ListN.{length}
 use Rattle.layout.specs.Header.{indexFault}
 use Rattle.prelude.specs.Members.{All}
-use Rattle.stores.specs.Store.{Store, played, standing}
+use Rattle.stores.specs.Store.{Store, played, standing, allStand}
 use Rattle.index.specs.declared.State.{State}
 use Rattle.plainmap.specs.World.{World, Call, Called, called, Restart, restarted}
 use Rattle.plainmap.specs.Plain.{PlainMap, Update, updates, plainStep}
@@ -37,10 +36,6 @@ pub record Leaving : Type 0 where
 -- the image that a cut leaves
 unfoldable pub imageCut : World → Leaving → Cut → List ℕ
 imageCut w r cut = played (standing (cut .counts) (r .stores)) (w .image)
-
--- do all stores stand?
-unfoldable pub allStand : (counts : ℕ → ℕ) → List Store → Bool
-allStand counts ss = eqb (length (standing counts ss)) (length ss)
 
 module _ {A : Type 0} where
   -- the request of an event

@@ -82,12 +82,7 @@ first-unique g n s t (there i p h b) (there j q k c) = go (ltb s t) refl (ltb t 
 pub first-eq : (g : ℕ → ℕ) (n s : ℕ) → First g n s → topmost g n ≡ s
 first-eq g n s h = first-unique g n (topmost g n) s (first-is g n) h
 
--- the same where g is the same at all slots
-pub greatest-same : (g h : ℕ → ℕ) (n : ℕ) → ((t : ℕ) → Slot n t → g t ≡ h t) → greatest g n ≡ greatest h n
-unfolding greatest
-greatest-same g h zero e = refl
-greatest-same g h (suc n) e = ap₂ max (greatest-same g h n (λ t i. e t (omega arith))) (e (suc n) (omega arith))
-
+-- the first such number is the same where g is the same at all slots
 pub topmost-same : (g h : ℕ → ℕ) (n : ℕ) → ((t : ℕ) → Slot n t → g t ≡ h t) → topmost g n ≡ topmost h n
 unfolding topmost
 topmost-same g h zero e = refl

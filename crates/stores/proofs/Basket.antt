@@ -21,7 +21,7 @@ use Rattle.stores.proofs.Bytes.{struck-words, append-inside, record-ins
 module _ (l : ℕ) (m : ℕ → ℕ) (number version : ℕ) where
   -- ---- which stores of the list are of a line
 
-  basket-off : (es : List Entry) (n : ℕ) → (In (n / 2) (entrySlots es) → ⊥) → onLine n (basketStores l m number version es) ≡ []
+  pub basket-off : (es : List Entry) (n : ℕ) → (In (n / 2) (entrySlots es) → ⊥) → onLine n (basketStores l m number version es) ≡ []
   unfolding basketStores entrySlots onLine
   basket-off [] n h = refl
   basket-off (e ∷ es) n h =
@@ -44,7 +44,7 @@ module _ (l : ℕ) (m : ℕ → ℕ) (number version : ℕ) where
 
   -- ---- the list carries each of its records
 
-  abbrev Holds : List Store → Entry → Type 0
+  abbrev pub Holds : List Store → Entry → Type 0
   Holds ss e = Carries l m ss (e .slot) (e .key) (e .kind) number (e .value) version
 
   in-front : (x ss : List Store) (e : Entry) → Holds x e → Avoids ss (e .slot) → Holds (x ++ ss) e
@@ -67,7 +67,7 @@ module _ (l : ℕ) (m : ℕ → ℕ) (number version : ℕ) where
   all-behind x ss h (one-more {x = e} has more) =
       one-more (behind x ss e (h (e .slot) (inl refl)) has) (all-behind x ss (λ t i. h t (inr i)) more)
 
-  basket-holds : (es : List Entry) → Once (entrySlots es) → All (Holds (basketStores l m number version es)) es
+  pub basket-holds : (es : List Entry) → Once (entrySlots es) → All (Holds (basketStores l m number version es)) es
   unfolding basketStores entrySlots
   basket-holds [] once = none-left
   basket-holds (e ∷ es) once =

@@ -15,3 +15,4 @@ pub mod Halves
 pub mod RecordStores
 pub mod StandingStores
 pub mod defs
+pub mod AllStand

@@ -1,5 +1,5 @@
 -- Stores, what playing them makes of an image, and which of them stand after a power cut. Document 01, "How a call writes".
-use mathlib.Core.Bool.{cond}
+use mathlib.Core.Bool.{Bool, true, false, cond}
 use mathlib.Core.List.{List, [], _∷_}
 use Prim.Native.Nat.{ℕ, _-_, _/_}
 use lib.Dec.{eqb}
@@ -40,6 +40,11 @@ unfoldable pub standing : (counts : ℕ → ℕ) → List Store → List Store
 standing counts [] = []
 standing counts (s ∷ ss) =
     cond (eqb (counts (s .word / 8)) 0) (standing counts ss) (s ∷ standing (less (s .word / 8) counts) ss)
+
+-- do all of them stand?
+unfoldable pub allStand : (counts : ℕ → ℕ) → List Store → Bool
+allStand counts [] = true
+allStand counts (s ∷ ss) = cond (eqb (counts (s .word / 8)) 0) false (allStand (less (s .word / 8) counts) ss)
 
 -- the stores of line n
 unfoldable pub onLine : ℕ → List Store → List Store

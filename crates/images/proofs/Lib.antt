@@ -1,0 +1,3 @@
+pub mod defs
+pub mod Entries
+pub mod Cuts
