@@ -15,7 +15,7 @@ use Rattle.layout.specs.Content.{broken, content, numberIn, topOf}
 use Rattle.layout.proofs.Content.{top-is}
 use Rattle.stores.specs.Store.{Store, allStand, onLine}
 use Rattle.stores.specs.Written.{run, lineStores}
-use Rattle.stores.specs.Basket.{Entry, entrySlots, basketStores}
+use Rattle.stores.specs.Basket.{BasketRecord, basketSlots, basketStores}
 use Rattle.stores.specs.Cut.{SlotCut, now-old, now-new, now-broken, SlotWritten, Writable, AllWritten}
 use Rattle.stores.proofs.AllStand.{stand-lines, lines-stand}
 use Rattle.stores.proofs.Basket.{basket-off, Holds, basket-holds}
@@ -29,57 +29,57 @@ line-eight : (n : ℕ) (words : ℕ → ℕ) → length (lineStores n words) ≡
 unfolding lineStores run
 line-eight n words = refl
 
-module _ (l : ℕ) (m m′ : ℕ → ℕ) (number version : ℕ) (es : List Entry) (counts : ℕ → ℕ) (once : Once (entrySlots es))
+module _ (l : ℕ) (m m′ : ℕ → ℕ) (number version : ℕ) (es : List BasketRecord) (counts : ℕ → ℕ) (once : Once (basketSlots es))
     (fine : All (Writable l m number version) es) (is-number : number ≡ numberFor (length es)) (w : AllWritten l m m′ number version es counts) where
   -- what is known of an entry
-  record Was (e : Entry) : Type 0 where
+  record Was (e : BasketRecord) : Type 0 where
     written : SlotWritten l m m′ (e .slot) (e .key) (e .kind) number (e .value) version (counts (2 * e .slot)) (counts (2 * e .slot + 1))
     writable : Writable l m number version e
     has : Holds l m number version (basketStores l m number version es) e
 
-  all-was : {some : List Entry}
-      → All (λ (e : Entry). SlotWritten l m m′ (e .slot) (e .key) (e .kind) number (e .value) version (counts (2 * e .slot)) (counts (2 * e .slot + 1))) some
+  all-was : {some : List BasketRecord}
+      → All (λ (e : BasketRecord). SlotWritten l m m′ (e .slot) (e .key) (e .kind) number (e .value) version (counts (2 * e .slot)) (counts (2 * e .slot + 1))) some
       → All (Writable l m number version) some → All (Holds l m number version (basketStores l m number version es)) some → All Was some
   all-was none-left none-left none-left = none-left
   all-was (one-more x xs) (one-more y ys) (one-more z zs) = one-more (record { written = x; writable = y; has = z }) (all-was xs ys zs)
 
-  was : (t : ℕ) → In t (entrySlots es) → EntryAt Was version es t
+  was : (t : ℕ) → In t (basketSlots es) → EntryAt Was version es t
   was t i = entry-at version es once (all-was (w .each) fine (basket-holds l m number version es once)) t i
 
-  counted : numberFor (length (entrySlots es)) ≡ number
+  counted : numberFor (length (basketSlots es)) ≡ number
   counted = ap numberFor (slots-length es) ∙ sym is-number
 
-  after-slot : (t : ℕ) → In t (entrySlots es)
-      → SlotAfter (content l m t) (recordAt version es t) (content l m′ t) (numberIn l m t) (numberFor (length (entrySlots es))) (numberIn l m′ t)
+  after-slot : (t : ℕ) → In t (basketSlots es)
+      → SlotAfter (content l m t) (recordAt version es t) (content l m′ t) (numberIn l m t) (numberFor (length (basketSlots es))) (numberIn l m′ t)
   after-slot t i = go (was t i)
     where
       go : EntryAt Was version es t
-          → SlotAfter (content l m t) (recordAt version es t) (content l m′ t) (numberIn l m t) (numberFor (length (entrySlots es))) (numberIn l m′ t)
+          → SlotAfter (content l m t) (recordAt version es t) (content l m′ t) (numberIn l m t) (numberFor (length (basketSlots es))) (numberIn l m′ t)
       go r =
           subst
-          (λ (x : ℕ). SlotAfter (content l m x) (recordAt version es t) (content l m′ x) (numberIn l m x) (numberFor (length (entrySlots es))) (numberIn l m′ x))
+          (λ (x : ℕ). SlotAfter (content l m x) (recordAt version es t) (content l m′ x) (numberIn l m x) (numberFor (length (basketSlots es))) (numberIn l m′ x))
           (r .slot-is) (by (r .holds .written .cut))
         where
           by : SlotCut (content l m (r .entry .slot)) (recordOf version (r .entry)) (content l m′ (r .entry .slot)) version (counts (2 * r .entry .slot)) (counts (2 * r .entry .slot + 1))
-              → SlotAfter (content l m (r .entry .slot)) (recordAt version es t) (content l m′ (r .entry .slot)) (numberIn l m (r .entry .slot)) (numberFor (length (entrySlots es))) (numberIn l m′ (r .entry .slot))
+              → SlotAfter (content l m (r .entry .slot)) (recordAt version es t) (content l m′ (r .entry .slot)) (numberIn l m (r .entry .slot)) (numberFor (length (basketSlots es))) (numberIn l m′ (r .entry .slot))
           by (now-old a b e) = kept e (r .holds .written .number-old a)
           by (now-new a b e) = done (e ∙ sym (r .here)) (r .holds .written .number-new a ∙ sym counted)
           by (now-broken x y top h e) = lost top e
 
   -- THE CUT in the table
-  pub cut-struck : (n : ℕ) → Struck (content l m) (content l m′) (numberIn l m) (numberIn l m′) n (entrySlots es) (recordAt version es)
+  pub cut-struck : (n : ℕ) → Struck (content l m) (content l m′) (numberIn l m) (numberIn l m′) n (basketSlots es) (recordAt version es)
   cut-struck n =
       record { outside = λ t i h. w .rest .others t h; numbers = λ t i h. w .rest .numbers t h; after = after-slot }
 
   -- ---- all stores stand exactly where all records are written
 
   pub stand-finished : allStand counts (basketStores l m number version es) ≡ true
-      → Finished (content l m′) (numberIn l m′) (entrySlots es) (recordAt version es)
+      → Finished (content l m′) (numberIn l m′) (basketSlots es) (recordAt version es)
   stand-finished all t i = go (was t i)
     where
-      go : EntryAt Was version es t → (content l m′ t ≡ recordAt version es t) × (numberIn l m′ t ≡ numberFor (length (entrySlots es)))
+      go : EntryAt Was version es t → (content l m′ t ≡ recordAt version es t) × (numberIn l m′ t ≡ numberFor (length (basketSlots es)))
       go r =
-          subst (λ (x : ℕ). (content l m′ x ≡ recordAt version es t) × (numberIn l m′ x ≡ numberFor (length (entrySlots es)))) (r .slot-is)
+          subst (λ (x : ℕ). (content l m′ x ≡ recordAt version es t) × (numberIn l m′ x ≡ numberFor (length (basketSlots es)))) (r .slot-is)
           (by (r .holds .written .cut))
         where
           at-A : 8 ≤ counts (2 * r .entry .slot)
@@ -99,7 +99,7 @@ module _ (l : ℕ) (m m′ : ℕ → ℕ) (number version : ℕ) (es : List Entr
               )
 
           by : SlotCut (content l m (r .entry .slot)) (recordOf version (r .entry)) (content l m′ (r .entry .slot)) version (counts (2 * r .entry .slot)) (counts (2 * r .entry .slot + 1))
-              → (content l m′ (r .entry .slot) ≡ recordAt version es t) × (numberIn l m′ (r .entry .slot) ≡ numberFor (length (entrySlots es)))
+              → (content l m′ (r .entry .slot) ≡ recordAt version es t) × (numberIn l m′ (r .entry .slot) ≡ numberFor (length (basketSlots es)))
           by (now-old a b e) = absurd (omega (arith, at-A, a))
           by (now-new a b e) = (e ∙ sym (r .here), r .holds .written .number-new a ∙ sym counted)
           by (now-broken x y top h e) = absurd (y at-A at-B)
@@ -141,14 +141,14 @@ module _ (l : ℕ) (m m′ : ℕ → ℕ) (number version : ℕ) (es : List Entr
           not-broken : (t : ℕ) → true ≡ isRecord (broken t) → ⊥
           not-broken t z = let k : _≡_ {A = ℕ} 0 1 = cc in omega arith
 
-  pub finished-stand : Finished (content l m′) (numberIn l m′) (entrySlots es) (recordAt version es)
+  pub finished-stand : Finished (content l m′) (numberIn l m′) (basketSlots es) (recordAt version es)
       → allStand counts (basketStores l m number version es) ≡ true
-  finished-stand z = lines-stand counts (basketStores l m number version es) (λ n. go n (split (member (entrySlots es) (n / 2))))
+  finished-stand z = lines-stand counts (basketStores l m number version es) (λ n. go n (split (member (basketSlots es) (n / 2))))
     where
-      go : (n : ℕ) → (member (entrySlots es) (n / 2) ≡ true) ⊎ (member (entrySlots es) (n / 2) ≡ false)
+      go : (n : ℕ) → (member (basketSlots es) (n / 2) ≡ true) ⊎ (member (basketSlots es) (n / 2) ≡ false)
           → length (onLine n (basketStores l m number version es)) ≤ counts n
       go n (inl e) =
-          let i = member-in (entrySlots es) (n / 2) e in
+          let i = member-in (basketSlots es) (n / 2) e in
           let four = both-stand (n / 2) (was (n / 2) i) (z (n / 2) i .0) in
           by-cases (ℕ-discrete (n % 2) 0)
           (λ (q : n % 2 ≡ 0).
@@ -158,4 +158,4 @@ module _ (l : ℕ) (m m′ : ℕ → ℕ) (number version : ℕ) (es : List Entr
           let d : n ≡ 2 * (n / 2) + 1 = omega arith in
           omega (arith, four .1, four .3, ap counts d, ap (λ (k : ℕ). length (onLine k (basketStores l m number version es))) d))
       go n (inr e) =
-          omega (arith, ap (λ (ss : List Store). length ss) (basket-off l m number version es n (not-member (entrySlots es) (n / 2) e)))
+          omega (arith, ap (λ (ss : List Store). length ss) (basket-off l m number version es n (not-member (basketSlots es) (n / 2) e)))

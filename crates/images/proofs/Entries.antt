@@ -11,27 +11,27 @@ use borrow.Author.Tests.{eq-eqb, ne-eqb}
 use Rattle.prelude.specs.Members.{All, none-left, one-more, In, Once}
 use Rattle.prelude.proofs.Choice.{pick-true, pick-false}
 use Rattle.layout.specs.Content.{Content, putRecord, removeRecord, made}
-use Rattle.stores.specs.Basket.{Entry, entrySlots}
+use Rattle.stores.specs.Basket.{BasketRecord, basketSlots}
 use Rattle.table.specs.Table.{keyIn}
 use Rattle.table.proofs.defs.Write.{Record}
 use Rattle.table.proofs.Write.{put-record, remove-record}
 use Rattle.images.proofs.defs.Entries.{recordOf, recordAt}
 
-pub slots-length : (es : List Entry) → length (entrySlots es) ≡ length es
-unfolding entrySlots
+pub slots-length : (es : List BasketRecord) → length (basketSlots es) ≡ length es
+unfolding basketSlots
 slots-length [] = refl
 slots-length (e ∷ es) = omega (arith, slots-length es)
 
 -- the entry of a slot, with what holds of all entries
-pub record EntryAt (P : Entry → Type 0) (version : ℕ) (es : List Entry) (t : ℕ) : Type 0 where
-  pub entry : Entry
+pub record EntryAt (P : BasketRecord → Type 0) (version : ℕ) (es : List BasketRecord) (t : ℕ) : Type 0 where
+  pub entry : BasketRecord
   pub slot-is : entry .slot ≡ t
   pub here : recordAt version es t ≡ recordOf version entry
   pub holds : P entry
 
-pub entry-at : {P : Entry → Type 0} (version : ℕ) (es : List Entry) → Once (entrySlots es) → All P es → (t : ℕ) → In t (entrySlots es)
+pub entry-at : {P : BasketRecord → Type 0} (version : ℕ) (es : List BasketRecord) → Once (basketSlots es) → All P es → (t : ℕ) → In t (basketSlots es)
     → EntryAt P version es t
-unfolding entrySlots recordAt
+unfolding basketSlots recordAt
 entry-at version (e ∷ es) once (one-more h hs) t (inl q) =
     record { entry = e; slot-is = sym q; here = pick-true (eqb t (e .slot)) _ _ (eq-eqb t (e .slot) q); holds = h }
 entry-at {P} version (e ∷ es) once (one-more h hs) t (inr i) = go (entry-at version es (once .1) hs t i)
@@ -42,7 +42,7 @@ entry-at {P} version (e ∷ es) once (one-more h hs) t (inr i) = go (entry-at ve
           entry = r .entry;
           slot-is = r .slot-is;
           here =
-              pick-false (eqb t (e .slot)) _ _ (ne-eqb t (e .slot) (λ q. once .0 (subst (λ (x : ℕ). In x (entrySlots es)) q i))) ∙ r .here;
+              pick-false (eqb t (e .slot)) _ _ (ne-eqb t (e .slot) (λ q. once .0 (subst (λ (x : ℕ). In x (basketSlots es)) q i))) ∙ r .here;
           holds = r .holds;
         }
 
