@@ -37,3 +37,5 @@ pub mod ReuseAfter
 pub mod OrderAfter
 pub mod Owners
 pub mod Room
+pub mod Formatted
+pub mod Accepted

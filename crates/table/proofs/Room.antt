@@ -2,21 +2,21 @@
 use mathlib.Core.Path.{_≡_, refl, sym, ap, _∙_}
 use mathlib.Core.Bool.{Bool, true, false, not, _&&_}
 use mathlib.Core.List.{List, [], _∷_}
-use Prim.Native.Nat.{ℕ, zero, suc, _≤_, _<_}
+use Prim.Native.Nat.{ℕ, zero, suc, _<_}
 use native.Mathlib.Omega.{arith}
 use lib.ListN.{take, length}
 use borrow.Author.Tests.{not-true}
-use Rattle.layout.specs.Content.{Table, topOf, empty}
+use Rattle.layout.specs.Content.{Table, topOf}
 use Rattle.prelude.specs.Filter.{filter}
 use Rattle.prelude.specs.Members.{Slot, In}
 use Rattle.prelude.proofs.defs.Among.{member}
 use Rattle.prelude.proofs.Among.{out-member, member-in, not-member}
 use Rattle.prelude.proofs.Any.{passing, Passing, passes, none-passes}
-use Rattle.prelude.proofs.Choice.{true-false, both, both-right, is-false, both-left}
+use Rattle.prelude.proofs.Choice.{both, both-right, is-false, true-false, both-left}
 use Rattle.prelude.proofs.Count.{gap, Gap}
 use Rattle.sorting.proofs.Order.{in-filter}
 use Rattle.table.specs.Complete.{Numbers, settled}
-use Rattle.table.specs.Table.{live, isRecord, decidingPut, liveCount, mapOf, keyIn}
+use Rattle.table.specs.Table.{live, isRecord, liveCount, mapOf, keyIn}
 use Rattle.table.specs.Taking.{highestValid, mayTake, takenOf}
 use Rattle.table.proofs.defs.Basket.{Basket, HeldRemoved}
 use Rattle.table.proofs.defs.Reuse.{Spares}
@@ -70,11 +70,6 @@ room-reuse f n reuse r sp = go (room-takes f n r)
     go (takeable t i idle may) = one (filter (mayTake f n) reuse) t (in-filter (mayTake f n) t reuse (sp .all t i idle) may)
 
 -- ---- who has room-at
-
--- a formatted image
-pub format-room : (n : ℕ) → 1 ≤ n → RoomToTake (λ t. empty) n
-unfolding isRecord live decidingPut
-format-room n h = room-at 1 (omega arith) refl (λ e. absurd (true-false e refl))
 
 -- a table equal at its slots
 pub room-same : (f f′ : Table) (n : ℕ) → ((t : ℕ) → Slot n t → f′ t ≡ f t) → RoomToTake f n → RoomToTake f′ n
