@@ -27,3 +27,16 @@ pub mod Struck
 pub mod Unfinished
 pub mod Finished
 pub mod StruckAgreed
+pub mod Opened
+pub mod Outcome
+pub mod StruckBroken
+pub mod Single
+pub mod LiveAfter
+pub mod TakeableCount
+pub mod Joins
+pub mod ReuseAfter
+pub mod OrderAfter
+pub mod Owners
+pub mod Room
+pub mod Formatted
+pub mod Accepted

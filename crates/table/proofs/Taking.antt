@@ -1,16 +1,16 @@
 -- The slots that may be taken: their loss changes no key. Assumes nothing.
-use mathlib.Core.Path.{_≡_, refl, sym, ap, _∙_}
+use mathlib.Core.Path.{_≡_, refl, sym, ap, ap₂, _∙_}
 use mathlib.Core.Bool.{Bool, true, false, not, _&&_}
 use Prim.Native.Nat.{ℕ, suc, _≤_, _<_}
 use native.Mathlib.Omega.{arith}
 use lib.Dec.{eqb, ltb}
 use borrow.Author.Tests.{eqb-true, ltb-true, eq-eqb, lt-ltb, ltb-false, not-true}
-use Rattle.layout.specs.Content.{Table, topOf, removeRecord}
+use Rattle.layout.specs.Content.{Table, topOf, Content, removeRecord}
 use Rattle.prelude.specs.Members.{Slot}
 use Rattle.prelude.specs.Range.{topmost, anyOf}
 use Rattle.prelude.proofs.Any.{passing, Passing, passes, none-passes, any-clear-slot, any-none-slot}
-use Rattle.prelude.proofs.Choice.{both-left, both, both-right, pick-true, pick-false, is-false, true-false, false-left, false-right}
-use Rattle.prelude.proofs.Most.{greatest-above, first-is, First, nowhere, greatest-least, there}
+use Rattle.prelude.proofs.Choice.{both, both-left, both-right, pick-true, pick-false, is-false, true-false, false-left, false-right}
+use Rattle.prelude.proofs.Most.{greatest-above, greatest-least, first-is, First, nowhere, there}
 use Rattle.table.specs.Table.{isRecord, keyIn, live, weight, decider, spare}
 use Rattle.table.specs.Taking.{older, highestValid, validVersion, isRemove, mayTake}
 use Rattle.table.proofs.defs.Write.{ApartByKey, Free}
@@ -38,10 +38,24 @@ module _ (f : Table) where
   is-older s t r k l =
       both (isRecord (f t)) _ r (both (eqb (keyIn (f t)) (keyIn (f s))) _ (eq-eqb (keyIn (f t)) (keyIn (f s)) k) (lt-ltb (topOf (f t)) (topOf (f s)) l))
 
+-- by the contents of the two slots alone
+pub older-same : (f f′ : Table) (s t : ℕ) → f′ s ≡ f s → f′ t ≡ f t → older f′ s t ≡ older f s t
+unfolding older
+older-same f f′ s t e d =
+    ap₂ (λ (c o : Content). isRecord o && (eqb (keyIn o) (keyIn c) && ltb (topOf o) (topOf c))) e d
+
 module _ (f : Table) (n : ℕ) where
   pub highest-valid-above : (t : ℕ) → Slot n t → isRecord (f t) ≡ true → topOf (f t) ≤ highestValid f n
   unfolding highestValid validVersion
   highest-valid-above t i c = omega (arith, greatest-above (λ s. validVersion (f s)) n t i, pick-true (isRecord (f t)) (topOf (f t)) 0 c)
+
+  pub highest-valid-least : (m : ℕ) → ((t : ℕ) → Slot n t → isRecord (f t) ≡ true → topOf (f t) ≤ m) → highestValid f n ≤ m
+  unfolding highestValid validVersion
+  highest-valid-least m h = greatest-least (λ s. validVersion (f s)) n m (λ t i. go t i (isRecord (f t)) refl)
+    where
+      go : (t : ℕ) → Slot n t → (b : Bool) → isRecord (f t) ≡ b → validVersion (f t) ≤ m
+      go t i true e = omega (arith, pick-true (isRecord (f t)) (topOf (f t)) 0 e, h t i e)
+      go t i false e = omega (arith, pick-false (isRecord (f t)) (topOf (f t)) 0 e)
 
   -- some valid slot is above version v
   pub data Higher (v : ℕ) : Type 0 where

@@ -126,14 +126,18 @@ module _ {f f′ : Table} {num num′ : Numbers} {n w : ℕ} {taken : List ℕ} 
   unfinished-outside t i h =
       settled-same f′ num′ n t (unfinished-void t i ∙ is-false (hasVersion f′ w t) (λ e. h (new-is b st t i e .0))) ∙ not-taken b st t i h .0
 
-  lost-outside : Outside f (settled f′ num′ n) n lostSlots
-  unfolding lostSlots
-  lost-outside t i e = go (member taken t) refl (isRecord (settled f′ num′ n t)) refl
+  -- a slot that it has not lost is as before
+  pub unfinished-same : (t : ℕ) → Slot n t → member taken t && not (isRecord (settled f′ num′ n t)) ≡ false → settled f′ num′ n t ≡ f t
+  unfinished-same t i e = go (member taken t) refl (isRecord (settled f′ num′ n t)) refl
     where
       go : (x : Bool) → member taken t ≡ x → (y : Bool) → isRecord (settled f′ num′ n t) ≡ y → settled f′ num′ n t ≡ f t
       go false p y q = unfinished-outside t i (λ j. true-false (in-member taken t j) p)
       go true p true q = record-kept t i q
       go true p false q = absurd (true-false (both (member taken t) _ p (ap not q)) e)
+
+  lost-outside : Outside f (settled f′ num′ n) n lostSlots
+  unfolding lostSlots
+  lost-outside t i e = unfinished-same t i e
 
   lost-no-record : (t : ℕ) → lostSlots t ≡ true → isRecord (settled f′ num′ n t) ≡ false
   unfolding lostSlots
