@@ -1,6 +1,6 @@
 -- Broken slots: how many a changed slot leaves, and where they stand in reuse. Assumes nothing.
 use mathlib.Core.Path.{_≡_, refl, sym, ap, _∙_}
-use mathlib.Core.Bool.{Bool, true, false}
+use mathlib.Core.Bool.{Bool, true, false, cond}
 use mathlib.Core.Logic.{inl, inr, ⊎-elim}
 use mathlib.Core.List.{List, [], _∷_, _++_}
 use Prim.Native.Nat.{ℕ, _≤_, _<_}
@@ -8,7 +8,9 @@ use native.Mathlib.Omega.{arith}
 use lib.Dec.{eqb, ltb}
 use borrow.Author.Tests.{ne-eqb, eqb-true, eqb-false, le-ltb, ltb-false}
 use Rattle.layout.specs.Content.{Content, broken, empty, putRecord, removeRecord, Table}
+use Rattle.prelude.specs.Filter.{filter}
 use Rattle.prelude.specs.Members.{In, Slot}
+use Rattle.sorting.proofs.Order.{filter-in}
 use Rattle.prelude.proofs.defs.Members.{Rising}
 use Rattle.prelude.proofs.Choice.{true-false}
 use Rattle.prelude.proofs.Count.{count-none, count-fewer, count-one}
@@ -118,6 +120,16 @@ broken-append f (x ∷ l) m b h = (
   (λ t i e. ⊎-elim (λ p. b .0 t p e) (λ q. absurd (true-false e (h t q))) (in-append t l m i)),
   broken-append f l m (b .1) h,
 )
+
+-- a part of the list
+pub broken-filter : (f : Table) (p : ℕ → Bool) (l : List ℕ) → BrokenFirst f l → BrokenFirst f (filter p l)
+unfolding filter
+broken-filter f p [] b = tt
+broken-filter f p (x ∷ l) b = go (p x) (broken-filter f p l (b .1))
+  where
+    go : (c : Bool) → BrokenFirst f (filter p l) → BrokenFirst f (cond c (x ∷ filter p l) (filter p l))
+    go true ih = ((λ t i e. b .0 t (filter-in p t l i) e), ih)
+    go false ih = ih
 
 -- a table that is the same at these slots
 pub broken-carry : (f f′ : Table) (l : List ℕ) → ((x : ℕ) → In x l → f′ x ≡ f x) → BrokenFirst f l → BrokenFirst f′ l

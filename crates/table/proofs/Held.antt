@@ -1,17 +1,17 @@
 -- A key that is held, and the slot that holds it. Assumes nothing.
 use mathlib.Core.Path.{_≡_, refl, sym, ap, _∙_}
 use mathlib.Core.Bool.{Bool, true, false, cond}
-use mathlib.Core.Option.{Option, some, none}
+use mathlib.Core.Option.{some, none, Option}
 use mathlib.Core.List.{List}
-use Prim.Native.Nat.{ℕ}
+use Prim.Native.Nat.{ℕ, _<_}
 use native.Mathlib.Omega.{arith}
 use Rattle.layout.specs.Content.{Table}
-use Rattle.table.specs.Table.{weight, decider, valueIn, valueAt, mapOf, live}
 use Rattle.prelude.specs.Members.{Slot}
+use Rattle.prelude.proofs.Most.{First, nowhere, there}
+use Rattle.table.specs.Table.{decider, live, mapOf, valueAt, valueIn, weight}
 use Rattle.table.proofs.defs.Write.{holder}
-use Rattle.table.proofs.OneSlot.{puts, Says, removes, value-at, says}
-use Rattle.prelude.proofs.Most.{nowhere, there, First}
-use Rattle.table.proofs.Map.{is-live, live-remove, decider-is, lives}
+use Rattle.table.proofs.Map.{decider-is, is-live, lives, live-remove, decider-weight, live-is, Live}
+use Rattle.table.proofs.OneSlot.{Says, puts, value-at, removes, says, one-key, weight-put}
 
 pub some-none : {v : List ℕ} {o : Option (List ℕ)} → o ≡ some v → o ≡ none → ⊥
 some-none {v} {o} p q = let z : _≡_ {A = ℕ} 0 1 = cc in omega arith
@@ -57,3 +57,25 @@ holder-value f n k = go (held-or f n k)
     go : Held f n k → valueAt f (holder f n k) ≡ mapOf f n k
     go (held v i e m) = ap (valueAt f) (holder-held f n k e)
     go (unheld a m) = ap (valueAt f) (holder-none f n k a) ∙ sym m
+
+-- a held key's slot is live and has a record of it
+pub data Holder (f : Table) (n k : ℕ) : Type 0 where
+  holder-is : Slot n (holder f n k) → live f n (holder f n k) ≡ true → 0 < weight k (f (holder f n k)) → Holder f n k
+
+pub is-holder : (f : Table) (n k : ℕ) → 0 < holder f n k → Holder f n k
+is-holder f n k p = go (held-or f n k)
+  where
+    go : Held f n k → Holder f n k
+    go (unheld h m) = absurd (omega (arith, holder-none f n k h))
+    go (held v i e m) =
+        let q = holder-held f n k e in
+        holder-is (rw q i) (ap (live f n) q ∙ e) (rw q (decider-weight f n k (decider f n k) i refl))
+
+-- and a live slot with a record of k is k's holder
+pub live-holder : (f : Table) (n k t : ℕ) → Slot n t → live f n t ≡ true → 0 < weight k (f t) → holder f n k ≡ t
+live-holder f n k t i e p = go (live-is f n t e)
+  where
+    go : Live f n t → holder f n k ≡ t
+    go (lives u c v q d) =
+        let z : decider f n k ≡ t = ap (decider f n) (sym (one-key c k (f t) (omega (arith, ap (weight c) q, weight-put u c v)) p)) ∙ d in
+        holder-held f n k (ap (live f n) z ∙ e) ∙ z

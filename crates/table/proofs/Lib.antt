@@ -20,3 +20,17 @@ pub mod Taking
 pub mod Ranks
 pub mod Order
 pub mod ReuseOrder
+pub mod Same
+pub mod Changes
+pub mod Struck
+pub mod Unfinished
+pub mod Finished
+pub mod StruckAgreed
+pub mod Opened
+pub mod Outcome
+pub mod StruckBroken
+pub mod Single
+pub mod LiveAfter
+pub mod TakeableCount
+pub mod Joins
+pub mod ReuseAfter

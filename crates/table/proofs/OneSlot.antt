@@ -131,3 +131,12 @@ record-weight (removeRecord w j) k e d = pick-true (eqb j k) (suc w) 0 (eq-eqb j
 pub zero-or : (x : ℕ) → (0 < x → ⊥) → x ≡ 0
 zero-or zero h = refl
 zero-or (suc x) h = absurd (h (omega arith))
+
+-- what is no record says nothing of any key
+pub no-record-weight : (k : ℕ) (c : Content) → isRecord c ≡ false → weight k c ≡ 0
+no-record-weight k c e = zero-or (weight k c) (λ p. true-false (weight-counts k c p) e)
+
+-- as a broken slot
+pub broken-no-record : (c : Content) (top : ℕ) → c ≡ broken top → isRecord c ≡ false
+unfolding isRecord
+broken-no-record c top e = ap isRecord e

@@ -1,6 +1,6 @@
 -- A basket on a table: what it may be, what it changes, and how many keys it puts and removes. A single call is the basket of one slot.
 use mathlib.Core.Path.{_≡_}
-use mathlib.Core.Bool.{true, false, cond, not, _&&_}
+use mathlib.Core.Bool.{Bool, true, false, cond, not, _&&_}
 use mathlib.Core.Option.{Option}
 use mathlib.Core.List.{List, [], _∷_}
 use Prim.Native.Nat.{ℕ, _+_, _≤_, _<_}
@@ -42,22 +42,26 @@ unfoldable pub changesInTurn : List ℕ → (new : Table) → (m : ℕ → Optio
 changesInTurn [] new m k = m k
 changesInTurn (s ∷ l) new m k = changesInTurn l new (λ j. cond (eqb j (keyIn (new s))) (valueIn (new s)) (m j)) k
 
+-- 1 where the test holds, else 0
+abbrev pub oneIf : Bool → ℕ
+oneIf b = cond b 1 0
+
 -- how many of these records are puts, have a key that the map m holds, insert a key that it lacks, and are removes
 unfoldable pub putsIn : List ℕ → (new : Table) → ℕ
 putsIn [] new = 0
-putsIn (s ∷ l) new = cond (isPut (new s)) 1 0 + putsIn l new
+putsIn (s ∷ l) new = oneIf (isPut (new s)) + putsIn l new
 
 unfoldable pub heldIn : List ℕ → (new : Table) → (m : ℕ → Option (List ℕ)) → ℕ
 heldIn [] new m = 0
-heldIn (s ∷ l) new m = cond (isHeld (m (keyIn (new s)))) 1 0 + heldIn l new m
+heldIn (s ∷ l) new m = oneIf (isHeld (m (keyIn (new s)))) + heldIn l new m
 
 unfoldable pub insertsIn : List ℕ → (new : Table) → (m : ℕ → Option (List ℕ)) → ℕ
 insertsIn [] new m = 0
-insertsIn (s ∷ l) new m = cond (isPut (new s) && not (isHeld (m (keyIn (new s))))) 1 0 + insertsIn l new m
+insertsIn (s ∷ l) new m = oneIf (isPut (new s) && not (isHeld (m (keyIn (new s))))) + insertsIn l new m
 
 unfoldable pub removesIn : List ℕ → (new : Table) → ℕ
 removesIn [] new = 0
-removesIn (s ∷ l) new = cond (isPut (new s)) 0 1 + removesIn l new
+removesIn (s ∷ l) new = oneIf (not (isPut (new s))) + removesIn l new
 
 -- only held keys are removed
 abbrev pub HeldRemoved : List ℕ → (new : Table) → (m : ℕ → Option (List ℕ)) → Type 0
