@@ -9,7 +9,8 @@ use lib.ListN.{length}
 use Rattle.words.specs.Word.{word}
 use Rattle.layout.specs.Size.{slotsIn}
 use Rattle.layout.specs.Line.{lineA, lineB}
-use Rattle.layout.specs.Content.{content, Table, tableOf}
+use Rattle.layout.specs.Content.{content, Table}
+use Rattle.table.specs.Complete.{tableOf}
 use Rattle.layout.specs.Header.{imageFault, lentFault}
 use Rattle.prelude.proofs.Refusals.{orElse-zero}
 use Rattle.layout.proofs.Content.{put-at}

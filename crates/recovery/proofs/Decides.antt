@@ -15,10 +15,9 @@ use Rattle.prelude.specs.Members.{Once, slotNumbers, Slot}
 use Rattle.sorting.proofs.Order.{Compared, low, high, compared, at-in, rising-sorted}
 use Rattle.table.specs.Table.{keyIn, weight, decider, decidingPut, live, liveCount}
 use Rattle.table.specs.Order.{rankOf, ordered}
-use Rattle.table.proofs.defs.Write.{Distinct, ApartByKey}
+use Rattle.table.proofs.defs.Write.{ApartByKey}
 use Rattle.table.proofs.OneSlot.{weight-put, weight-key}
 use Rattle.prelude.proofs.Count.{count-same}
-use Rattle.table.proofs.Distinct.{distinct-apart}
 use Rattle.prelude.proofs.Lists.{AllSlots, whole-slots}
 use Rattle.sorting.proofs.Whole.{whole-sorted}
 use Rattle.table.proofs.Map.{decider-newest, decider-unique}
@@ -30,7 +29,7 @@ use Rattle.table.proofs.Recovery.{rank-weight}
 
 -- a position that is followed, and one that is not
 
-followed-inside : (key : ℕ → ℕ) (l : List ℕ) (i : ℕ) → followed key l i ≡ true → i + 1 < length l
+pub followed-inside : (key : ℕ → ℕ) (l : List ℕ) (i : ℕ) → followed key l i ≡ true → i + 1 < length l
 unfolding followed
 followed-inside key l i e = go (ltb (i + 1) (length l)) refl e
   where
@@ -39,7 +38,7 @@ followed-inside key l i e = go (ltb (i + 1) (length l)) refl e
     go true d q = ltb-true (i + 1) (length l) d
     go false d q = absurd (true≢false (sym q))
 
-followed-key : (key : ℕ → ℕ) (l : List ℕ) (i : ℕ) → followed key l i ≡ true → key (getD l i 0) ≡ key (getD l (i + 1) 0)
+pub followed-key : (key : ℕ → ℕ) (l : List ℕ) (i : ℕ) → followed key l i ≡ true → key (getD l i 0) ≡ key (getD l (i + 1) 0)
 unfolding followed
 followed-key key l i e = go (ltb (i + 1) (length l)) refl e
   where
@@ -48,7 +47,7 @@ followed-key key l i e = go (ltb (i + 1) (length l)) refl e
     go true d q = eqb-true (key (getD l i 0)) (key (getD l (i + 1) 0)) q
     go false d q = absurd (true≢false (sym q))
 
-is-followed : (key : ℕ → ℕ) (l : List ℕ) (i : ℕ) → i + 1 < length l → key (getD l i 0) ≡ key (getD l (i + 1) 0)
+pub is-followed : (key : ℕ → ℕ) (l : List ℕ) (i : ℕ) → i + 1 < length l → key (getD l i 0) ≡ key (getD l (i + 1) 0)
     → followed key l i ≡ true
 unfolding followed
 is-followed key l i h e = rw (lt-ltb (i + 1) (length l) h) (eq-eqb (key (getD l i 0)) (key (getD l (i + 1) 0)) e)
@@ -114,14 +113,14 @@ weight-rank k empty h e = absurd (omega arith)
 weight-rank k (putRecord w j v) h e = ap (λ (b : Bool). suc (cond b (suc w) 0)) (eq-eqb j k e) ∙ omega arith
 weight-rank k (removeRecord w j) h e = ap (λ (b : Bool). suc (cond b (suc w) 0)) (eq-eqb j k e) ∙ omega arith
 
--- l has each slot 1 to n once, by key, and those of one key by rank
+-- l has each slot 1 to n once, by key, and those of one key by rank; key gives the keys of records
 pub record ByKey (f : Table) (n : ℕ) (key : ℕ → ℕ) (l : List ℕ) : Type 0 where
   pub whole : AllSlots n l
-  pub key-is : (t : ℕ) → Slot n t → key t ≡ keyIn (f t)
+  pub key-is : (t : ℕ) → Slot n t → 2 ≤ rankOf (f t) → key t ≡ keyIn (f t)
   pub rising : Rising key l
   pub by-rank : RisingByKey key (λ x. rankOf (f x)) l
 
-by-key-is : (f : Table) (n : ℕ) (key : ℕ → ℕ) (order by-key : List ℕ) → ((s : ℕ) → 0 < s → s ≤ n → key s ≡ keyIn (f s))
+pub by-key-is : (f : Table) (n : ℕ) (key : ℕ → ℕ) (order by-key : List ℕ) → ((s : ℕ) → 0 < s → s ≤ n → 2 ≤ rankOf (f s) → key s ≡ keyIn (f s))
     → order ≡ ordered f (slotNumbers n) → by-key ≡ sorted key order → ByKey f n key by-key
 unfolding ordered
 by-key-is f n key order by-key h e d = rw (d, e) both
@@ -133,7 +132,7 @@ by-key-is f n key order by-key h e d = rw (d, e) both
     both =
         record {
           whole = whole-sorted key n (sorted rank (slotNumbers n)) (whole-sorted rank n (slotNumbers n) (whole-slots n));
-          key-is = λ t i. h t (i .0) (i .1);
+          key-is = λ t i r. h t (i .0) (i .1) r;
           rising = rising-sorted key (sorted rank (slotNumbers n));
           by-rank = sorted-by-key key rank (sorted rank (slotNumbers n)) (rising-sorted rank (slotNumbers n));
         }
@@ -163,14 +162,14 @@ followed-idle f n key l j w k v h a u e q d =
     other : t ≡ s → ⊥
     other z = omega (arith, once-at l (j + 1) j (h .whole .once) next u z)
 
-    same : keyIn (f t) ≡ k
-    same = sym (h .key-is t slot-t) ∙ sym (followed-key key l j q) ∙ h .key-is s slot-s ∙ ap keyIn e
-
     later : rankOf (f s) ≤ rankOf (f t)
     later = by-key-at key (λ x. rankOf (f x)) l j (j + 1) (h .by-rank) (omega arith) next (followed-key key l j q)
 
     many : 2 ≤ rankOf (f t)
     many = omega (arith, later, ap rankOf e)
+
+    same : keyIn (f t) ≡ k
+    same = sym (h .key-is t slot-t many) ∙ sym (followed-key key l j q) ∙ h .key-is s slot-s (omega (arith, ap rankOf e)) ∙ ap keyIn e
 
     older : weight k (f t) < weight k (f s)
     older = decider-newest f n k s t a slot-s slot-t d other
@@ -178,7 +177,7 @@ followed-idle f n key l j w k v h a u e q d =
 -- not followed, it decides its key
 last-decides : (f : Table) (n : ℕ) (key : ℕ → ℕ) (l : List ℕ) (j w k : ℕ) (v : List ℕ) → ByKey f n key l → ApartByKey f n → j < length l
     → f (getD l j 0) ≡ putRecord w k v → followed key l j ≡ false → decider f n k ≡ getD l j 0
-unfolding keyIn
+unfolding keyIn rankOf
 last-decides f n key l j w k v h a u e q =
     decider-unique f n k s a slot-s (omega (arith, heavy)) (λ t i. most t i (stands l t (h .whole .all t i)) (weight k (f t)) refl)
   where
@@ -192,7 +191,7 @@ last-decides f n key l j w k v h a u e q =
     heavy = ap (weight k) e ∙ weight-put w k v
 
     key-s : key s ≡ k
-    key-s = h .key-is s slot-s ∙ ap keyIn e
+    key-s = h .key-is s slot-s (omega (arith, ap rankOf e)) ∙ ap keyIn e
 
     -- a slot of this key does not stand later
     none-later : (i : ℕ) → j < i → i < length l → key (getD l i 0) ≡ k → ⊥
@@ -217,7 +216,7 @@ last-decides f n key l j w k v h a u e q =
         says-k = omega arith
 
         key-t : key (getD l (p .spot) 0) ≡ k
-        key-t = ap key (p .here) ∙ h .key-is t i ∙ weight-key k (f t) says-k
+        key-t = ap key (p .here) ∙ h .key-is t i (omega (arith, rank-weight k (f t) says-k)) ∙ weight-key k (f t) says-k
 
         earlier : Compared j (p .spot) → p .spot ≤ j → rankOf (f t) ≤ rankOf (f s)
         earlier (low x y) r =
@@ -259,7 +258,7 @@ place-live f n b key l j h a u = go (f (getD l j 0)) refl (followed key l j) ref
         sym (ap (λ (x : Bool). cond x (headOf k b + 1) 0) (eq-eqb (decider f n k) s (last-decides f n key l j w k v h a u e q)))
 
 pub decided-live : (f : Table) (n b : ℕ) (ranks lows highs places order by-key : List ℕ)
-    → Listed f n b ranks lows highs places → length places ≡ n + 1 → Distinct f n
+    → Listed f n b ranks lows highs places → length places ≡ n + 1 → ApartByKey f n
     → order ≡ ordered f (slotNumbers n) → by-key ≡ sorted (keyAt lows highs) order
     → (s : ℕ) → 0 < s → s ≤ n → getD (decided (keyAt lows highs) by-key n places) s 0 ≡ livePlace f n b s
 decided-live f n b ranks lows highs places order by-key h size d e c s low-s high-s =
@@ -276,7 +275,7 @@ decided-live f n b ranks lows highs places order by-key h size d e c s low-s hig
             (omega (arith, z))
             ∙ ap (λ (x : ℕ). cond (followed (keyAt lows highs) by-key (p .spot)) 0 x)
             (ap (λ (x : ℕ). getD places x 0) z ∙ h .place-at s low-s high-s ∙ sym (ap (λ (x : ℕ). putPlace b (f x)) z))
-            ∙ place-live f n b (keyAt lows highs) by-key (p .spot) w (distinct-apart f n d) (p .inside)
+            ∙ place-live f n b (keyAt lows highs) by-key (p .spot) w d (p .inside)
             ∙ ap (livePlace f n b) z
 
 placed-live : (f : Table) (n b s : ℕ) → not (eqb (livePlace f n b s) 0) ≡ live f n s
@@ -288,7 +287,7 @@ placed-live f n b s = go (live f n s)
     go false = refl
 
 pub counted-live : (f : Table) (n b : ℕ) (ranks lows highs places order by-key : List ℕ)
-    → Listed f n b ranks lows highs places → length places ≡ n + 1 → Distinct f n
+    → Listed f n b ranks lows highs places → length places ≡ n + 1 → ApartByKey f n
     → order ≡ ordered f (slotNumbers n) → by-key ≡ sorted (keyAt lows highs) order
     → placedCount (decided (keyAt lows highs) by-key n places) n ≡ liveCount f n
 unfolding placedCount liveCount

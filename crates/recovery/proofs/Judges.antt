@@ -15,7 +15,8 @@ use Rattle.prelude.specs.Range.{anyOf, atLowest}
 use Rattle.layout.specs.Record.{Layout}
 use Rattle.layout.specs.Line.{lineA, lineB, whole, versionOf, lineTop}
 use Rattle.layout.specs.Slot.{slotTop}
-use Rattle.layout.specs.Content.{top, topOf, Table, tableOf}
+use Rattle.layout.specs.Content.{top, topOf, Table}
+use Rattle.table.specs.Complete.{tableOf}
 use Rattle.layout.specs.Fault.{markFault, recordFault}
 use Rattle.prelude.proofs.Refusals.{say-true}
 use Rattle.layout.proofs.Content.{top-is}

@@ -4,7 +4,7 @@ use mathlib.Core.List.{List}
 use Prim.Native.Nat.{ℕ}
 use lib.ListN.{length}
 use Rattle.layout.specs.Size.{slotsIn}
-use Rattle.layout.specs.Content.{tableOf}
+use Rattle.table.specs.Complete.{tableOf}
 use Rattle.prelude.proofs.Refusals.{taken-leaves}
 use Rattle.recovery.specs.Recover.{recoverFault, recovered, recoverResult}
 

@@ -10,4 +10,5 @@ pub mod Lent
 pub mod Answers
 pub mod Unwritten
 pub mod Neighbours
+pub mod Runs
 pub mod defs

@@ -1,129 +1,448 @@
--- Two neighbours of the order by rank have one rank exactly where two slots that count share a version. Assumes nothing.
+-- 7 along the orders: a run of one rank whose numbers differ or that is too long, and one key twice in a version. Assumes nothing.
 use mathlib.Core.Path.{_≡_, refl, sym, ap, _∙_}
-use mathlib.Core.Bool.{Bool, true, false, cond, true≢false}
-use mathlib.Core.Logic.{inl, inr}
-use mathlib.Core.List.{List, [], _∷_}
-use Prim.Native.Nat.{ℕ, suc, _+_, _-_, _≤_, _<_}
+use mathlib.Core.Bool.{Bool, true, false, cond, _&&_}
+use mathlib.Core.List.{List}
+use Prim.Native.Nat.{ℕ, zero, suc, _+_, _-_, _≤_, _<_}
 use native.Mathlib.Omega.{arith}
 use lib.Dec.{eqb, ltb}
 use lib.ListN.{length, getD}
-use borrow.Author.Tests.{eq-eqb, ne-eqb, ltb-false}
+use borrow.Author.Tests.{eq-eqb, eqb-true, eqb-false, ltb-false, ltb-true, lt-ltb, le-ltb}
 use Rattle.prelude.specs.Range.{anyOf}
+use Rattle.prelude.specs.Members.{Slot, slotNumbers}
+use Rattle.prelude.proofs.Any.{any-none, any-clear, or-none}
+use Rattle.prelude.proofs.Choice.{pick-true, pick-false, true-false, is-false, same-test, both, both-left, both-right}
+use Rattle.prelude.proofs.Lists.{AllSlots, slots-in}
 use Rattle.layout.specs.Content.{Content, broken, empty, putRecord, removeRecord, topOf, Table}
-use Rattle.prelude.proofs.Any.{any-none, any-clear}
 use Rattle.sorting.specs.Sorted.{sorted}
-use Rattle.prelude.specs.Members.{In, slotNumbers}
-use Rattle.prelude.proofs.defs.Members.{Rising}
-use Rattle.sorting.proofs.Order.{rising-sorted}
-use Rattle.table.specs.Table.{isRecord, sharedVersion}
-use Rattle.table.specs.Order.{rankOf}
-use Rattle.table.proofs.defs.Write.{Distinct}
-use Rattle.prelude.proofs.Lists.{AllSlots}
-use Rattle.table.proofs.Distinct.{shared-distinct, distinct-shared}
-use Rattle.recovery.specs.inner.Decide.{equalNeighbours}
-use Rattle.recovery.proofs.Orders.{whole-order, whole-within, neighbours-test}
-use Rattle.sorting.proofs.Positions.{once-at}
+use Rattle.sorting.proofs.Order.{Compared, low, high, compared, sorted-alike, at-in, rising-sorted}
+use Rattle.sorting.proofs.Positions.{Stands, stands, once-at, rising-at, by-key-at}
+use Rattle.table.specs.Table.{isRecord, keyIn}
+use Rattle.table.specs.Complete.{Numbers, said, sharers}
+use Rattle.table.specs.Shared.{sharersFault}
+use Rattle.table.specs.Order.{rankOf, ordered}
+use Rattle.table.proofs.defs.Shared.{Agreed}
+use Rattle.table.proofs.Shared.{fault-agreed, agreed-fault}
+use Rattle.table.proofs.Ranks.{record-rank, low-rank}
+use Rattle.recovery.specs.inner.Scan.{keyAt, Listed}
+use Rattle.recovery.specs.inner.Decide.{entryAt, equalNeighbours, tooMany, runFault, followed, keyTwice}
+use Rattle.recovery.proofs.Orders.{whole-order}
+use Rattle.recovery.proofs.Decides.{ByKey, by-key-is, followed-key, is-followed}
+use Rattle.recovery.proofs.Runs.{Span, sharers-span}
 
--- the rank of a slot that is a record, and the slots of such ranks
-
-rank-counts : (c : Content) → isRecord c ≡ true → rankOf c ≡ 2 + topOf c
-unfolding isRecord rankOf topOf
-rank-counts (broken top) e = absurd (true≢false (sym e))
-rank-counts empty e = absurd (true≢false (sym e))
-rank-counts (putRecord version key value) e = refl
-rank-counts (removeRecord version key) e = refl
-
-counts-rank : (c : Content) → 2 ≤ rankOf c → isRecord c ≡ true
-unfolding isRecord rankOf
-counts-rank (broken top) l = absurd (omega arith)
-counts-rank empty l = absurd (omega arith)
-counts-rank (putRecord version key value) l = refl
-counts-rank (removeRecord version key) l = refl
-
--- no two neighbours have one rank of 2 or more
-abbrev Parted : (ℕ → ℕ) → List ℕ → Type 0
-Parted g l = (i : ℕ) → i + 1 < length l → 2 ≤ g (getD l i 0) → g (getD l i 0) ≡ g (getD l (i + 1) 0) → ⊥
-
-parted-rest : (g : ℕ → ℕ) (x : ℕ) (l : List ℕ) → Parted g (x ∷ l) → Parted g l
-parted-rest g x l p i h a e =
-    let q : suc (i + 1) ≡ suc i + 1 = omega arith in p (suc i) (omega arith) a (e ∙ ap (λ (k : ℕ). g (getD (x ∷ l) k 0)) q)
-
--- then no two elements have one: of those after x the first has the least rank
-parted-first : (g : ℕ → ℕ) (x y : ℕ) (l : List ℕ) → Rising g (x ∷ l) → Parted g (x ∷ l) → In y l → 2 ≤ g x → g x ≡ g y → ⊥
-parted-first g x y [] r p i h e = i
-parted-first g x y (z ∷ l) r p i h e = p 0 (omega arith) h (omega (arith, r .0 z (inl refl), least i, e))
+pub rank-record : (c : Content) → 2 ≤ rankOf c → isRecord c ≡ true
+rank-record c l = go (isRecord c) refl
   where
-    least : In y (z ∷ l) → g z ≤ g y
-    least (inl q) = omega (arith, ap g q)
-    least (inr j) = r .1 .0 y j
+    go : (b : Bool) → isRecord c ≡ b → b ≡ true
+    go true e = refl
+    go false e = absurd (omega (arith, low-rank c e))
 
-parted-all : (g : ℕ → ℕ) (x y : ℕ) (l : List ℕ) → Rising g l → Parted g l → In x l → In y l → (x ≡ y → ⊥)
-    → 2 ≤ g x → g x ≡ g y → ⊥
-parted-all g x y [] r p i j ne h e = i
-parted-all g x y (z ∷ l) r p (inl a) (inl b) ne h e = ne (a ∙ sym b)
-parted-all g x y (z ∷ l) r p (inl a) (inr j) ne h e = parted-first g z y l r p j (omega (arith, ap g a)) (sym (ap g a) ∙ e)
-parted-all g x y (z ∷ l) r p (inr i) (inl b) ne h e = parted-first g z x l r p i (omega (arith, ap g b)) (sym (ap g b) ∙ sym e)
-parted-all g x y (z ∷ l) r p (inr i) (inr j) ne h e = parted-all g x y l (r .1) (parted-rest g z l p) i j ne h e
+pub said-some : (number : ℕ) → 1 ≤ said number
+unfolding said
+said-some number = go (eqb number 0) refl
+  where
+    go : (b : Bool) → eqb number 0 ≡ b → 1 ≤ cond b 1 number
+    go true e = let z : 1 ≤ 1 = omega arith in z
+    go false e = let z : 1 ≤ number = omega (arith, eqb-false number 0 e) in z
 
 -- the test of two neighbours as facts
 
-neighbours-apart : (ranks order : List ℕ) (i a b : ℕ) → a ≡ getD ranks (getD order i 0) 0 → b ≡ getD ranks (getD order (i + 1) 0) 0
-    → (2 ≤ a → a ≡ b → ⊥) → equalNeighbours ranks order i ≡ false
+neighbours-are : (ranks order : List ℕ) (i : ℕ) → equalNeighbours ranks order i ≡ true
+    → (2 ≤ entryAt ranks order i) × (entryAt ranks order i ≡ entryAt ranks order (i + 1))
 unfolding equalNeighbours
-neighbours-apart ranks order i a b p q h = rw (sym p, sym q) (go (ltb a 2) refl)
+neighbours-are ranks order i t = go (ltb (entryAt ranks order i) 2) refl t
   where
-    go : (t : Bool) → ltb a 2 ≡ t → cond t false (eqb a b) ≡ false
-    go true e = refl
-    go false e = ne-eqb a b (h (ltb-false a 2 e))
+    go : (b : Bool) → ltb (entryAt ranks order i) 2 ≡ b → cond b false (eqb (entryAt ranks order i) (entryAt ranks order (i + 1))) ≡ true
+        → (2 ≤ entryAt ranks order i) × (entryAt ranks order i ≡ entryAt ranks order (i + 1))
+    go true e q = absurd (true-false q refl)
+    go false e q = (ltb-false (entryAt ranks order i) 2 e, eqb-true (entryAt ranks order i) (entryAt ranks order (i + 1)) q)
 
-apart-neighbours : (ranks order : List ℕ) (i a b : ℕ) → a ≡ getD ranks (getD order i 0) 0 → b ≡ getD ranks (getD order (i + 1) 0) 0
-    → equalNeighbours ranks order i ≡ false → 2 ≤ a → a ≡ b → ⊥
-apart-neighbours ranks order i a b p q t l e = true≢false (sym (eq-eqb a b e) ∙ neighbours-test ranks order i a p b q l ∙ t)
+are-neighbours : (ranks order : List ℕ) (i : ℕ) → 2 ≤ entryAt ranks order i → entryAt ranks order i ≡ entryAt ranks order (i + 1)
+    → equalNeighbours ranks order i ≡ true
+unfolding equalNeighbours
+are-neighbours ranks order i h e =
+    pick-false (ltb (entryAt ranks order i) 2) _ _ (le-ltb (entryAt ranks order i) 2 h)
+    ∙ eq-eqb (entryAt ranks order i) (entryAt ranks order (i + 1)) e
+
+-- and the test of a run that is too long
+
+is-too-many : (num : Numbers) (ranks order : List ℕ) (i : ℕ) → i + said (num (getD order i 0)) < length order
+    → entryAt ranks order (i + said (num (getD order i 0))) ≡ entryAt ranks order i → tooMany num ranks order i ≡ true
+unfolding tooMany
+is-too-many num ranks order i h e =
+    both (ltb (i + said (num (getD order i 0))) (length order)) _ (lt-ltb (i + said (num (getD order i 0))) (length order) h)
+    (eq-eqb (entryAt ranks order (i + said (num (getD order i 0)))) (entryAt ranks order i) e)
+
+too-many-is : (num : Numbers) (ranks order : List ℕ) (i : ℕ) → tooMany num ranks order i ≡ true
+    → (i + said (num (getD order i 0)) < length order) × (entryAt ranks order (i + said (num (getD order i 0))) ≡ entryAt ranks order i)
+unfolding tooMany
+too-many-is num ranks order i t =
+    (
+      ltb-true (i + said (num (getD order i 0))) (length order) (both-left (ltb (i + said (num (getD order i 0))) (length order)) _ t),
+      eqb-true (entryAt ranks order (i + said (num (getD order i 0)))) (entryAt ranks order i)
+      (both-right (ltb (i + said (num (getD order i 0))) (length order)) _ t),
+    )
+
+run-first : (num : Numbers) (ranks order : List ℕ) (i : ℕ) → runFault num ranks order i ≡ true → equalNeighbours ranks order i ≡ true
+unfolding runFault
+run-first num ranks order i t = both-left (equalNeighbours ranks order i) _ t
+
+run-second : (num : Numbers) (ranks order : List ℕ) (i : ℕ) → num (getD order i 0) ≡ num (getD order (i + 1) 0) → runFault num ranks order i ≡ true
+    → tooMany num ranks order i ≡ true
+unfolding runFault
+run-second num ranks order i e t =
+    sym (pick-true (eqb (num (getD order i 0)) (num (getD order (i + 1) 0))) _ _ (eq-eqb (num (getD order i 0)) (num (getD order (i + 1) 0)) e))
+    ∙ both-right (equalNeighbours ranks order i) _ t
+
+twice-is : (key : ℕ → ℕ) (ranks order : List ℕ) (i : ℕ) → keyTwice key ranks order i ≡ true
+    → (followed key order i ≡ true) × (equalNeighbours ranks order i ≡ true)
+unfolding keyTwice
+twice-is key ranks order i t = (both-left (followed key order i) _ t, both-right (followed key order i) _ t)
 
 both-false : (a b : Bool) → (a ≡ false → b ≡ false) → (b ≡ false → a ≡ false) → a ≡ b
 both-false true true f g = refl
 both-false true false f g = g refl
 both-false false b f g = sym (f refl)
 
-module _ (f : Table) (n : ℕ) (ranks order : List ℕ) (rank : (s : ℕ) → 0 < s → s ≤ n → getD ranks s 0 ≡ rankOf (f s))
+-- slots that are listed, in order by rank
+module _ (f : Table) (n : ℕ) (ranks order : List ℕ) (rank-at : (s : ℕ) → 0 < s → s ≤ n → getD ranks s 0 ≡ rankOf (f s))
     (o : order ≡ sorted (λ x. getD ranks x 0) (slotNumbers n)) where
-  abbrev g : ℕ → ℕ
-  g x = getD ranks x 0
+  abbrev rank : ℕ → ℕ
+  rank t = rankOf (f t)
 
-  whole : AllSlots n order
-  whole = whole-order g n order o
+  pub whole : AllSlots n order
+  whole = whole-order (λ x. getD ranks x 0) n order o
 
-  -- two neighbours of one rank share a version
-  distinct-neighbours : Distinct f n → anyOf (equalNeighbours ranks order) 0 (n - 1) ≡ false
-  distinct-neighbours d = any-clear (equalNeighbours ranks order) 0 (n - 1) (λ i h. neighbours-apart ranks order (0 + i) _ _ refl refl (tied (0 + i) (omega arith)))
+  pub by-content : order ≡ sorted (λ t. rankOf (f t)) (slotNumbers n)
+  by-content = o ∙ sorted-alike (λ x. getD ranks x 0) rank (slotNumbers n) (λ x i. let t = slots-in n x i in rank-at x (t .0) (t .1))
+
+  pub slot-at : (i : ℕ) → i < n → Slot n (getD order i 0)
+  slot-at i h = whole .within (getD order i 0) (at-in order i (omega (arith, whole .size)))
+
+  pub entry-is : (i : ℕ) → i < n → entryAt ranks order i ≡ rankOf (f (getD order i 0))
+  entry-is i h = let t = slot-at i h in rank-at (getD order i 0) (t .0) (t .1)
+
+  pub rising : (i j : ℕ) → i < j → j < n → rankOf (f (getD order i 0)) ≤ rankOf (f (getD order j 0))
+  rising i j h k = rising-at rank order i j (rw by-content (rising-sorted rank (slotNumbers n))) h (omega (arith, whole .size))
+
+  pub position : (s : ℕ) → Slot n s → Stands order s
+  position s i = stands order s (whole .all s i)
+
+  pub run-at : (v : ℕ) → Span (λ t. rankOf (f t)) (2 + v) order (sharers f n v)
+  run-at v = sharers-span f n v order by-content
+
+  -- a record at position i of rank 2 + v
+  pub record-at : (i : ℕ) → i < n → 2 ≤ rankOf (f (getD order i 0)) → isRecord (f (getD order i 0)) ≡ true
+  record-at i h l = rank-record (f (getD order i 0)) l
+
+  module _ (num : Numbers) where
+    -- the test of the runs finds nothing
+    module _ (none : anyOf (runFault num ranks order) 0 (n - 1) ≡ false) where
+      no-fault : (i : ℕ) → i + 1 < n → runFault num ranks order i ≡ false
+      no-fault i h =
+          let z : 0 + i ≡ i = omega arith in
+          sym (ap (runFault num ranks order) z) ∙ any-none (runFault num ranks order) 0 (n - 1) none i (omega arith)
+
+      -- neighbours of one rank: one number, and no run that is too long
+      pair : (i : ℕ) → i + 1 < n → 2 ≤ rank (getD order i 0) → rank (getD order i 0) ≡ rank (getD order (i + 1) 0)
+          → (num (getD order i 0) ≡ num (getD order (i + 1) 0)) × (tooMany num ranks order i ≡ false)
+      unfolding runFault
+      pair i h l e = go (eqb a b) refl (sym (pick-first (equalNeighbours ranks order i) _ near) ∙ no-fault i h)
+        where
+          a : ℕ
+          a = num (getD order i 0)
+
+          b : ℕ
+          b = num (getD order (i + 1) 0)
+
+          near : equalNeighbours ranks order i ≡ true
+          near =
+              are-neighbours ranks order i (omega (arith, entry-is i (omega arith)))
+              (entry-is i (omega arith) ∙ e ∙ sym (entry-is (i + 1) h))
+
+          pick-first : (x y : Bool) → x ≡ true → x && y ≡ y
+          pick-first true y q = refl
+          pick-first false y q = absurd (true-false q refl)
+
+          go : (x : Bool) → eqb a b ≡ x → cond x (tooMany num ranks order i) true ≡ false → (a ≡ b) × (tooMany num ranks order i ≡ false)
+          go true q t = (eqb-true a b q, t)
+          go false q t = absurd (true-false refl t)
+
+      -- along a run
+      along : (d i : ℕ) → i + d < n → 2 ≤ rank (getD order i 0) → rank (getD order i 0) ≡ rank (getD order (i + d) 0)
+          → num (getD order i 0) ≡ num (getD order (i + d) 0)
+      along zero i h l e = let z : i ≡ i + 0 = omega arith in ap (λ (k : ℕ). num (getD order k 0)) z
+      along (suc d) i h l e =
+          let last : i + d + 1 ≡ i + suc d = omega arith in
+          let mid : rank (getD order i 0) ≡ rank (getD order (i + d) 0) = omega (arith, e, upto d (omega arith), rising (i + d) (i + suc d) (omega arith) h) in
+          along d i (omega arith) l mid
+          ∙ pair (i + d) (omega arith) (omega arith) (sym mid ∙ e ∙ sym (ap (λ (k : ℕ). rank (getD order k 0)) last)) .0
+          ∙ ap (λ (k : ℕ). num (getD order k 0)) last
+        where
+          upto : (d : ℕ) → i + d < n → rank (getD order i 0) ≤ rank (getD order (i + d) 0)
+          upto zero k = let z : i ≡ i + 0 = omega arith in omega (arith, ap (λ (k : ℕ). rank (getD order k 0)) z)
+          upto (suc d) k = rising i (i + suc d) (omega arith) k
+
+      abbrev Shared : (s t : ℕ) → Type 0
+      Shared s t = (isRecord (f s) ≡ true) × (isRecord (f t) ≡ true) × (topOf (f s) ≡ topOf (f t))
+
+      same-numbers : (s t : ℕ) → Slot n s → Slot n t → Shared s t → num s ≡ num t
+      same-numbers s t i j c = go (position s i) (position t j)
+        where
+          rank-s : rank s ≡ rank t
+          rank-s = omega (arith, record-rank (f s) (c .0), record-rank (f t) (c .1), c .2)
+
+          go : Stands order s → Stands order t → num s ≡ num t
+          go p q = by (compared (p .spot) (q .spot))
+            where
+              same : rank (getD order (p .spot) 0) ≡ rank (getD order (q .spot) 0)
+              same = ap rank (p .here) ∙ rank-s ∙ sym (ap rank (q .here))
+
+              big : 2 ≤ rank (getD order (p .spot) 0)
+              big = omega (arith, ap rank (p .here), record-rank (f s) (c .0))
+
+              from : (x y : ℕ) → x ≤ y → y < n → 2 ≤ rank (getD order x 0) → rank (getD order x 0) ≡ rank (getD order y 0) → num (getD order x 0) ≡ num (getD order y 0)
+              from x y h k b e =
+                  let z : x + (y - x) ≡ y = omega arith in
+                  along (y - x) x (omega arith) b (e ∙ sym (ap (λ (k : ℕ). rank (getD order k 0)) z)) ∙ ap (λ (k : ℕ). num (getD order k 0)) z
+
+              by : Compared (p .spot) (q .spot) → num s ≡ num t
+              by (low a h) = sym (ap num (p .here)) ∙ from (p .spot) (q .spot) h (omega (arith, whole .size, q .inside)) big same ∙ ap num (q .here)
+              by (high a h) =
+                  sym
+                  (sym (ap num (q .here)) ∙ from (q .spot) (p .spot) (omega arith) (omega (arith, whole .size, p .inside)) (omega (arith, same, big)) (sym same)
+                  ∙ ap num (p .here))
+
+      few-share : (s : ℕ) → Slot n s → isRecord (f s) ≡ true → sharers f n (topOf (f s)) ≤ said (num s)
+      few-share s i c = go (compared (sharers f n (topOf (f s))) (said (num s)))
+        where
+          r : Span (λ t. rankOf (f t)) (2 + topOf (f s)) order (sharers f n (topOf (f s)))
+          r = run-at (topOf (f s))
+
+          go : Compared (sharers f n (topOf (f s))) (said (num s)) → sharers f n (topOf (f s)) ≤ said (num s)
+          go (low a h) = h
+          go (high a h) = absurd (true-false long (pair (r .lo) (omega (arith, r .end, some, whole .size)) (omega (arith, first)) (first ∙ sym second) .1))
+            where
+              some : 1 ≤ said (num s)
+              some = said-some (num s)
+
+              first : rank (getD order (r .lo) 0) ≡ 2 + topOf (f s)
+              first = r .equal (r .lo) (omega arith) (omega arith)
+
+              second : rank (getD order (r .lo + 1) 0) ≡ 2 + topOf (f s)
+              second = r .equal (r .lo + 1) (omega arith) (omega (arith, some))
+
+              x : ℕ
+              x = getD order (r .lo) 0
+
+              at : Slot n (getD order (r .lo) 0)
+              at = slot-at (r .lo) (omega (arith, r .end, whole .size))
+
+              counts : isRecord (f x) ≡ true
+              counts = rank-record (f x) (omega (arith, first))
+
+              number : said (num x) ≡ said (num s)
+              number = ap said (same-numbers x s at i (counts, c, omega (arith, first, record-rank (f x) counts)))
+
+              reach : r .lo + said (num x) < r .lo + sharers f n (topOf (f s))
+              reach = omega (arith, number)
+
+              long : tooMany num ranks order (r .lo) ≡ true
+              long =
+                  is-too-many num ranks order (r .lo) (omega (arith, reach, r .end))
+                  (entry-is (r .lo + said (num x)) (omega (arith, reach, r .end, whole .size)) ∙ r .equal (r .lo + said (num x)) (omega arith) reach
+                  ∙ sym (entry-is (r .lo) (omega (arith, reach, r .end, whole .size)) ∙ first))
+
+    -- where the sharers agree the test of the runs finds nothing
+    agreed-runs : Agreed f num n → anyOf (runFault num ranks order) 0 (n - 1) ≡ false
+    agreed-runs g = any-clear (runFault num ranks order) 0 (n - 1) (λ i h. is-false (runFault num ranks order (0 + i)) (no-run (0 + i) (omega arith)))
+      where
+        no-run : (i : ℕ) → i + 1 < n → runFault num ranks order i ≡ true → ⊥
+        no-run i h t = omega (arith, g .few s (slot-at i (omega arith)) cs, inside, after)
+          where
+            near : (2 ≤ entryAt ranks order i) × (entryAt ranks order i ≡ entryAt ranks order (i + 1))
+            near = neighbours-are ranks order i (run-first num ranks order i t)
+
+            s : ℕ
+            s = getD order i 0
+
+            next : ℕ
+            next = getD order (i + 1) 0
+
+            rank-s : rank s ≡ entryAt ranks order i
+            rank-s = sym (entry-is i (omega arith))
+
+            cs : isRecord (f s) ≡ true
+            cs = rank-record (f s) (omega (arith, rank-s, near .0))
+
+            cn : isRecord (f next) ≡ true
+            cn = rank-record (f next) (omega (arith, entry-is (i + 1) h, near .0, near .1))
+
+            same : num s ≡ num next
+            same =
+                g .numbers s next (slot-at i (omega arith)) (slot-at (i + 1) h) cs cn
+                (omega (arith, record-rank (f s) cs, record-rank (f next) cn, rank-s, entry-is (i + 1) h, near .1))
+
+            long : (i + said (num s) < length order) × (entryAt ranks order (i + said (num s)) ≡ entryAt ranks order i)
+            long = too-many-is num ranks order i (run-second num ranks order i same t)
+
+            r : Span (λ t. rankOf (f t)) (2 + topOf (f s)) order (sharers f n (topOf (f s)))
+            r = run-at (topOf (f s))
+
+            top : rank s ≡ 2 + topOf (f s)
+            top = record-rank (f s) cs
+
+            inside : r .lo ≤ i
+            inside = r .inside i (omega (arith, whole .size)) top .0
+
+            after : i + said (num s) < r .lo + sharers f n (topOf (f s))
+            after =
+                r .inside (i + said (num s)) (long .0)
+                (sym (entry-is (i + said (num s)) (omega (arith, long .0, whole .size))) ∙ long .1 ∙ sym rank-s ∙ top) .1
+
+-- 7, BY THE ORDERS: the test of the runs and that of the keys find what document 02's rule names
+module _ (f : Table) (num : Numbers) (n b : ℕ) (ranks lows highs places order by-key : List ℕ) (h : Listed f n b ranks lows highs places)
+    (o : order ≡ sorted (λ x. getD ranks x 0) (slotNumbers n)) (k : by-key ≡ sorted (keyAt lows highs) order) where
+  abbrev key : ℕ → ℕ
+  key = keyAt lows highs
+
+  keyed : ByKey f n (keyAt lows highs) by-key
+  unfolding ordered
+  keyed = by-key-is f n key order by-key (h .key-at) (by-content f n ranks order (h .rank-at) o) k
+
+  spot : (s : ℕ) → Slot n s → Stands by-key s
+  spot s i = stands by-key s (keyed .whole .all s i)
+
+  slot-in : (i : ℕ) → i < n → Slot n (getD by-key i 0)
+  slot-in i l = keyed .whole .within (getD by-key i 0) (at-in by-key i (omega (arith, keyed .whole .size)))
+
+  rank-in : (i : ℕ) → i < n → entryAt ranks by-key i ≡ rankOf (f (getD by-key i 0))
+  rank-in i l = let t = slot-in i l in h .rank-at (getD by-key i 0) (t .0) (t .1)
+
+  -- two slots of one key and one version stand apart in the order by key: then the first of them and its neighbour are such a pair
+  twice-at : (i j : ℕ) → i < j → j < n → key (getD by-key i 0) ≡ key (getD by-key j 0) → rankOf (f (getD by-key i 0)) ≡ rankOf (f (getD by-key j 0))
+      → 2 ≤ rankOf (f (getD by-key i 0)) → keyTwice key ranks by-key i ≡ true
+  unfolding keyTwice
+  twice-at i j l u e r big =
+      both (followed key by-key i) _ (is-followed key by-key i (omega (arith, keyed .whole .size)) same-key)
+      (are-neighbours ranks by-key i (omega (arith, rank-in i (omega arith))) (rank-in i (omega arith) ∙ same-rank ∙ sym (rank-in (i + 1) (omega arith))))
     where
-      tied : (i : ℕ) → i < n - 1 → 2 ≤ g (getD order i 0) → g (getD order i 0) ≡ g (getD order (i + 1) 0) → ⊥
-      tied i h l e =
-          let size = whole .size in
-          let at = whole-within order n whole i (omega (arith, size)) in
-          let next = whole-within order n whole (i + 1) (omega (arith, size)) in
-          let ra = rank (getD order i 0) (at .0) (at .1) in
-          let rb = rank (getD order (i + 1) 0) (next .0) (next .1) in
-          let ca = counts-rank (f (getD order i 0)) (omega (arith, ra)) in
-          let cb = counts-rank (f (getD order (i + 1) 0)) (omega (arith, rb, ra, e)) in
-          d (getD order i 0) (getD order (i + 1) 0) at next
-          (λ q. omega (arith, once-at order i (i + 1) (whole .once) (omega (arith, size)) (omega (arith, size)) q)) ca cb
-          (omega (arith, ra, rb, e, rank-counts (f (getD order i 0)) ca, rank-counts (f (getD order (i + 1) 0)) cb))
+      size : length by-key ≡ n
+      size = keyed .whole .size
 
-  -- where no neighbours have one rank no version is shared
-  neighbours-distinct : anyOf (equalNeighbours ranks order) 0 (n - 1) ≡ false → Distinct f n
-  neighbours-distinct none s t i j ne p q e =
-      parted-all g s t order (rw o (rising-sorted g (slotNumbers n))) parted (whole .all s i) (whole .all t j) ne
-      (omega (arith, rank s (i .0) (i .1), rank-counts (f s) p))
-      (omega (arith, rank s (i .0) (i .1), rank t (j .0) (j .1), rank-counts (f s) p, rank-counts (f t) q, e))
+      -- position j or before it
+      upto : (g : ℕ → ℕ) → ((x : ℕ) → i + 1 < x → x < n → g (getD by-key (i + 1) 0) ≤ g (getD by-key x 0)) → Compared j (i + 1)
+          → g (getD by-key (i + 1) 0) ≤ g (getD by-key j 0)
+      upto g m (low a v) = let z : j ≡ i + 1 = omega arith in omega (arith, ap (λ (x : ℕ). g (getD by-key x 0)) z)
+      upto g m (high a v) = m j v u
+
+      same-key : key (getD by-key i 0) ≡ key (getD by-key (i + 1) 0)
+      same-key =
+          omega (
+            arith,
+            rising-at key by-key i (i + 1) (keyed .rising) (omega arith) (omega (arith, size)),
+            upto key (λ x v w. rising-at key by-key (i + 1) x (keyed .rising) v (omega (arith, size))) (compared j (i + 1)),
+            e,
+          )
+
+      same-rank : rankOf (f (getD by-key i 0)) ≡ rankOf (f (getD by-key (i + 1) 0))
+      same-rank =
+          omega (
+            arith,
+            by-key-at key (λ x. rankOf (f x)) by-key i (i + 1) (keyed .by-rank) (omega arith) (omega (arith, size)) same-key,
+            last (compared j (i + 1)),
+            r,
+          )
+        where
+          last : Compared j (i + 1) → rankOf (f (getD by-key (i + 1) 0)) ≤ rankOf (f (getD by-key j 0))
+          last (low a v) = let z : j ≡ i + 1 = omega arith in omega (arith, ap (λ (x : ℕ). rankOf (f (getD by-key x 0))) z)
+          last (high a v) = by-key-at key (λ x. rankOf (f x)) by-key (i + 1) j (keyed .by-rank) v (omega (arith, size)) (sym same-key ∙ e)
+
+  no-key-twice : anyOf (keyTwice key ranks by-key) 0 (n - 1) ≡ false → (s t : ℕ) → Slot n s → Slot n t → (s ≡ t → ⊥) → isRecord (f s) ≡ true
+      → isRecord (f t) ≡ true → topOf (f s) ≡ topOf (f t) → keyIn (f s) ≡ keyIn (f t) → ⊥
+  no-key-twice none s t i j ne p q e d = go (spot s i) (spot t j)
     where
-      parted : Parted g order
-      parted k h =
-          let z : 0 + k ≡ k = omega arith in
-          apart-neighbours ranks order k _ _ refl refl
-          (sym (ap (equalNeighbours ranks order) z) ∙ any-none (equalNeighbours ranks order) 0 (n - 1) none k (omega (arith, whole .size)))
+      rs : rankOf (f s) ≡ 2 + topOf (f s)
+      rs = record-rank (f s) p
 
-  pub neighbours-shared : anyOf (equalNeighbours ranks order) 0 (n - 1) ≡ sharedVersion f n
-  neighbours-shared =
-      both-false (anyOf (equalNeighbours ranks order) 0 (n - 1)) (sharedVersion f n) (λ e. distinct-shared f n (neighbours-distinct e))
-      (λ e. distinct-neighbours (shared-distinct f n e))
+      rt : rankOf (f t) ≡ 2 + topOf (f t)
+      rt = record-rank (f t) q
+
+      same-key : key s ≡ key t
+      same-key = h .key-at s (i .0) (i .1) (omega (arith, rs)) ∙ d ∙ sym (h .key-at t (j .0) (j .1) (omega (arith, rt)))
+
+      clear : (x : ℕ) → x + 1 < n → keyTwice key ranks by-key x ≡ false
+      clear x u =
+          let z : 0 + x ≡ x = omega arith in
+          sym (ap (keyTwice key ranks by-key) z) ∙ any-none (keyTwice key ranks by-key) 0 (n - 1) none x (omega arith)
+
+      go : Stands by-key s → Stands by-key t → ⊥
+      go a c = by (compared (a .spot) (c .spot)) (compared (c .spot) (a .spot))
+        where
+          ka : key (getD by-key (a .spot) 0) ≡ key (getD by-key (c .spot) 0)
+          ka = ap key (a .here) ∙ same-key ∙ sym (ap key (c .here))
+
+          ra : rankOf (f (getD by-key (a .spot) 0)) ≡ rankOf (f (getD by-key (c .spot) 0))
+          ra = ap (λ (x : ℕ). rankOf (f x)) (a .here) ∙ omega (arith, rs, rt, e) ∙ sym (ap (λ (x : ℕ). rankOf (f x)) (c .here))
+
+          big : 2 ≤ rankOf (f (getD by-key (a .spot) 0))
+          big = omega (arith, rs, ap (λ (x : ℕ). rankOf (f x)) (a .here))
+
+          size : length by-key ≡ n
+          size = keyed .whole .size
+
+          by : Compared (a .spot) (c .spot) → Compared (c .spot) (a .spot) → ⊥
+          by (low m u) (low o v) = let z : a .spot ≡ c .spot = omega arith in ne (sym (a .here) ∙ ap (λ (x : ℕ). getD by-key x 0) z ∙ c .here)
+          by (low m u) (high o v) =
+              true-false (twice-at (a .spot) (c .spot) v (omega (arith, size, c .inside)) ka ra big) (clear (a .spot) (omega (arith, size, c .inside)))
+          by (high m u) w =
+              true-false (twice-at (c .spot) (a .spot) u (omega (arith, size, a .inside)) (sym ka) (sym ra) (omega (arith, ra, big)))
+              (clear (c .spot) (omega (arith, size, a .inside)))
+
+  agreed-keys : Agreed f num n → anyOf (keyTwice key ranks by-key) 0 (n - 1) ≡ false
+  agreed-keys g = any-clear (keyTwice key ranks by-key) 0 (n - 1) (λ i u. is-false (keyTwice key ranks by-key (0 + i)) (no-pair (0 + i) (omega arith)))
+    where
+      no-pair : (i : ℕ) → i + 1 < n → keyTwice key ranks by-key i ≡ true → ⊥
+      no-pair i u t =
+          g .keys s next (slot-in i (omega arith)) (slot-in (i + 1) u)
+          (λ q. omega (arith, once-at by-key i (i + 1) (keyed .whole .once) (omega (arith, keyed .whole .size)) (omega (arith, keyed .whole .size)) q))
+          cs cn (omega (arith, record-rank (f s) cs, record-rank (f next) cn, same-rank))
+          (sym (keyed .key-is s (slot-in i (omega arith)) big) ∙ followed-key key by-key i (pair .0) ∙ keyed .key-is next (slot-in (i + 1) u) (omega (arith, same-rank, big)))
+        where
+          pair : (followed key by-key i ≡ true) × (equalNeighbours ranks by-key i ≡ true)
+          pair = twice-is key ranks by-key i t
+
+          near : (2 ≤ entryAt ranks by-key i) × (entryAt ranks by-key i ≡ entryAt ranks by-key (i + 1))
+          near = neighbours-are ranks by-key i (pair .1)
+
+          s : ℕ
+          s = getD by-key i 0
+
+          next : ℕ
+          next = getD by-key (i + 1) 0
+
+          big : 2 ≤ rankOf (f s)
+          big = omega (arith, rank-in i (omega arith), near .0)
+
+          same-rank : rankOf (f s) ≡ rankOf (f next)
+          same-rank = sym (rank-in i (omega arith)) ∙ near .1 ∙ rank-in (i + 1) u
+
+          cs : isRecord (f s) ≡ true
+          cs = rank-record (f s) big
+
+          cn : isRecord (f next) ≡ true
+          cn = rank-record (f next) (omega (arith, same-rank, big))
+
+  orders-agreed : cond (anyOf (runFault num ranks order) 0 (n - 1)) true (anyOf (keyTwice key ranks by-key) 0 (n - 1)) ≡ false → Agreed f num n
+  orders-agreed e =
+      let t = or-none (anyOf (runFault num ranks order) 0 (n - 1)) (anyOf (keyTwice key ranks by-key) 0 (n - 1)) e in
+      record {
+        numbers = λ x y i j p q d. same-numbers f n ranks order (h .rank-at) o num (t .0) x y i j (p, q, d);
+        few = few-share f n ranks order (h .rank-at) o num (t .0);
+        keys = no-key-twice (t .1);
+      }
+
+  pub orders-shared : cond (anyOf (runFault num ranks order) 0 (n - 1)) true (anyOf (keyTwice key ranks by-key) 0 (n - 1)) ≡ sharersFault f num n
+  orders-shared = both-false _ _ (λ e. agreed-fault f num n (orders-agreed e)) (λ e. back (fault-agreed f num n e))
+    where
+      back : Agreed f num n → cond (anyOf (runFault num ranks order) 0 (n - 1)) true (anyOf (keyTwice key ranks by-key) 0 (n - 1)) ≡ false
+      back g = pick-false (anyOf (runFault num ranks order) 0 (n - 1)) _ _ (agreed-runs f n ranks order (h .rank-at) o num g) ∙ agreed-keys g

@@ -16,7 +16,8 @@ use Rattle.prelude.specs.Answer.{gives}
 use Rattle.layout.specs.Size.{slotsIn}
 use Rattle.layout.specs.Header.{lentFault}
 use Rattle.layout.specs.Record.{Layout}
-use Rattle.layout.specs.Content.{Table, tableOf}
+use Rattle.layout.specs.Content.{Table}
+use Rattle.table.specs.Complete.{tableOf}
 use Rattle.prelude.proofs.Refusals.{orElse-first, orElse-later, taken-leaves, refused-keeps}
 use Rattle.table.specs.Table.{keyIn, live, nextVersion}
 use Rattle.index.specs.Index.{Index, headOf, stateOf}

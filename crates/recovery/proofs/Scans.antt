@@ -234,12 +234,12 @@ high-left l n s high highs after lay other e z d =
       others = λ t ne. ap (λ (r : List ℕ). getD r t 0) d;
     }
 
--- the same of keys: entry k + 1 of lows is set, and that of highs by HighSet
-keys-next : (g : ℕ → ℕ) (lows highs after : List ℕ) (k low high : ℕ) → suc k < length lows → keyWith low high ≡ g (suc k)
-    → HighSet highs after (suc k) high → ((s : ℕ) → 0 < s → s ≤ k → keyAt lows highs s ≡ g s)
-    → (s : ℕ) → 0 < s → s ≤ suc k → keyAt (set lows (suc k) low) after s ≡ g s
+-- the same of the keys of records, whose rank is 2 or more: entry k + 1 of lows is set, and that of highs by HighSet
+keys-next : (rank g : ℕ → ℕ) (lows highs after : List ℕ) (k low high : ℕ) → suc k < length lows → keyWith low high ≡ g (suc k)
+    → HighSet highs after (suc k) high → ((s : ℕ) → 0 < s → s ≤ k → 2 ≤ rank s → keyAt lows highs s ≡ g s)
+    → (s : ℕ) → 0 < s → s ≤ suc k → 2 ≤ rank s → keyAt (set lows (suc k) low) after s ≡ g s
 unfolding keyAt
-keys-next g lows highs after k low high l e w h s p q = by-cases (ℕ-discrete s (suc k)) same other
+keys-next rank g lows highs after k low high l e w h s p q r = by-cases (ℕ-discrete s (suc k)) same other
   where
     same : s ≡ suc k → keyWith (getD (set lows (suc k) low) s 0) (getD after s 0) ≡ g s
     same i =
@@ -247,7 +247,7 @@ keys-next g lows highs after k low high l e w h s p q = by-cases (ℕ-discrete s
         ∙ ap₂ (λ (x y : ℕ). keyWith x y) (getD-set-same lows (suc k) low 0 l) (w .here) ∙ e ∙ ap g (sym i)
 
     other : (s ≡ suc k → ⊥) → keyWith (getD (set lows (suc k) low) s 0) (getD after s 0) ≡ g s
-    other i = ap₂ (λ (x y : ℕ). keyWith x y) (getD-set-other lows (suc k) s low 0 i) (w .others s i) ∙ h s p (omega arith)
+    other i = ap₂ (λ (x y : ℕ). keyWith x y) (getD-set-other lows (suc k) s low 0 i) (w .others s i) ∙ h s p (omega arith) r
 
 scanned-none : (l : ℕ) (m : ℕ → ℕ) (b : ℕ) (ranks lows highs places : List ℕ)
     → Scanned l m 0 b ranks lows highs places (record { mark = false; fault = 0; slot = 0; broken = 0; top = 0 })
@@ -255,7 +255,7 @@ unfolding anyOf greatest lowest atLowest say brokenCount count
 scanned-none l m b ranks lows highs places =
     record {
       listed =
-          record { rank-at = λ s p q. absurd (omega arith); key-at = λ s p q. absurd (omega arith); place-at = λ s p q. absurd (omega arith) };
+          record { rank-at = λ s p q. absurd (omega arith); key-at = λ s p q r. absurd (omega arith); place-at = λ s p q. absurd (omega arith) };
       marks-are = refl;
       fault-is = refl;
       slot-is = refl;
@@ -274,7 +274,7 @@ scanned-next l m k b ranks lows highs places after all next slot g r y p w here 
           record {
             rank-at = entries-next (λ i. rankOf (content l m i)) ranks k (slot .rank) r (here .rank-is) (g .listed .rank-at);
             key-at =
-                keys-next (λ i. keyIn (content l m i)) lows highs after k (slot .low) (slot .high) y (here .key-is) w (g .listed .key-at);
+                keys-next (λ i. rankOf (content l m i)) (λ i. keyIn (content l m i)) lows highs after k (slot .low) (slot .high) y (here .key-is) w (g .listed .key-at);
             place-at = entries-next (λ i. putPlace b (content l m i)) places k (slot .place) p (here .place-is) (g .listed .place-at);
           };
       marks-are = j .mark-is ∙ ap₂ (λ (u v : Bool). cond u true v) (g .marks-are) (here .mark-is) ∙ with-last;
