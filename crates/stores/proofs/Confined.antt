@@ -1,22 +1,24 @@
 -- Stores that write nothing, a record or an opening store into each slot leave the other slots, and no slot with a new fault. Assumes nothing.
 use mathlib.Core.Path.{_≡_, refl, sym, ap, _∙_}
 use mathlib.Core.Bool.{cond}
-use mathlib.Core.Logic.{by-cases}
-use mathlib.Core.List.{List, []}
+use mathlib.Core.Logic.{_⊎_, inl, inr, ⊎-elim, by-cases}
+use mathlib.Core.List.{List, [], _∷_}
 use Prim.Native.Nat.{ℕ, _+_, _*_, _/_, _≤_}
 use native.Mathlib.Nat.{div-add-mod}
 use native.Mathlib.Decide.{decLt, ℕ-discrete}
 use native.Mathlib.Omega.{arith}
 use lib.Dec.{ltb}
+use lib.ListN.{length}
 use borrow.Author.Tests.{lt-ltb, le-ltb}
 use Rattle.prelude.proofs.Choice.{pick-true, pick-false}
+use Rattle.prelude.specs.Members.{In}
 use Rattle.layout.specs.Line.{line}
 use Rattle.layout.specs.Fault.{recordFault}
-use Rattle.stores.specs.Store.{Store, onLine}
-use Rattle.stores.specs.Written.{marked, bodyA, bodyB, lineStores}
+use Rattle.stores.specs.Store.{Store, standing, onLine}
+use Rattle.stores.specs.Written.{marked, bodyA, bodyB, run, lineStores}
 use Rattle.stores.specs.Cut.{afterCut, Confined}
 use Rattle.stores.proofs.defs.Cut.{Avoids, SlotStores, avoids, opens, carries}
-use Rattle.stores.proofs.StandingStores.{line-out}
+use Rattle.stores.proofs.StandingStores.{line-out, all-stand}
 use Rattle.stores.proofs.Line.{line-cut, marked-first}
 use Rattle.stores.proofs.SlotStores.{spare-content, spare-number, spare-fault, carried-fault}
 use Rattle.stores.proofs.Opened.{opened-fault, opened-mark}
@@ -39,6 +41,14 @@ mark-off counts m ss n none h = omega (arith, ap (λ (A : ℕ → ℕ). A 0) (li
 word-off : (counts m : ℕ → ℕ) (ss : List Store) (i : ℕ) → onLine (i / 8) ss ≡ [] → afterCut counts ss m i ≡ m i
 word-off counts m ss i none =
     ap (afterCut counts ss m) (sym (div-add-mod i 8)) ∙ ap (λ (A : ℕ → ℕ). A i) (line-out counts m ss (i / 8) none) ∙ ap m (div-add-mod i 8)
+
+in-or-out : (t : ℕ) (l : List ℕ) → In t l ⊎ (In t l → ⊥)
+in-or-out t [] = inr (λ i. i)
+in-or-out t (x ∷ l) = go (in-or-out t l)
+  where
+    go : In t l ⊎ (In t l → ⊥) → In t (x ∷ l) ⊎ (In t (x ∷ l) → ⊥)
+    go (inl i) = inl (inr i)
+    go (inr o) = by-cases (ℕ-discrete t x) (λ e. inl (inl e)) (λ ne. inr (⊎-elim ne o))
 
 -- ---- any stores
 
@@ -81,3 +91,30 @@ module _ (l : ℕ) (counts m : ℕ → ℕ) (ss : List Store) where
         marks = λ n h. mark-kept n (n / 2) refl (how (n / 2)) h;
         faults = λ t h. fault-kept t (how t) h;
       }
+
+  -- ---- stores into the slots of a list
+
+  module _ (slots : List ℕ) (out : (t : ℕ) → (In t slots → ⊥) → Avoids ss t) (into : (t : ℕ) → In t slots → SlotStores l m ss t) where
+    into-each : (t : ℕ) → SlotStores l m ss t
+    into-each t = go (in-or-out t slots)
+      where
+        go : In t slots ⊎ (In t slots → ⊥) → SlotStores l m ss t
+        go (inl i) = into t i
+        go (inr o) = avoids (out t o)
+
+    pub confined-to : Confined l m (afterCut counts ss m) (λ t. In t slots)
+    confined-to = confined (λ t. In t slots) out into-each
+
+    few-on : (n s : ℕ) → n / 2 ≡ s → SlotStores l m ss s → length (onLine n ss) ≤ 8
+    unfolding lineStores run
+    few-on n s q (avoids none) = omega (arith, ap (λ (t : List Store). length t) (line-free n s q none))
+    few-on n s q (opens one) =
+        by-cases (ℕ-discrete n (2 * s)) (λ e. rw e (omega (arith, ap (λ (t : List Store). length t) (one .line-A))))
+        (λ ne. let e : n ≡ 2 * s + 1 = omega arith in rw e (omega (arith, ap (λ (t : List Store). length t) (one .line-B))))
+    few-on n s q (carries key kind number value version has fine good above) =
+        by-cases (ℕ-discrete n (2 * s)) (λ e. rw e (omega (arith, ap (λ (t : List Store). length t) (has .line-A))))
+        (λ ne. let e : n ≡ 2 * s + 1 = omega arith in rw e (omega (arith, ap (λ (t : List Store). length t) (has .line-B))))
+
+    -- with a count of 8 for each line all of them stand
+    pub eight-stand : standing (λ n. 8) ss ≡ ss
+    eight-stand = all-stand ss (λ n. 8) (λ n. few-on n (n / 2) refl (into-each (n / 2)))

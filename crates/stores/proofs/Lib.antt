@@ -9,6 +9,8 @@ pub mod Opened
 pub mod Confined
 pub mod Table
 pub mod Bytes
+pub mod Basket
+pub mod Opening
 pub mod Halves
 pub mod RecordStores
 pub mod StandingStores

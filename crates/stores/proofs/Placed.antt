@@ -128,6 +128,16 @@ module _ (l a b key version : ℕ) where
       kind-alone : kindWord w 0 0 ≡ w
       kind-alone = omega arith
 
+  -- a record without a value, by its kind word
+  pub no-value : (kind number w : ℕ) (words : List ℕ) → w ≡ kindWord kind 0 number → words ≡ recordWords l a b key w 0 [] version
+      → words ≡ recordWords l a b key kind number [] version
+  no-value kind number w words e f =
+      f ∙ words-by-place w 0 [] ∙ ap (λ (x : ℕ). tabulate (λ p. wordAt x (placedWord l [] (limit l / 8) p) p) 0 16) word-same
+      ∙ sym (words-by-place kind number [])
+    where
+      word-same : kindWord w 0 0 ≡ kindWord kind 0 number
+      word-same = omega arith
+
   some-words : Layout l → (w : ℕ) (value : List ℕ) (n : ℕ) → l + n ≤ 11
       → withValue l value n (tabulate (wordAt w 0) 0 16) ≡ tabulate (λ p. wordAt w (placedWord l value n p) p) 0 16
   unfolding withValue placedWord

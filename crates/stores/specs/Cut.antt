@@ -14,7 +14,7 @@ use Rattle.layout.specs.Record.{Layout, limit}
 use Rattle.layout.specs.Content.{Content, broken, made, content, top, topOf, numberIn}
 use Rattle.layout.specs.Fault.{recordFault}
 use Rattle.stores.specs.Store.{Store, standing, playedWords}
-use Rattle.stores.specs.Basket.{Entry, entrySlots}
+use Rattle.stores.specs.Basket.{BasketRecord, basketSlots}
 
 -- the words after a cut that leaves `counts n` stores of line n
 abbrev pub afterCut : (counts : ℕ → ℕ) → List Store → (ℕ → ℕ) → ℕ → ℕ
@@ -76,17 +76,17 @@ pub record Written (l : ℕ) (m m′ : ℕ → ℕ) (s key kind number : ℕ) (v
   pub here : SlotWritten l m m′ s key kind number value version a b
   pub rest : Confined l m m′ (λ t. t ≡ s)
 
--- an entry may be written over slot `slot` of the words m
-pub record Writable (l : ℕ) (m : ℕ → ℕ) (number version : ℕ) (e : Entry) : Type 0 where
+-- a record of a basket may be written: its fields fit and are lawful, and its version is above those in its slot of the words m
+pub record LawfulRecord (l : ℕ) (m : ℕ → ℕ) (number version : ℕ) (e : BasketRecord) : Type 0 where
   pub fields : Fields l (e .key) (e .kind) number (e .value)
   pub lawful : Lawful (e .kind) number (e .value)
   pub above : top m (e .slot) < version
 
 -- these records were written, with `counts n` of the stores of line n standing: the words were m and are m′
-pub record AllWritten (l : ℕ) (m m′ : ℕ → ℕ) (number version : ℕ) (entries : List Entry) (counts : ℕ → ℕ) : Type 0 where
+pub record AllWritten (l : ℕ) (m m′ : ℕ → ℕ) (number version : ℕ) (records : List BasketRecord) (counts : ℕ → ℕ) : Type 0 where
   pub each :
-      All (λ (e : Entry). SlotWritten l m m′ (e .slot) (e .key) (e .kind) number (e .value) version (counts (2 * e .slot)) (counts (2 * e .slot + 1))) entries
-  pub rest : Confined l m m′ (λ t. In t (entrySlots entries))
+      All (λ (e : BasketRecord). SlotWritten l m m′ (e .slot) (e .key) (e .kind) number (e .value) version (counts (2 * e .slot)) (counts (2 * e .slot + 1))) records
+  pub rest : Confined l m m′ (λ t. In t (basketSlots records))
 
 -- slot s was to be opened, with k stores standing on its line A: it is as it was, or broken with the version that it had, which line B still carries
 pub data SlotOpened (l : ℕ) (m m′ : ℕ → ℕ) (s k : ℕ) : Type 0 where
