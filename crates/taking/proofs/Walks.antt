@@ -3,7 +3,7 @@
 use mathlib.Core.Path.{_≡_, refl, sym, ap, _∙_}
 use mathlib.Core.Bool.{Bool, true, false, cond}
 use mathlib.Core.List.{List, []}
-use Prim.Native.Nat.{ℕ, zero, suc, _-_, _≤_, _<_}
+use Prim.Native.Nat.{ℕ, zero, suc, _-_, _^_, _≤_, _<_}
 use native.Mathlib.Omega.{arith}
 use lib.Dec.{eqb, ltb}
 use lib.ListN.{getD}
@@ -160,3 +160,26 @@ module _ (p q : ℕ → Bool) (next : List ℕ) (n : ℕ) (wider : (s : ℕ) →
           ∙ end-fine n (more - 1) _ (t .low) (t .high) (omega (arith, t .some))
       go f false false x y rest =
           walk-passed q next n more at (omega arith) (f .low) (f .high) y ∙ rest (passed f x)
+
+-- ---- the loop of the walk: what is left of it answers for the whole
+
+pub record Walking (may : ℕ → Bool) (next : List ℕ) (n most first at left : ℕ) : Type 0 where
+  pub place : at < 2 ^ 32
+  pub rest : walkFault may next n left at ≡ walkFault may next n most first
+
+module _ (may : ℕ → Bool) (next : List ℕ) (n most first at left : ℕ) (w : Walking may next n most first at left) where
+  pub at-end : at ≡ 0 → 28 ≡ walkFault may next n most first
+  at-end z = sym (walk-ended may next n left at z) ∙ w .rest
+
+  pub above : n < at → 11 ≡ walkFault may next n most first
+  above h = sym (walk-above may next n left at h) ∙ w .rest
+
+  pub over : left ≤ 0 → (at ≡ 0 → ⊥) → 11 ≡ walkFault may next n most first
+  over h ne = sym (walk-over may next n left at (omega arith) ne) ∙ w .rest
+
+  module _ (some : 0 < left) (low : at ≡ 0 → ⊥) (high : at ≤ n) (b : Bool) (e : b ≡ may at) where
+    pub taken-here : b ≡ true → (r : ℕ) → r ≡ endFault n (left - 1) (getD next at 0) → r ≡ walkFault may next n most first
+    taken-here q r h = h ∙ sym (walk-taken may next n left at some low high (sym e ∙ q)) ∙ w .rest
+
+    pub on : b ≡ false → getD next at 0 < 2 ^ 32 → Walking may next n most first (getD next at 0) (left - 1)
+    on q h = record { place = h; rest = sym (walk-passed may next n left at some low high (sym e ∙ q)) ∙ w .rest }
