@@ -3,8 +3,11 @@ use mathlib.Core.Path.{_≡_, refl, sym, ap, ap₂, _∙_}
 use mathlib.Core.Bool.{Bool, true, false, cond, true≢false}
 use Prim.Native.Nat.{ℕ, zero, suc, _+_, _-_, _≤_, _<_}
 use native.Mathlib.Omega.{arith}
-use Rattle.prelude.proofs.Choice.{pick-true, pick-false}
+use lib.Dec.{eqb}
+use borrow.Author.Tests.{eqb-true, eqb-false}
+use Rattle.prelude.specs.Members.{Slot}
 use Rattle.prelude.specs.Range.{anyOf}
+use Rattle.prelude.proofs.Choice.{pick-true, pick-false}
 
 -- the search from start to end has come to k: what is left of it answers for the whole
 pub record Going (p : ℕ → Bool) (end start k : ℕ) : Type 0 where
@@ -73,3 +76,28 @@ any-some p k (suc n) (suc i) h e = either (p k) _ (any-some p (suc k) n i (omega
     either : (a b : Bool) → b ≡ true → cond a true b ≡ true
     either true b q = refl
     either false b q = q
+
+-- over the slots
+pub any-none-slot : (p : ℕ → Bool) (n : ℕ) → anyOf p 1 n ≡ false → (t : ℕ) → Slot n t → p t ≡ false
+any-none-slot p n e t i = let at : 1 + (t - 1) ≡ t = omega arith in ap p (sym at) ∙ any-none p 1 n e (t - 1) (omega arith)
+
+pub any-clear-slot : (p : ℕ → Bool) (n : ℕ) → ((t : ℕ) → Slot n t → p t ≡ false) → anyOf p 1 n ≡ false
+any-clear-slot p n h = any-clear p 1 n (λ i l. h (1 + i) (omega arith))
+
+-- a slot that passes a test, or none
+pub data Passing (p : ℕ → Bool) (n : ℕ) : Type 0 where
+  passes : (s : ℕ) → Slot n s → p s ≡ true → Passing p n
+  none-passes : ((t : ℕ) → Slot n t → p t ≡ false) → Passing p n
+
+pub passing : (p : ℕ → Bool) (n : ℕ) → Passing p n
+passing p zero = none-passes (λ t i. absurd (omega arith))
+passing p (suc n) = go (p (suc n)) refl (passing p n)
+  where
+    each : p (suc n) ≡ false → ((t : ℕ) → Slot n t → p t ≡ false) → (x : Bool) → (t : ℕ) → Slot (suc n) t → eqb t (suc n) ≡ x → p t ≡ false
+    each e h true t i q = ap p (eqb-true t (suc n) q) ∙ e
+    each e h false t i q = h t (omega (arith, eqb-false t (suc n) q))
+
+    go : (b : Bool) → p (suc n) ≡ b → Passing p n → Passing p (suc n)
+    go true e ih = passes (suc n) (omega arith) e
+    go false e (passes s i q) = passes s (omega arith) q
+    go false e (none-passes h) = none-passes (λ t i. each e h (eqb t (suc n)) t i refl)

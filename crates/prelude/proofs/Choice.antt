@@ -1,6 +1,6 @@
 -- A choice by a test whose value is known, and the two values of a test. Assumes nothing.
-use mathlib.Core.Path.{_≡_, refl, ap, sym, _∙_}
-use mathlib.Core.Bool.{Bool, true, false, cond, true≢false, _&&_}
+use mathlib.Core.Path.{_≡_, refl, sym, ap, _∙_}
+use mathlib.Core.Bool.{Bool, true, false, cond, _&&_, true≢false}
 use mathlib.Core.Logic.{_⊎_, inl, inr}
 
 pub pick-true {ℓ} : {A : Type ℓ} (b : Bool) (x y : A) → b ≡ true → cond b x y ≡ x
@@ -27,3 +27,22 @@ both-right false b e = absurd (true-false e refl)
 pub both : (a b : Bool) → a ≡ true → b ≡ true → a && b ≡ true
 both true b e d = d
 both false b e d = e
+
+pub false-left : (a b : Bool) → a ≡ false → a && b ≡ false
+false-left true b e = absurd (true-false refl e)
+false-left false b e = refl
+
+pub false-right : (a b : Bool) → b ≡ false → a && b ≡ false
+false-right true b e = e
+false-right false b e = refl
+
+-- a test that is not true is false
+pub is-false : (b : Bool) → (b ≡ true → ⊥) → b ≡ false
+is-false true h = absurd (h refl)
+is-false false h = refl
+
+-- tests that imply each other are equal
+pub same-test : (a b : Bool) → (a ≡ true → b ≡ true) → (b ≡ true → a ≡ true) → a ≡ b
+same-test true b h g = sym (h refl)
+same-test false true h g = absurd (true-false (g refl) refl)
+same-test false false h g = refl

@@ -1,13 +1,16 @@
 -- How many slots pass a test. Assumes nothing.
 use mathlib.Core.Path.{_≡_, refl, sym, ap, ap₂, _∙_}
 use mathlib.Core.Bool.{Bool, true, false, cond}
+use mathlib.Core.List.{List, [], _∷_, _++_}
 use Prim.Native.Nat.{ℕ, zero, suc, _≤_, _<_}
 use native.Mathlib.Omega.{arith}
 use lib.Dec.{eqb}
+use lib.ListN.{length}
 use borrow.Author.Tests.{eqb-true, eqb-false}
-use Rattle.prelude.proofs.Choice.{true-false}
+use Rattle.prelude.specs.Filter.{filter}
+use Rattle.prelude.specs.Members.{Slot, slotNumbers}
 use Rattle.prelude.specs.Range.{count}
-use Rattle.prelude.specs.Members.{Slot}
+use Rattle.prelude.proofs.Choice.{true-false}
 
 abbrev step : Bool → ℕ → ℕ
 step b m = cond b (suc m) m
@@ -109,3 +112,46 @@ count-one p (suc n) s h = go (eqb s (suc n)) refl (count-one p n s (λ t i. h t 
     go true e ih =
         let at = eqb-true s (suc n) e in last (p (suc n)) (count-none p n (λ t i. h t (omega arith) (λ q. omega arith)))
     go false e ih = rw (h (suc n) (omega arith) (λ q. eqb-false s (suc n) e (sym q))) ih
+
+-- and fewer where one that passes the other fails it
+pub count-less : (p q : ℕ → Bool) (n s : ℕ) → Slot n s → q s ≡ false → p s ≡ true → ((t : ℕ) → Slot n t → q t ≡ true → p t ≡ true)
+    → count q n < count p n
+unfolding count
+count-less p q zero s i e d h = absurd (omega arith)
+count-less p q (suc n) s i e d h = go (eqb s (suc n)) refl (count-less p q n s)
+  where
+    below : (t : ℕ) → Slot n t → q t ≡ true → p t ≡ true
+    below t j = h t (omega arith)
+
+    go : (b : Bool) → eqb s (suc n) ≡ b → (Slot n s → q s ≡ false → p s ≡ true → ((t : ℕ) → Slot n t → q t ≡ true → p t ≡ true) → count q n < count p n)
+        → step (q (suc n)) (count q n) < step (p (suc n)) (count p n)
+    go true l ih =
+        let r = eqb-true s (suc n) l in
+        rw (sym (ap q r) ∙ e, sym (ap p r) ∙ d) (omega (arith, count-fewer p q n below))
+    go false l ih = last (q (suc n)) (p (suc n)) (h (suc n) (omega arith)) (ih (omega (arith, eqb-false s (suc n) l)) e d below)
+      where
+        last : (a b : Bool) → (a ≡ true → b ≡ true) → count q n < count p n → step a (count q n) < step b (count p n)
+        last true true k m = omega arith
+        last true false k m = absurd (true-false (k refl) refl)
+        last false true k m = omega arith
+        last false false k m = m
+
+-- as many as the list of all slots keeps
+pub count-filter : (p : ℕ → Bool) (n : ℕ) → count p n ≡ length (filter p (slotNumbers n))
+unfolding count slotNumbers filter
+count-filter p zero = refl
+count-filter p (suc n) = go (p (suc n)) refl (count-filter p n)
+  where
+    last : (l : List ℕ) (x : ℕ) (b : Bool) → p x ≡ b → length (filter p (l ++ (x ∷ []))) ≡ step b (length (filter p l))
+    last [] x true e = rw e refl
+    last [] x false e = rw e refl
+    last (y ∷ l) x b e = at (p y) b (last l x b e)
+      where
+        at : (a c : Bool) → length (filter p (l ++ (x ∷ []))) ≡ step c (length (filter p l))
+            → length (cond a (y ∷ filter p (l ++ (x ∷ []))) (filter p (l ++ (x ∷ [])))) ≡ step c (length (cond a (y ∷ filter p l) (filter p l)))
+        at true true ih = ap suc ih
+        at true false ih = ap suc ih
+        at false c ih = ih
+
+    go : (b : Bool) → p (suc n) ≡ b → count p n ≡ length (filter p (slotNumbers n)) → step b (count p n) ≡ length (filter p (slotNumbers n ++ (suc n ∷ [])))
+    go b e ih = ap (step b) ih ∙ sym (last (slotNumbers n) (suc n) b e)

@@ -3,14 +3,16 @@ use mathlib.Core.Path.{_≡_, refl, sym, ap, _∙_}
 use mathlib.Core.Bool.{Bool, true, false, cond}
 use mathlib.Core.Logic.{_⊎_, inl, inr, ⊎-elim}
 use mathlib.Core.List.{List, [], _∷_, _++_}
-use Prim.Native.Nat.{ℕ, zero, suc, _≤_}
+use Prim.Native.Nat.{ℕ, zero, suc, _≤_, _<_}
 use native.Mathlib.Omega.{arith}
 use lib.Dec.{eqb}
-use borrow.Author.Tests.{eqb-true, eqb-false}
 use lib.ListN.{length, take}
 use lib.Seq.{length-take-le}
-use Rattle.prelude.specs.Members.{In, Once, slotNumbers, Slot}
+use borrow.Author.Tests.{eqb-true, eqb-false}
+use Rattle.prelude.specs.Filter.{filter}
+use Rattle.prelude.specs.Members.{In, Once, slotNumbers, Slot, Strict}
 use Rattle.prelude.proofs.defs.Members.{without}
+use Rattle.prelude.proofs.Choice.{pick-false, pick-true, true-false}
 use Rattle.prelude.proofs.Fills.{length-slots}
 
 pub in-append : (t : ℕ) (l m : List ℕ) → In t (l ++ m) → In t l ⊎ In t m
@@ -144,3 +146,71 @@ no-longer (x ∷ l) m o h =
 
 pub front-length : (k : ℕ) (list : List ℕ) → k ≤ length list → k ≡ length (take k list)
 front-length k list h = sym (length-take-le k list h)
+
+pub take-in : (m t : ℕ) (l : List ℕ) → In t (take m l) → In t l
+take-in zero t l i = absurd i
+take-in (suc m) t [] i = absurd i
+take-in (suc m) t (x ∷ l) (inl e) = inl e
+take-in (suc m) t (x ∷ l) (inr i) = inr (take-in m t l i)
+
+pub once-take : (m : ℕ) (l : List ℕ) → Once l → Once (take m l)
+once-take zero l o = tt
+once-take (suc m) [] o = tt
+once-take (suc m) (x ∷ l) o = ((λ i. o .0 (take-in m x l i)), once-take m l (o .1))
+
+-- a list that is not empty has an element
+pub some-element : (l : List ℕ) → 0 < length l → (s : ℕ) × In s l
+some-element [] p = absurd (omega arith)
+some-element (x ∷ l) p = (x, inl refl)
+
+-- ---- the slots rise
+
+strict-append : (l : List ℕ) (m : ℕ) → Strict (λ t. t) l → ((t : ℕ) → In t l → t < m) → Strict (λ t. t) (l ++ m ∷ [])
+strict-append [] m r h = ((λ y i. absurd i), tt)
+strict-append (x ∷ l) m r h = ((λ y i. at y (in-append y l (m ∷ []) i)), strict-append l m (r .1) (λ t i. h t (inr i)))
+  where
+    at : (y : ℕ) → In y l ⊎ In y (m ∷ []) → x < y
+    at y (inl i) = r .0 y i
+    at y (inr (inl e)) = omega (arith, h x (inl refl))
+    at y (inr (inr z)) = absurd z
+
+pub strict-slots : (n : ℕ) → Strict (λ t. t) (slotNumbers n)
+unfolding slotNumbers
+strict-slots zero = tt
+strict-slots (suc n) = strict-append (slotNumbers n) (suc n) (strict-slots n) (λ t i. omega (arith, slots-in n t i))
+
+-- ---- the part that passes a test
+
+pub filter-append : (p : ℕ → Bool) (l r : List ℕ) → filter p (l ++ r) ≡ filter p l ++ filter p r
+unfolding filter
+filter-append p [] r = refl
+filter-append p (x ∷ l) r = go (p x) (filter-append p l r)
+  where
+    go : (b : Bool) → filter p (l ++ r) ≡ filter p l ++ filter p r
+        → cond b (x ∷ filter p (l ++ r)) (filter p (l ++ r)) ≡ cond b (x ∷ filter p l) (filter p l) ++ filter p r
+    go true ih = ap (λ (t : List ℕ). x ∷ t) ih
+    go false ih = ih
+
+pub filter-none : (p : ℕ → Bool) (l : List ℕ) → ((t : ℕ) → In t l → p t ≡ false) → filter p l ≡ []
+unfolding filter
+filter-none p [] h = refl
+filter-none p (x ∷ l) h = pick-false (p x) (x ∷ filter p l) (filter p l) (h x (inl refl)) ∙ filter-none p l (λ t i. h t (inr i))
+
+pub filter-all : (p : ℕ → Bool) (l : List ℕ) → ((t : ℕ) → In t l → p t ≡ true) → filter p l ≡ l
+unfolding filter
+filter-all p [] h = refl
+filter-all p (x ∷ l) h =
+    pick-true (p x) (x ∷ filter p l) (filter p l) (h x (inl refl)) ∙ ap (λ (t : List ℕ). x ∷ t) (filter-all p l (λ t i. h t (inr i)))
+
+-- a test after a weaker one
+pub filter-twice : (p q : ℕ → Bool) (l : List ℕ) → ((t : ℕ) → p t ≡ true → q t ≡ true) → filter p (filter q l) ≡ filter p l
+unfolding filter
+filter-twice p q [] h = refl
+filter-twice p q (x ∷ l) h = go (q x) refl (p x) refl (filter-twice p q l h)
+  where
+    go : (a : Bool) → q x ≡ a → (b : Bool) → p x ≡ b → filter p (filter q l) ≡ filter p l
+        → filter p (cond a (x ∷ filter q l) (filter q l)) ≡ cond b (x ∷ filter p l) (filter p l)
+    go true e true d ih = pick-true (p x) (x ∷ filter p (filter q l)) (filter p (filter q l)) d ∙ ap (λ (t : List ℕ). x ∷ t) ih
+    go true e false d ih = pick-false (p x) (x ∷ filter p (filter q l)) (filter p (filter q l)) d ∙ ih
+    go false e true d ih = absurd (true-false (h x d) e)
+    go false e false d ih = ih

@@ -22,6 +22,15 @@ unfolding greatest
 greatest-least g zero m h = omega arith
 greatest-least g (suc n) m h = omega (arith, h (suc n) (omega arith), greatest-least g n m (λ t i. h t (omega arith)))
 
+-- functions that agree at the slots have one greatest value
+pub greatest-same : (g h : ℕ → ℕ) (n : ℕ) → ((t : ℕ) → Slot n t → g t ≡ h t) → greatest g n ≡ greatest h n
+greatest-same g h n e =
+    omega (
+      arith,
+      greatest-least g n (greatest h n) (λ t i. omega (arith, e t i, greatest-above h n t i)),
+      greatest-least h n (greatest g n) (λ t i. omega (arith, e t i, greatest-above g n t i)),
+    )
+
 -- s is the first slot at which g is greatest, or 0 where g is 0 at all slots
 pub data First (g : ℕ → ℕ) (n s : ℕ) : Type 0 where
   nowhere : s ≡ 0 → ((t : ℕ) → Slot n t → g t ≡ 0) → First g n s

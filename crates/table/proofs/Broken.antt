@@ -50,7 +50,7 @@ record-whole (putRecord version key value) e = refl
 record-whole (removeRecord version key) e = refl
 
 -- a broken slot is not live
-broken-idle : (f : Table) (n s : ℕ) → isBroken (f s) ≡ true → live f n s ≡ false
+pub broken-idle : (f : Table) (n s : ℕ) → isBroken (f s) ≡ true → live f n s ≡ false
 unfolding live decidingPut isBroken
 broken-idle f n s e = go (f s) e
   where

@@ -13,3 +13,16 @@ pub mod OneSlot
 pub mod KeyCount
 pub mod defs
 pub mod Sharing
+pub mod Complete
+pub mod Judged
+pub mod Shared
+pub mod Taking
+pub mod Ranks
+pub mod Order
+pub mod ReuseOrder
+pub mod Same
+pub mod Changes
+pub mod Struck
+pub mod Unfinished
+pub mod Finished
+pub mod StruckAgreed

@@ -8,7 +8,7 @@ use native.Mathlib.Omega.{arith}
 use lib.Dec.{eqb}
 use borrow.Author.Tests.{eqb-true, eqb-false, eq-eqb, ne-eqb}
 use Rattle.layout.specs.Content.{Content, broken, empty, putRecord, removeRecord, Table}
-use Rattle.table.specs.Table.{keyIn, weight, decider, valueIn, valueAt, mapOf, decidingPut, live}
+use Rattle.table.specs.Table.{isRecord, keyIn, weight, decider, valueIn, valueAt, mapOf, decidingPut, live}
 use Rattle.prelude.specs.Members.{Slot}
 use Rattle.table.proofs.defs.Write.{Above, ApartByKey, Free, Outside, NoRecord}
 use Rattle.table.proofs.OneSlot.{puts, one-key, Says, weight-put, weight-top, removes, value-at, says}
@@ -94,6 +94,14 @@ live-is f n s h = go (f s) refl h
 
 pub is-live : (f : Table) (n s : ℕ) → Live f n s → live f n s ≡ true
 is-live f n s (lives w k v e b) = live-put f n s w k v e ∙ eq-eqb (decider f n k) s b
+
+-- a live slot has a record
+pub live-record : (f : Table) (n s : ℕ) → live f n s ≡ true → isRecord (f s) ≡ true
+unfolding isRecord
+live-record f n s e = go (live-is f n s e)
+  where
+    go : Live f n s → isRecord (f s) ≡ true
+    go (lives w k v q d) = ap isRecord q
 
 -- a record of a key that another slot decides is not live
 pub other-idle : (f : Table) (n k s t : ℕ) → decider f n k ≡ s → (t ≡ s → ⊥) → 0 < weight k (f t) → live f n t ≡ false

@@ -9,6 +9,7 @@ use borrow.Author.Tests.{eqb-true, eq-eqb, ne-eqb}
 use Rattle.layout.specs.Content.{Content, broken, empty, putRecord, removeRecord, topOf, Table}
 use Rattle.table.specs.Table.{isRecord, keyIn, weight, valueIn, valueAt}
 use Rattle.prelude.specs.Members.{Slot}
+use Rattle.prelude.proofs.Choice.{pick-true, true-false}
 use Rattle.table.proofs.defs.Write.{upd}
 
 -- the record of key k that a slot holds
@@ -118,7 +119,24 @@ weight-key k c h = go (says k c h)
     go (puts w v e) = ap keyIn e
     go (removes w e) = ap keyIn e
 
+-- a record says something of its key
+pub record-weight : (c : Content) (k : ℕ) → isRecord c ≡ true → keyIn c ≡ k → weight k c ≡ suc (topOf c)
+unfolding isRecord keyIn weight topOf
+record-weight (broken t) k e d = absurd (true-false e refl)
+record-weight empty k e d = absurd (true-false e refl)
+record-weight (putRecord w j v) k e d = pick-true (eqb j k) (suc w) 0 (eq-eqb j k d)
+record-weight (removeRecord w j) k e d = pick-true (eqb j k) (suc w) 0 (eq-eqb j k d)
+
 -- what is not above 0 is 0
 pub zero-or : (x : ℕ) → (0 < x → ⊥) → x ≡ 0
 zero-or zero h = refl
 zero-or (suc x) h = absurd (h (omega arith))
+
+-- what is no record says nothing of any key
+pub no-record-weight : (k : ℕ) (c : Content) → isRecord c ≡ false → weight k c ≡ 0
+no-record-weight k c e = zero-or (weight k c) (λ p. true-false (weight-counts k c p) e)
+
+-- as a broken slot
+pub broken-no-record : (c : Content) (top : ℕ) → c ≡ broken top → isRecord c ≡ false
+unfolding isRecord
+broken-no-record c top e = ap isRecord e

@@ -2,3 +2,10 @@ pub mod Chains
 pub mod Keys
 pub mod Reuse
 pub mod Write
+pub mod Shared
+pub mod Basket
+pub mod Struck
+pub mod ReuseAfter
+pub mod Owners
+pub mod Room
+pub mod Lex

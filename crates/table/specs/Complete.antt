@@ -2,9 +2,9 @@
 -- number: f, the contents, and num, the numbers in the kind words.
 use mathlib.Core.Path.{_≡_}
 use mathlib.Core.Bool.{Bool, false, cond, _&&_}
-use Prim.Native.Nat.{ℕ}
+use Prim.Native.Nat.{ℕ, zero, suc}
 use lib.Dec.{eqb, ltb, leb}
-use Rattle.prelude.specs.Range.{greatest, count}
+use Rattle.prelude.specs.Range.{anyOf, greatest, count}
 use Rattle.prelude.specs.Members.{Slot}
 use mathlib.Core.List.{List}
 use Rattle.layout.specs.Size.{slotsIn}
@@ -60,3 +60,15 @@ tableOf l image = settled (contentsOf l image) (numbersOf l image) (slotsIn imag
 -- no slot is void
 abbrev pub NoneVoid : Table → Numbers → (n : ℕ) → Type 0
 NoneVoid f num n = (t : ℕ) → Slot n t → isVoid f num n t ≡ false
+
+-- THE SAME WORD FOR WORD: version v is complete; the next valid version below v, 0 if there is none; "The highest version among valid slots is judged .. and the
+-- next version down is judged in turn", from v on, at most `turns` times
+unfoldable pub completeAt : Table → Numbers → (n v : ℕ) → Bool
+completeAt f num n v = anyOf (λ s. hasVersion f v s && complete f num n s) 1 n
+
+unfoldable pub nextDown : Table → (n v : ℕ) → ℕ
+nextDown f n v = greatest (λ s. cond (isRecord (f s) && ltb (topOf (f s)) v) (topOf (f s)) 0) n
+
+unfoldable pub judged : Table → Numbers → (n turns v : ℕ) → ℕ
+judged f num n zero v = 0
+judged f num n (suc turns) v = cond (eqb v 0) 0 (cond (completeAt f num n v) v (judged f num n turns (nextDown f n v)))

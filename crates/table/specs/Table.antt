@@ -90,11 +90,11 @@ sharedVersion f n = anyOf (λ s. anyOf (λ t. isRecord (f s) && (isRecord (f t) 
 unfoldable pub brokenCount : Table → (n : ℕ) → ℕ
 brokenCount f n = count (λ s. isBroken (f s)) n
 
--- document 02, A.6: "A broken slot is always reused first, so a cut leaves at most one"
+-- document 02, A.7: "A void slot stands with the broken ones, in the reuse chain and in A.6's limit, now eight together"
 unfoldable pub brokenLimit : ℕ
-brokenLimit = 1
+brokenLimit = 8
 
--- "25 when more than one slot is broken"
+-- 25, of the settled table
 unfoldable pub manyBroken : Table → (n : ℕ) → Bool
 manyBroken f n = ltb brokenLimit (brokenCount f n)
 

@@ -9,6 +9,10 @@ abbrev pub isOne : ℕ → List ℕ → Bool
 isOne k [] = false
 isOne k (x ∷ xs) = cond (eqb k x) true (isOne k xs)
 
+-- the numbers of a list as a set
+unfoldable pub member : List ℕ → ℕ → Bool
+member xs k = isOne k xs
+
 -- are these all among those?
 abbrev pub areAmong : List ℕ → List ℕ → Bool
 areAmong [] ys = true

@@ -1,0 +1,160 @@
+-- The highest complete version, the void slots and the settled table. Assumes nothing.
+use mathlib.Core.Path.{_≡_, refl, sym, ap}
+use mathlib.Core.Bool.{Bool, true, false, cond, _&&_}
+use Prim.Native.Nat.{ℕ, suc, _≤_, _<_}
+use native.Mathlib.Omega.{arith}
+use lib.Dec.{eqb, ltb}
+use borrow.Author.Tests.{eqb-true, ne-eqb, eq-eqb, le-leb, leb-true, lt-ltb, ltb-true, ltb-false}
+use Rattle.layout.specs.Content.{Table, topOf, Content, broken}
+use Rattle.prelude.specs.Members.{Slot}
+use Rattle.prelude.specs.Range.{topmost}
+use Rattle.prelude.proofs.Choice.{pick-false, both, both-left, both-right, pick-true, is-false, true-false}
+use Rattle.prelude.proofs.Count.{count-same}
+use Rattle.prelude.proofs.Most.{greatest-above, greatest-least, first-is, First, nowhere, there, greatest-same}
+use Rattle.table.specs.Complete.{said, numberFor, hasVersion, sharers, Numbers, complete, highestComplete, versionIfComplete, isVoid, settled}
+use Rattle.table.specs.Table.{isRecord, nextVersion}
+
+-- a number says as many as the basket that it is for
+pub said-for : (m : ℕ) → 0 < m → said (numberFor m) ≡ m
+unfolding said numberFor
+said-for m h = go (eqb m 1) refl
+  where
+    go : (b : Bool) → eqb m 1 ≡ b → cond (eqb (cond b 0 m) 0) 1 (cond b 0 m) ≡ m
+    go true e = sym (eqb-true m 1 e)
+    go false e = pick-false (eqb m 0) 1 m (ne-eqb m 0 (λ z. omega arith))
+
+-- the slots of a version
+module _ (f : Table) where
+  pub has-version : (v t : ℕ) → isRecord (f t) ≡ true → topOf (f t) ≡ v → hasVersion f v t ≡ true
+  unfolding hasVersion
+  has-version v t c e = both (isRecord (f t)) _ c (eq-eqb (topOf (f t)) v e)
+
+  pub version-record : (v t : ℕ) → hasVersion f v t ≡ true → isRecord (f t) ≡ true
+  unfolding hasVersion
+  version-record v t e = both-left (isRecord (f t)) _ e
+
+  pub version-top : (v t : ℕ) → hasVersion f v t ≡ true → topOf (f t) ≡ v
+  unfolding hasVersion
+  version-top v t e = eqb-true (topOf (f t)) v (both-right (isRecord (f t)) _ e)
+
+-- a slot with the same content has the same version
+pub version-same : (f f′ : Table) (v t : ℕ) → f′ t ≡ f t → hasVersion f′ v t ≡ hasVersion f v t
+unfolding hasVersion
+version-same f f′ v t e = ap (λ (c : Content). isRecord c && eqb (topOf c) v) e
+
+pub sharers-same : (f f′ : Table) (n v : ℕ) → ((t : ℕ) → Slot n t → hasVersion f′ v t ≡ hasVersion f v t) → sharers f′ n v ≡ sharers f n v
+unfolding sharers
+sharers-same f f′ n v h = count-same (hasVersion f′ v) (hasVersion f v) n h
+
+module _ (f : Table) (num : Numbers) (n : ℕ) where
+  pub complete-is : (s : ℕ) → isRecord (f s) ≡ true → said (num s) ≤ sharers f n (topOf (f s)) → complete f num n s ≡ true
+  unfolding complete
+  complete-is s c l = both (isRecord (f s)) _ c (le-leb (said (num s)) (sharers f n (topOf (f s))) l)
+
+  pub complete-record : (s : ℕ) → complete f num n s ≡ true → isRecord (f s) ≡ true
+  unfolding complete
+  complete-record s e = both-left (isRecord (f s)) _ e
+
+  pub complete-enough : (s : ℕ) → complete f num n s ≡ true → said (num s) ≤ sharers f n (topOf (f s))
+  unfolding complete
+  complete-enough s e = leb-true (said (num s)) (sharers f n (topOf (f s))) (both-right (isRecord (f s)) _ e)
+
+  -- every complete version is at most the highest one
+  pub highest-complete-above : (s : ℕ) → Slot n s → complete f num n s ≡ true → topOf (f s) ≤ highestComplete f num n
+  unfolding highestComplete versionIfComplete
+  highest-complete-above s i e =
+      omega (arith, greatest-above (versionIfComplete f num n) n s i, pick-true (complete f num n s) (topOf (f s)) 0 e)
+
+  -- which is no more than what bounds them
+  pub highest-complete-least : (m : ℕ) → ((s : ℕ) → Slot n s → complete f num n s ≡ true → topOf (f s) ≤ m) → highestComplete f num n ≤ m
+  unfolding highestComplete versionIfComplete
+  highest-complete-least m h = greatest-least (versionIfComplete f num n) n m (λ t i. go t i (complete f num n t) refl)
+    where
+      go : (t : ℕ) → Slot n t → (b : Bool) → complete f num n t ≡ b → versionIfComplete f num n t ≤ m
+      go t i true e = omega (arith, pick-true (complete f num n t) (topOf (f t)) 0 e, h t i e)
+      go t i false e = omega (arith, pick-false (complete f num n t) (topOf (f t)) 0 e)
+
+  -- and is 0 or the version of a complete slot
+  pub data HighestComplete : Type 0 where
+    none-complete : highestComplete f num n ≡ 0 → HighestComplete
+    completed : (s : ℕ) → Slot n s → complete f num n s ≡ true → topOf (f s) ≡ highestComplete f num n → HighestComplete
+
+  pub highest-complete-is : HighestComplete
+  unfolding highestComplete versionIfComplete
+  highest-complete-is = go (first-is (versionIfComplete f num n) n)
+    where
+      go : First (versionIfComplete f num n) n (topmost (versionIfComplete f num n) n) → HighestComplete
+      go (nowhere e h) = none-complete (omega (arith, greatest-least (versionIfComplete f num n) n 0 (λ t i. omega (arith, h t i))))
+      go (there i p h b) = at (topmost (versionIfComplete f num n) n) i p h (complete f num n (topmost (versionIfComplete f num n) n)) refl
+        where
+          at : (s : ℕ) → Slot n s → 0 < versionIfComplete f num n s → ((t : ℕ) → Slot n t → versionIfComplete f num n t ≤ versionIfComplete f num n s) → (b : Bool) → complete f num n s ≡ b → HighestComplete
+          at s i p h true e =
+              completed s i e (omega (
+                arith,
+                pick-true (complete f num n s) (topOf (f s)) 0 e,
+                greatest-above (versionIfComplete f num n) n s i,
+                greatest-least (versionIfComplete f num n) n (versionIfComplete f num n s) h,
+              ))
+          at s i p h false e = absurd (omega (arith, pick-false (complete f num n s) (topOf (f s)) 0 e))
+
+  -- the void slots
+  pub void-is : (s : ℕ) → isRecord (f s) ≡ true → highestComplete f num n < topOf (f s) → isVoid f num n s ≡ true
+  unfolding isVoid
+  void-is s c l = both (isRecord (f s)) _ c (lt-ltb (highestComplete f num n) (topOf (f s)) l)
+
+  pub void-record : (s : ℕ) → isVoid f num n s ≡ true → isRecord (f s) ≡ true
+  unfolding isVoid
+  void-record s e = both-left (isRecord (f s)) _ e
+
+  pub void-above : (s : ℕ) → isVoid f num n s ≡ true → highestComplete f num n < topOf (f s)
+  unfolding isVoid
+  void-above s e = ltb-true (highestComplete f num n) (topOf (f s)) (both-right (isRecord (f s)) _ e)
+
+  pub not-void : (s : ℕ) → (isRecord (f s) ≡ true → topOf (f s) ≤ highestComplete f num n) → isVoid f num n s ≡ false
+  not-void s h = is-false (isVoid f num n s) (λ e. omega (arith, void-above s e, h (void-record s e)))
+
+  pub not-void-below : (s : ℕ) → isVoid f num n s ≡ false → isRecord (f s) ≡ true → topOf (f s) ≤ highestComplete f num n
+  not-void-below s e c = go (ltb (highestComplete f num n) (topOf (f s))) refl
+    where
+      go : (b : Bool) → ltb (highestComplete f num n) (topOf (f s)) ≡ b → topOf (f s) ≤ highestComplete f num n
+      go true l = absurd (true-false (void-is s c (ltb-true (highestComplete f num n) (topOf (f s)) l)) e)
+      go false l = ltb-false (highestComplete f num n) (topOf (f s)) l
+
+  -- JUDGED IN TURN: a valid slot is void exactly if no version from its own up is complete
+  pub void-in-turn : (s : ℕ) → Slot n s → isVoid f num n s ≡ true → (t : ℕ) → Slot n t → topOf (f s) ≤ topOf (f t) → complete f num n t ≡ false
+  void-in-turn s i e t j l = is-false (complete f num n t) (λ c. omega (arith, void-above s e, highest-complete-above t j c))
+
+  pub in-turn-void : (s : ℕ) → isRecord (f s) ≡ true → 0 < topOf (f s)
+      → ((t : ℕ) → Slot n t → topOf (f s) ≤ topOf (f t) → complete f num n t ≡ false) → isVoid f num n s ≡ true
+  in-turn-void s c p h = go highest-complete-is
+    where
+      go : HighestComplete → isVoid f num n s ≡ true
+      go (none-complete z) = void-is s c (omega arith)
+      go (completed t j e q) = test (ltb (highestComplete f num n) (topOf (f s))) refl
+        where
+          test : (b : Bool) → ltb (highestComplete f num n) (topOf (f s)) ≡ b → isVoid f num n s ≡ true
+          test true l = void-is s c (ltb-true (highestComplete f num n) (topOf (f s)) l)
+          test false l = absurd (true-false e (h t j (omega (arith, ltb-false (highestComplete f num n) (topOf (f s)) l))))
+
+  -- the settled table
+  pub settled-void : (s : ℕ) → isVoid f num n s ≡ true → settled f num n s ≡ broken (topOf (f s))
+  unfolding settled
+  settled-void s e = pick-true (isVoid f num n s) _ _ e
+
+  pub settled-same : (s : ℕ) → isVoid f num n s ≡ false → settled f num n s ≡ f s
+  unfolding settled
+  settled-same s e = pick-false (isVoid f num n s) _ _ e
+
+  -- "lines of broken slots included", and those of void ones
+  pub settled-top : (s : ℕ) → topOf (settled f num n s) ≡ topOf (f s)
+  unfolding topOf
+  settled-top s = go (isVoid f num n s) refl
+    where
+      go : (b : Bool) → isVoid f num n s ≡ b → topOf (settled f num n s) ≡ topOf (f s)
+      go true e = ap topOf (settled-void s e)
+      go false e = ap topOf (settled-same s e)
+
+-- THE NEXT VERSION is that of the settled table: void lines count
+pub settled-next : (f : Table) (num : Numbers) (n : ℕ) → nextVersion (settled f num n) n ≡ nextVersion f n
+unfolding nextVersion
+settled-next f num n = ap suc (greatest-same (λ s. topOf (settled f num n s)) (λ s. topOf (f s)) n (λ s i. settled-top f num n s))
