@@ -16,4 +16,5 @@ pub mod CallWrites
 pub mod ChainLengths
 pub mod Takings
 pub mod TakeAll
+pub mod LinkItems
 pub mod defs

@@ -9,11 +9,11 @@ use lib.Dec.{eqb}
 use lib.ListN.{getD}
 use borrow.Author.Tests.{eq-eqb, ne-eqb}
 use Rattle.prelude.specs.Filter.{filter}
-use Rattle.prelude.specs.Members.{In, Once}
-use Rattle.prelude.proofs.defs.Among.{isOne}
-use Rattle.prelude.proofs.Among.{one-of}
-use Rattle.prelude.proofs.Choice.{true-false}
-use Rattle.prelude.proofs.Lists.{in-right}
+use Rattle.prelude.specs.Members.{In, Once, Slot}
+use Rattle.prelude.proofs.defs.Among.{isOne, member}
+use Rattle.prelude.proofs.Among.{out-member, member-none, member-head, member-tail}
+use Rattle.prelude.proofs.Choice.{pick-true, pick-false}
+use Rattle.prelude.proofs.Lists.{in-right, filter-all}
 use Rattle.index.specs.Index.{Chain, reuse, Index, ahead, setLast, link}
 use Rattle.index.specs.Linked.{Run, endOf, Owner, free, Entry, WellFormed, placed, Sits}
 use Rattle.index.specs.Taking.{Taken}
@@ -26,7 +26,7 @@ use Rattle.index.proofs.Owners.{Which, that, other, which, with-same, w
 use Rattle.index.proofs.Links.{ahead-next}
 use Rattle.index.proofs.Relinks.{part-pos, part-run, disjoint-last, disjoint-unlink}
 use Rattle.index.proofs.CallWrites.{slot-of, formed-alike}
-use Rattle.index.proofs.Sits.{sits-once}
+use Rattle.index.proofs.Sits.{sits-in, sits-once}
 
 -- ---- one slot
 
@@ -66,7 +66,7 @@ with-idle chains c xs e = fun-ext (λ k. go k (which k c))
     go k (other t n) = sym (with-other chains c xs k n)
 
 freed-more : (owner : ℕ → Owner) (s : ℕ) (ss : List ℕ) → freed (give owner s free) ss ≡ freed owner (s ∷ ss)
-unfolding freed give
+unfolding freed give member
 freed-more owner s ss = fun-ext (λ x. go x (eqb x s) (isOne x ss))
   where
     go : (x : ℕ) (a b : Bool) → cond b free (cond a free (owner x)) ≡ cond (cond a true b) free (owner x)
@@ -79,7 +79,7 @@ formed-takes : (may : ℕ → Bool) (wanted : ℕ) (xs ys : List ℕ) (prev : �
     → WellFormed i owner chains → chains reuse ≡ ys ++ xs → prev ≡ endOf 0 ys
     → WellFormed (takeAll i (takesIn may prev wanted xs)) (freed owner (takenSlots (takesIn may prev wanted xs)))
     (withChain chains reuse (ys ++ leftIn may wanted xs))
-unfolding takesIn leftIn takeAll takenSlots freed
+unfolding takesIn leftIn takeAll takenSlots freed member
 formed-takes may zero xs ys prev i owner chains g e p = formed-alike i _ _ _ _ refl (with-idle chains reuse (ys ++ xs) e) g
 formed-takes may (suc wanted) [] ys prev i owner chains g e p = formed-alike i _ _ _ _ refl (with-idle chains reuse (ys ++ []) e) g
 formed-takes may (suc wanted) (x ∷ xs) ys prev i owner chains g e p =
@@ -106,3 +106,78 @@ formed-takes may (suc wanted) (x ∷ xs) ys prev i owner chains g e p =
     go false a c =
         formed-alike (takeAll i later) _ _ _ _ refl
         (ap (λ (l : List ℕ). withChain chains reuse l) (append-assoc ys (x ∷ []) (leftIn may (suc wanted) xs))) c
+
+-- ---- what is taken and what is left
+
+takes-in : (may : ℕ → Bool) (prev wanted : ℕ) (xs : List ℕ) (x : ℕ) → In x (takenSlots (takesIn may prev wanted xs)) → In x xs
+unfolding takesIn takenSlots
+takes-in may prev zero xs x m = absurd m
+takes-in may prev (suc wanted) [] x m = absurd m
+takes-in may prev (suc wanted) (y ∷ xs) x m = go (may y) m (takes-in may prev wanted xs x) (takes-in may y (suc wanted) xs x)
+  where
+    go : (b : Bool) → In x (takenSlots (cond b (record { slot = y; prev = prev } ∷ takesIn may prev wanted xs) (takesIn may y (suc wanted) xs)))
+        → (In x (takenSlots (takesIn may prev wanted xs)) → In x xs) → (In x (takenSlots (takesIn may y (suc wanted) xs)) → In x xs) → In x (y ∷ xs)
+    go true (inl e) a c = inl e
+    go true (inr k) a c = inr (a k)
+    go false k a c = inr (c k)
+
+takes-once : (may : ℕ → Bool) (prev wanted : ℕ) (xs : List ℕ) → Once xs → Once (takenSlots (takesIn may prev wanted xs))
+unfolding takesIn takenSlots
+takes-once may prev zero xs o = tt
+takes-once may prev (suc wanted) [] o = tt
+takes-once may prev (suc wanted) (y ∷ xs) o =
+    go (may y) (λ m. o .0 (takes-in may prev wanted xs y m)) (takes-once may prev wanted xs (o .1)) (takes-once may y (suc wanted) xs (o .1))
+  where
+    go : (b : Bool) → (In y (takenSlots (takesIn may prev wanted xs)) → ⊥) → Once (takenSlots (takesIn may prev wanted xs))
+        → Once (takenSlots (takesIn may y (suc wanted) xs))
+        → Once (takenSlots (cond b (record { slot = y; prev = prev } ∷ takesIn may prev wanted xs) (takesIn may y (suc wanted) xs)))
+    go true n a c = (n, a)
+    go false n a c = c
+
+filter-alike : (p q : ℕ → Bool) (xs : List ℕ) → ((t : ℕ) → In t xs → p t ≡ q t) → filter p xs ≡ filter q xs
+unfolding filter
+filter-alike p q [] h = refl
+filter-alike p q (x ∷ xs) h =
+    ap (λ (b : Bool). cond b (x ∷ filter p xs) (filter p xs)) (h x (inl refl))
+    ∙ ap (λ (l : List ℕ). cond (q x) (x ∷ l) l) (filter-alike p q xs (λ t m. h t (inr m)))
+
+left-is : (may : ℕ → Bool) (prev wanted : ℕ) (xs : List ℕ) → Once xs
+    → leftIn may wanted xs ≡ filter (λ t. not (member (takenSlots (takesIn may prev wanted xs)) t)) xs
+unfolding takesIn takenSlots leftIn
+left-is may prev zero xs o = sym (filter-all (λ t. not (member [] t)) xs (λ t m. ap not (member-none t)))
+left-is may prev (suc wanted) [] o = unfold filter in refl
+left-is may prev (suc wanted) (x ∷ xs) o = go (may x) (left-is may prev wanted xs (o .1)) (left-is may x (suc wanted) xs (o .1))
+  where
+    here : List ℕ
+    here = takenSlots (takesIn may prev wanted xs)
+
+    later : List ℕ
+    later = takenSlots (takesIn may x (suc wanted) xs)
+
+    go : (b : Bool) → leftIn may wanted xs ≡ filter (λ t. not (member here t)) xs
+        → leftIn may (suc wanted) xs ≡ filter (λ t. not (member later t)) xs
+        → cond b (leftIn may wanted xs) (x ∷ leftIn may (suc wanted) xs)
+        ≡ filter (λ t. not (member (takenSlots (cond b (record { slot = x; prev = prev } ∷ takesIn may prev wanted xs) (takesIn may x (suc wanted) xs))) t)) (x ∷ xs)
+    go true a c =
+        a ∙ filter-alike _ _ xs (λ t m. ap not (sym (member-tail x t here (λ e. o .0 (rw e at m)))))
+        ∙ sym (unfold filter in pick-false _ _ _ (ap not (member-head x here)))
+    go false a c =
+        ap (λ (l : List ℕ). x ∷ l) c
+        ∙ sym (unfold filter in pick-true _ _ _ (ap not (out-member later x (λ m. o .0 (takes-in may x (suc wanted) xs x m)))))
+
+-- THE TAKING of a basket's slots: they are nobody's, the reuse chain is what is left, and the heads' chains stay
+module _ (n b : ℕ) (place : ℕ → Chain) (i : Index) (chains : Chain → List ℕ) (g : Sits n b place i chains) (may : ℕ → Bool) (wanted : ℕ) where
+  pub sits-takes : WellFormed (takeAll i (takesIn may 0 wanted (chains reuse)))
+      (freed (placed n place) (takenSlots (takesIn may 0 wanted (chains reuse))))
+      (withChain chains reuse (filter (λ t. not (member (takenSlots (takesIn may 0 wanted (chains reuse))) t)) (chains reuse)))
+  sits-takes =
+      rw (← left-is may 0 wanted (chains reuse) (sits-once n b place i chains g reuse))
+      (formed-takes may wanted (chains reuse) [] 0 i (placed n place) chains (g .formed) refl refl)
+
+  pub sits-taken : (x : ℕ) → In x (takenSlots (takesIn may 0 wanted (chains reuse))) → Slot n x × (place x ≡ reuse)
+  sits-taken x m =
+      let q = sits-in n b place i chains g reuse x (takes-in may 0 wanted (chains reuse) x m) in
+      ((omega (arith, q .0), q .1), q .2)
+
+  pub sits-taken-once : Once (takenSlots (takesIn may 0 wanted (chains reuse)))
+  sits-taken-once = takes-once may 0 wanted (chains reuse) (sits-once n b place i chains g reuse)

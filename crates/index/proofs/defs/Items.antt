@@ -5,7 +5,7 @@ use mathlib.Core.List.{List, [], _∷_, _++_}
 use Prim.Native.Nat.{ℕ, _<_}
 use lib.Dec.{eqb}
 use Rattle.prelude.specs.Members.{In, Once, All, Slot}
-use Rattle.prelude.proofs.defs.Among.{isOne}
+use Rattle.prelude.proofs.defs.Among.{member}
 use Rattle.index.specs.Index.{Chain, reuse, head}
 use Rattle.index.specs.Linked.{Owner, free}
 use Rattle.index.specs.Basket.{Item}
@@ -14,7 +14,7 @@ use Rattle.index.specs.declared.Action.the-variants.{Insert, Replace, Re
 
 -- the owners with these slots given up
 unfoldable pub freed : (owner : ℕ → Owner) → List ℕ → ℕ → Owner
-freed owner ss x = cond (isOne x ss) free (owner x)
+freed owner ss x = cond (member ss x) free (owner x)
 
 -- the slots taken for the keys
 unfoldable pub itemSlots : List Item → List ℕ
