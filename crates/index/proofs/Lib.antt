@@ -15,4 +15,6 @@ pub mod Paths
 pub mod CallWrites
 pub mod ChainLengths
 pub mod Takings
+pub mod TakeAll
+pub mod LinkItems
 pub mod defs

@@ -13,7 +13,8 @@ use Rattle.prelude.proofs.Choice.{pick-true, pick-false}
 use Rattle.index.specs.Index.{Index, Chain, reuse, start, ahead}
 use Rattle.index.specs.Linked.{Linked, Sits}
 use Rattle.index.specs.Taking.{Taken, Taking, taken, tooFew, badLink, withTaken, atEnd, takeWalk, takeFrom, linkFault, fewFault}
-use Rattle.index.proofs.defs.TakenIn.{takesIn, takenIn, slotsOf}
+use Rattle.index.specs.Basket.{takenSlots}
+use Rattle.index.proofs.defs.TakenIn.{takesIn, takenIn}
 use Rattle.index.proofs.ChainLengths.{at-most, formed-linked}
 use Rattle.index.proofs.Sits.{sits-in, sits-once}
 
@@ -85,15 +86,15 @@ sits-taking n b place i chains g may wanted =
 -- ---- what is taken
 
 -- the slots are the first that may be taken
-pub takes-slots : (may : ℕ → Bool) (prev wanted : ℕ) (xs : List ℕ) → slotsOf (takesIn may prev wanted xs) ≡ take wanted (filter may xs)
-unfolding takesIn slotsOf filter
+pub takes-slots : (may : ℕ → Bool) (prev wanted : ℕ) (xs : List ℕ) → takenSlots (takesIn may prev wanted xs) ≡ take wanted (filter may xs)
+unfolding takesIn takenSlots filter
 takes-slots may prev zero xs = refl
 takes-slots may prev (suc wanted) [] = refl
 takes-slots may prev (suc wanted) (x ∷ xs) = go (may x) (takes-slots may prev wanted xs) (takes-slots may x (suc wanted) xs)
   where
-    go : (b : Bool) → slotsOf (takesIn may prev wanted xs) ≡ take wanted (filter may xs)
-        → slotsOf (takesIn may x (suc wanted) xs) ≡ take (suc wanted) (filter may xs)
-        → slotsOf (cond b (record { slot = x; prev = prev } ∷ takesIn may prev wanted xs) (takesIn may x (suc wanted) xs))
+    go : (b : Bool) → takenSlots (takesIn may prev wanted xs) ≡ take wanted (filter may xs)
+        → takenSlots (takesIn may x (suc wanted) xs) ≡ take (suc wanted) (filter may xs)
+        → takenSlots (cond b (record { slot = x; prev = prev } ∷ takesIn may prev wanted xs) (takesIn may x (suc wanted) xs))
         ≡ take (suc wanted) (cond b (x ∷ filter may xs) (filter may xs))
     go true a c = ap (λ (l : List ℕ). x ∷ l) a
     go false a c = c

@@ -1,3 +1,4 @@
 pub mod Linked
 pub mod SearchIn
 pub mod TakenIn
+pub mod Items

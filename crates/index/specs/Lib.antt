@@ -4,4 +4,5 @@ pub mod Change
 pub mod Chained
 pub mod Linked
 pub mod Taking
+pub mod Basket
 pub mod inner

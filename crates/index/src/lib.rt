@@ -36,3 +36,10 @@ pub enum Lookup {
     Refused { number: u32, compared: u32 },
     Open { place: Place, compared: u32 },
 }
+
+// What a basket asks for one of its keys.
+pub enum Action {
+    Insert,
+    Replace,
+    Remove,
+}

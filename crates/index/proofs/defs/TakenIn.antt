@@ -18,7 +18,8 @@ takesIn may prev (suc wanted) (x ∷ xs) =
 unfoldable pub takenIn : (may : ℕ → Bool) → (prev wanted : ℕ) → List ℕ → Taking
 takenIn may prev wanted xs = cond (ltb (length (filter may xs)) wanted) tooFew (taken (takesIn may prev wanted xs))
 
--- the slots alone
-unfoldable pub slotsOf : List Taken → List ℕ
-slotsOf [] = []
-slotsOf (t ∷ ts) = t .slot ∷ slotsOf ts
+-- the slots of the list that are left
+unfoldable pub leftIn : (may : ℕ → Bool) → (wanted : ℕ) → List ℕ → List ℕ
+leftIn may zero xs = xs
+leftIn may (suc wanted) [] = []
+leftIn may (suc wanted) (x ∷ xs) = cond (may x) (leftIn may wanted xs) (x ∷ leftIn may (suc wanted) xs)
