@@ -16,7 +16,7 @@ use Rattle.layout.proofs.Content.{top-is}
 use Rattle.stores.specs.Store.{Store, allStand, onLine}
 use Rattle.stores.specs.Written.{run, lineStores}
 use Rattle.stores.specs.Basket.{BasketRecord, basketSlots, basketStores}
-use Rattle.stores.specs.Cut.{SlotCut, now-old, now-new, now-broken, SlotWritten, Writable, AllWritten}
+use Rattle.stores.specs.Cut.{SlotCut, now-old, now-new, now-broken, SlotWritten, LawfulRecord, AllWritten}
 use Rattle.stores.proofs.AllStand.{stand-lines, lines-stand}
 use Rattle.stores.proofs.Basket.{basket-off, Holds, basket-holds}
 use Rattle.table.specs.Table.{isRecord}
@@ -30,16 +30,16 @@ unfolding lineStores run
 line-eight n words = refl
 
 module _ (l : ℕ) (m m′ : ℕ → ℕ) (number version : ℕ) (es : List BasketRecord) (counts : ℕ → ℕ) (once : Once (basketSlots es))
-    (fine : All (Writable l m number version) es) (is-number : number ≡ numberFor (length es)) (w : AllWritten l m m′ number version es counts) where
+    (fine : All (LawfulRecord l m number version) es) (is-number : number ≡ numberFor (length es)) (w : AllWritten l m m′ number version es counts) where
   -- what is known of an entry
   record Was (e : BasketRecord) : Type 0 where
     written : SlotWritten l m m′ (e .slot) (e .key) (e .kind) number (e .value) version (counts (2 * e .slot)) (counts (2 * e .slot + 1))
-    writable : Writable l m number version e
+    writable : LawfulRecord l m number version e
     has : Holds l m number version (basketStores l m number version es) e
 
   all-was : {some : List BasketRecord}
       → All (λ (e : BasketRecord). SlotWritten l m m′ (e .slot) (e .key) (e .kind) number (e .value) version (counts (2 * e .slot)) (counts (2 * e .slot + 1))) some
-      → All (Writable l m number version) some → All (Holds l m number version (basketStores l m number version es)) some → All Was some
+      → All (LawfulRecord l m number version) some → All (Holds l m number version (basketStores l m number version es)) some → All Was some
   all-was none-left none-left none-left = none-left
   all-was (one-more x xs) (one-more y ys) (one-more z zs) = one-more (record { written = x; writable = y; has = z }) (all-was xs ys zs)
 
