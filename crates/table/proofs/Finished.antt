@@ -80,7 +80,7 @@ module _ {f f′ : Table} {num num′ : Numbers} {n w : ℕ} {taken : List ℕ} 
         highest-complete-least f′ num′ n w (λ t i c. version-most b st t i (complete-record f′ num′ n t c)),
       )
 
-  -- NOTHING IS VOID
+  -- NO SLOT IS VOID
   pub finished-none-void : NoneVoid f′ num′ n
   finished-none-void t i = not-void f′ num′ n t (λ c. omega (arith, finished-highest-complete, version-most b st t i c))
 
