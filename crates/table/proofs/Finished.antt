@@ -61,7 +61,7 @@ module _ {f f′ : Table} {num num′ : Numbers} {n w : ℕ} {taken : List ℕ} 
   unfolding sharers
   finished-sharers = count-same (hasVersion f′ w) (member taken) n finished-version ∙ count-member taken n (b .once) (b .slot)
 
-  new-top : (t : ℕ) → In t taken → topOf (f′ t) ≡ w
+  pub new-top : (t : ℕ) → In t taken → topOf (f′ t) ≡ w
   new-top t j = ap topOf (z t j .0) ∙ b .records t j .tops
 
   -- THE BASKET IS COMPLETE
