@@ -61,7 +61,7 @@ module _ {f f′ : Table} {num num′ : Numbers} {n w : ℕ} {taken : List ℕ} 
   unfolding sharers
   finished-sharers = count-same (hasVersion f′ w) (member taken) n finished-version ∙ count-member taken n (b .once) (b .slot)
 
-  new-top : (t : ℕ) → In t taken → topOf (f′ t) ≡ w
+  pub new-top : (t : ℕ) → In t taken → topOf (f′ t) ≡ w
   new-top t j = ap topOf (z t j .0) ∙ b .records t j .tops
 
   -- THE BASKET IS COMPLETE
@@ -80,7 +80,7 @@ module _ {f f′ : Table} {num num′ : Numbers} {n w : ℕ} {taken : List ℕ} 
         highest-complete-least f′ num′ n w (λ t i c. version-most b st t i (complete-record f′ num′ n t c)),
       )
 
-  -- NOTHING IS VOID
+  -- NO SLOT IS VOID
   pub finished-none-void : NoneVoid f′ num′ n
   finished-none-void t i = not-void f′ num′ n t (λ c. omega (arith, finished-highest-complete, version-most b st t i c))
 

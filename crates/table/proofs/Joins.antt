@@ -17,7 +17,7 @@ use Rattle.table.proofs.Appended.{Joined, from-old, from-own, joined, i
 use Rattle.table.proofs.Held.{is-holder, Holder, holder-is}
 use Rattle.table.proofs.OneSlot.{one-key}
 
--- slot t is appended for the record of slot s
+-- why slot t is appended: it is the old slot of a key, or a remove went there
 pub data From (f : Table) (n : ℕ) (l : List ℕ) (new : Table) (t : ℕ) : Type 0 where
   old : (s : ℕ) → In s l → 0 < holder f n (keyIn (new s)) → t ≡ holder f n (keyIn (new s)) → From f n l new t
   own-slot : In t l → isPut (new t) ≡ false → From f n l new t

@@ -6,7 +6,7 @@ use mathlib.Core.List.{List, [], _∷_, _++_}
 use Prim.Native.Nat.{ℕ, zero, suc, _<_}
 use native.Mathlib.Omega.{arith}
 use Rattle.layout.specs.Content.{Table, topOf}
-use Rattle.prelude.specs.Members.{In, Slot, Once}
+use Rattle.prelude.specs.Members.{Slot, Once, In}
 use Rattle.prelude.proofs.defs.Among.{member}
 use Rattle.prelude.proofs.Choice.{true-false}
 use Rattle.prelude.proofs.Lists.{in-at}
@@ -20,7 +20,7 @@ use Rattle.table.proofs.defs.ReuseAfter.{joinsOf, reuseAfter, leftOf}
 use Rattle.table.proofs.defs.Struck.{Struck, Finished}
 use Rattle.table.proofs.defs.Write.{holder, isPut}
 use Rattle.table.proofs.Appended.{joined, Joined, from-old, from-own}
-use Rattle.table.proofs.Finished.{finished-highest-valid}
+use Rattle.table.proofs.Finished.{new-top, finished-highest-valid}
 use Rattle.table.proofs.Held.{is-holder, Holder, holder-is, held-holder}
 use Rattle.table.proofs.Joins.{old, joins-from, From, own-slot}
 use Rattle.table.proofs.Map.{live-is, Live, lives}
@@ -52,9 +52,6 @@ below-last f n (x ∷ l) h = λ e top t i. absurd (omega arith)
 
 module _ {f f′ : Table} {num num′ : Numbers} {n w : ℕ} {taken : List ℕ} {new : Table}
     (b : Basket f num n w taken new) (st : Struck f f′ num num′ n taken new) (z : Finished f′ num′ taken new) where
-  new-top : (t : ℕ) → In t taken → topOf (f′ t) ≡ w
-  new-top t j = ap topOf (z t j .0) ∙ b .records t j .tops
-
   -- the old slot of a key: its put, below w
   data Old (k o : ℕ) : Type 0 where
     old-slot : Slot n o → live f n o ≡ true → 0 < weight k (f o) → f′ o ≡ f o → Old k o
@@ -92,7 +89,7 @@ module _ {f f′ : Table} {num num′ : Numbers} {n w : ℕ} {taken : List ℕ} 
       cross : (y t : ℕ) → Joined (holder f n (keyIn (new x))) (isPut (new x)) x y → From f n l new t → isRemove (f′ y) ≡ true → older f′ y t ≡ true → ⊥
       cross y t (from-old p e) from r o = old-put y (omega arith) e r
       cross y t (from-own p e) (own-slot j q) r o =
-          omega (arith, older-below f′ y t o, new-top t (sub t (inr j)), ap (λ (a : ℕ). topOf (f′ a)) e, new-top x (sub x (inl refl)))
+          omega (arith, older-below f′ y t o, new-top b st z t (sub t (inr j)), ap (λ (a : ℕ). topOf (f′ a)) e, new-top b st z x (sub x (inl refl)))
       cross y t (from-own p e) (old s j q d) r o = go (old-is (keyIn (new s)) t (omega arith) d)
         where
           key : keyIn (f′ y) ≡ keyIn (new x)
@@ -134,7 +131,7 @@ module _ {f f′ : Table} {num num′ : Numbers} {n w : ℕ} {taken : List ℕ} 
       where
         cross : (x t : ℕ) → In x (leftOf taken reuse) → From f n taken new t → isRemove (f′ x) ≡ true → older f′ x t ≡ true → ⊥
         cross x t i (own-slot j q) e o =
-            omega (arith, older-below f′ x t o, new-top t j, ap topOf (left-same b st z sp x i), b .above x (sp .slot x (left-in b st z sp x i)))
+            omega (arith, older-below f′ x t o, new-top b st z t j, ap topOf (left-same b st z sp x i), b .above x (sp .slot x (left-in b st z sp x i)))
         cross x t i (old s j q d) e o = go (old-is (keyIn (new s)) t (omega arith) d)
           where
             go : Old (keyIn (new s)) t → ⊥

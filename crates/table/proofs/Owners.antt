@@ -55,7 +55,7 @@ module _ {A : Type 0} (f : Table) (n : ℕ) (chain : ℕ → A) (reuse : A) (new
       at j = rw e at j
   moved-own (x ∷ l) owner t o (inr j) h = moved-own l (move x owner) t (o .1) j (λ s k. h s (inr k))
 
-  -- an old slot, or one that had an reuse owner
+  -- an old slot, or one that stood in reuse
   moved-old : (l : List ℕ) (owner : ℕ → A) (t : ℕ) → (In t l → ⊥) → (owner t ≡ reuse) ⊎ ((s : ℕ) × In s l × (holder f n (keyIn (new s)) ≡ t))
       → moved f n chain reuse l new owner t ≡ reuse
   unfolding moved

@@ -32,7 +32,7 @@ use Rattle.table.proofs.Struck.{not-taken}
 use Rattle.table.proofs.Taking.{Barred, of-highest, has-older, older-below, older-idle, barred}
 use Rattle.table.proofs.Unfinished.{unfinished-same}
 
--- ---- room-at gives a slot
+-- ---- room gives a slot
 
 module _ (f : Table) (n : ℕ) where
   -- from a spare slot below the highest valid version down through older records of a key, to one that may be taken
@@ -69,7 +69,7 @@ room-reuse f n reuse r sp = go (room-takes f n r)
     go : Takeable f n → length (take 1 (filter (mayTake f n) reuse)) ≡ 1
     go (takeable t i idle may) = one (filter (mayTake f n) reuse) t (in-filter (mayTake f n) t reuse (sp .all t i idle) may)
 
--- ---- who has room-at
+-- ---- what keeps room
 
 -- a table equal at its slots
 pub room-same : (f f′ : Table) (n : ℕ) → ((t : ℕ) → Slot n t → f′ t ≡ f t) → RoomToTake f n → RoomToTake f′ n

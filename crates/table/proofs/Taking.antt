@@ -4,18 +4,18 @@ use mathlib.Core.Bool.{Bool, true, false, not, _&&_}
 use Prim.Native.Nat.{ℕ, suc, _≤_, _<_}
 use native.Mathlib.Omega.{arith}
 use lib.Dec.{eqb, ltb}
-use borrow.Author.Tests.{eqb-true, ltb-true, eq-eqb, lt-ltb, ltb-false, not-true}
+use borrow.Author.Tests.{eqb-true, ltb-true, eq-eqb, lt-ltb, not-true, ltb-false}
 use Rattle.layout.specs.Content.{Table, topOf, Content, removeRecord}
 use Rattle.prelude.specs.Members.{Slot}
 use Rattle.prelude.specs.Range.{topmost, anyOf}
-use Rattle.prelude.proofs.Any.{passing, Passing, passes, none-passes, any-clear-slot, any-none-slot}
+use Rattle.prelude.proofs.Any.{any-none-slot, passing, Passing, passes, none-passes, any-clear-slot}
 use Rattle.prelude.proofs.Choice.{both, both-left, both-right, pick-true, pick-false, is-false, true-false, false-left, false-right}
 use Rattle.prelude.proofs.Most.{greatest-above, greatest-least, first-is, First, nowhere, there}
-use Rattle.table.specs.Table.{isRecord, keyIn, live, weight, decider, spare}
-use Rattle.table.specs.Taking.{older, highestValid, validVersion, isRemove, mayTake}
+use Rattle.table.specs.Table.{isRecord, keyIn, weight, live, decider, spare}
+use Rattle.table.specs.Taking.{older, highestValid, validVersion, mayTake, isRemove}
 use Rattle.table.proofs.defs.Write.{ApartByKey, Free}
 use Rattle.table.proofs.Map.{live-is, Decided, Live, lives, decider-is, decider-weight, is-live, decider-newest}
-use Rattle.table.proofs.OneSlot.{record-weight, one-key, weight-put, weight-counts, weight-key, weight-version, zero-or, says, Says, puts, removes}
+use Rattle.table.proofs.OneSlot.{weight-counts, weight-key, weight-version, record-weight, one-key, weight-put, zero-or, says, Says, puts, removes}
 
 module _ (f : Table) where
   -- slot t has an older valid record of the key of slot s
@@ -74,6 +74,36 @@ module _ (f : Table) (n : ℕ) where
       go (there i p h b) =
           at (topmost (λ s. validVersion (f s)) n) i (omega (arith, greatest-least (λ s. validVersion (f s)) n _ h)) (isRecord (f (topmost (λ s. validVersion (f s)) n))) refl
 
+  module _ (s : ℕ) (may : mayTake f n s ≡ true) where
+    tests : isRecord (f s) ≡ true → ltb (topOf (f s)) (highestValid f n) && not (isRemove (f s) && anyOf (older f s) 1 n) ≡ true
+    unfolding mayTake
+    tests c = sym (pick-true (isRecord (f s)) _ _ c) ∙ may
+
+    -- a valid slot that may be taken is not "of the highest valid version"
+    pub may-higher : isRecord (f s) ≡ true → Higher (topOf (f s))
+    may-higher c = below-highest (topOf (f s)) (ltb-true (topOf (f s)) (highestValid f n) (both-left _ _ (tests c)))
+
+    -- nor is it a remove record while an older valid record of its key remains
+    pub may-newest : (w k : ℕ) → f s ≡ removeRecord w k → (t : ℕ) → Slot n t → 0 < weight k (f t) → weight k (f s) ≤ weight k (f t)
+    unfolding isRecord isRemove
+    may-newest w k e t i p = go (ltb (weight k (f t)) (weight k (f s))) refl
+      where
+        none-older : anyOf (older f s) 1 n ≡ false
+        none-older =
+            is-false (anyOf (older f s) 1 n) (λ a. true-false (both (isRemove (f s)) (anyOf (older f s) 1 n) (ap isRemove e) a)
+            (not-true (isRemove (f s) && anyOf (older f s) 1 n) (both-right (ltb (topOf (f s)) (highestValid f n)) _ (tests (ap isRecord e)))))
+
+        old : weight k (f t) < weight k (f s) → older f s t ≡ true
+        old l =
+            is-older f s t (weight-counts k (f t) p) (weight-key k (f t) p ∙ sym (weight-key k (f s) (omega arith)))
+            (omega (arith, weight-version k (f t) p, weight-version k (f s) (omega arith)))
+
+        go : (b : Bool) → ltb (weight k (f t)) (weight k (f s)) ≡ b → weight k (f s) ≤ weight k (f t)
+        go false l = ltb-false (weight k (f t)) (weight k (f s)) l
+        go true l =
+            absurd (true-false (old (ltb-true (weight k (f t)) (weight k (f s)) l)) (any-none-slot (older f s) n none-older t i))
+
+module _ (f : Table) (n : ℕ) where
   -- an older record of a key is not live
   pub older-idle : (s t : ℕ) → Slot n s → isRecord (f s) ≡ true → older f s t ≡ true → live f n t ≡ false
   older-idle s t i p o = is-false (live f n t) (λ a. go (live-is f n t a))
@@ -111,39 +141,10 @@ module _ (f : Table) (n : ℕ) where
       go : (x : Bool) → isRecord (f s) ≡ x → (y : Bool) → ltb (topOf (f s)) (highestValid f n) ≡ y → (z : Bool) → isRemove (f s) ≡ z
           → Passing (older f s) n → Barred s
       go false r y l z m a = absurd (true-false (pick-false (isRecord (f s)) (ltb (topOf (f s)) (highestValid f n) && not hides) true r) e)
-      go true r false l z m a = of-highest r (omega (arith, ltb-false (topOf (f s)) (highestValid f n) l, highest-valid-above s i r))
+      go true r false l z m a = of-highest r (omega (arith, ltb-false (topOf (f s)) (highestValid f n) l, highest-valid-above f n s i r))
       go true r true l false m a = may r l (false-left (isRemove (f s)) _ m)
       go true r true l true m (passes t j o) = has-older r m t j o
       go true r true l true m (none-passes h) = may r l (false-right (isRemove (f s)) _ (any-clear-slot (older f s) n h))
-
-  module _ (s : ℕ) (may : mayTake f n s ≡ true) where
-    tests : isRecord (f s) ≡ true → ltb (topOf (f s)) (highestValid f n) && not (isRemove (f s) && anyOf (older f s) 1 n) ≡ true
-    unfolding mayTake
-    tests c = sym (pick-true (isRecord (f s)) _ _ c) ∙ may
-
-    -- a valid slot that may be taken is not "of the highest valid version"
-    pub may-higher : isRecord (f s) ≡ true → Higher (topOf (f s))
-    may-higher c = below-highest (topOf (f s)) (ltb-true (topOf (f s)) (highestValid f n) (both-left _ _ (tests c)))
-
-    -- nor is it a remove record while an older valid record of its key remains
-    pub may-newest : (w k : ℕ) → f s ≡ removeRecord w k → (t : ℕ) → Slot n t → 0 < weight k (f t) → weight k (f s) ≤ weight k (f t)
-    unfolding isRecord isRemove
-    may-newest w k e t i p = go (ltb (weight k (f t)) (weight k (f s))) refl
-      where
-        none-older : anyOf (older f s) 1 n ≡ false
-        none-older =
-            is-false (anyOf (older f s) 1 n) (λ a. true-false (both (isRemove (f s)) (anyOf (older f s) 1 n) (ap isRemove e) a)
-            (not-true (isRemove (f s) && anyOf (older f s) 1 n) (both-right (ltb (topOf (f s)) (highestValid f n)) _ (tests (ap isRecord e)))))
-
-        old : weight k (f t) < weight k (f s) → older f s t ≡ true
-        old l =
-            is-older f s t (weight-counts k (f t) p) (weight-key k (f t) p ∙ sym (weight-key k (f s) (omega arith)))
-            (omega (arith, weight-version k (f t) p, weight-version k (f s) (omega arith)))
-
-        go : (b : Bool) → ltb (weight k (f t)) (weight k (f s)) ≡ b → weight k (f s) ≤ weight k (f t)
-        go false l = ltb-false (weight k (f t)) (weight k (f s)) l
-        go true l =
-            absurd (true-false (old (ltb-true (weight k (f t)) (weight k (f s)) l)) (any-none-slot (older f s) n none-older t i))
 
 -- a slot of the highest valid version may not be taken
 pub highest-barred : (f : Table) (n s : ℕ) → isRecord (f s) ≡ true → topOf (f s) ≡ highestValid f n → mayTake f n s ≡ false
