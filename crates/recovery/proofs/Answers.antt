@@ -9,7 +9,7 @@ use lib.ListN.{length}
 use Rattle.words.specs.Word.{word}
 use Rattle.layout.specs.Size.{slotsIn}
 use Rattle.layout.specs.Line.{lineA, lineB}
-use Rattle.layout.specs.Content.{content, Table}
+use Rattle.layout.specs.Content.{content, Table, contentsOf, numbersOf}
 use Rattle.table.specs.Complete.{tableOf}
 use Rattle.layout.specs.Header.{imageFault, lentFault}
 use Rattle.prelude.proofs.Refusals.{orElse-zero}
@@ -35,6 +35,7 @@ use Rattle.index.proofs.Searches.{formed-search, Hit, Missed, search-in-hit, se
 use Rattle.recovery.specs.Recover.{recoverFault, chainsOf, placeOf, recoveredIndex}
 use Rattle.recovery.specs.Represents.{Answers}
 use Rattle.recovery.proofs.Clear.{slots-clear}
+use Rattle.recovery.proofs.Void.{settled-put}
 use Rattle.recovery.proofs.Represents.{recovered-sits}
 use Rattle.layout.proofs.Lents.{index-sized}
 
@@ -74,7 +75,9 @@ unfolding keyIn content
 live-slot-key l image n s e = go (live-is (tableOf l image) n s e)
   where
     go : Live (tableOf l image) n s → keyIn (tableOf l image s) ≡ slotKey l image s
-    go (lives w k v d b) = ap keyIn d ∙ sym (put-at l (lineA (word image) s) (lineB (word image) s) w k v d .key)
+    go (lives w k v d b) =
+        ap keyIn d
+        ∙ sym (put-at l (lineA (word image) s) (lineB (word image) s) w k v (settled-put (contentsOf l image) (numbersOf l image) (slotsIn image) s w k v d) .key)
 
 -- ---- the search
 

@@ -12,32 +12,42 @@ use Rattle.words.proofs.Laws.{word-range}
 use Rattle.prelude.proofs.Choice.{pick-true, pick-false, split}
 use Rattle.prelude.specs.Refusal.{say, orElse}
 use Rattle.prelude.specs.Range.{anyOf, atLowest}
+use Rattle.prelude.specs.Filter.{filter}
 use Rattle.layout.specs.Record.{Layout}
 use Rattle.layout.specs.Line.{lineA, lineB, whole, versionOf, lineTop}
 use Rattle.layout.specs.Slot.{slotTop}
-use Rattle.layout.specs.Content.{top, topOf, Table}
-use Rattle.table.specs.Complete.{tableOf}
+use Rattle.layout.specs.Content.{top, topOf, Table, contentsOf, numbersOf}
 use Rattle.layout.specs.Fault.{markFault, recordFault}
 use Rattle.prelude.proofs.Refusals.{say-true}
 use Rattle.layout.proofs.Content.{top-is}
 use Rattle.sorting.specs.Sorted.{sorted}
 use Rattle.prelude.specs.Members.{slotNumbers}
 use Rattle.sorting.proofs.Order.{sorted-alike}
-use Rattle.table.specs.Table.{brokenCount, brokenLimit, liveCount, nextVersion, sharedVersion, manyBroken, allLive}
+use Rattle.table.specs.Table.{brokenCount, brokenLimit, liveCount, nextVersion, manyBroken, allLive}
+use Rattle.table.specs.Complete.{Numbers, highestComplete, isVoid, settled}
+use Rattle.table.specs.Shared.{sharersFault}
 use Rattle.table.specs.Order.{rankOf, ordered}
-use Rattle.table.proofs.defs.Write.{Distinct}
+use Rattle.table.proofs.defs.Shared.{Agreed}
+use Rattle.table.proofs.Shared.{fault-agreed}
+use Rattle.table.proofs.Complete.{settled-next}
+use Rattle.prelude.proofs.Count.{count-filter}
 use Rattle.prelude.proofs.Lists.{slots-in, AllSlots}
 use Rattle.sorting.proofs.Whole.{whole-sorted}
 use Rattle.prelude.proofs.Most.{greatest-least}
-use Rattle.table.proofs.Distinct.{shared-distinct}
-use Rattle.recovery.specs.Recover.{slotsFault, slotsNamed}
-use Rattle.recovery.specs.inner.Scan.{keyAt, Scanned}
-use Rattle.recovery.specs.inner.Decide.{equalNeighbours, decided, placedCount, livePlace, Within, NoneOrAll}
-use Rattle.recovery.specs.inner.Judge.{foundFault, foundSlot, Judgement}
+use Rattle.stores.specs.Opening.{openingStores}
+use Rattle.recovery.specs.Opening.{voidSlots, openingsOf}
+use Rattle.recovery.specs.Recover.{settledFault, slotsFault, slotsNamed}
+use Rattle.recovery.specs.inner.Scan.{keyAt, Listed, Scanned}
+use Rattle.recovery.specs.inner.Decide.{judgedRank, decided, placedCount, livePlace, Within, NoneOrAll}
+use Rattle.recovery.specs.inner.Judge.{Compared, Settled, foundFault, foundSlot, Judgement}
 use Rattle.recovery.specs.declared.Scan.{Scan}
+use Rattle.recovery.specs.declared.Openings.{Openings}
 use Rattle.recovery.proofs.Clear.{slots-clear}
 use Rattle.recovery.proofs.Orders.{whole-order, whole-within}
-use Rattle.recovery.proofs.Neighbours.{neighbours-shared}
+use Rattle.recovery.proofs.Neighbours.{orders-shared}
+use Rattle.recovery.proofs.Void.{judged-is, settled-apart, above-void, settled-listed, broken-with-void}
+use Rattle.recovery.proofs.OpeningStores.{openings-length}
+use Rattle.recovery.proofs.Rebuilt.{filter-alike}
 use Rattle.recovery.proofs.Scans.{highs-all}
 use Rattle.recovery.proofs.Decides.{decided-live, counted-live}
 
@@ -51,7 +61,7 @@ line-small mark stamp h = go (split (whole mark stamp))
     go (inl e) = omega (arith, pick-true (whole mark stamp) (versionOf stamp) 0 e)
     go (inr e) = omega (arith, pick-false (whole mark stamp) (versionOf stamp) 0 e)
 
-top-small : (l : ℕ) (image : List ℕ) (s : ℕ) → AreBytes image → topOf (tableOf l image s) < 2 ^ 63
+top-small : (l : ℕ) (image : List ℕ) (s : ℕ) → AreBytes image → topOf (contentsOf l image s) < 2 ^ 63
 unfolding top slotTop
 top-small l image s b =
     omega (
@@ -63,59 +73,96 @@ top-small l image s b =
 
 -- ---- judge
 
-module _ (l : ℕ) (image : List ℕ) (n b : ℕ) (ranks lows highs places₁ order by-key places : List ℕ) (all : Scan) (shared : Bool)
-    (live-count : ℕ) (bytes : AreBytes image) (size : length places₁ ≡ n + 1) (s : Scanned l (word image) n b ranks lows highs places₁ all)
-    (in-order : order ≡ sorted (λ x. getD ranks x 0) (slotNumbers n)) (twin : shared ≡ anyOf (equalNeighbours ranks order) 0 (n - 1))
-    (keyed : by-key ≡ sorted (keyAt lows highs) order) (done : places ≡ decided (keyAt lows highs) by-key n places₁)
-    (counted : live-count ≡ placedCount places n) where
-  f : Table
-  f = tableOf l image
+module _ (l : ℕ) (image : List ℕ) (n b : ℕ) (ranks lows highs places₁ order₁ by-key₁ ranks₂ places₂ order by-key places : List ℕ) (all : Scan)
+    (shared : Bool) (limit live-count broken : ℕ) (opened : Openings) (bytes : AreBytes image) (size : length places₁ ≡ n + 1)
+    (s : Scanned l (word image) n b ranks lows highs places₁ all)
+    (twin : Compared (numbersOf l image) ranks lows highs n order₁ by-key₁ shared) (limit-by : limit ≡ judgedRank (numbersOf l image) ranks order₁ n)
+    (v : Settled (word image) limit n ranks lows highs places₁ ranks₂ places₂ order by-key opened)
+    (done : places ≡ decided (keyAt lows highs) by-key n places₂) (counted : live-count ≡ placedCount places n)
+    (sum : broken ≡ all .broken + opened .count) where
+  abbrev raw : Table
+  raw = contentsOf l image
 
-  shared-is : shared ≡ sharedVersion f n
-  unfolding f
-  shared-is = twin ∙ neighbours-shared f n ranks order (s .listed .rank-at) in-order
+  abbrev num : Numbers
+  num = numbersOf l image
 
-  order-is : order ≡ ordered f (slotNumbers n)
-  unfolding f ordered
-  order-is =
-      in-order
-      ∙ sorted-alike (λ x. getD ranks x 0) (λ x. rankOf (f x)) (slotNumbers n)
-      (λ x i. let t = slots-in n x i in s .listed .rank-at x (t .0) (t .1))
+  abbrev f : Table
+  f = settled raw num n
 
-  module _ (fine : sharedVersion f n ≡ false) where
-    apart-versions : Distinct f n
-    apart-versions = shared-distinct f n fine
+  shared-is : shared ≡ sharersFault (contentsOf l image) (numbersOf l image) n
+  shared-is =
+      twin .shared-is ∙ orders-shared raw num n b ranks lows highs places₁ order₁ by-key₁ (s .listed) (twin .in-order .by-rank) (twin .in-order .keyed)
 
-    place-is : (t : ℕ) → 0 < t → t ≤ n → getD places t 0 ≡ livePlace f n b t
-    unfolding f
+  module _ (fine : sharersFault (contentsOf l image) (numbersOf l image) n ≡ false) where
+    agreed : Agreed (contentsOf l image) (numbersOf l image) n
+    agreed = fault-agreed raw num n fine
+
+    limit-is : limit ≡ 2 + highestComplete (contentsOf l image) (numbersOf l image) n
+    limit-is = limit-by ∙ judged-is raw num n ranks order₁ (s .listed .rank-at) (twin .in-order .by-rank) agreed
+
+    listed : Listed (settled (contentsOf l image) (numbersOf l image) n) n b ranks₂ lows highs places₂
+    listed = settled-listed raw num n b limit ranks lows highs places₁ ranks₂ places₂ (s .listed) limit-is (v .cleared)
+
+    order-is : order ≡ ordered (settled (contentsOf l image) (numbersOf l image) n) (slotNumbers n)
+    unfolding ordered
+    order-is =
+        v .in-order .by-rank
+        ∙ sorted-alike (λ x. getD ranks₂ x 0) (λ x. rankOf (f x)) (slotNumbers n)
+        (λ x i. let t = slots-in n x i in listed .rank-at x (t .0) (t .1))
+
+    place-is : (t : ℕ) → 0 < t → t ≤ n → getD places t 0 ≡ livePlace (settled (contentsOf l image) (numbersOf l image) n) n b t
     place-is t low high =
         ap (λ (p : List ℕ). getD p t 0) done
-        ∙ decided-live f n b ranks lows highs places₁ order by-key (s .listed) size apart-versions order-is keyed t low high
+        ∙ decided-live f n b ranks₂ lows highs places₂ order by-key listed (v .cleared .places-size ∙ size) (settled-apart raw num n agreed) order-is
+        (v .in-order .keyed) t low high
 
-    live-is : live-count ≡ liveCount f n
-    unfolding f
+    live-is : live-count ≡ liveCount (settled (contentsOf l image) (numbersOf l image) n) n
     live-is =
         counted ∙ ap (λ (p : List ℕ). placedCount p n) done
-        ∙ counted-live f n b ranks lows highs places₁ order by-key (s .listed) size apart-versions order-is keyed
+        ∙ counted-live f n b ranks₂ lows highs places₂ order by-key listed (v .cleared .places-size ∙ size) (settled-apart raw num n agreed) order-is
+        (v .in-order .keyed)
+
+    void-are : filter (λ t. ltb limit (getD ranks t 0)) (slotNumbers n) ≡ voidSlots l (word image) n
+    unfolding voidSlots
+    void-are =
+        filter-alike (λ t. ltb limit (getD ranks t 0)) (isVoid raw num n) (slotNumbers n)
+        (λ x i. above-void raw num n b limit ranks lows highs places₁ ranks₂ places₂ (s .listed) limit-is x (slots-in n x i))
+
+    opened-is : opened ≡ openingsOf (openingStores (word image) (voidSlots l (word image) n))
+    opened-is = v .opened-is ∙ ap (λ (t : List ℕ). openingsOf (openingStores (word image) t)) void-are
+
+    broken-is : broken ≡ brokenCount (settled (contentsOf l image) (numbersOf l image) n) n
+    unfolding openingsOf voidSlots
+    broken-is =
+        omega (
+          arith,
+          sum,
+          s .broken-is,
+          ap (λ (o : Openings). o .count) opened-is,
+          openings-length (word image) (filter (isVoid raw num n) (slotNumbers n)),
+          count-filter (isVoid raw num n) n,
+          broken-with-void raw num n,
+        )
 
   -- 7, 25 and 8 by these tests and this live count
   abbrev lateBy : (shared : Bool) → (broken live : ℕ) → ℕ
   lateBy shared broken live = say shared 7 (say (ltb brokenLimit broken) 25 (say (eqb live n) 8 0))
 
-  late : lateBy (sharedVersion f n) (all .broken) live-count ≡ say (sharedVersion f n) 7 (say (manyBroken f n) 25 (say (allLive f n) 8 0))
-  unfolding allLive manyBroken f
-  late = go (split (sharedVersion f n))
+  late : lateBy (sharersFault (contentsOf l image) (numbersOf l image) n) broken live-count
+      ≡ say (sharersFault (contentsOf l image) (numbersOf l image) n) 7 (settledFault (settled (contentsOf l image) (numbersOf l image) n) n)
+  unfolding settledFault allLive manyBroken
+  late = go (split (sharersFault raw num n))
     where
-      go : (sharedVersion f n ≡ true) ⊎ (sharedVersion f n ≡ false)
-          → lateBy (sharedVersion f n) (all .broken) live-count ≡ lateBy (sharedVersion f n) (brokenCount f n) (liveCount f n)
-      go (inl e) = say-true (sharedVersion f n) 7 _ e ∙ sym (say-true (sharedVersion f n) 7 _ e)
-      go (inr e) = ap₂ (lateBy (sharedVersion f n)) (s .broken-is) (live-is e)
+      go : (sharersFault raw num n ≡ true) ⊎ (sharersFault raw num n ≡ false)
+          → lateBy (sharersFault raw num n) broken live-count ≡ lateBy (sharersFault raw num n) (brokenCount f n) (liveCount f n)
+      go (inl e) = say-true (sharersFault raw num n) 7 _ e ∙ sym (say-true (sharersFault raw num n) 7 _ e)
+      go (inr e) = ap₂ (lateBy (sharersFault raw num n)) (broken-is e) (live-is e)
 
-  fault-is : foundFault (all .mark) (all .fault) shared (all .broken) live-count n ≡ slotsFault l (word image) n
-  unfolding foundFault slotsFault f
+  fault-is : foundFault (all .mark) (all .fault) shared broken live-count n ≡ slotsFault l (word image) n
+  unfolding foundFault slotsFault
   fault-is =
-      ap₂ (λ (x : Bool) (y : ℕ). say x 5 (orElse y (lateBy shared (all .broken) live-count))) (s .marks-are) (s .fault-is)
-      ∙ ap (λ (z : Bool). say (anyOf (markFault (word image)) 1 n) 5 (orElse records (lateBy z (all .broken) live-count))) shared-is
+      ap₂ (λ (x : Bool) (y : ℕ). say x 5 (orElse y (lateBy shared broken live-count))) (s .marks-are) (s .fault-is)
+      ∙ ap (λ (z : Bool). say (anyOf (markFault (word image)) 1 n) 5 (orElse records (lateBy z broken live-count))) shared-is
       ∙ ap (λ (k : ℕ). say (anyOf (markFault (word image)) 1 n) 5 (orElse records k)) late
     where
       records : ℕ
@@ -125,21 +172,20 @@ module _ (l : ℕ) (image : List ℕ) (n b : ℕ) (ranks lows highs places₁ or
   unfolding foundSlot slotsNamed
   slot-is = ap₂ (λ (x : Bool) (y : ℕ). say x 0 y) (s .marks-are) (s .slot-is)
 
-  none-shared : slotsFault l (word image) n ≡ 0 → sharedVersion f n ≡ false
-  unfolding f
-  none-shared e = slots-clear l (word image) n e .versions
+  none-shared : slotsFault l (word image) n ≡ 0 → sharersFault (contentsOf l image) (numbersOf l image) n ≡ false
+  none-shared e = slots-clear l (word image) n e .sharers
 
   top-fits : all .top < 2 ^ 63
   top-fits =
       omega (
         arith,
         s .top-is,
-        greatest-least (λ t. topOf (tableOf l image t)) n (2 ^ 63 - 1) (λ t i. let h = top-small l image t bytes in omega arith),
+        greatest-least (λ t. topOf (contentsOf l image t)) n (2 ^ 63 - 1) (λ t i. let h = top-small l image t bytes in omega arith),
       )
 
-  pub judged : (fault slot : ℕ) → fault ≡ foundFault (all .mark) (all .fault) shared (all .broken) live-count n → slot ≡ foundSlot (all .mark) (all .slot)
-      → Judgement l (word image) n b order places (record { fault = fault; slot = slot; live = live-count; top = all .top })
-  unfolding f nextVersion
+  pub judged : (fault slot : ℕ) → fault ≡ foundFault (all .mark) (all .fault) shared broken live-count n → slot ≡ foundSlot (all .mark) (all .slot)
+      → Judgement l (word image) n b order places (record { fault = fault; slot = slot; live = live-count; top = all .top; openings = opened })
+  unfolding nextVersion
   judged fault slot e d =
       record {
         fault-is = e ∙ fault-is;
@@ -148,12 +194,13 @@ module _ (l : ℕ) (image : List ℕ) (n b : ℕ) (ranks lows highs places₁ or
             λ z.
             let fine = none-shared (sym (e ∙ fault-is) ∙ z) in
             record {
-              order-is = order-is;
+              order-is = order-is fine;
               place-is = place-is fine;
               live-is = live-is fine;
-              top-is = ap suc (s .top-is);
+              top-is = ap suc (s .top-is) ∙ sym (settled-next raw num n);
               top-fits = top-fits;
             };
+        openings-are = λ z. opened-is (none-shared (sym (e ∙ fault-is) ∙ z));
       }
 
 -- ---- what the functions that judge calls ask for

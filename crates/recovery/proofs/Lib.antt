@@ -11,4 +11,6 @@ pub mod Answers
 pub mod Unwritten
 pub mod Neighbours
 pub mod Runs
+pub mod Void
+pub mod OpeningStores
 pub mod defs

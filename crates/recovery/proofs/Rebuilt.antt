@@ -35,13 +35,13 @@ use Rattle.prelude.proofs.Fills.{zeros}
 
 -- ---- lists and tables that agree where it counts
 
-filter-alike : (p q : ℕ → Bool) (l : List ℕ) → ((x : ℕ) → In x l → p x ≡ q x) → filter p l ≡ filter q l
+pub filter-alike : (p q : ℕ → Bool) (l : List ℕ) → ((x : ℕ) → In x l → p x ≡ q x) → filter p l ≡ filter q l
 unfolding filter
 filter-alike p q [] h = refl
 filter-alike p q (x ∷ l) h =
     ap₂ (λ (b : Bool) (t : List ℕ). cond b (x ∷ t) t) (h x (inl refl)) (filter-alike p q l (λ y i. h y (inr i)))
 
-tabulate-alike : (f g : ℕ → ℕ) (k n : ℕ) → ((i : ℕ) → k ≤ i → i < k + n → f i ≡ g i) → tabulate f k n ≡ tabulate g k n
+pub tabulate-alike : (f g : ℕ → ℕ) (k n : ℕ) → ((i : ℕ) → k ≤ i → i < k + n → f i ≡ g i) → tabulate f k n ≡ tabulate g k n
 unfolding tabulate
 tabulate-alike f g k zero h = refl
 tabulate-alike f g k (suc n) h =

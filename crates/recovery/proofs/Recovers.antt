@@ -16,24 +16,31 @@ use Rattle.prelude.specs.Answer.{gives}
 use Rattle.layout.specs.Size.{slotsIn}
 use Rattle.layout.specs.Header.{lentFault}
 use Rattle.layout.specs.Record.{Layout}
-use Rattle.layout.specs.Content.{Table}
-use Rattle.table.specs.Complete.{tableOf}
+use Rattle.layout.specs.Content.{Table, contentsOf, numbersOf}
+use Rattle.table.specs.Complete.{settled, tableOf}
 use Rattle.prelude.proofs.Refusals.{orElse-first, orElse-later, taken-leaves, refused-keeps}
-use Rattle.table.specs.Table.{keyIn, live, nextVersion}
+use Rattle.table.specs.Table.{keyIn, live, liveCount, nextVersion}
 use Rattle.index.specs.Index.{Index, headOf, stateOf}
 use Rattle.index.specs.inner.Parts.{PartsOf}
 use Rattle.index.specs.inner.Build.{build, placeIn, unbuilt, Ordered}
 use Rattle.index.specs.declared.State.{State}
 use Rattle.layout.proofs.Lents.{lent-sized, lent-heads, lent-slots}
-use Rattle.recovery.specs.Recover.{Result, stateValues, recoverSays, recoverNames, slotsFault, slotsNamed, recoverFault, recoverSlot, recoveredIndex, recoveredState, recovered, recoverResult, recoverEnd, recoverState, refusedResult}
+use Rattle.stores.specs.Store.{Store}
+use Rattle.stores.specs.Opening.{openingStores}
+use Rattle.recovery.specs.Opening.{voidSlots, openingsOf}
+use Rattle.recovery.specs.Recover.{Result, stateValues, slotsFault, slotsNamed, recoverFault, recoverSlot, recoveredIndex, recoveredState, recovered, recoverResult, recoverEnd, refusedResult}
 use Rattle.recovery.specs.inner.Decide.{livePlace, Within}
 use Rattle.recovery.specs.inner.Judge.{Ready, Roomy, Judgeable, Arranged, Judgement, Left, answerBy}
 use Rattle.recovery.specs.declared.Judged.{Judged}
+use Rattle.recovery.specs.declared.Openings.{Openings}
 use Rattle.recovery.specs.declared.Recovered.{Recovered}
 use Rattle.recovery.specs.declared.Recovered.the-variants.{Rebuilt, Refused}
 use Rattle.recovery.proofs.Rebuilt.{arranged-index, arranged-place, ordered-whole}
 use Rattle.recovery.proofs.Orders.{whole-within}
 use Rattle.recovery.proofs.Lent.{recovery-taken}
+
+abbrev stores : (l : ℕ) → (image : List ℕ) → List Store
+stores l image = openingStores (word image) (voidSlots l (word image) (slotsIn image))
 
 -- the result by the refusal's number and the slot that it names
 module _ (l : ℕ) (image heads next : List ℕ) (fault : ℕ) (e : recoverFault l image (length heads) (length next) ≡ fault) where
@@ -42,11 +49,11 @@ module _ (l : ℕ) (image heads next : List ℕ) (fault : ℕ) (e : recoverFault
   unfolding recoverResult
   result-refused slot d ne =
       sym
-      (refused-keeps (recovered (tableOf l image) (slotsIn image) (length heads)) _
+      (refused-keeps (recovered (tableOf l image) (slotsIn image) (length heads) (stores l image)) _
       (recoverFault l image (length heads) (length next)) (λ z. ne (sym e ∙ z))
       ∙ ap₂ (λ (k s : ℕ). refusedResult k s heads next) e d)
 
-  result-taken : fault ≡ 0 → recovered (tableOf l image) (slotsIn image) (length heads) ≡ recoverResult l image heads next
+  result-taken : fault ≡ 0 → recovered (tableOf l image) (slotsIn image) (length heads) (stores l image) ≡ recoverResult l image heads next
   result-taken z = sym (recovery-taken l image heads next (e ∙ z))
 
 -- 1 to 4
@@ -76,30 +83,34 @@ module _ (l : ℕ) (image heads next : List ℕ) (n : ℕ) (ready : Ready image 
       ∙ ap (slotsNamed l (word image)) (ready .sized .slot-count) ∙ sym d)
       ne
 
-  -- the result of an index with this live count and this next version
-  shown : Index → (live-count version : ℕ) → Result
-  shown i live-count version =
+  -- the result of an index with this live count and this next version, and with these stores
+  shown : Openings → Index → (live-count version newest : ℕ) → Result
+  shown openings i live-count version newest =
       record {
-        answer = gives (stateValues (stateOf i live-count version));
+        answer = gives (stateValues (stateOf i live-count version newest));
         slot = 0;
-        state = stateOf i live-count version;
+        state = stateOf i live-count version newest;
+        openings = openings;
         heads = i .heads;
         next = i .next;
       }
 
   slots-taken : (fault : ℕ) → fault ≡ slotsFault l (word image) n → fault ≡ 0 → (order places heads′ next′ : List ℕ) (live-count top : ℕ) (r : State)
-      → Arranged (tableOf l image) n (length heads) order places live-count top
-      → PartsOf heads′ next′ r (build (placeIn places) (unbuilt (replicate (length heads) 0) (replicate (length next) 0)) order) live-count (top + 1)
-      → record { answer = gives (stateValues r); slot = 0; state = r; heads = heads′; next = next′ } ≡ recoverResult l image heads next
+      (openings : Openings) → Arranged (settled (contentsOf l image) (numbersOf l image) n) n (length heads) order places live-count top
+      → openings ≡ openingsOf (openingStores (word image) (voidSlots l (word image) n))
+      → PartsOf heads′ next′ r (build (placeIn places) (unbuilt (replicate (length heads) 0) (replicate (length next) 0)) order) live-count (top + 1) 0
+      → record { answer = gives (stateValues r); slot = 0; state = r; openings = openings; heads = heads′; next = next′ } ≡ recoverResult l image heads next
   unfolding shown recovered recoveredState
-  slots-taken fault e z order places heads′ next′ live-count top r a h =
-      ap (λ (i : Index). shown i (r .live) (r .version)) (h .index ∙ built)
-      ∙ ap₂ (shown (recoveredIndex f n (length heads))) (h .live-count ∙ a .live-is) (h .next-version ∙ next-is)
-      ∙ ap (λ (k : ℕ). recovered f k (length heads)) (sym (ready .sized .slot-count))
+  slots-taken fault e z order places heads′ next′ live-count top r openings a o h =
+      ap (λ (i : Index). shown openings i (r .live) (r .version) (r .newest)) (h .index ∙ built)
+      ∙ ap₂ (λ (x y : ℕ). shown openings (recoveredIndex f n (length heads)) x y (r .newest)) (h .live-count ∙ a .live-is) (h .next-version ∙ next-is)
+      ∙ ap₂ (λ (x : Openings) (y : ℕ). shown x (recoveredIndex f n (length heads)) (liveCount f n) (nextVersion f n) y) o (h .newest-slot)
+      ∙ ap (λ (k : ℕ). recovered (settled (contentsOf l image) (numbersOf l image) k) k (length heads) (openingStores (word image) (voidSlots l (word image) k)))
+      (sym (ready .sized .slot-count))
       ∙ result-taken l image heads next fault (by-slots fault e) z
     where
       f : Table
-      f = tableOf l image
+      f = settled (contentsOf l image) (numbersOf l image) n
 
       built : build (placeIn places) (unbuilt (replicate (length heads) 0) (replicate (length next) 0)) order ≡ recoveredIndex f n (length heads)
       built =
@@ -114,9 +125,9 @@ module _ (l : ℕ) (image heads next : List ℕ) (n : ℕ) (ready : Ready image 
 -- both ways of a call, by the refusal's number
 pub slots-answered : (l : ℕ) (image heads next order places : List ℕ) (n : ℕ) (found : Judged) (heads′ next′ : List ℕ) (state : State) (r : Recovered)
     → Ready image l heads next n → Judgement l (word image) n (length heads) order places found
-    → Left (found .fault) heads next order places (found .live) (found .top) heads′ next′ state → r ≡ answerBy (found .fault) (found .slot) state
+    → Left (found .fault) heads next order places (found .live) (found .top) heads′ next′ state → r ≡ answerBy (found .fault) (found .slot) state (found .openings)
     → recoverEnd r heads′ next′ ≡ recoverResult l image heads next
-unfolding recoverSays recoverNames recoverState answerBy
+unfolding recoverEnd answerBy
 slots-answered l image heads next order places n found heads′ next′ state r ready j v q = go (zero-or-not fault)
   where
     fault : ℕ
@@ -125,15 +136,16 @@ slots-answered l image heads next order places n found heads′ next′ state r 
     slot : ℕ
     slot = found .slot
 
-    says : (w : Recovered) → answerBy fault slot state ≡ w → recoverEnd r heads′ next′ ≡ recoverEnd w heads′ next′
+    says : (w : Recovered) → answerBy fault slot state (found .openings) ≡ w → recoverEnd r heads′ next′ ≡ recoverEnd w heads′ next′
     says w u = ap (λ (x : Recovered). recoverEnd x heads′ next′) (q ∙ u)
 
     go : (fault ≡ 0) ⊎ (fault ≡ 0 → ⊥) → recoverEnd r heads′ next′ ≡ recoverResult l image heads next
     go (inl z) =
-        says (Rebuilt state) (pick-true (eqb fault 0) (Rebuilt state) (Refused fault slot) (eq-eqb fault 0 z))
-        ∙ slots-taken l image heads next n ready fault (j .fault-is) z order places heads′ next′ (found .live) (found .top) state (j .arranged z) (v .rebuilt z)
+        says (Rebuilt state (found .openings)) (pick-true (eqb fault 0) (Rebuilt state (found .openings)) (Refused fault slot) (eq-eqb fault 0 z))
+        ∙ slots-taken l image heads next n ready fault (j .fault-is) z order places heads′ next′ (found .live) (found .top) state (found .openings) (j .arranged z)
+        (j .openings-are z) (v .rebuilt z)
     go (inr ne) =
-        says (Refused fault slot) (pick-false (eqb fault 0) (Rebuilt state) (Refused fault slot) (ne-eqb fault 0 ne))
+        says (Refused fault slot) (pick-false (eqb fault 0) (Rebuilt state (found .openings)) (Refused fault slot) (ne-eqb fault 0 ne))
         ∙ ap₂ (λ (h x : List ℕ). recoverEnd (Refused fault slot) h x) (v .kept ne .0) (v .kept ne .1)
         ∙ slots-refused l image heads next n ready fault slot (j .fault-is) (j .slot-is) ne
 
@@ -156,14 +168,14 @@ pub rebuild-ordered : (l : ℕ) (image heads next ranks lows highs places₀ ord
     → Ordered heads next order places
 rebuild-ordered l image heads next ranks lows highs places₀ order₀ by-key spare order places n found ready g j same z = ordered-by
   where
-    a : Arranged (tableOf l image) n (length heads) order places (found .live) (found .top)
+    f : Table
+    f = settled (contentsOf l image) (numbersOf l image) n
+
+    a : Arranged f n (length heads) order places (found .live) (found .top)
     a = j .arranged z
 
     size : length places ≡ n + 1
     size = same ∙ g .places-size
-
-    f : Table
-    f = tableOf l image
 
     few : 1 ≤ length heads
     few = ready .sized .some-head

@@ -5,14 +5,13 @@ use mathlib.Core.List.{[]}
 use Prim.Native.Nat.{ℕ}
 use Rattle.prelude.specs.Members.{slotNumbers}
 use Rattle.layout.specs.Content.{Table}
-use Rattle.table.specs.Table.{liveCount, nextVersion, sharedVersion, allLive}
+use Rattle.table.specs.Table.{liveCount, nextVersion, allLive}
 use Rattle.table.specs.Order.{chainOf, reuseOf}
 
--- what recovery reads of a table with no record: all slots spare in the order of their numbers, and no refusal 7 or 8
+-- what recovery reads of a table with no record: all slots spare in the order of their numbers, and no refusal 8
 pub record Fresh (f : Table) (n : ℕ) : Type 0 where
   pub live-count : liveCount f n ≡ 0
   pub next-version : nextVersion f n ≡ 1
   pub all-spare : reuseOf f n ≡ slotNumbers n
   pub no-chain : (head : ℕ → ℕ) (h : ℕ) → chainOf f n head h ≡ []
-  pub none-shared : sharedVersion f n ≡ false
   pub some-room : allLive f n ≡ false

@@ -1,11 +1,13 @@
 -- What recovery finds before it writes anything, and what it leaves.
 use mathlib.Core.Path.{_≡_}
-use mathlib.Core.Bool.{Bool, cond}
+use mathlib.Core.Bool.{Bool, true, cond}
 use mathlib.Core.List.{List}
 use Prim.Native.Nat.{ℕ, suc, _+_, _-_, _*_, _^_, _≤_, _<_}
 use lib.Dec.{eqb, ltb}
-use lib.ListN.{length, getD, replicate}
+use lib.ListN.{length, getD, set, replicate}
 use Rattle.prelude.specs.Refusal.{say, orElse}
+use Rattle.prelude.specs.Range.{anyOf}
+use Rattle.prelude.specs.Filter.{filter}
 use Rattle.layout.specs.Content.{content, numberIn, Table}
 use Rattle.layout.specs.Header.{lentFault}
 use Rattle.layout.specs.Record.{Layout}
@@ -16,13 +18,14 @@ use Rattle.index.specs.declared.State.{State}
 use Rattle.prelude.specs.Members.{slotNumbers}
 use Rattle.table.specs.Table.{brokenLimit, liveCount, nextVersion}
 use Rattle.table.specs.Order.{ordered}
-use Rattle.table.specs.Complete.{settled}
+use Rattle.table.specs.Complete.{Numbers, settled}
 use Rattle.sorting.specs.Sorted.{sorted}
 use Rattle.recovery.specs.Recover.{slotsFault, slotsNamed}
+use Rattle.stores.specs.Store.{Store}
 use Rattle.stores.specs.Opening.{openingStores}
 use Rattle.recovery.specs.Opening.{voidSlots, openingsOf}
 use Rattle.recovery.specs.inner.Scan.{keyAt}
-use Rattle.recovery.specs.inner.Decide.{livePlace, Cleared}
+use Rattle.recovery.specs.inner.Decide.{runFault, keyTwice, livePlace, Cleared}
 use Rattle.recovery.specs.declared.Openings.{Openings}
 use Rattle.recovery.specs.declared.Judged.{Judged}
 use Rattle.recovery.specs.declared.Recovered.{Recovered}
@@ -67,10 +70,17 @@ pub record InOrder (ranks lows highs : List ℕ) (n : ℕ) (order by-key : List 
   pub by-rank : order ≡ sorted (λ x. getD ranks x 0) (slotNumbers n)
   pub keyed : by-key ≡ sorted (keyAt lows highs) order
 
--- the lists after the slots of a rank above the limit lost rank and place, in order again
-pub record Reordered (limit n : ℕ) (ranks lows highs places ranks′ places′ order by-key : List ℕ) : Type 0 where
+-- these orders, and whether 7 is found along them
+pub record Compared (num : Numbers) (ranks lows highs : List ℕ) (n : ℕ) (order by-key : List ℕ) (shared : Bool) : Type 0 where
+  pub in-order : InOrder ranks lows highs n order by-key
+  pub shared-is : shared
+      ≡ cond (anyOf (runFault num ranks order) 0 (n - 1)) true (anyOf (keyTwice (keyAt lows highs) ranks by-key) 0 (n - 1))
+
+-- the slots of a rank above the limit lost rank and place, the lists are in order again, and the stores that open those slots
+pub record Settled (m : ℕ → ℕ) (limit n : ℕ) (ranks lows highs places ranks′ places′ order by-key : List ℕ) (opened : Openings) : Type 0 where
   pub cleared : Cleared limit n ranks places ranks′ places′
   pub in-order : InOrder ranks′ lows highs n order by-key
+  pub opened-is : opened ≡ openingsOf (openingStores m (filter (λ s. ltb limit (getD ranks s 0)) (slotNumbers n)))
 
 -- the refusal of the slots from what was found: 5, the fault of the lowest slot at fault, 7, 25, 8; `broken` counts void slots too
 unfoldable pub foundFault : (mark : Bool) → (fault : ℕ) → (shared : Bool) → (broken live n : ℕ) → ℕ
@@ -101,6 +111,11 @@ pub record Left (fault : ℕ) (heads next order places : List ℕ) (live top : �
   pub rebuilt : fault ≡ 0
       → PartsOf heads′ next′ r (build (placeIn places) (unbuilt (replicate (length heads) 0) (replicate (length next) 0)) order) live (top + 1) 0
   pub kept : (fault ≡ 0 → ⊥) → (heads′ ≡ heads) × (next′ ≡ next)
+
+-- opening stores with one more of them; past the eighth it is only counted
+unfoldable pub withStore : Openings → Store → Openings
+withStore o s =
+    record { count = o .count + 1; at = set (o .at) (o .count) (s .word); value = set (o .value) (o .count) (s .value) }
 
 unfoldable pub answerBy : (fault slot : ℕ) → State → Openings → Recovered
 answerBy fault slot state openings = cond (eqb fault 0) (Rebuilt state openings) (Refused fault slot)
