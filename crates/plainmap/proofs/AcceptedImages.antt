@@ -12,21 +12,23 @@ use Rattle.prelude.proofs.Choice.{pick-false}
 use Rattle.prelude.specs.Range.{anyOf}
 use Rattle.layout.specs.Size.{slotsIn}
 use Rattle.layout.specs.Line.{lineA, lineB}
-use Rattle.layout.specs.Content.{content}
-use Rattle.table.specs.Complete.{tableOf}
+use Rattle.layout.specs.Content.{content, numberIn, contentsOf, numbersOf, Table}
+use Rattle.table.specs.Complete.{settled, tableOf}
 use Rattle.layout.specs.Header.{headerWord, headerFault, imageFault, indexFault, lentFault}
 use Rattle.layout.specs.Fault.{markFault, recordFault}
 use Rattle.prelude.proofs.Any.{or-none, any-none, any-clear}
 use Rattle.prelude.proofs.Lowest.{all-clear}
 use Rattle.prelude.proofs.Refusals.{say-false, say-zero, orElse-later, orElse-zero}
 use Rattle.layout.proofs.Size.{Long, long}
-use Rattle.table.specs.Table.{brokenCount, brokenLimit, liveCount}
+use Rattle.table.specs.Table.{liveCount}
 use Rattle.prelude.specs.Members.{Slot}
-use Rattle.table.proofs.defs.Write.{Distinct}
-use Rattle.table.proofs.Distinct.{shared-distinct, distinct-shared}
+use Rattle.table.proofs.defs.Write.{ApartByKey}
+use Rattle.table.proofs.Shared.{fault-agreed, agreed-fault, agreed-apart}
+use Rattle.table.proofs.Settled.{settled-apart}
 use Rattle.table.proofs.Broken.{many-few, few-many}
 use Rattle.table.proofs.LiveCount.{all-room, room-all}
-use Rattle.recovery.specs.Recover.{slotsFault, recoverFault}
+use Rattle.images.proofs.Right.{BitMarks, RightSlots}
+use Rattle.recovery.specs.Recover.{settledFault, slotsFault, recoverFault}
 use Rattle.recovery.proofs.Clear.{slots-clear}
 use Rattle.plainmap.specs.Accepted.{Accepted}
 
@@ -73,10 +75,6 @@ slots-none p n e s i =
 slots-free : (p : ℕ → Bool) (n : ℕ) → ((s : ℕ) → Slot n s → p s ≡ false) → anyOf p 1 n ≡ false
 slots-free p n h = any-clear p 1 n (λ i k. h (1 + i) (omega arith))
 
--- the marks of a slot are 0 or 1
-abbrev pub BitMarks : (ℕ → ℕ) → ℕ → Type 0
-BitMarks m s = (lineA m s 0 ≤ 1) × (lineB m s 0 ≤ 1)
-
 passed-marks : (m : ℕ → ℕ) (s : ℕ) → markFault m s ≡ false → BitMarks m s
 unfolding markFault
 passed-marks m s e =
@@ -88,34 +86,32 @@ unfolding markFault
 right-marks m s h =
     pick-false (ltb 1 (lineA m s 0)) _ _ (le-ltb 1 (lineA m s 0) (h .0)) ∙ le-ltb 1 (lineB m s 0) (h .1)
 
--- what the refusals of the slots leave
-pub record RightSlots (l : ℕ) (m : ℕ → ℕ) (n : ℕ) : Type 0 where
-  pub marks : (s : ℕ) → Slot n s → BitMarks m s
-  pub records : (s : ℕ) → Slot n s → recordFault l m s ≡ 0
-  pub distinct : Distinct (content l m) n
-  pub few-broken : brokenCount (content l m) n ≤ brokenLimit
-  pub room : liveCount (content l m) n < n
-
 module _ (l : ℕ) (m : ℕ → ℕ) (n : ℕ) where
+  abbrev F : Table
+  F = settled (content l m) (numberIn l m) n
+
   pub passed-slots : slotsFault l m n ≡ 0 → RightSlots l m n
   passed-slots e =
       let clear = slots-clear l m n e in
       record {
         marks = λ s i. passed-marks m s (slots-none (markFault m) n (clear .marks) s i);
         records = clear .records;
-        distinct = shared-distinct (content l m) n (clear .versions);
-        few-broken = many-few (content l m) n (clear .few-broken);
-        room = all-room (content l m) n (clear .room);
+        table =
+            record {
+              agreed = fault-agreed (content l m) (numberIn l m) n (clear .versions);
+              few = many-few F n (clear .few-broken);
+              idle = all-room F n (clear .room);
+            };
       }
 
   pub right-slots : RightSlots l m n → slotsFault l m n ≡ 0
-  unfolding slotsFault
+  unfolding slotsFault settledFault
   right-slots h =
       say-false _ _ _ (slots-free (markFault m) n (λ s i. right-marks m s (h .marks s i)))
       ∙ orElse-later _ _ (all-clear (recordFault l m) n (h .records))
-      ∙ say-false _ _ _ (distinct-shared (content l m) n (h .distinct))
-      ∙ say-false _ _ _ (few-many (content l m) n (h .few-broken))
-      ∙ say-false _ _ _ (room-all (content l m) n (h .room))
+      ∙ say-false _ _ _ (agreed-fault (content l m) (numberIn l m) n (h .table .agreed))
+      ∙ say-false _ _ _ (few-many F n (h .table .few))
+      ∙ say-false _ _ _ (room-all F n (h .table .idle))
 
 -- ---- an accepted image
 
@@ -130,11 +126,14 @@ module _ (l : ℕ) (image : List ℕ) (accepted : Accepted l image) where
   pub accepted-right : RightSlots l (word image) (slotsIn image)
   accepted-right = passed-slots l (word image) (slotsIn image) (accepted .records)
 
-  pub accepted-distinct : Distinct (tableOf l image) (slotsIn image)
-  accepted-distinct = accepted-right .distinct
+  -- no key has two records of one version
+  pub accepted-apart : ApartByKey (tableOf l image) (slotsIn image)
+  accepted-apart =
+      settled-apart (contentsOf l image) (numbersOf l image) (slotsIn image)
+      (agreed-apart (contentsOf l image) (numbersOf l image) (slotsIn image) (accepted-right .table .agreed))
 
   pub accepted-room : liveCount (tableOf l image) (slotsIn image) < slotsIn image
-  accepted-room = accepted-right .room
+  accepted-room = accepted-right .table .idle
 
 -- ---- recovery
 

@@ -40,3 +40,4 @@ pub mod Owners
 pub mod Room
 pub mod Formatted
 pub mod Accepted
+pub mod Settled
