@@ -7,23 +7,21 @@ use native.Mathlib.Nat.{mod-lt}
 use native.Mathlib.Omega.{arith}
 use lib.Dec.{ltb, leb}
 use lib.ListN.{length}
-use mir.Syntax.{w32}
-use mir.Val.{Fits}
 use borrow.Author.Tests.{lt-ltb, le-ltb, ltb-false, eqb-false}
 use Rattle.prelude.specs.Refusal.{say, orElse, unlessRefused}
 use Rattle.prelude.proofs.Refusals.{say-true, say-false, say-zero, orElse-first, orElse-later, orElse-zero, taken-leaves, refused-keeps}
-use Rattle.layout.specs.Size.{slotsOf, slotsIn}
+use Rattle.layout.specs.Size.{slotsIn}
 use Rattle.layout.specs.Record.{Layout, limit}
 use Rattle.layout.specs.Header.{lentFault}
 use Rattle.layout.specs.Line.{versionFault}
 use Rattle.layout.specs.inner.Sized.{Sized}
-use Rattle.layout.proofs.Size.{slots-high}
 use Rattle.layout.proofs.Lents.{version-fine, lent-sized}
 use Rattle.index.specs.Walk.{search, chainFault}
 use Rattle.index.specs.Change.{keyFault, isFound}
 use Rattle.index.specs.Taking.{Taking, endsFault, linkFault, fewFault, reuseFault, roomFault}
 use Rattle.taking.specs.Taking.{takingOf}
 use Rattle.taking.specs.inner.Walk.{takeFault}
+use Rattle.taking.specs.inner.Takeable.{Walkable}
 use Rattle.index.specs.declared.State.{State}
 use Rattle.index.specs.declared.Mode.{Mode}
 use Rattle.index.specs.declared.Mode.the-variants.{Insert, Replace}
@@ -54,8 +52,13 @@ passed e z q = q ∙ sym (orElse-later _ _ (sym e ∙ z))
 pub key-tested : {r : ℕ} {held found : Bool} (mode : Mode) → r ≡ keyFault mode held → held ≡ found → r ≡ keyFault mode found
 key-tested mode e q = e ∙ ap (keyFault mode) q
 
+-- what it says of room, by a count of the keys inserted
+pub inserts-counted : {r i : ℕ} (taking : Taking) (n : ℕ) (s : State) (mode : Mode) → r ≡ storeFault taking n s i 0 → i ≡ insertsOf mode
+    → r ≡ storeFault taking n s (insertsOf mode) 0
+inserts-counted taking n s mode e q = e ∙ ap (λ (k : ℕ). storeFault taking n s k 0) q
+
 -- the refusals of a call that stores, as one row
-pub store-row : (taking : Taking) (n : ℕ) (s : State) (inserts removes : ℕ)
+store-row : (taking : Taking) (n : ℕ) (s : State) (inserts removes : ℕ)
     → orElse (endsFault n (s .first) (s .last))
     (orElse (say (ltb (s .live) removes) 11 0)
     (orElse (takeFault taking) (orElse (say (leb (n + removes) (s .live + inserts)) 28 0) (versionFault (s .version)))))
@@ -72,9 +75,29 @@ store-row taking n s inserts removes =
     go zero zero zero (suc d) x y = refl
     go zero zero zero zero x y = refl
 
--- the slots of an image, which a u32 holds
-pub slots-fit : (len n : ℕ) → n ≡ slotsOf len → Fits w32 n
-slots-fit len n e = record { fits = omega (arith, slots-high len) }
+-- store_fault: its tests in order
+module _ (taking : Taking) (n : ℕ) (s : State) (inserts removes a : ℕ) (e : a ≡ endsFault n (s .first) (s .last)) where
+  pub store-ends : (a ≡ 0 → ⊥) → a ≡ storeFault taking n s inserts removes
+  store-ends ne = said _ e ne ∙ store-row taking n s inserts removes
+
+  module _ (z : a ≡ 0) where
+    pub store-live : s .live < removes → 11 ≡ storeFault taking n s inserts removes
+    store-live h =
+        passed e z (said _ (sym (say-true _ _ _ (lt-ltb (s .live) removes h))) (λ q. omega arith)) ∙ store-row taking n s inserts removes
+
+    module _ (h : removes ≤ s .live) (t : ℕ) (f : t ≡ takeFault taking) where
+      after-live : {g later : ℕ} → g ≡ later → g ≡ orElse (say (ltb (s .live) removes) 11 0) later
+      after-live q = passed (sym (say-false _ _ _ (le-ltb (s .live) removes h))) refl q
+
+      pub store-take : (t ≡ 0 → ⊥) → t ≡ storeFault taking n s inserts removes
+      store-take ne = passed e z (after-live (said _ f ne)) ∙ store-row taking n s inserts removes
+
+      module _ (y : t ≡ 0) (r : ℕ) (g : r ≡ say (leb (n + removes) (s .live + inserts)) 28 0) where
+        pub store-room : (r ≡ 0 → ⊥) → r ≡ storeFault taking n s inserts removes
+        store-room ne = passed e z (after-live (passed f y (said _ g ne))) ∙ store-row taking n s inserts removes
+
+        pub store-version : r ≡ 0 → (v : ℕ) → v ≡ versionFault (s .version) → v ≡ storeFault taking n s inserts removes
+        store-version x v k = passed e z (after-live (passed f y (passed g x k))) ∙ store-row taking n s inserts removes
 
 -- the refusals of an insert and a replace where 1, 2, 3 and 4 are not due
 pub write-after : (l : ℕ) (image heads next : List ℕ) (s : State) (mode : Mode) (key size : ℕ) → lentFault l image (length heads) (length next) ≡ 0
@@ -124,6 +147,12 @@ pub length-later : (l : ℕ) (image : List ℕ) (size : ℕ) (found : Found) (sl
 unfolding getLaterFault
 length-later l image size found slot prev compared len r e q h =
     h ∙ ap (λ (x : ℕ). lengthFault l x size) q ∙ sym (ap (getLaterFault l image size) e)
+
+-- ---- what the walks need
+
+sized-walkable : (l : ℕ) (image heads next : List ℕ) (n : ℕ) → Sized image heads next n → Layout l → Walkable image next l n
+sized-walkable l image heads next n sized lay =
+    record { layout = lay; image-size = sized .image-size; next-size = sized .next-size; few = sized .few }
 
 -- ---- what the writes need
 
@@ -241,6 +270,9 @@ module _
   sized : Sized image heads next n
   sized = lent-sized l f image heads next ef z n en
 
+  pub lent-walkable : Layout l → Walkable image next l n
+  lent-walkable lay = sized-walkable l image heads next n sized lay
+
   pub lent-inside : Layout l → FoundInside l image found
   lent-inside lay = found-inside l image heads next key n sized lay found ed
 
@@ -268,8 +300,8 @@ module _
   pub write-sized : Sized image heads next n
   write-sized = lent-sized l 0 image heads next (sym (write-passed .0)) refl n en
 
-  pub write-next : length next ≡ n + 1
-  write-next = write-sized .next-size
+  pub write-walkable : Layout l → Walkable image next l n
+  write-walkable lay = sized-walkable l image heads next n write-sized lay
 
   pub write-looks : (key : ℕ) (found : Found) → found ≡ search l image heads next key → (s : State) (mode : Mode) (k : ℕ)
       → k ≡ writeLaterFault mode found (takingOf l image next n (s .first) 1) n s → (r : Lookup) → r ≡ lookupBy k found → WriteLookup l image heads next s mode key size r
