@@ -17,4 +17,6 @@ pub mod ChainLengths
 pub mod Takings
 pub mod TakeAll
 pub mod LinkItems
+pub mod BasketSizes
+pub mod Baskets
 pub mod defs
