@@ -98,7 +98,7 @@ module _ (l : ℕ) (m : ℕ → ℕ) (n : ℕ) where
         records = clear .records;
         table =
             record {
-              agreed = fault-agreed (content l m) (numberIn l m) n (clear .versions);
+              agreed = fault-agreed (content l m) (numberIn l m) n (clear .sharers);
               few = many-few F n (clear .few-broken);
               idle = all-room F n (clear .room);
             };

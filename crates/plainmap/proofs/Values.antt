@@ -49,7 +49,7 @@ module _ (l : ℕ) (image : List ℕ) (n : ℕ) (right : RightSlots l (word imag
   pub live-keeps : (s : ℕ) (v : List ℕ) → Slot n s → live (tableOf l image) n s ≡ true → valueIn (tableOf l image s) ≡ some v
       → KeepsValue l image s v
   unfolding content valueIn
-  live-keeps s v i e q = go (live-is (tableIn n) n s e)
+  live-keeps s v i e q = go (live-is (tableOf l image) n s e)
     where
       kept : (w k : ℕ) → PutAt l (lineA (word image) s) (lineB (word image) s) w k v → KeepsValue l image s v
       kept w k at =

@@ -1,21 +1,18 @@
 -- DEMAND 2 as one statement: together the calls are a plain map from key to value, for every history without cuts.
 use mathlib.Core.Path.{_≡_}
-use mathlib.Core.Logic.{_↔_}
 use mathlib.Core.Option.{none}
-use mathlib.Core.List.{List}
-use Prim.Native.Nat.{ℕ, _+_, _≤_}
+use mathlib.Core.List.{List, [], _∷_}
+use Prim.Native.Nat.{ℕ, _<_}
 use lib.ListN.{length}
 use Rattle.layout.specs.Size.{slotsOf, slotsIn}
-use Rattle.layout.specs.Record.{limit}
-use Rattle.table.specs.Table.{liveCount}
-use Rattle.index.specs.Index.{Chain, head, headOf}
+use Rattle.table.specs.Taking.{takenOf, takeableCount}
+use Rattle.index.specs.Index.{Chain, reuse, head, headOf}
 use Rattle.index.specs.Walk.{slotKey, search, Counted}
 use Rattle.recovery.specs.Recover.{chainsOf}
 use Rattle.recovery.specs.Represents.{Answers}
 use Rattle.calls.specs.Format.{formatted}
-use Rattle.index.specs.declared.Mode.the-variants.{Insert}
-use Rattle.calls.specs.Change.{writeFault}
 use Rattle.plainmap.specs.World.{World, Call, finished, recoveredWorld, called}
+use Rattle.layout.specs.Content.{contentsOf}
 use Rattle.table.specs.Complete.{tableOf}
 use Rattle.plainmap.specs.Plain.{PlainMap}
 use Rattle.plainmap.specs.Accepted.{Accepted, RightSize}
