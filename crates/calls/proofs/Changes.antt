@@ -45,13 +45,14 @@ module _ (l : ℕ) (image heads next : List ℕ) (s : State) (key size : ℕ) {r
 
 -- what a call leaves that stores a record, lent some stores; i is the index that it leaves
 pub changed-end : (l : ℕ) (image : List ℕ) (s : State) (key kind : ℕ) (value : List ℕ) (after : State) (at words : List ℕ) (lent : List Store)
-    → zipped at words ≡ recordStores l (word image) (s .first) key kind value (s .version) → (heads next : List ℕ) (i : Index) (live : ℕ)
-    → PartsOf heads next after i live (s .version + 1)
+    → zipped at words ≡ recordStores l (word image) (s .first) key kind 0 value (s .version) → (heads next : List ℕ) (i : Index) (live : ℕ)
+    → PartsOf heads next after i live (s .version + 1) (s .first)
     → left (gives (s .first ∷ s .version ∷ [])) after (zipped at words) heads next ≡ leftIn lent (changed l image s key kind value i live)
 unfolding changed leftIn handedOut recordStores lineStores run
 changed-end l image s key kind value after at words lent e heads next i live h =
-    ap₂ (stored (indexOf heads next after) (after .live)) (h .next-version) e
-    ∙ ap₂ (λ (j : Index) (m : ℕ). stored j m (s .version + 1) (recordStores l (word image) (s .first) key kind value (s .version))) (h .index) (h .live-count)
+    ap₂ (stored (indexOf heads next after) (after .live) (after .newest)) (h .next-version) e
+    ∙ ap (λ (k : ℕ). stored (indexOf heads next after) (after .live) k (s .version + 1) (recordStores l (word image) (s .first) key kind 0 value (s .version))) (h .newest-slot)
+    ∙ ap₂ (λ (j : Index) (m : ℕ). stored j m (s .first) (s .version + 1) (recordStores l (word image) (s .first) key kind 0 value (s .version))) (h .index) (h .live-count)
   where
-    stored : Index → (live version : ℕ) → List Store → ChangeResult
-    stored j m v ss = left (gives (s .first ∷ s .version ∷ [])) (stateOf j m v) ss (j .heads) (j .next)
+    stored : Index → (live newest version : ℕ) → List Store → ChangeResult
+    stored j m k v ss = left (gives (s .first ∷ s .version ∷ [])) (stateOf j m v k) ss (j .heads) (j .next)

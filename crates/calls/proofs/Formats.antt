@@ -14,7 +14,7 @@ use Rattle.prelude.specs.Refusal.{say, unlessRefused}
 use Rattle.prelude.specs.Answer.{gives, refused}
 use Rattle.layout.specs.Size.{slotsOf, slotsIn}
 use Rattle.layout.specs.Header.{headerWord, headerFault, imageFault}
-use Rattle.layout.specs.Content.{empty, tableOf}
+use Rattle.layout.specs.Content.{empty, contentsOf}
 use Rattle.prelude.proofs.Refusals.{say-true, say-false}
 use Rattle.layout.proofs.Content.{blank-table}
 use Rattle.layout.proofs.Size.{long}
@@ -109,6 +109,6 @@ formatted-fault l len ne b =
     (any-clear _ 0 8
     (λ i h. ap not (eq-eqb (word (formatted l len) (0 + i)) (headerWord l (slotsOf len) (0 + i)) (formatted-word l len (0 + i) ne b))))
 
--- a formatted image's table is all empty
-pub formatted-content : (l k len s : ℕ) → (slotsOf len ≡ 0 → ⊥) → l < 2 ^ 64 → 1 ≤ s → tableOf k (formatted l len) s ≡ empty
+-- a formatted image's slots are all empty
+pub formatted-content : (l k len s : ℕ) → (slotsOf len ≡ 0 → ⊥) → l < 2 ^ 64 → 1 ≤ s → contentsOf k (formatted l len) s ≡ empty
 formatted-content l k len s ne b h = blank-table k (word (formatted l len)) (λ i g. formatted-later l len ne b i (omega arith)) s h

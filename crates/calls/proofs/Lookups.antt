@@ -5,24 +5,26 @@ use mathlib.Core.List.{List}
 use Prim.Native.Nat.{ℕ, zero, suc, _+_, _%_, _^_, _≤_, _<_}
 use native.Mathlib.Nat.{mod-lt}
 use native.Mathlib.Omega.{arith}
-use lib.Dec.{ltb}
+use lib.Dec.{ltb, leb}
 use lib.ListN.{length}
-use mir.Syntax.{w32}
-use mir.Val.{Fits}
 use borrow.Author.Tests.{lt-ltb, le-ltb, ltb-false, eqb-false}
 use Rattle.prelude.specs.Refusal.{say, orElse, unlessRefused}
 use Rattle.prelude.proofs.Refusals.{say-true, say-false, say-zero, orElse-first, orElse-later, orElse-zero, taken-leaves, refused-keeps}
-use Rattle.layout.specs.Size.{slotsOf, slotsIn}
+use Rattle.layout.specs.Size.{slotsIn}
 use Rattle.layout.specs.Record.{Layout, limit}
 use Rattle.layout.specs.Header.{lentFault}
 use Rattle.layout.specs.Line.{versionFault}
 use Rattle.layout.specs.inner.Sized.{Sized}
-use Rattle.layout.proofs.Size.{slots-high}
 use Rattle.layout.proofs.Lents.{version-fine, lent-sized}
 use Rattle.index.specs.Walk.{search, chainFault}
-use Rattle.index.specs.Change.{keyFault, reuseFault}
+use Rattle.index.specs.Change.{keyFault, isFound}
+use Rattle.index.specs.Taking.{Taking, endsFault, linkFault, fewFault, reuseFault, roomFault}
+use Rattle.taking.specs.Taking.{takingOf}
+use Rattle.taking.specs.inner.Walk.{takeFault}
+use Rattle.taking.specs.inner.Takeable.{Walkable}
 use Rattle.index.specs.declared.State.{State}
 use Rattle.index.specs.declared.Mode.{Mode}
+use Rattle.index.specs.declared.Mode.the-variants.{Insert, Replace}
 use Rattle.index.specs.declared.Place.{Place}
 use Rattle.index.specs.declared.Place.the-variants.{Held, NotHeld}
 use Rattle.index.specs.declared.Lookup.{Lookup}
@@ -30,8 +32,8 @@ use Rattle.index.specs.declared.Lookup.the-variants.{Refused}
 use Rattle.index.specs.declared.Found.{Found}
 use Rattle.index.specs.declared.Found.the-variants.{At, Missing, BadChain}
 use Rattle.index.proofs.Walks.{at-inside, absent-inside}
-use Rattle.index.proofs.Faults.{room-fine, reusable}
-use Rattle.calls.specs.Change.{writeLentFault, writeLaterFault, writeFault, heldFault, removeLaterFault, removeFault}
+use Rattle.index.proofs.Faults.{reuse-ends, reuse-live, room-fine}
+use Rattle.calls.specs.Change.{writeLentFault, storeFault, insertsOf, writeLaterFault, writeFault, removeLaterFault, removeFault}
 use Rattle.calls.specs.Get.{slotLength, lengthFault, getLaterFault, getFault}
 use Rattle.index.specs.Index.{headOf}
 use Rattle.index.specs.inner.Parts.{PlaceInside}
@@ -50,20 +52,64 @@ passed e z q = q ∙ sym (orElse-later _ _ (sym e ∙ z))
 pub key-tested : {r : ℕ} {held found : Bool} (mode : Mode) → r ≡ keyFault mode held → held ≡ found → r ≡ keyFault mode found
 key-tested mode e q = e ∙ ap (keyFault mode) q
 
--- the slots of an image, which a u32 holds
-pub slots-fit : (len n : ℕ) → n ≡ slotsOf len → Fits w32 n
-slots-fit len n e = record { fits = omega (arith, slots-high len) }
+-- what it says of room, by a count of the keys inserted
+pub inserts-counted : {r i : ℕ} (taking : Taking) (n : ℕ) (s : State) (mode : Mode) → r ≡ storeFault taking n s i 0 → i ≡ insertsOf mode
+    → r ≡ storeFault taking n s (insertsOf mode) 0
+inserts-counted taking n s mode e q = e ∙ ap (λ (k : ℕ). storeFault taking n s k 0) q
+
+-- the refusals of a call that stores, as one row
+store-row : (taking : Taking) (n : ℕ) (s : State) (inserts removes : ℕ)
+    → orElse (endsFault n (s .first) (s .last))
+    (orElse (say (ltb (s .live) removes) 11 0)
+    (orElse (takeFault taking) (orElse (say (leb (n + removes) (s .live + inserts)) 28 0) (versionFault (s .version)))))
+    ≡ storeFault taking n s inserts removes
+unfolding storeFault reuseFault roomFault takeFault orElse
+store-row taking n s inserts removes = 
+    go (endsFault n (s .first) (s .last)) (say (ltb (s .live) removes) 11 0) (linkFault taking) (fewFault taking)
+    (say (leb (n + removes) (s .live + inserts)) 28 0) (versionFault (s .version))
+  where
+    go : (a b c d x y : ℕ) → orElse a (orElse b (orElse (orElse c d) (orElse x y))) ≡ orElse (orElse a (orElse b c)) (orElse (orElse d x) y)
+    go (suc a) b c d x y = refl
+    go zero (suc b) c d x y = refl
+    go zero zero (suc c) d x y = refl
+    go zero zero zero (suc d) x y = refl
+    go zero zero zero zero x y = refl
+
+-- store_fault: its tests in order
+module _ (taking : Taking) (n : ℕ) (s : State) (inserts removes a : ℕ) (e : a ≡ endsFault n (s .first) (s .last)) where
+  pub store-ends : (a ≡ 0 → ⊥) → a ≡ storeFault taking n s inserts removes
+  store-ends ne = said _ e ne ∙ store-row taking n s inserts removes
+
+  module _ (z : a ≡ 0) where
+    pub store-live : s .live < removes → 11 ≡ storeFault taking n s inserts removes
+    store-live h =
+        passed e z (said _ (sym (say-true _ _ _ (lt-ltb (s .live) removes h))) (λ q. omega arith)) ∙ store-row taking n s inserts removes
+
+    module _ (h : removes ≤ s .live) (t : ℕ) (f : t ≡ takeFault taking) where
+      after-live : {g later : ℕ} → g ≡ later → g ≡ orElse (say (ltb (s .live) removes) 11 0) later
+      after-live q = passed (sym (say-false _ _ _ (le-ltb (s .live) removes h))) refl q
+
+      pub store-take : (t ≡ 0 → ⊥) → t ≡ storeFault taking n s inserts removes
+      store-take ne = passed e z (after-live (said _ f ne)) ∙ store-row taking n s inserts removes
+
+      module _ (y : t ≡ 0) (r : ℕ) (g : r ≡ say (leb (n + removes) (s .live + inserts)) 28 0) where
+        pub store-room : (r ≡ 0 → ⊥) → r ≡ storeFault taking n s inserts removes
+        store-room ne = passed e z (after-live (passed f y (said _ g ne))) ∙ store-row taking n s inserts removes
+
+        pub store-version : r ≡ 0 → (v : ℕ) → v ≡ versionFault (s .version) → v ≡ storeFault taking n s inserts removes
+        store-version x v k = passed e z (after-live (passed f y (passed g x k))) ∙ store-row taking n s inserts removes
 
 -- the refusals of an insert and a replace where 1, 2, 3 and 4 are not due
 pub write-after : (l : ℕ) (image heads next : List ℕ) (s : State) (mode : Mode) (key size : ℕ) → lentFault l image (length heads) (length next) ≡ 0
     → writeFault l image heads next s mode key size ≡
-    say (ltb (limit l) size) 10 (writeLaterFault mode (search l image heads next key) next (slotsIn image) s)
+    say (ltb (limit l) size) 10
+    (writeLaterFault mode (search l image heads next key) (takingOf l image next (slotsIn image) (s .first) 1) (slotsIn image) s)
 unfolding writeFault writeLentFault say orElse
 write-after l image heads next s mode key size z =
     ap (λ (f : ℕ). orElse (orElse f (say (ltb (limit l) size) 10 0)) checks) z ∙ long (ltb (limit l) size) checks
   where
     checks : ℕ
-    checks = writeLaterFault mode (search l image heads next key) next (slotsIn image) s
+    checks = writeLaterFault mode (search l image heads next key) (takingOf l image next (slotsIn image) (s .first) 1) (slotsIn image) s
 
     long : (t : Bool) (later : ℕ) → orElse (say t 10 0) later ≡ say t 10 later
     long true later = refl
@@ -91,16 +137,22 @@ module _ (l n size m : ℕ) (e : m ≡ limit l) where
   length-fits h k = sym (say-false _ _ _ (le-ltb (limit l) n (omega arith)) ∙ say-false _ _ _ (le-ltb size n k))
 
 -- a held key is refused for what the state is, and a value for its length
-pub held-later : (found : Found) (slot prev compared : ℕ) (next : List ℕ) (n : ℕ) (s : State) (r : ℕ) → found ≡ At slot prev compared
-    → r ≡ heldFault next n s → r ≡ removeLaterFault found next n s
+pub held-later : (found : Found) (slot prev compared : ℕ) (taking : Taking) (n : ℕ) (s : State) (r : ℕ) → found ≡ At slot prev compared
+    → r ≡ storeFault taking n s 0 1 → r ≡ removeLaterFault found taking n s
 unfolding removeLaterFault
-held-later found slot prev compared next n s r e q = q ∙ sym (ap (λ (f : Found). removeLaterFault f next n s) e)
+held-later found slot prev compared taking n s r e q = q ∙ sym (ap (λ (f : Found). removeLaterFault f taking n s) e)
 
 pub length-later : (l : ℕ) (image : List ℕ) (size : ℕ) (found : Found) (slot prev compared len r : ℕ) → found ≡ At slot prev compared
     → len ≡ slotLength l image slot → r ≡ lengthFault l len size → r ≡ getLaterFault l image size found
 unfolding getLaterFault
 length-later l image size found slot prev compared len r e q h =
     h ∙ ap (λ (x : ℕ). lengthFault l x size) q ∙ sym (ap (getLaterFault l image size) e)
+
+-- ---- what the walks need
+
+sized-walkable : (l : ℕ) (image heads next : List ℕ) (n : ℕ) → Sized image heads next n → Layout l → Walkable image next l n
+sized-walkable l image heads next n sized lay =
+    record { layout = lay; image-size = sized .image-size; next-size = sized .next-size; few = sized .few }
 
 -- ---- what the writes need
 
@@ -125,10 +177,12 @@ module _ (l : ℕ) (image heads next : List ℕ) (key n : ℕ) (sized : Sized im
   get-ready lay size BadChain e k q = tt
 
   module _ (s : State) where
-    writable : (prev old : ℕ) → versionFault (s .version) ≡ 0 → reuseFault next n (s .first) (s .last) ≡ 0 → prev ≤ n → old ≤ n
+    writable : (taking : Taking) (inserts removes prev old : ℕ) → storeFault taking n s inserts removes ≡ 0 → prev ≤ n → old ≤ n
         → Writable image heads next s key prev old
-    writable prev old v u p o =
-        let ends = reusable next n (s .first) (s .last) u in
+    unfolding storeFault
+    writable taking inserts removes prev old z p o =
+        let a = orElse-zero _ _ z in
+        let ends = reuse-ends taking n (s .live) removes (s .first) (s .last) (a .0) in
         record {
           index =
               record {
@@ -138,7 +192,7 @@ module _ (l : ℕ) (image heads next : List ℕ) (key n : ℕ) (sized : Sized im
                 prev-in = omega (arith, sized .next-size);
                 old-in = omega (arith, sized .next-size);
                 few = omega (arith, sized .next-size, sized .few);
-                version-fits = version-fine (s .version) v;
+                version-fits = version-fine (s .version) (orElse-zero _ _ (a .1) .1);
               };
           slot-fits = omega (arith, ends .first-high, sized .few);
           slot-in = omega (arith, ends .first-high, sized .image-size);
@@ -149,35 +203,45 @@ module _ (l : ℕ) (image heads next : List ℕ) (key n : ℕ) (sized : Sized im
     open-at place size h u p =
         record { inside = p; some-head = sized .some-head; recordable = (h, u .index .version-fits, u .slot-fits, u .slot-in) }
 
-    write-ready : (mode : Mode) (size : ℕ) → size ≤ limit l → (found : Found) → found ≡ search l image heads next key → (k : ℕ)
-        → k ≡ writeLaterFault mode found next n s → WriteReady l image heads next s key size (lookupBy k found)
-    unfolding lookupBy unlessRefused writeLaterFault chainFault
-    write-ready mode size h (At slot prev compared) e zero q =
-        let a = orElse-zero _ _ (orElse-zero _ _ (orElse-zero _ _ (orElse-zero _ _ (sym q) .1) .1) .1) in
-        let i = at-inside l image heads next n key (sized .slot-count) slot prev compared (sym e) in
-        open-at (Held slot prev) size h (writable prev slot (a .0) (a .1) (i .2) (i .1)) (writable prev slot (a .0) (a .1) (i .2) (i .1) .index)
-    write-ready mode size h (At slot prev compared) e (suc k) q = tt
-    write-ready mode size h (Missing prev compared) e zero q =
-        let b = orElse-zero _ _ (orElse-zero _ _ (orElse-zero _ _ (sym q) .1) .1) in
-        let a = orElse-zero _ _ (b .1) in
-        let i = absent-inside l image heads next n key (sized .slot-count) prev compared (sym e) in
-        let u = writable prev prev (a .0) (a .1) i i in
-        open-at (NotHeld prev) size h u (u .index, omega (arith, room-fine n (s .live) prev compared (b .0), sized .few))
-    write-ready mode size h (Missing prev compared) e (suc k) q = tt
-    write-ready mode size h BadChain e k q = tt
+    -- a new key is counted
+    counted : (taking : Taking) → storeFault taking n s 1 0 ≡ 0 → s .live < 65535
+    unfolding storeFault
+    counted taking z = omega (arith, room-fine taking n (s .live) 0 1 (orElse-zero _ _ (orElse-zero _ _ z .1) .0), sized .few)
 
-    remove-ready : (found : Found) → found ≡ search l image heads next key → (k : ℕ) → k ≡ removeLaterFault found next n s
-        → RemoveReady image heads next s key (lookupBy k found)
-    unfolding lookupBy unlessRefused removeLaterFault heldFault
-    remove-ready (At slot prev compared) e zero q =
-        let a = orElse-zero _ _ (sym q) in
-        let b = orElse-zero _ _ (a .1) in
+    -- and a removed one was
+    some-live : (taking : Taking) → storeFault taking n s 0 1 ≡ 0 → 0 < s .live
+    unfolding storeFault
+    some-live taking z = omega (arith, reuse-live taking n (s .live) 1 (s .first) (s .last) (orElse-zero _ _ z .0))
+
+    write-ready : (taking : Taking) (mode : Mode) (size : ℕ) → size ≤ limit l → (found : Found) → found ≡ search l image heads next key → (k : ℕ)
+        → k ≡ writeLaterFault mode found taking n s → WriteReady l image heads next s key size (lookupBy k found)
+    unfolding lookupBy unlessRefused writeLaterFault chainFault keyFault isFound insertsOf say
+    write-ready taking mode size h (At slot prev compared) e zero q =
+        let z = orElse-zero _ _ (orElse-zero _ _ (sym q) .1) .1 in
         let i = at-inside l image heads next n key (sized .slot-count) slot prev compared (sym e) in
-        (writable prev slot (a .0) (b .0) (i .2) (i .1), omega (arith, eqb-false (s .live) 0 (say-zero _ _ _ (b .1) (omega arith) .0)))
-    remove-ready (At slot prev compared) e (suc k) q = tt
-    remove-ready (Missing prev compared) e zero q = tt
-    remove-ready (Missing prev compared) e (suc k) q = tt
-    remove-ready BadChain e k q = tt
+        let u = writable taking (insertsOf mode) 0 prev slot z (i .2) (i .1) in
+        open-at (Held slot prev) size h u (u .index)
+    write-ready taking mode size h (At slot prev compared) e (suc k) q = tt
+    write-ready taking Insert size h (Missing prev compared) e zero q =
+        let z = orElse-zero _ _ (orElse-zero _ _ (sym q) .1) .1 in
+        let i = absent-inside l image heads next n key (sized .slot-count) prev compared (sym e) in
+        let u = writable taking 1 0 prev prev z i i in
+        open-at (NotHeld prev) size h u (u .index, counted taking z)
+    write-ready taking Replace size h (Missing prev compared) e zero q =
+        let z : _≡_ {A = ℕ} 21 0 = orElse-zero _ _ (orElse-zero _ _ (sym q) .1) .0 in absurd (omega arith)
+    write-ready taking mode size h (Missing prev compared) e (suc k) q = tt
+    write-ready taking mode size h BadChain e k q = tt
+
+    remove-ready : (taking : Taking) (found : Found) → found ≡ search l image heads next key → (k : ℕ) → k ≡ removeLaterFault found taking n s
+        → RemoveReady image heads next s key (lookupBy k found)
+    unfolding lookupBy unlessRefused removeLaterFault
+    remove-ready taking (At slot prev compared) e zero q =
+        let i = at-inside l image heads next n key (sized .slot-count) slot prev compared (sym e) in
+        (writable taking 0 1 prev slot (sym q) (i .2) (i .1), some-live taking (sym q))
+    remove-ready taking (At slot prev compared) e (suc k) q = tt
+    remove-ready taking (Missing prev compared) e zero q = tt
+    remove-ready taking (Missing prev compared) e (suc k) q = tt
+    remove-ready taking BadChain e k q = tt
 
 -- ---- the lookups: f is the refusal before the chain is followed
 
@@ -206,15 +270,18 @@ module _
   sized : Sized image heads next n
   sized = lent-sized l f image heads next ef z n en
 
+  pub lent-walkable : Layout l → Walkable image next l n
+  lent-walkable lay = sized-walkable l image heads next n sized lay
+
   pub lent-inside : Layout l → FoundInside l image found
   lent-inside lay = found-inside l image heads next key n sized lay found ed
 
-  pub remove-looks : (s : State) (k : ℕ) → k ≡ removeLaterFault found next n s → (r : Lookup) → r ≡ lookupBy k found
+  pub remove-looks : (s : State) (k : ℕ) → k ≡ removeLaterFault found (takingOf l image next n (s .first) 1) n s → (r : Lookup) → r ≡ lookupBy k found
       → RemoveLookup l image heads next s key r
   unfolding removeFault
   remove-looks s k e r h =
-      looks-up ef z (e ∙ ap₂ (λ (d : Found) (m : ℕ). removeLaterFault d next m s) ed en) ed h
-      (remove-ready l image heads next key n sized s found ed k e)
+      looks-up ef z (e ∙ ap₂ (λ (d : Found) (m : ℕ). removeLaterFault d (takingOf l image next m (s .first) 1) m s) ed en) ed h
+      (remove-ready l image heads next key n sized s (takingOf l image next n (s .first) 1) found ed k e)
 
   pub get-looks : Layout l → (size k : ℕ) → k ≡ getLaterFault l image size found → (r : Lookup) → r ≡ lookupBy k found
       → GetLookup l image heads next key size r
@@ -233,12 +300,12 @@ module _
   pub write-sized : Sized image heads next n
   write-sized = lent-sized l 0 image heads next (sym (write-passed .0)) refl n en
 
-  pub write-next : length next ≡ n + 1
-  write-next = write-sized .next-size
+  pub write-walkable : Layout l → Walkable image next l n
+  write-walkable lay = sized-walkable l image heads next n write-sized lay
 
   pub write-looks : (key : ℕ) (found : Found) → found ≡ search l image heads next key → (s : State) (mode : Mode) (k : ℕ)
-      → k ≡ writeLaterFault mode found next n s → (r : Lookup) → r ≡ lookupBy k found → WriteLookup l image heads next s mode key size r
+      → k ≡ writeLaterFault mode found (takingOf l image next n (s .first) 1) n s → (r : Lookup) → r ≡ lookupBy k found → WriteLookup l image heads next s mode key size r
   unfolding writeFault
   write-looks key found ed s mode k e r h =
-      looks-up ef z (e ∙ ap₂ (λ (d : Found) (m : ℕ). writeLaterFault mode d next m s) ed en) ed h
-      (write-ready l image heads next key n write-sized s mode size (write-passed .1) found ed k e)
+      looks-up ef z (e ∙ ap₂ (λ (d : Found) (m : ℕ). writeLaterFault mode d (takingOf l image next m (s .first) 1) m s) ed en) ed h
+      (write-ready l image heads next key n write-sized s (takingOf l image next n (s .first) 1) mode size (write-passed .1) found ed k e)

@@ -14,6 +14,7 @@ use Rattle.layout.specs.Record.{valueFront, valueOf}
 use Rattle.index.specs.Index.{indexOf, headOf}
 use Rattle.index.specs.Walk.{search, chainFault, comparedIn}
 use Rattle.calls.specs.Compared.{comparedAfter}
+use Rattle.taking.specs.Taking.{takingOf}
 use Rattle.index.specs.Change.{insertNew, replaceHeld, removeHeld}
 use Rattle.index.specs.declared.State.{State}
 use Rattle.index.specs.declared.Mode.{Mode}
@@ -127,7 +128,7 @@ module _ (l : ℕ) (image heads next : List ℕ) (s : State) (mode : Mode) (key 
 module _ (l : ℕ) (image heads next : List ℕ) (s : State) (key : ℕ) where
   remove-bad : removeFault l image heads next s key ≡ 0 → search l image heads next key ≡ BadChain → ⊥
   unfolding removeFault removeLaterFault
-  remove-bad z e = omega (arith, sym (ap (λ (d : Found). removeLaterFault d next (slotsIn image) s) e) ∙ orElse-zero _ _ z .1)
+  remove-bad z e = omega (arith, sym (ap (λ (d : Found). removeLaterFault d (takingOf l image next (slotsIn image) (s .first) 1) (slotsIn image) s) e) ∙ orElse-zero _ _ z .1)
 
   module _ (r : Lookup) (u : RemoveLookup l image heads next s key r) where
     pub remove-refused : (number compared : ℕ) → r ≡ Refused number compared

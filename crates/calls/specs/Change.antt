@@ -85,14 +85,14 @@ storeFault taking n s inserts removes =
     (orElse (roomFault taking n (s .live) inserts removes) (versionFault (s .version)))
 
 -- a record of this kind is written into the first reuse slot: i is the index at exit. With an index that is the image's own, the taking rule gives a call that wants
--- one slot the first reuse slot or refuses it; "with an index not the image's own, only refusals are fixed, of single calls too". "each call that stores makes the
--- next version one higher"
+-- one slot the first reuse slot or refuses it; "with an index not the image's own, only refusals are fixed, of single calls too". "a single record .. has 0" for its
+-- number; "each call that stores makes the next version one higher"
 unfoldable pub changed : (l : ℕ) → (image : List ℕ) → State → (key kind : ℕ) → List ℕ → Index → (live : ℕ) → ChangeResult
 changed l image s key kind value i live =
     record {
       answer = gives (s .first ∷ s .version ∷ []);
       state = stateOf i live (s .version + 1) (s .first);
-      stores = recordStores l (word image) (s .first) key kind value (s .version);
+      stores = recordStores l (word image) (s .first) key kind 0 value (s .version);
       heads = i .heads;
       next = i .next;
     }

@@ -1,13 +1,14 @@
 // Remove: a key is no longer held. `l` is the layout; a key is two words, the high one 0 in layout 1.
 ghost use mathlib.Core.Path.{_≡_};
-ghost use Prim.Native.Nat.{_+_};
-ghost use lib.ListN.{length};
 ghost use Rattle.layout.specs.Record.{Layout};
 ghost use Rattle.layout.specs.inner.Key.{keyWith};
 ghost use Rattle.stores.specs.Store.{zipped};
+ghost use Rattle.taking.specs.Taking.{takingOf};
+ghost use Rattle.taking.specs.inner.Takeable.{Walkable};
 ghost use Rattle.calls.specs.Compared.{reported, keyCompared};
-ghost use Rattle.calls.specs.Change.{changeEnd, leftIn, heldFault, removeLaterFault, removeResult};
+ghost use Rattle.calls.specs.Change.{changeEnd, leftIn, removeLaterFault, removeResult};
 ghost use Rattle.calls.specs.inner.Lookup.{RemoveLookup};
+use crate::store::store_fault;
 use calls::Change;
 use calls::Outcome;
 use index::Found;
@@ -15,45 +16,31 @@ use index::Lookup;
 use index::Place;
 use index::State;
 use index_code::change::remove_held;
-use index_code::fault::reuse_fault;
 use index_code::head::head_of;
 use index_code::search::find;
 use index_code::search::looked_up;
 use layout_code::header::lent_fault;
 use layout_code::header::slot_count;
-use layout_code::line::version_fault;
 use stores_code::record::remove_stores;
 
-// 9 or 11 (reuse, or a live count of zero) for a held key, else 0.
-fn held_fault(next: &[u32], n: u32, state: State) -> u32
-    requires { ⌜ length (now next) ≡ n + 1 ⌝ }
-    ensures { λ r. ⌜ r ≡ heldFault (now (next .entry)) n state ⌝ }
-{
-    let version = version_fault(state.version);
-    if version != 0 {
-        return version;
-    }
-    let reuse = reuse_fault(next, n, state.first, state.last);
-    if reuse != 0 {
-        return reuse;
-    }
-    if state.live == 0 {
-        return 11;
-    }
-    0
-}
-
-// 11 (chain), 9 or 11 by what the key's chain has, else 0.
-fn remove_later_fault(found: Found, next: &[u32], n: u32, state: State) -> u32
-    requires { ⌜ length (now next) ≡ n + 1 ⌝ }
-    ensures { λ r. ⌜ r ≡ removeLaterFault found (now (next .entry)) n state ⌝ }
+// 11 (chain), 11 (reuse, or a live count of zero), 28 or 9 by what the key's chain has, else 0.
+fn remove_later_fault(
+    image: &[u8],
+    l: usize,
+    next: &[u32],
+    n: usize,
+    state: State,
+    found: Found,
+) -> u32
+    requires { ⌜ Walkable (now image) (now next) l n ⌝ }
+    ensures { λ r. ⌜ r ≡ removeLaterFault found (takingOf l (now (image .entry)) (now (next .entry)) n (state .first) 1) n state ⌝ }
 {
     match found {
         Found::At {
             slot: _,
             prev: _,
             compared: _,
-        } => held_fault(next, n, state),
+        } => store_fault(image, l, next, n, state, 0, 1),
         Found::Missing {
             prev: _,
             compared: _,
@@ -84,7 +71,7 @@ fn remove_lookup(
     }
     let n = slot_count(image.len());
     let found = find(image, l, heads, next, n, low, high);
-    let fault = remove_later_fault(found, next, n as u32, state);
+    let fault = remove_later_fault(image, l, next, n, state, found);
     looked_up(fault, found)
 }
 
@@ -119,7 +106,17 @@ fn remove_in(
             Place::Held { slot, prev } => {
                 let h = head_of(low, heads.len());
                 let after = remove_held(heads, next, state, h, prev, slot);
-                remove_stores(image, l, state.first, low, high, state.version, at, words);
+                remove_stores(
+                    image,
+                    l,
+                    state.first,
+                    low,
+                    high,
+                    0,
+                    state.version,
+                    at,
+                    words,
+                );
                 Change {
                     outcome: Outcome::Stored {
                         slot: state.first,

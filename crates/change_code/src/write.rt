@@ -1,14 +1,16 @@
 // Insert and replace: a key that is not held, or one that is, gets a value. `l` is the layout; a key is two words, the high one 0 in layout 1.
 ghost use mathlib.Core.Path.{_≡_};
-ghost use Prim.Native.Nat.{_+_};
 ghost use lib.ListN.{length};
 ghost use Rattle.layout.specs.Record.{Layout};
 ghost use Rattle.layout.specs.inner.Key.{keyWith};
 ghost use Rattle.stores.specs.Store.{zipped};
 ghost use Rattle.index.specs.declared.Mode.the-variants.{Insert, Replace};
+ghost use Rattle.taking.specs.Taking.{takingOf};
+ghost use Rattle.taking.specs.inner.Takeable.{Walkable};
 ghost use Rattle.calls.specs.Compared.{reported};
-ghost use Rattle.calls.specs.Change.{changeEnd, leftIn, writeLentFault, writeLaterFault, writeResult, writeCompared};
+ghost use Rattle.calls.specs.Change.{changeEnd, leftIn, writeLentFault, insertsOf, writeLaterFault, writeResult, writeCompared};
 ghost use Rattle.calls.specs.inner.Lookup.{WriteLookup};
+use crate::store::store_fault;
 use calls::Change;
 use calls::Outcome;
 use index::Found;
@@ -19,15 +21,12 @@ use index_code::change::write_place;
 use index_code::fault::chain_fault;
 use index_code::fault::is_found;
 use index_code::fault::key_fault;
-use index_code::fault::reuse_fault;
-use index_code::fault::room_fault;
 use index_code::head::head_of;
 use index_code::search::find;
 use index_code::search::looked_up;
 use layout_code::fields::value_limit;
 use layout_code::header::lent_fault;
 use layout_code::header::slot_count;
-use layout_code::line::version_fault;
 use stores_code::record::record_stores;
 
 // 1, 2, 3, 4 or 10 by what is lent, else 0; size is the value's length.
@@ -45,10 +44,28 @@ fn write_lent_fault(image: &[u8], l: usize, heads: usize, next: usize, size: usi
     0
 }
 
-// 11 (chain), 20 or 21, 12, 9 or 11 (reuse) by what the key's chain has, else 0.
-fn write_later_fault(mode: Mode, found: Found, next: &[u32], n: u32, state: State) -> u32
-    requires { ⌜ length (now next) ≡ n + 1 ⌝ }
-    ensures { λ r. ⌜ r ≡ writeLaterFault mode found (now (next .entry)) n state ⌝ }
+// How many keys a write inserts.
+fn inserts_of(mode: Mode) -> u32
+    ensures { λ r. ⌜ r ≡ insertsOf mode ⌝ }
+{
+    match mode {
+        Mode::Insert => 1,
+        Mode::Replace => 0,
+    }
+}
+
+// 11 (chain), 20 or 21, 11 (reuse), 28 or 9 by what the key's chain has, else 0.
+fn write_later_fault(
+    image: &[u8],
+    l: usize,
+    next: &[u32],
+    n: usize,
+    state: State,
+    mode: Mode,
+    found: Found,
+) -> u32
+    requires { ⌜ Walkable (now image) (now next) l n ⌝ }
+    ensures { λ r. ⌜ r ≡ writeLaterFault mode found (takingOf l (now (image .entry)) (now (next .entry)) n (state .first) 1) n state ⌝ }
 {
     let chain = chain_fault(found);
     if chain != 0 {
@@ -58,15 +75,7 @@ fn write_later_fault(mode: Mode, found: Found, next: &[u32], n: u32, state: Stat
     if key != 0 {
         return key;
     }
-    let room = room_fault(found, n, state.live);
-    if room != 0 {
-        return room;
-    }
-    let version = version_fault(state.version);
-    if version != 0 {
-        return version;
-    }
-    reuse_fault(next, n, state.first, state.last)
+    store_fault(image, l, next, n, state, inserts_of(mode), 0)
 }
 
 // What an insert or a replace reads before it writes.
@@ -93,7 +102,7 @@ fn write_lookup(
     }
     let n = slot_count(image.len());
     let found = find(image, l, heads, next, n, low, high);
-    let fault = write_later_fault(mode, found, next, n as u32, state);
+    let fault = write_later_fault(image, l, next, n, state, mode, found);
     looked_up(fault, found)
 }
 
@@ -131,6 +140,7 @@ fn write_in(
                 low,
                 high,
                 1,
+                0,
                 value,
                 state.version,
                 at,

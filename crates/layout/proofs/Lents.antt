@@ -47,9 +47,6 @@ module _ (l f : ℕ) (image heads next : List ℕ) (ef : f ≡ lentFault l image
           few = omega (arith, e, i .high);
         }
 
-    pub lent-next : length next ≡ n + 1
-    lent-next = lent-sized .next-size
-
     pub lent-slots : 2 ≤ n
     lent-slots = omega (arith, e, image-long l image (parts .0) .low)
 

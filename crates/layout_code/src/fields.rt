@@ -5,8 +5,8 @@ ghost use lib.Dec.{eqb};
 ghost use lib.ListN.{length};
 ghost use Rattle.words.specs.Word.{word};
 ghost use Rattle.layout.specs.Line.{lineA, lineB};
-ghost use Rattle.layout.specs.Record.{keyOf, kindOf, lengthOf, limit};
-ghost use Rattle.layout.specs.Fault.{kindFault, longest, wordFault, tailFault, faultOf};
+ghost use Rattle.layout.specs.Record.{keyOf, kindOf, lengthOf, numberOf, limit};
+ghost use Rattle.layout.specs.Fault.{bitsFault, kindFault, longest, wordFault, tailFault, faultOf};
 ghost use Rattle.layout.specs.inner.Inside.{SlotInside};
 ghost use Rattle.layout.specs.inner.Key.{keyWith, highWord};
 use crate::value::value_word;
@@ -88,6 +88,28 @@ pub fn slot_length(image: &[u8], l: usize, s: usize) -> usize
     length_of(kind_word(image, l, s))
 }
 
+// The number in slot s: of how many records share its version.
+pub fn slot_number(image: &[u8], l: usize, s: usize) -> u64
+    requires { ⌜ SlotInside (now image) l s ⌝ }
+    ensures { λ r. ⌜ r ≡ numberOf (lineA (word (now (image .entry))) s (l + 1)) ⌝ }
+{
+    kind_word(image, l, s) / 65536 % 256
+}
+
+// Is a bit above bit 23 set, or is the number 1 or over 8?
+fn bits_fault(w: u64) -> bool
+    ensures { λ r. ⌜ r ≡ bitsFault w ⌝ }
+{
+    if 16777216 <= w {
+        return true;
+    }
+    let number = w / 65536 % 256;
+    if number == 1 {
+        return true;
+    }
+    8 < number
+}
+
 // Is it another kind than put and remove?
 fn kind_fault(kind: u64) -> bool
     ensures { λ r. ⌜ r ≡ kindFault kind ⌝ }
@@ -117,7 +139,7 @@ fn word_fault(l: usize, w: u64) -> u32
     requires { ⌜ l ≤ 2 ⌝ }
     ensures { λ r. ⌜ r ≡ wordFault l w ⌝ }
 {
-    if 65536 <= w {
+    if bits_fault(w) {
         return 6;
     }
     let kind = kind_of(w);

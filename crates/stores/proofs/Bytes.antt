@@ -86,30 +86,30 @@ unfolding marked
 marked-below stamp version body h b i =
     cond-below (eqb i 0) _ _ _ (omega arith) (cond-below (eqb i 7) _ _ _ (omega arith) (b i))
 
-bodyA-below : (l key kind : ℕ) (value : List ℕ) → Fields l key kind value → (i : ℕ) → bodyA l key kind value i < 2 ^ 64
+bodyA-below : (l key kind number : ℕ) (value : List ℕ) → Fields l key kind number value → (i : ℕ) → bodyA l key kind number value i < 2 ^ 64
 unfolding bodyA
-bodyA-below l key kind value fine i =
+bodyA-below l key kind number value fine i =
     cond-below (ltb i (l + 1)) _ _ _ (mod-lt (key / (2 ^ 64) ^ (i - 1)) (omega arith))
-    (cond-below (eqb i (l + 1)) _ _ _ (omega (arith, fine .size, fine .kind-fits)) (placed-below l value (limit l / 8) i (fine .bytes)))
+    (cond-below (eqb i (l + 1)) _ _ _ (omega (arith, fine .size, fine .kind-fits, fine .number-fits)) (placed-below l value (limit l / 8) i (fine .bytes)))
 
-bodyB-below : (l key kind : ℕ) (value : List ℕ) → Fields l key kind value → (i : ℕ) → bodyB l value i < 2 ^ 64
+bodyB-below : (l key kind number : ℕ) (value : List ℕ) → Fields l key kind number value → (i : ℕ) → bodyB l value i < 2 ^ 64
 unfolding bodyB
-bodyB-below l key kind value fine i = placed-below l value (limit l / 8) (8 + i) (fine .bytes)
+bodyB-below l key kind number value fine i = placed-below l value (limit l / 8) (8 + i) (fine .bytes)
 
-pub record-inside : (n l : ℕ) (m : ℕ → ℕ) (s key kind : ℕ) (value : List ℕ) (version : ℕ) → Fields l key kind value → version < 2 ^ 63 → 128 * (s + 1) ≤ n
-    → StoresInside n (recordStores l m s key kind value version)
+pub record-inside : (n l : ℕ) (m : ℕ → ℕ) (s key kind number : ℕ) (value : List ℕ) (version : ℕ) → Fields l key kind number value → version < 2 ^ 63 → 128 * (s + 1) ≤ n
+    → StoresInside n (recordStores l m s key kind number value version)
 unfolding recordStores lineStores
-record-inside n l m s key kind value version fine small h =
+record-inside n l m s key kind number value version fine small h =
     append-inside
-    (run-inside n (8 * (2 * s)) _ 0 8 (omega arith) (marked-below _ version (bodyA l key kind value) small (bodyA-below l key kind value fine)))
-    (run-inside n (8 * (2 * s + 1)) _ 0 8 (omega arith) (marked-below _ version (bodyB l value) small (bodyB-below l key kind value fine)))
+    (run-inside n (8 * (2 * s)) _ 0 8 (omega arith) (marked-below _ version (bodyA l key kind number value) small (bodyA-below l key kind number value fine)))
+    (run-inside n (8 * (2 * s + 1)) _ 0 8 (omega arith) (marked-below _ version (bodyB l value) small (bodyB-below l key kind number value fine)))
 
 -- ---- THE TABLE LAW on bytes
 
-pub image-law : (l : ℕ) (counts : ℕ → ℕ) (img : List ℕ) (s key kind : ℕ) (value : List ℕ) (version : ℕ)
-    → Fields l key kind value → Lawful kind value → top (word img) s < version → version < 2 ^ 63 → 128 * (s + 1) ≤ length img
-    → Written l (word img) (word (played (standing counts (recordStores l (word img) s key kind value version)) img)) s key kind value version
+pub image-law : (l : ℕ) (counts : ℕ → ℕ) (img : List ℕ) (s key kind number : ℕ) (value : List ℕ) (version : ℕ)
+    → Fields l key kind number value → Lawful kind number value → top (word img) s < version → version < 2 ^ 63 → 128 * (s + 1) ≤ length img
+    → Written l (word img) (word (played (standing counts (recordStores l (word img) s key kind number value version)) img)) s key kind number value version
     (counts (2 * s)) (counts (2 * s + 1))
-image-law l counts img s key kind value version fine good above small h =
-    rw (struck-words counts img (record-inside (length img) l (word img) s key kind value version fine small h))
-    (table-law l counts (word img) s key kind value version fine good above)
+image-law l counts img s key kind number value version fine good above small h =
+    rw (struck-words counts img (record-inside (length img) l (word img) s key kind number value version fine small h))
+    (table-law l counts (word img) s key kind number value version fine good above)

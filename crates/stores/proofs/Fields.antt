@@ -14,9 +14,9 @@ use Rattle.prelude.proofs.Choice.{pick-true, pick-false}
 use Rattle.words.proofs.Laws.{word-byte}
 use Rattle.layout.specs.Line.{whole, versionOf}
 use Rattle.layout.specs.Slot.{paired}
-use Rattle.layout.specs.Record.{keyOf, keyWord, kindWord, kindOf, lengthOf, limit, slotWord, valueWord, valueByte, valueFront, valueOf}
+use Rattle.layout.specs.Record.{keyOf, keyWord, kindWord, kindOf, lengthOf, numberOf, limit, slotWord, valueWord, valueByte, valueFront, valueOf}
 use Rattle.layout.specs.Content.{made, contentOf}
-use Rattle.layout.specs.Fault.{kindFault, longest, wordFault, tailFault, faultOf}
+use Rattle.layout.specs.Fault.{bitsFault, kindFault, longest, wordFault, tailFault, faultOf}
 use Rattle.prelude.proofs.Any.{any-clear}
 use Rattle.prelude.proofs.Refusals.{say-false, orElse-later}
 use Rattle.prelude.proofs.Tabulate.{tabulate-list}
@@ -24,26 +24,26 @@ use Rattle.layout.proofs.KeyWords.{key-again}
 use Rattle.layout.proofs.Places.{place-A, place-B}
 use Rattle.layout.proofs.Content.{paired-by, valid-content}
 use Rattle.stores.specs.Written.{placedWord, bodyA, bodyB, newA, newB}
-use Rattle.stores.specs.Cut.{Fields, Lawful, a-put, a-remove}
+use Rattle.stores.specs.Cut.{Fields, LawfulNumber, alone, shared, Lawful, a-put, a-remove}
 use Rattle.stores.proofs.Placed.{placed-at}
 use Rattle.stores.proofs.Line.{marked-body, marked-whole, marked-version}
 
 -- ---- the words of the bodies
 
-body-key : (l key kind : ℕ) (value : List ℕ) (j : ℕ) → j < l → bodyA l key kind value (1 + j) ≡ keyWord key j
+body-key : (l key kind number : ℕ) (value : List ℕ) (j : ℕ) → j < l → bodyA l key kind number value (1 + j) ≡ keyWord key j
 unfolding bodyA
-body-key l key kind value j h =
+body-key l key kind number value j h =
     pick-true (ltb (1 + j) (l + 1)) _ _ (lt-ltb (1 + j) (l + 1) (omega arith)) ∙ ap (keyWord key) (omega arith)
 
-body-kind : (l key kind : ℕ) (value : List ℕ) → bodyA l key kind value (l + 1) ≡ kindWord kind (length value)
+body-kind : (l key kind number : ℕ) (value : List ℕ) → bodyA l key kind number value (l + 1) ≡ kindWord kind (length value) number
 unfolding bodyA
-body-kind l key kind value =
+body-kind l key kind number value =
     pick-false (ltb (l + 1) (l + 1)) _ _ (le-ltb (l + 1) (l + 1) (omega arith))
     ∙ pick-true (eqb (l + 1) (l + 1)) _ _ (eq-eqb (l + 1) (l + 1) refl)
 
-body-value : (l key kind : ℕ) (value : List ℕ) (i : ℕ) → l + 2 + i < 7 → bodyA l key kind value (l + 2 + i) ≡ word value i
+body-value : (l key kind number : ℕ) (value : List ℕ) (i : ℕ) → l + 2 + i < 7 → bodyA l key kind number value (l + 2 + i) ≡ word value i
 unfolding bodyA
-body-value l key kind value i h =
+body-value l key kind number value i h =
     pick-false (ltb (l + 2 + i) (l + 1)) _ _ (le-ltb (l + 2 + i) (l + 1) (omega arith))
     ∙ pick-false (eqb (l + 2 + i) (l + 1)) _ _ (ne-eqb (l + 2 + i) (l + 1) (λ (e : l + 2 + i ≡ l + 1). omega arith))
     ∙ ap (placedWord l value (limit l / 8)) (place-A l i h) ∙ placed-at l value (limit l / 8) i (omega arith)
@@ -54,30 +54,40 @@ body-more l value i h p =
     let along : 8 + (l + 4 + i - 8) ≡ l + 4 + i = omega arith in
     ap (placedWord l value (limit l / 8)) (along ∙ place-B l i h) ∙ placed-at l value (limit l / 8) i (omega arith)
 
+-- ---- the kind word that is written, and its number
+module _ (l stamp key kind number : ℕ) (value : List ℕ) (version : ℕ) (fine : Fields l key kind number value) where
+  new-kind : newA l stamp key kind number value version (l + 1) ≡ kindWord kind (length value) number
+  new-kind =
+      marked-body stamp version (bodyA l key kind number value) (l + 1) (omega arith) (omega (arith, fine .layout .high))
+      ∙ body-kind l key kind number value
+
+  pub number-written : (A : ℕ → ℕ) → A (l + 1) ≡ newA l stamp key kind number value version (l + 1) → numberOf (A (l + 1)) ≡ number
+  number-written A e = ap numberOf (e ∙ new-kind) ∙ omega (arith, fine .kind-fits, fine .number-fits, fine .size)
+
 -- ---- two lines that hold a record's words, over lines with stamps stampA and stampB
-module _ (l stampA stampB key kind : ℕ) (value : List ℕ) (version : ℕ) (fine : Fields l key kind value) (A B : ℕ → ℕ)
-    (onA : (i : ℕ) → i < 8 → A i ≡ newA l stampA key kind value version i)
+module _ (l stampA stampB key kind number : ℕ) (value : List ℕ) (version : ℕ) (fine : Fields l key kind number value) (A B : ℕ → ℕ)
+    (onA : (i : ℕ) → i < 8 → A i ≡ newA l stampA key kind number value version i)
     (onB : (i : ℕ) → i < 8 → B i ≡ newB l stampB value version i) where
-  inA : (i : ℕ) → 0 < i → i < 7 → A i ≡ bodyA l key kind value i
-  inA i h p = onA i (omega arith) ∙ marked-body stampA version (bodyA l key kind value) i h p
+  inA : (i : ℕ) → 0 < i → i < 7 → A i ≡ bodyA l key kind number value i
+  inA i h p = onA i (omega arith) ∙ marked-body stampA version (bodyA l key kind number value) i h p
 
   inB : (i : ℕ) → 0 < i → i < 7 → B i ≡ bodyB l value i
   inB i h p = onB i (omega arith) ∙ marked-body stampB version (bodyB l value) i h p
 
   pub the-version : versionOf (A 7) ≡ version
-  the-version = ap versionOf (onA 7 (omega arith)) ∙ marked-version stampA version (bodyA l key kind value)
+  the-version = ap versionOf (onA 7 (omega arith)) ∙ marked-version stampA version (bodyA l key kind number value)
 
   pub the-pair : paired (A 0) (A 7) (B 0) (B 7) ≡ true
   the-pair =
       paired-by (A 0) (A 7) (B 0) (B 7)
       (record {
-        first = ap₂ whole (onA 0 (omega arith)) (onA 7 (omega arith)) ∙ marked-whole stampA version (bodyA l key kind value);
+        first = ap₂ whole (onA 0 (omega arith)) (onA 7 (omega arith)) ∙ marked-whole stampA version (bodyA l key kind number value);
         second = ap₂ whole (onB 0 (omega arith)) (onB 7 (omega arith)) ∙ marked-whole stampB version (bodyB l value);
         one-version = the-version ∙ sym (ap versionOf (onB 7 (omega arith)) ∙ marked-version stampB version (bodyB l value));
       })
 
-  pub the-kind-word : A (l + 1) ≡ kindWord kind (length value)
-  the-kind-word = inA (l + 1) (omega arith) (omega (arith, fine .layout .high)) ∙ body-kind l key kind value
+  pub the-kind-word : A (l + 1) ≡ kindWord kind (length value) number
+  the-kind-word = onA (l + 1) (omega (arith, fine .layout .high)) ∙ new-kind l stampA key kind number value version fine
 
   pub the-kind : kindOf (A (l + 1)) ≡ kind
   the-kind = ap kindOf the-kind-word ∙ omega (arith, fine .kind-fits)
@@ -85,10 +95,13 @@ module _ (l stampA stampB key kind : ℕ) (value : List ℕ) (version : ℕ) (fi
   pub the-length : lengthOf (A (l + 1)) ≡ length value
   the-length = ap lengthOf the-kind-word ∙ omega (arith, fine .kind-fits, fine .size)
 
+  the-number : numberOf (A (l + 1)) ≡ number
+  the-number = number-written l stampA key kind number value version fine A (onA (l + 1) (omega (arith, fine .layout .high)))
+
   pub the-key : keyOf l A ≡ key
   the-key =
       key-again l A key
-      (λ j h. inA (1 + j) (omega arith) (omega (arith, fine .layout .high)) ∙ body-key l key kind value j h) (fine .key-fits)
+      (λ j h. inA (1 + j) (omega arith) (omega (arith, fine .layout .high)) ∙ body-key l key kind number value j h) (fine .key-fits)
 
   pub the-word : (i : ℕ) → l + i < 11 → valueWord l A B i ≡ word value i
   unfolding valueWord slotWord
@@ -96,7 +109,7 @@ module _ (l stampA stampB key kind : ℕ) (value : List ℕ) (version : ℕ) (fi
       by-cases (decLt (l + 2 + i) 7)
       (λ p.
       ap (slotWord A B) (sym (place-A l i p)) ∙ pick-true (ltb (l + 2 + i) 8) _ _ (lt-ltb (l + 2 + i) 8 (omega arith))
-      ∙ inA (l + 2 + i) (omega arith) p ∙ body-value l key kind value i p)
+      ∙ inA (l + 2 + i) (omega arith) p ∙ body-value l key kind number value i p)
       (λ p.
       ap (slotWord A B) (sym (place-B l i (omega arith))) ∙ pick-false (ltb (l + 4 + i) 8) _ _ (le-ltb (l + 4 + i) 8 (omega arith))
       ∙ inB (l + 4 + i - 8) (omega arith) (omega arith) ∙ body-more l value i (omega arith) h)
@@ -130,25 +143,45 @@ module _ (l stampA stampB key kind : ℕ) (value : List ℕ) (version : ℕ) (fi
       (eq-eqb (valueByte l A B (length value + i)) 0
       (the-byte (length value + i) (omega arith) ∙ List·getD-eq-default value 0 (omega arith))))
 
-  no-kind : Lawful kind value → kindFault kind ≡ false
+  right-number : Lawful kind number value → LawfulNumber number
+  right-number (a-put _ n) = n
+  right-number (a-remove _ _ n) = n
+
+  no-bits : LawfulNumber number → bitsFault (A (l + 1)) ≡ false
+  unfolding bitsFault
+  no-bits n =
+      pick-false (leb (2 ^ 24) (A (l + 1))) _ _
+      (lt-leb (2 ^ 24) (A (l + 1)) (omega (arith, the-kind-word, fine .size, fine .kind-fits, fine .number-fits)))
+      ∙ pick-false (eqb (numberOf (A (l + 1))) 1) _ _ (ap (λ (x : ℕ). eqb x 1) the-number ∙ ne-eqb number 1 (not-one n))
+      ∙ ap (ltb 8) the-number ∙ le-ltb 8 number (few n)
+    where
+      not-one : LawfulNumber number → number ≡ 1 → ⊥
+      not-one (alone e) z = omega arith
+      not-one (shared p q) z = omega arith
+
+      few : LawfulNumber number → number ≤ 8
+      few (alone e) = omega arith
+      few (shared p q) = q
+
+  no-kind : Lawful kind number value → kindFault kind ≡ false
   unfolding kindFault
-  no-kind (a-put e) = rw e
-  no-kind (a-remove e _) = rw e
+  no-kind (a-put e _) = rw e
+  no-kind (a-remove e _ _) = rw e
 
-  no-length : Lawful kind value → length value ≤ longest l kind
+  no-length : Lawful kind number value → length value ≤ longest l kind
   unfolding longest
-  no-length (a-put e) = rw e (omega (arith, fine .size))
-  no-length (a-remove e f) = rw (e, f) (omega arith)
+  no-length (a-put e _) = rw e (omega (arith, fine .size))
+  no-length (a-remove e f _) = rw (e, f) (omega arith)
 
-  no-word : Lawful kind value → wordFault l (A (l + 1)) ≡ 0
+  no-word : Lawful kind number value → wordFault l (A (l + 1)) ≡ 0
   unfolding wordFault
   no-word good =
-      say-false (leb 65536 (A (l + 1))) 6 _ (lt-leb 65536 (A (l + 1)) (omega (arith, the-kind-word, fine .size, fine .kind-fits)))
+      say-false (bitsFault (A (l + 1))) 6 _ (no-bits (right-number good))
       ∙ say-false (kindFault (kindOf (A (l + 1)))) 22 _ (ap kindFault the-kind ∙ no-kind good)
       ∙ say-false (ltb (longest l (kindOf (A (l + 1)))) (lengthOf (A (l + 1)))) 23 _
       (ap₂ (λ (x y : ℕ). ltb (longest l x) y) the-kind the-length ∙ le-ltb (longest l kind) (length value) (no-length good))
 
-  pub the-fault : Lawful kind value → faultOf l A B ≡ 0
+  pub the-fault : Lawful kind number value → faultOf l A B ≡ 0
   unfolding faultOf
   the-fault good =
       orElse-later (wordFault l (A (l + 1))) _ (no-word good)

@@ -4,8 +4,13 @@ pub mod Line
 pub mod Placed
 pub mod Fields
 pub mod Slot
+pub mod SlotStores
+pub mod Opened
+pub mod Confined
 pub mod Table
 pub mod Bytes
+pub mod Basket
+pub mod Opening
 pub mod Halves
 pub mod RecordStores
 pub mod StandingStores

@@ -1,5 +1,5 @@
 -- THE LINE LAW: after a cut a line is as it was, open, or all the stored words. Assumes nothing.
-use mathlib.Core.Path.{_≡_, refl, sym, ap, ap₂, _∙_, fun-ext}
+use mathlib.Core.Path.{_≡_, refl, sym, ap, ap₂, _∙_}
 use mathlib.Core.Bool.{true, false, cond}
 use mathlib.Core.Logic.{_⊎_, inl, inr, by-cases}
 use mathlib.Core.List.{List, [], _∷_, _++_}
@@ -16,7 +16,7 @@ use Rattle.layout.specs.Line.{line, whole, versionOf, firstWord, lastWord}
 use Rattle.stores.specs.Store.{Store, stored, playedWords, onLine}
 use Rattle.stores.specs.Written.{marked, run, lineStores}
 use Rattle.stores.specs.Cut.{afterCut, LineCut, untouched, torn, full}
-use Rattle.stores.proofs.StandingStores.{on-hit, on-miss, cut-at}
+use Rattle.stores.proofs.StandingStores.{on-hit, on-miss, cut-at, line-unmade}
 
 -- ---- the stores of a line among others
 
@@ -54,11 +54,11 @@ other-stores n o words ne = other-run n o words 0 8 ne (omega arith)
 
 -- ---- the first c of a run, however large c is
 
-stored-there : (w v : ℕ) (m : ℕ → ℕ) → stored (record { word = w; value = v }) m w ≡ v
+pub stored-there : (w v : ℕ) (m : ℕ → ℕ) → stored (record { word = w; value = v }) m w ≡ v
 unfolding stored
 stored-there w v m = pick-true (eqb w w) v (m w) (eq-eqb w w refl)
 
-stored-off : (w v : ℕ) (m : ℕ → ℕ) (i : ℕ) → (i ≡ w → ⊥) → stored (record { word = w; value = v }) m i ≡ m i
+pub stored-off : (w v : ℕ) (m : ℕ → ℕ) (i : ℕ) → (i ≡ w → ⊥) → stored (record { word = w; value = v }) m i ≡ m i
 unfolding stored
 stored-off w v m i h = pick-false (eqb i w) v (m i) (ne-eqb i w h)
 
@@ -110,9 +110,6 @@ module _ (counts m : ℕ → ℕ) (ss : List Store) (n : ℕ) (new : ℕ → ℕ
   pub line-cut : (i : ℕ) → line (afterCut counts ss m) n i ≡ cond (ltb (i % 8) (counts n)) (new (i % 8)) (line m n i)
   line-cut i = word-cut counts m ss n new own (i % 8) (mod-lt i (zero-lt-suc 7))
 
-  pub line-same : counts n ≡ 0 → line (afterCut counts ss m) n ≡ line m n
-  line-same e = fun-ext (λ i. line-cut i ∙ pick-false (ltb (i % 8) (counts n)) _ _ (le-ltb (i % 8) (counts n) (omega arith)))
-
   pub line-full : 8 ≤ counts n → (i : ℕ) → i < 8 → line (afterCut counts ss m) n i ≡ new i
   line-full h i l =
       line-cut i ∙ pick-true (ltb (i % 8) (counts n)) _ _ (lt-ltb (i % 8) (counts n) (omega arith)) ∙ ap new (mod-eq-of-lt l)
@@ -145,7 +142,7 @@ pub line-law : (counts m : ℕ → ℕ) (ss : List Store) (n version : ℕ) (bod
 line-law counts m ss n version body own =
     by-cases (decLt 0 (counts n))
     (λ p. by-cases (decLt (counts n) 8) (λ q. torn p q (opened p q)) (λ q. full (omega arith) (line-full counts m ss n new own (omega arith))))
-    (λ p. untouched (omega arith) (line-same counts m ss n new own (omega arith)))
+    (λ p. untouched (omega arith) (line-unmade counts m ss n (omega arith)))
   where
     new : ℕ → ℕ
     new = marked (line m n 7) version body

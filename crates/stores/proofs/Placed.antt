@@ -115,18 +115,28 @@ module _ (l a b key version : ℕ) where
       ∙ pick-false (eqb (p - 8) 0) _ _ (ne-eqb (p - 8) 0 (λ e. body .no-mark-B (omega arith)))
       ∙ pick-false (eqb (p - 8) 7) _ _ (ne-eqb (p - 8) 7 (λ e. omega (arith, body .before-stamp-B))))
 
-  words-by-place : (kind : ℕ) (value : List ℕ)
-      → recordWords l a b key kind value version ≡ tabulate (λ p. wordAt (kindWord kind (length value)) (placedWord l value (limit l / 8) p) p) 0 16
+  words-by-place : (kind number : ℕ) (value : List ℕ)
+      → recordWords l a b key kind number value version ≡ tabulate (λ p. wordAt (kindWord kind (length value) number) (placedWord l value (limit l / 8) p) p) 0 16
   unfolding recordWords tabulate marked bodyA bodyB
-  words-by-place kind value = refl
+  words-by-place kind number value = refl
 
-  without-value : (w : ℕ) → recordWords l a b key w [] version ≡ tabulate (wordAt w 0) 0 16
+  without-value : (w : ℕ) → recordWords l a b key w 0 [] version ≡ tabulate (wordAt w 0) 0 16
   without-value w =
-      words-by-place w []
+      words-by-place w 0 []
       ∙ ap (λ (f : ℕ → ℕ). tabulate f 0 16) (fun-ext (λ p. ap₂ (λ (x y : ℕ). wordAt x y p) kind-alone (placed-empty l (limit l / 8) p)))
     where
-      kind-alone : kindWord w 0 ≡ w
+      kind-alone : kindWord w 0 0 ≡ w
       kind-alone = omega arith
+
+  -- a record without a value, by its kind word
+  pub no-value : (kind number w : ℕ) (words : List ℕ) → w ≡ kindWord kind 0 number → words ≡ recordWords l a b key w 0 [] version
+      → words ≡ recordWords l a b key kind number [] version
+  no-value kind number w words e f =
+      f ∙ words-by-place w 0 [] ∙ ap (λ (x : ℕ). tabulate (λ p. wordAt x (placedWord l [] (limit l / 8) p) p) 0 16) word-same
+      ∙ sym (words-by-place kind number [])
+    where
+      word-same : kindWord w 0 0 ≡ kindWord kind 0 number
+      word-same = omega arith
 
   some-words : Layout l → (w : ℕ) (value : List ℕ) (n : ℕ) → l + n ≤ 11
       → withValue l value n (tabulate (wordAt w 0) 0 16) ≡ tabulate (λ p. wordAt w (placedWord l value n p) p) 0 16
@@ -142,14 +152,14 @@ module _ (l a b key version : ℕ) where
       body = place-in-body l n lay (omega arith)
 
   -- the steps of moving the value into a record without one, whose kind word is the record's, make the record
-  pub value-moved : Layout l → (kind w : ℕ) (value frame words : List ℕ) → length value ≤ limit l → w ≡ kindWord kind (length value)
-      → frame ≡ recordWords l a b key w [] version → words ≡ withValue l value (steps (length value)) frame
-      → words ≡ recordWords l a b key kind value version
-  value-moved lay kind w value frame words fits e f moved =
+  pub value-moved : Layout l → (kind number w : ℕ) (value frame words : List ℕ) → length value ≤ limit l → w ≡ kindWord kind (length value) number
+      → frame ≡ recordWords l a b key w 0 [] version → words ≡ withValue l value (steps (length value)) frame
+      → words ≡ recordWords l a b key kind number value version
+  value-moved lay kind number w value frame words fits e f moved =
       moved ∙ ap (withValue l value (steps (length value))) (f ∙ without-value w)
       ∙ some-words lay w value (steps (length value)) (omega (arith, lay .high))
       ∙ ap (λ (g : ℕ → ℕ). tabulate g 0 16) (fun-ext (λ p. ap₂ (λ (x v : ℕ). wordAt x v p) e (all-placed p)))
-      ∙ sym (words-by-place kind value)
+      ∙ sym (words-by-place kind number value)
     where
       all : limit l / 8 ≡ limit l / 8 - steps (length value) + steps (length value)
       all = omega (arith, lay .high)

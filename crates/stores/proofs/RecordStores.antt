@@ -33,26 +33,26 @@ key-high low high i h k b ne =
 
 -- a record without a value, whose kind word is w: the key, the kind word, and zeros
 module _ (l key w i : ℕ) where
-  pub in-key : (r : ℕ) → i < l + 1 → r ≡ keyWord key (i - 1) → r ≡ bodyA l key w [] i
+  pub in-key : (r : ℕ) → i < l + 1 → r ≡ keyWord key (i - 1) → r ≡ bodyA l key w 0 [] i
   unfolding bodyA
   in-key r h e = e ∙ sym (pick-true (ltb i (l + 1)) _ _ (lt-ltb i (l + 1) h))
 
-  pub in-kind : i ≡ l + 1 → w ≡ bodyA l key w [] i
+  pub in-kind : i ≡ l + 1 → w ≡ bodyA l key w 0 [] i
   unfolding bodyA
   in-kind h =
       sym (pick-false (ltb i (l + 1)) _ _ (le-ltb i (l + 1) (omega arith)) ∙ pick-true (eqb i (l + 1)) _ _ (eq-eqb i (l + 1) h) ∙ alone)
     where
-      alone : kindWord w 0 ≡ w
+      alone : kindWord w 0 0 ≡ w
       alone = omega arith
 
-  pub past-kind : l + 1 < i → bodyA l key w [] i ≡ 0
+  pub past-kind : l + 1 < i → bodyA l key w 0 [] i ≡ 0
   unfolding bodyA
   past-kind h =
       pick-false (ltb i (l + 1)) _ _ (le-ltb i (l + 1) (omega arith)) ∙ pick-false (eqb i (l + 1)) _ _ (ne-eqb i (l + 1) (λ e. omega arith))
       ∙ placed-empty l (limit l / 8) i
 
 -- its first word is the low key word
-pub first-key : (l low high w : ℕ) → Layout l → low < 2 ^ 64 → bodyA l (keyWith low high) w [] 1 ≡ low
+pub first-key : (l low high w : ℕ) → Layout l → low < 2 ^ 64 → bodyA l (keyWith low high) w 0 [] 1 ≡ low
 first-key l low high w lay h =
     sym (in-key l (keyWith low high) w 1 low (omega (arith, lay .low)) (key-low low high 0 h refl))
 
@@ -74,17 +74,17 @@ zipped-line : (n : ℕ) (words : ℕ → ℕ) → zipped (tabulate (λ i. 8 * n 
 unfolding zipped tabulate run lineStores
 zipped-line n words = refl
 
-pub zipped-record : (l : ℕ) (m : ℕ → ℕ) (s key kind : ℕ) (value : List ℕ) (version a b : ℕ) → a ≡ m (16 * s + 7) → b ≡ m (16 * s + 15)
-    → (at words : List ℕ) → at ≡ recordNumbers s → words ≡ recordWords l a b key kind value version
-    → zipped at words ≡ recordStores l m s key kind value version
+pub zipped-record : (l : ℕ) (m : ℕ → ℕ) (s key kind number : ℕ) (value : List ℕ) (version a b : ℕ) → a ≡ m (16 * s + 7) → b ≡ m (16 * s + 15)
+    → (at words : List ℕ) → at ≡ recordNumbers s → words ≡ recordWords l a b key kind number value version
+    → zipped at words ≡ recordStores l m s key kind number value version
 unfolding recordNumbers recordWords recordStores lineStores
-zipped-record l m s key kind value version a b p q at words e f =
+zipped-record l m s key kind number value version a b p q at words e f =
     ap₂ zipped e f
-    ∙ zipped-run (8 * (2 * s)) (newA l a key kind value version) 0 8 (tabulate (λ i. 8 * (2 * s + 1) + i) 0 8) (tabulate (newB l b value version) 0 8)
-    ∙ ap (λ (ss : List Store). run (8 * (2 * s)) (newA l a key kind value version) 0 8 ++ ss)
+    ∙ zipped-run (8 * (2 * s)) (newA l a key kind number value version) 0 8 (tabulate (λ i. 8 * (2 * s + 1) + i) 0 8) (tabulate (newB l b value version) 0 8)
+    ∙ ap (λ (ss : List Store). run (8 * (2 * s)) (newA l a key kind number value version) 0 8 ++ ss)
     (zipped-line (2 * s + 1) (newB l b value version))
     ∙ ap₂ (λ (x y : ℕ). recordAt x y) (p ∙ ap m (omega arith)) (q ∙ ap m (omega arith))
   where
     recordAt : ℕ → ℕ → List Store
     recordAt x y =
-        run (8 * (2 * s)) (newA l x key kind value version) 0 8 ++ run (8 * (2 * s + 1)) (newB l y value version) 0 8
+        run (8 * (2 * s)) (newA l x key kind number value version) 0 8 ++ run (8 * (2 * s + 1)) (newB l y value version) 0 8

@@ -42,9 +42,9 @@ module _ (old now : ℕ → ℕ) (stamp version : ℕ) (body : ℕ → ℕ) (k :
 
 -- ---- a cut slot: lines A and B before, A′ and B′ after a stores on A and b on B
 
-module _ (l key kind : ℕ) (value : List ℕ) (version : ℕ) (fine : Fields l key kind value) (A A′ B B′ : ℕ → ℕ) (stampA stampB a b : ℕ)
+module _ (l key kind number : ℕ) (value : List ℕ) (version : ℕ) (fine : Fields l key kind number value) (A A′ B B′ : ℕ → ℕ) (stampA stampB a b : ℕ)
     (above : slotTop A B < version)
-    (cutA : LineCut A (newA l stampA key kind value version) A′ a) (cutB : LineCut B (newB l stampB value version) B′ b) where
+    (cutA : LineCut A (newA l stampA key kind number value version) A′ a) (cutB : LineCut B (newB l stampB value version) B′ b) where
   above-A : lineTop (A 0) (A 7) < version
   unfolding slotTop
   above-A = omega (arith, above)
@@ -54,7 +54,7 @@ module _ (l key kind : ℕ) (value : List ℕ) (version : ℕ) (fine : Fields l 
   above-B = omega (arith, above)
 
   below-A : lineTop (A′ 0) (A′ 7) ≤ version
-  below-A = cut-top A A′ stampA version (bodyA l key kind value) a cutA above-A
+  below-A = cut-top A A′ stampA version (bodyA l key kind number value) a cutA above-A
 
   below-B : lineTop (B′ 0) (B′ 7) ≤ version
   below-B = cut-top B B′ stampB version (bodyB l value) b cutB above-B
@@ -65,13 +65,13 @@ module _ (l key kind : ℕ) (value : List ℕ) (version : ℕ) (fine : Fields l 
 
   pub slot-top-full : (8 ≤ a) ⊎ (8 ≤ b) → slotTop A′ B′ ≡ version
   unfolding slotTop
-  slot-top-full (inl h) = omega (arith, cut-top-full A A′ stampA version (bodyA l key kind value) a cutA h, below-B)
+  slot-top-full (inl h) = omega (arith, cut-top-full A A′ stampA version (bodyA l key kind number value) a cutA h, below-B)
   slot-top-full (inr h) = omega (arith, below-A, cut-top-full B B′ stampB version (bodyB l value) b cutB h)
 
   -- the three ways of a slot: as it was, the record, or no pair
   data Way : Type 0 where
     as-was : a ≡ 0 → b ≡ 0 → A′ ≡ A → B′ ≡ B → Way
-    all-new : 8 ≤ a → 8 ≤ b → ((i : ℕ) → i < 8 → A′ i ≡ newA l stampA key kind value version i)
+    all-new : 8 ≤ a → 8 ≤ b → ((i : ℕ) → i < 8 → A′ i ≡ newA l stampA key kind number value version i)
         → ((i : ℕ) → i < 8 → B′ i ≡ newB l stampB value version i) → Way
     no-pair : (a ≡ 0 → b ≡ 0 → ⊥) → (8 ≤ a → 8 ≤ b → ⊥) → paired (A′ 0) (A′ 7) (B′ 0) (B′ 7) ≡ false → Way
 
@@ -84,7 +84,7 @@ module _ (l key kind : ℕ) (value : List ℕ) (version : ℕ) (fine : Fields l 
   way : Way
   way = go cutA cutB
     where
-      go : LineCut A (newA l stampA key kind value version) A′ a → LineCut B (newB l stampB value version) B′ b → Way
+      go : LineCut A (newA l stampA key kind number value version) A′ a → LineCut B (newB l stampB value version) B′ b → Way
       go (untouched z e) (untouched y f) = as-was z y e f
       go (full p u) (full q w) = all-new p q u w
       go (torn p q o) (untouched z e) = no-pair (λ x y. omega arith) (λ x y. omega arith) (open-A o)
@@ -96,23 +96,23 @@ module _ (l key kind : ℕ) (value : List ℕ) (version : ℕ) (fine : Fields l 
           no-pair (λ x y. omega arith) (λ x y. omega arith)
           (unpaired (A′ 0) (A′ 7) (B′ 0) (B′ 7)
           (λ x y r.
-          omega (arith, older B B′ stampB version (bodyB l value) b e above-B y, full-version A A′ stampA version (bodyA l key kind value) a w)))
+          omega (arith, older B B′ stampB version (bodyB l value) b e above-B y, full-version A A′ stampA version (bodyA l key kind number value) a w)))
       go (untouched z e) (full p w) =
           no-pair (λ x y. omega arith) (λ x y. omega arith)
           (unpaired (A′ 0) (A′ 7) (B′ 0) (B′ 7)
           (λ x y r.
-          omega (arith, older A A′ stampA version (bodyA l key kind value) a e above-A x, full-version B B′ stampB version (bodyB l value) b w)))
+          omega (arith, older A A′ stampA version (bodyA l key kind number value) a e above-A x, full-version B B′ stampB version (bodyB l value) b w)))
 
   pub slot-cut : SlotCut (contentOf l A B) (made kind version key value) (contentOf l A′ B′) version a b
   slot-cut = go way
     where
       go : Way → SlotCut (contentOf l A B) (made kind version key value) (contentOf l A′ B′) version a b
       go (as-was x y e f) = now-old x y (ap₂ (contentOf l) e f)
-      go (all-new x y u w) = now-new x y (the-content l stampA stampB key kind value version fine A′ B′ u w (omega (arith, above)))
+      go (all-new x y u w) = now-new x y (the-content l stampA stampB key kind number value version fine A′ B′ u w (omega (arith, above)))
       go (no-pair x y e) = now-broken x y (slotTop A′ B′) slot-top (broken-content l A′ B′ e)
 
   -- a slot without a fault stays so
-  pub slot-fault : Lawful kind value → cond (isValid (lineVerdict A B)) (faultOf l A B) 0 ≡ 0
+  pub slot-fault : Lawful kind number value → cond (isValid (lineVerdict A B)) (faultOf l A B) 0 ≡ 0
       → cond (isValid (lineVerdict A′ B′)) (faultOf l A′ B′) 0 ≡ 0
   unfolding isValid
   slot-fault good h = go way
@@ -125,6 +125,6 @@ module _ (l key kind : ℕ) (value : List ℕ) (version : ℕ) (fine : Fields l 
       go (as-was x y e f) = ap₂ (λ (S T : ℕ → ℕ). cond (isValid (lineVerdict S T)) (faultOf l S T) 0) e f ∙ h
       go (all-new x y u w) =
           ap (λ (t : ℕ). cond (isValid (lineVerdict A′ B′)) t 0)
-          (the-fault l stampA stampB key kind value version fine A′ B′ u w good)
+          (the-fault l stampA stampB key kind number value version fine A′ B′ u w good)
           ∙ either (isValid (lineVerdict A′ B′))
       go (no-pair x y e) = pick-false (isValid (lineVerdict A′ B′)) _ _ (ap isValid (verdict-broken A′ B′ e))

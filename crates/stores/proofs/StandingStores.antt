@@ -1,14 +1,15 @@
 -- What the standing stores leave: a word is what the first stores of its own line make of it. Assumes nothing.
 use mathlib.Core.Path.{_≡_, refl, sym, ap, _∙_, fun-ext}
 use mathlib.Core.Bool.{true, false, cond}
-use mathlib.Core.Logic.{_⊎_, inl, inr}
+use mathlib.Core.Logic.{_⊎_, inl, inr, by-cases}
 use mathlib.Core.List.{List, [], _∷_}
-use Prim.Native.Nat.{ℕ, zero, suc, _+_, _-_, _*_, _/_, _%_, _<_}
+use Prim.Native.Nat.{ℕ, zero, suc, _+_, _-_, _*_, _/_, _%_, _≤_, _<_}
 use native.Mathlib.Nat.{mod-lt, zero-lt-suc}
 use native.Mathlib.Omega.{arith}
 use native.Mathlib.Numerals.{unary-clauses}
-use lib.ListN.{take}
-use lib.Seq.{take-nil}
+use native.Mathlib.Decide.{ℕ-discrete}
+use lib.ListN.{length, take}
+use lib.Seq.{take-nil, take-all}
 use lib.Dec.{eqb}
 use borrow.Author.Tests.{eqb-true, eqb-false, eq-eqb, ne-eqb}
 use Rattle.prelude.proofs.Choice.{pick-true, pick-false, split}
@@ -130,12 +131,48 @@ pub cut-at : (ss : List Store) (counts m : ℕ → ℕ) (n i : ℕ) → i < 8
 cut-at ss counts m n i h =
     cut-word ss counts m (8 * n + i) ∙ ap (λ (x : ℕ). playedWords (take (counts x) (onLine x ss)) m (8 * n + i)) (omega arith)
 
--- a line without stores stays
-pub line-out : (counts m : ℕ → ℕ) (ss : List Store) (n : ℕ) → onLine n ss ≡ [] → line (afterCut counts ss m) n ≡ line m n
+-- a line of which no store stands stays
+line-none : (counts m : ℕ → ℕ) (ss : List Store) (n : ℕ) → take (counts n) (onLine n ss) ≡ [] → line (afterCut counts ss m) n ≡ line m n
 unfolding playedWords
-line-out counts m ss n none = fun-ext (λ i. at (i % 8) (mod-lt i (zero-lt-suc 7)))
+line-none counts m ss n none = fun-ext (λ i. at (i % 8) (mod-lt i (zero-lt-suc 7)))
   where
     at : (i : ℕ) → i < 8 → afterCut counts ss m (8 * n + i) ≡ m (8 * n + i)
-    at i h =
-        cut-at ss counts m n i h
-        ∙ ap (λ (t : List Store). playedWords t m (8 * n + i)) (ap (take (counts n)) none ∙ take-nil (counts n))
+    at i h = cut-at ss counts m n i h ∙ ap (λ (t : List Store). playedWords t m (8 * n + i)) none
+
+-- so does one without stores, and one whose count is 0
+pub line-out : (counts m : ℕ → ℕ) (ss : List Store) (n : ℕ) → onLine n ss ≡ [] → line (afterCut counts ss m) n ≡ line m n
+line-out counts m ss n none = line-none counts m ss n (ap (take (counts n)) none ∙ take-nil (counts n))
+
+pub line-unmade : (counts m : ℕ → ℕ) (ss : List Store) (n : ℕ) → counts n ≡ 0 → line (afterCut counts ss m) n ≡ line m n
+line-unmade counts m ss n e = line-none counts m ss n (ap (λ (k : ℕ). take k (onLine n ss)) e)
+
+-- a line with one store, which stands
+pub line-one : (counts m : ℕ → ℕ) (ss : List Store) (n : ℕ) (s : Store) → onLine n ss ≡ s ∷ [] → 0 < counts n → (i : ℕ)
+    → line (afterCut counts ss m) n i ≡ stored s m (8 * n + i % 8)
+unfolding playedWords
+line-one counts m ss n s own h i =
+    cut-at ss counts m n (i % 8) (mod-lt i (zero-lt-suc 7))
+    ∙ ap (λ (t : List Store). playedWords t m (8 * n + i % 8)) (ap (take (counts n)) own ∙ take-all (counts n) (s ∷ []) (omega arith))
+
+-- ---- all of them stand
+
+-- where each line's count reaches its stores
+pub all-stand : (ss : List Store) (counts : ℕ → ℕ) → ((n : ℕ) → length (onLine n ss) ≤ counts n) → standing counts ss ≡ ss
+unfolding standing onLine
+all-stand [] counts h = refl
+all-stand (s ∷ ss) counts h = go (all-stand ss (less (s .word / 8) counts))
+  where
+    own : suc (length (onLine (s .word / 8) ss)) ≤ counts (s .word / 8)
+    own = omega (arith, ap (λ (t : List Store). length t) (on-hit (s .word / 8) s ss refl), h (s .word / 8))
+
+    fewer : (n : ℕ) → length (onLine n ss) ≤ less (s .word / 8) counts n
+    fewer n =
+        by-cases (ℕ-discrete n (s .word / 8))
+        (λ e. rw e (omega (arith, own, less-own (s .word / 8) counts)))
+        (λ ne.
+        omega
+        (arith, less-other (s .word / 8) counts n ne, ap (λ (t : List Store). length t) (on-miss n s ss (λ (q : s .word / 8 ≡ n). ne (sym q))), h n))
+
+    go : (((n : ℕ) → length (onLine n ss) ≤ less (s .word / 8) counts n) → standing (less (s .word / 8) counts) ss ≡ ss)
+        → standing counts (s ∷ ss) ≡ s ∷ ss
+    go ih = one-stands counts s ss (λ (z : counts (s .word / 8) ≡ 0). omega (arith, own)) ∙ ap (λ (t : List Store). s ∷ t) (ih fewer)

@@ -1,4 +1,4 @@
--- The 16 stores of a record for slot s, in layout l. Document 01, "How a call writes".
+-- The 16 stores of a record for slot s, in layout l. Document 01, "How a call writes". `number` is that of the records which share the version, 0 for one alone.
 use mathlib.Core.Bool.{cond}
 use mathlib.Core.List.{List, [], _∷_, _++_}
 use Prim.Native.Nat.{ℕ, zero, suc, _+_, _-_, _*_, _/_}
@@ -19,18 +19,18 @@ placedWord l value zero p = 0
 placedWord l value (suc n) p = cond (eqb p (valuePlace l n)) (word value n) (placedWord l value n p)
 
 -- words 1 to 6 of line A: the key, the kind word and the front of the value. "Value bytes past the length are zero"
-unfoldable pub bodyA : (l key kind : ℕ) → List ℕ → ℕ → ℕ
-bodyA l key kind value i =
+unfoldable pub bodyA : (l key kind number : ℕ) → List ℕ → ℕ → ℕ
+bodyA l key kind number value i =
     cond (ltb i (l + 1)) (keyWord key (i - 1))
-    (cond (eqb i (l + 1)) (kindWord kind (length value)) (placedWord l value (limit l / 8) i))
+    (cond (eqb i (l + 1)) (kindWord kind (length value) number) (placedWord l value (limit l / 8) i))
 
 -- words 1 to 6 of line B: the rest of the value
 unfoldable pub bodyB : (l : ℕ) → List ℕ → ℕ → ℕ
 bodyB l value i = placedWord l value (limit l / 8) (8 + i)
 
 -- all eight words of line A, over a line with this stamp
-abbrev pub newA : (l stamp key kind : ℕ) → List ℕ → (version : ℕ) → ℕ → ℕ
-newA l stamp key kind value version = marked stamp version (bodyA l key kind value)
+abbrev pub newA : (l stamp key kind number : ℕ) → List ℕ → (version : ℕ) → ℕ → ℕ
+newA l stamp key kind number value version = marked stamp version (bodyA l key kind number value)
 
 -- and of line B
 abbrev pub newB : (l stamp : ℕ) → List ℕ → (version : ℕ) → ℕ → ℕ
@@ -46,7 +46,7 @@ unfoldable pub lineStores : (n : ℕ) → (words : ℕ → ℕ) → List Store
 lineStores n words = run (8 * n) words 0 8
 
 -- "eight for line A, then eight for line B, words 0 to 7 in order"; the close bits are those that stand in the words m
-unfoldable pub recordStores : (l : ℕ) → (m : ℕ → ℕ) → (s key kind : ℕ) → List ℕ → (version : ℕ) → List Store
-recordStores l m s key kind value version =
-    lineStores (2 * s) (newA l (line m (2 * s) 7) key kind value version) ++
+unfoldable pub recordStores : (l : ℕ) → (m : ℕ → ℕ) → (s key kind number : ℕ) → List ℕ → (version : ℕ) → List Store
+recordStores l m s key kind number value version =
+    lineStores (2 * s) (newA l (line m (2 * s) 7) key kind number value version) ++
     lineStores (2 * s + 1) (newB l (line m (2 * s + 1) 7) value version)

@@ -27,17 +27,17 @@ fn key_word(low: u64, high: u64, i: usize) -> u64
 }
 
 // The kind word.
-fn kind_word(kind: u64, size: usize) -> u64
-    requires { ⌜ (kind < 256) × (size < 256) ⌝ }
-    ensures { λ r. ⌜ r ≡ kindWord kind size ⌝ }
+fn kind_word(kind: u64, size: usize, number: u64) -> u64
+    requires { ⌜ (kind < 256) × (size < 256) × (number < 256) ⌝ }
+    ensures { λ r. ⌜ r ≡ kindWord kind size number ⌝ }
 {
-    kind + 256 * (size as u64)
+    kind + 256 * (size as u64) + 65536 * number
 }
 
 // Word i of line A, between mark and stamp, of a record without a value whose kind word is w.
 fn frame_word(l: usize, low: u64, high: u64, w: u64, i: usize) -> u64
     requires { ⌜ Layout l × (1 ≤ i) × (i ≤ 6) ⌝ }
-    ensures { λ r. ⌜ r ≡ bodyA l (keyWith low high) w [] i ⌝ }
+    ensures { λ r. ⌜ r ≡ bodyA l (keyWith low high) w 0 [] i ⌝ }
 {
     if i < l + 1 {
         return key_word(low, high, i - 1);
@@ -87,7 +87,7 @@ fn fill_frame(
     words: &mut [u64; 16],
 )
     requires { ⌜ Layout l × (version < 2 ^ 63) ⌝ }
-    ensures { λ _. ⌜ now (words .exit) ≡ recordWords l a b (keyWith low high) w [] version ⌝ }
+    ensures { λ _. ⌜ now (words .exit) ≡ recordWords l a b (keyWith low high) w 0 [] version ⌝ }
 {
     *words = [
         first_word(a),
@@ -109,7 +109,8 @@ fn fill_frame(
     ];
 }
 
-// The stores of a record for slot s of the image: those without a value, and then the value is moved in.
+// The stores of a record for slot s of the image: those without a value, and then the value is moved in. number is that of the records which share the
+// version, 0 for one alone.
 pub fn record_stores(
     image: &[u8],
     l: usize,
@@ -117,19 +118,20 @@ pub fn record_stores(
     low: u64,
     high: u64,
     kind: u64,
+    number: u64,
     value: &[u8],
     version: u64,
     at: &mut [u32; 16],
     words: &mut [u64; 16],
 )
-    requires { ⌜ Recordable l kind (now value) version × (s < 65536) × (128 * (s + 1) ≤ length (now image)) ⌝ }
-    ensures { λ _. ⌜ zipped (now (at .exit)) (now (words .exit)) ≡ recordStores l (word (now (image .entry))) s (keyWith low high) kind (now (value .entry)) version ⌝ }
+    requires { ⌜ Recordable l kind number (now value) version × (s < 65536) × (128 * (s + 1) ≤ length (now image)) ⌝ }
+    ensures { λ _. ⌜ zipped (now (at .exit)) (now (words .exit)) ≡ recordStores l (word (now (image .entry))) s (keyWith low high) kind number (now (value .entry)) version ⌝ }
 {
     let slot = s as usize;
     let a = read_word(image, 16 * slot + 7);
     let b = read_word(image, 16 * slot + 15);
     fill_numbers(s, at);
-    let w = kind_word(kind, value.len());
+    let w = kind_word(kind, value.len(), number);
     fill_frame(l, a, b, low, high, w, version, words);
     fill_value(l, value, words);
 }
@@ -141,16 +143,18 @@ pub fn remove_stores(
     s: u32,
     low: u64,
     high: u64,
+    number: u64,
     version: u64,
     at: &mut [u32; 16],
     words: &mut [u64; 16],
 )
-    requires { ⌜ Layout l × (version < 2 ^ 63) × (s < 65536) × (128 * (s + 1) ≤ length (now image)) ⌝ }
-    ensures { λ _. ⌜ zipped (now (at .exit)) (now (words .exit)) ≡ recordStores l (word (now (image .entry))) s (keyWith low high) 2 [] version ⌝ }
+    requires { ⌜ Layout l × (number < 256) × (version < 2 ^ 63) × (s < 65536) × (128 * (s + 1) ≤ length (now image)) ⌝ }
+    ensures { λ _. ⌜ zipped (now (at .exit)) (now (words .exit)) ≡ recordStores l (word (now (image .entry))) s (keyWith low high) 2 number [] version ⌝ }
 {
     let slot = s as usize;
     let a = read_word(image, 16 * slot + 7);
     let b = read_word(image, 16 * slot + 15);
     fill_numbers(s, at);
-    fill_frame(l, a, b, low, high, 2, version, words);
+    let w = kind_word(2, 0, number);
+    fill_frame(l, a, b, low, high, w, version, words);
 }

@@ -5,9 +5,10 @@ use lib.ListN.{length, getD}
 use Rattle.layout.specs.Record.{Layout, limit}
 
 -- a record of layout l can be made of these
-pub record Recordable (l kind : ℕ) (value : List ℕ) (version : ℕ) : Type 0 where
+pub record Recordable (l kind number : ℕ) (value : List ℕ) (version : ℕ) : Type 0 where
   pub layout : Layout l
   pub kind-fits : kind < 256
+  pub number-fits : number < 256
   pub size : length value ≤ limit l
   pub version-fits : version < 2 ^ 63
 

@@ -12,9 +12,9 @@ unfoldable pub recordNumbers : (s : ℕ) → List ℕ
 recordNumbers s = tabulate (λ i. 8 * (2 * s) + i) 0 8 ++ tabulate (λ i. 8 * (2 * s + 1) + i) 0 8
 
 -- and their values, over lines with stamps a and b
-unfoldable pub recordWords : (l a b key kind : ℕ) → List ℕ → (version : ℕ) → List ℕ
-recordWords l a b key kind value version =
-    tabulate (newA l a key kind value version) 0 8 ++ tabulate (newB l b value version) 0 8
+unfoldable pub recordWords : (l a b key kind number : ℕ) → List ℕ → (version : ℕ) → List ℕ
+recordWords l a b key kind number value version =
+    tabulate (newA l a key kind number value version) 0 8 ++ tabulate (newB l b value version) 0 8
 
 -- these values with the first n words of the value at their places
 unfoldable pub withValue : (l : ℕ) → (value : List ℕ) → (n : ℕ) → (words : List ℕ) → List ℕ

@@ -1,6 +1,7 @@
 -- `change_code::remove::remove_in` meets its contract. Assumes nothing.
 use mathlib.Core.Path.{refl, ap, ap₂, _∙_}
 use Prim.Native.Nat.{ℕ}
+use native.Mathlib.Omega.{arith}
 use borrow.Author.Needs.{needs}
 use Rattle.index.proofs.LookedUp.{open-at}
 use Rattle.calls.specs.Compared.{reported, keyCompared}
@@ -23,7 +24,7 @@ remove-held-requires c κs =
 remove-stores-requires : tie.Need-remove-stores-requires
 remove-stores-requires c κs =
     let w = (rw (open-at (c .before .before .before .before .before .before .before .before .before .before .before .before .before .before .lookup2 .given .1) (c .before .before .before .before .before .before .before .before .before .before .before .place .given .1)) at (c .before .before .before .before .before .before .before .before .before .before .before .before .before .before .before .before .remove-lookup .ensures .ready)) .0 in
-    (c .before .before .before .before .before .before .before .before .before .before .before .before .before .before .before .before .before .before .before .before .before .before .pre, w .index .version-fits, w .slot-fits, w .slot-in)
+    (c .before .before .before .before .before .before .before .before .before .before .before .before .before .before .before .before .before .before .before .before .before .before .pre, omega arith, w .index .version-fits, w .slot-fits, w .slot-in)
 
 returns : tie.Need-returns
 unfolding changeSays handedOut leftIn unchanged keyCompared

@@ -1,8 +1,8 @@
 -- `change_code::remove::remove_lookup` meets its contract. Assumes nothing.
 use borrow.Author.Needs.{needs}
-use Rattle.layout.proofs.Lents.{lent-sized, lent-next}
+use Rattle.layout.proofs.Lents.{lent-sized}
 use Rattle.calls.specs.Change.{removeFault}
-use Rattle.calls.proofs.Lookups.{slots-fit, refused-early, remove-looks}
+use Rattle.calls.proofs.Lookups.{refused-early, lent-walkable, remove-looks}
 use Rattle.change_code.proofs.remove.remove_lookup.Statement.{statement}
 use Rattle.change_code.proofs.remove.remove_lookup.Tie as tie
 
@@ -15,7 +15,6 @@ remove-lookup-spec =
     (λ c. search (refused-early))
     (λ c κs. search needs)
     (λ c κs. search (lent-sized, needs))
-    (λ c. search (slots-fit))
-    (λ c κs. search (lent-next))
+    (λ c κs. search (lent-walkable, needs))
     (λ c κs. search needs)
     (λ c. search (remove-looks)))

@@ -20,7 +20,7 @@ write-place-requires c κs =
 record-stores-requires : tie.Need-record-stores-requires
 record-stores-requires c κs =
     let ready = opened _ _ _ _ _ _ _ (c .before .before .before .before .before .before .before .before .before .before .before .before .before .write-lookup .ensures .ready) (c .before .before .before .before .before .before .before .before .before .before .before .lookup2 .given .1) .recordable in
-    (record { layout = c .before .before .before .before .before .before .before .before .before .before .before .before .before .before .before .before .before .before .before .before .pre; kind-fits = omega arith; size = ready .0; version-fits = ready .1 }, ready .2, ready .3)
+    (record { layout = c .before .before .before .before .before .before .before .before .before .before .before .before .before .before .before .before .before .before .before .before .pre; kind-fits = omega arith; number-fits = omega arith; size = ready .0; version-fits = ready .1 }, ready .2, ready .3)
 
 returns : tie.Need-returns
 unfolding changeSays handedOut leftIn unchanged writeCompared

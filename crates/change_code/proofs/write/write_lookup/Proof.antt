@@ -1,7 +1,7 @@
 -- `change_code::write::write_lookup` meets its contract. Assumes nothing.
 use borrow.Author.Needs.{needs}
 use Rattle.calls.specs.Change.{writeFault}
-use Rattle.calls.proofs.Lookups.{slots-fit, refused-early, write-sized, write-next, write-looks}
+use Rattle.calls.proofs.Lookups.{refused-early, write-sized, write-walkable, write-looks}
 use Rattle.change_code.proofs.write.write_lookup.Statement.{statement}
 use Rattle.change_code.proofs.write.write_lookup.Tie as tie
 
@@ -14,7 +14,6 @@ write-lookup-spec =
     (λ c. search (refused-early))
     (λ c κs. search needs)
     (λ c κs. search (write-sized, needs))
-    (λ c. search (slots-fit))
-    (λ c κs. search (write-next))
+    (λ c κs. search (write-walkable, needs))
     (λ c κs. search needs)
     (λ c. search (write-looks)))

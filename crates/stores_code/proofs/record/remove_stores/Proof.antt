@@ -1,5 +1,6 @@
 -- `stores_code::record::remove_stores` meets its contract. Assumes nothing.
 use borrow.Author.Needs.{needs}
+use Rattle.stores.proofs.Placed.{no-value}
 use Rattle.stores.proofs.RecordStores.{zipped-record}
 use Rattle.stores_code.proofs.record.remove_stores.Statement.{statement}
 use Rattle.stores_code.proofs.record.remove_stores.Tie as tie
@@ -9,5 +10,5 @@ remove-stores-spec =
     tie.close
     (tie.spec
     (λ c. search needs) (λ c. search needs) (λ c κs. search needs) (λ c. search needs) (λ c. search needs)
-    (λ c κs. search needs) (λ c κs. search needs) (λ c κs. search needs)
-    (λ c. search zipped-record))
+    (λ c κs. search needs) (λ c κs. search needs) (λ c κs. search needs) (λ c κs. search needs)
+    (λ c. search (zipped-record, no-value)))

@@ -1,0 +1,41 @@
+// The refusals of a call that stores and is not refused for its key.
+ghost use mathlib.Core.Path.{_≡_};
+ghost use Rattle.taking.specs.Taking.{takingOf};
+ghost use Rattle.taking.specs.inner.Takeable.{Walkable};
+ghost use Rattle.calls.specs.Change.{storeFault};
+use index::State;
+use index_code::fault::ends_fault;
+use index_code::fault::live_fault;
+use layout_code::line::version_fault;
+use taking_code::take::take_fault;
+
+// 11 (reuse, or fewer live than are removed), 28 or 9 for a call that takes one slot, else 0.
+pub fn store_fault(
+    image: &[u8],
+    l: usize,
+    next: &[u32],
+    n: usize,
+    state: State,
+    inserts: u32,
+    removes: u32,
+) -> u32
+    requires { ⌜ Walkable (now image) (now next) l n ⌝ }
+    ensures { λ r. ⌜ r ≡ storeFault (takingOf l (now (image .entry)) (now (next .entry)) n (state .first) 1) n state inserts removes ⌝ }
+{
+    let ends = ends_fault(n as u32, state.first, state.last);
+    if ends != 0 {
+        return ends;
+    }
+    if state.live < removes {
+        return 11;
+    }
+    let take = take_fault(image, l, next, n, state.first, state.newest);
+    if take != 0 {
+        return take;
+    }
+    let room = live_fault(n as u32, state.live, inserts, removes);
+    if room != 0 {
+        return room;
+    }
+    version_fault(state.version)
+}
