@@ -1,23 +1,15 @@
--- A basket's changes keep the lengths of any index, and write inside it. Assumes nothing.
-use mathlib.Core.Path.{_≡_, refl, sym, ap, _∙_}
-use mathlib.Core.Bool.{Bool, true, false, cond}
+-- A basket's changes keep the lengths of any index. Assumes nothing.
+use mathlib.Core.Path.{_≡_, refl, _∙_}
 use mathlib.Core.List.{List, [], _∷_}
-use Prim.Native.Nat.{ℕ, zero, suc, _+_, _-_, _≤_, _<_}
-use native.Mathlib.Omega.{arith}
-use lib.Dec.{eqb, ltb}
-use lib.ListN.{length, getD}
-use borrow.Author.Tests.{eqb-true, eqb-false, ltb-false}
-use Rattle.prelude.specs.Members.{All, none-left, one-more}
+use Prim.Native.Nat.{ℕ}
+use lib.ListN.{length}
 use Rattle.index.specs.Index.{Index, setLast}
-use Rattle.index.specs.Change.{append}
-use Rattle.index.specs.Taking.{Taken, Taking, taken, tooFew, badLink, withTaken, atEnd, takeWalk, takeFrom}
-use Rattle.index.specs.Basket.{takeSlot, takeAll, slotBefore, beforeIn, Item, linkBy, linkItem, linkAll, basketIndex}
+use Rattle.index.specs.Taking.{Taken}
+use Rattle.index.specs.Basket.{takeSlot, takeAll, Item, linkBy, linkItem, linkAll, basketIndex}
 use Rattle.index.specs.declared.Action.{Action}
 use Rattle.index.specs.declared.Action.the-variants.{Insert, Replace, Remove}
 use Rattle.index.proofs.Links.{link-size, link-heads}
 use Rattle.index.proofs.CallWrites.{insert-at-next, insert-at-heads, replace-at-next, replace-at-heads, remove-at-next, remove-at-heads}
-
--- ---- lengths
 
 take-slot-next : (i : Index) (t : Taken) → length (takeSlot i t .next) ≡ length (i .next)
 unfolding takeSlot setLast
@@ -69,8 +61,8 @@ link-all-heads n i (k ∷ ks) = link-all-heads n (linkItem n i k) ks ∙ link-it
 
 pub basket-next : (n : ℕ) (i : Index) (ts : List Taken) (ks : List Item) → length (basketIndex n i ts ks .next) ≡ length (i .next)
 unfolding basketIndex
-basket-next n i ts ks = link-all-next n (takeAll i ts) ks ∙ take-all-next i ts
+basket-next n i ts ks = simp (link-all-next, take-all-next)
 
 pub basket-heads : (n : ℕ) (i : Index) (ts : List Taken) (ks : List Item) → length (basketIndex n i ts ks .heads) ≡ length (i .heads)
 unfolding basketIndex
-basket-heads n i ts ks = link-all-heads n (takeAll i ts) ks ∙ take-all-heads i ts
+basket-heads n i ts ks = simp (link-all-heads, take-all-heads)

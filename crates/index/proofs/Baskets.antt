@@ -11,7 +11,7 @@ use borrow.Author.Tests.{eq-eqb, ne-eqb, eqb-false, ltb-false}
 use Rattle.prelude.specs.Filter.{filter}
 use Rattle.prelude.specs.Members.{In, Once, All, none-left, one-more, Slot}
 use Rattle.prelude.proofs.defs.Among.{member}
-use Rattle.prelude.proofs.Among.{in-member, out-member, member-none, member-tail}
+use Rattle.prelude.proofs.Among.{in-member, out-member, member-tail}
 use Rattle.prelude.proofs.Choice.{pick-true, pick-false}
 use Rattle.prelude.proofs.Lists.{in-left, in-right}
 use Rattle.index.specs.Index.{Chain, reuse, head, Index}

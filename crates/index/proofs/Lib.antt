@@ -18,5 +18,6 @@ pub mod Takings
 pub mod TakeAll
 pub mod LinkItems
 pub mod BasketSizes
+pub mod BasketInside
 pub mod Baskets
 pub mod defs

@@ -15,7 +15,7 @@ use Rattle.prelude.proofs.Among.{out-member, member-none, member-head, member-t
 use Rattle.prelude.proofs.Choice.{pick-true, pick-false}
 use Rattle.prelude.proofs.Lists.{in-right, filter-all}
 use Rattle.index.specs.Index.{Chain, reuse, Index, ahead, setLast, link}
-use Rattle.index.specs.Linked.{Run, endOf, Owner, free, Entry, WellFormed, placed, Sits}
+use Rattle.index.specs.Linked.{endOf, Owner, free, Entry, WellFormed, placed, Sits}
 use Rattle.index.specs.Taking.{Taken}
 use Rattle.index.specs.Basket.{takeSlot, takeAll, takenSlots}
 use Rattle.index.proofs.defs.Linked.{give, withChain}

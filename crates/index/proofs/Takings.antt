@@ -4,15 +4,14 @@ use mathlib.Core.Bool.{Bool, true, false, cond}
 use mathlib.Core.List.{List, [], _∷_}
 use Prim.Native.Nat.{ℕ, zero, suc, _+_, _-_, _≤_}
 use native.Mathlib.Omega.{arith}
-use lib.Dec.{eqb, ltb, leb·suc-suc}
+use lib.Dec.{ltb, leb·suc-suc}
 use lib.ListN.{length, getD, take}
 use borrow.Author.Tests.{eq-eqb, ne-eqb, lt-ltb, le-ltb}
 use Rattle.prelude.specs.Refusal.{say}
 use Rattle.prelude.specs.Filter.{filter}
-use Rattle.prelude.proofs.Choice.{pick-true, pick-false}
 use Rattle.index.specs.Index.{Index, Chain, reuse, start, ahead}
 use Rattle.index.specs.Linked.{Linked, Sits}
-use Rattle.index.specs.Taking.{Taken, Taking, taken, tooFew, badLink, withTaken, atEnd, takeWalk, takeFrom, linkFault, fewFault}
+use Rattle.index.specs.Taking.{taken, tooFew, withTaken, atEnd, takeWalk, takeFrom, linkFault, fewFault}
 use Rattle.index.specs.Basket.{takenSlots}
 use Rattle.index.proofs.defs.TakenIn.{takesIn, takenIn}
 use Rattle.index.proofs.ChainLengths.{at-most, formed-linked}
