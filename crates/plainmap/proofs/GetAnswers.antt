@@ -81,7 +81,7 @@ module _ (l : ℕ) (w : World) (chains : Chain → List ℕ) (a : Accepted l (w 
       (get-fault l w chains a s key out)
       ∙ ap (λ (r : GetResult). unlessRefused (dueFault l w (slotsMap l (w .image)) (get key out)) r (denied (dueFault l w (slotsMap l (w .image)) (get key out)) out))
       (get-done l (w .image) (tableOf l (w .image)) (slotsIn (w .image)) key _ out
-      (live-keeps l (w .image) (slotsIn (w .image)) (accepted-right l (w .image) a)) _ (sound-sees l w chains s key))
+      (live-keeps l (w .image) (accepted-right l (w .image) a)) _ (sound-sees l w chains s key))
 
   get-taken : (key : ℕ) (out : List ℕ) → dueFault l w (slotsMap l (w .image)) (get key out) ≡ 0
       → getResult l (w .image) (w .heads) (w .next) key out ≡ gotten (slotsMap l (w .image) key) out

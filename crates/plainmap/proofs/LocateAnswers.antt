@@ -9,10 +9,11 @@ use Rattle.prelude.specs.Answer.{gives, absent, refusalIn}
 use Rattle.prelude.proofs.Refusals.{orElse-later, taken-leaves}
 use Rattle.layout.specs.Size.{slotsIn}
 use Rattle.layout.specs.Line.{lineA, lineB, versionOf}
-use Rattle.layout.specs.Content.{content, topOf}
+use Rattle.layout.specs.Content.{content, topOf, contentsOf, numbersOf}
 use Rattle.table.specs.Complete.{tableOf}
 use Rattle.layout.proofs.Content.{put-at}
-use Rattle.table.specs.Table.{decider, holder, mapOf, isHeld}
+use Rattle.table.specs.Table.{decider, holder, live, mapOf, isHeld}
+use Rattle.table.proofs.Settled.{settled-live}
 use Rattle.table.proofs.Map.{Live, lives, live-is}
 use Rattle.index.specs.Index.{Chain}
 use Rattle.index.specs.declared.Found.{Found}
@@ -27,19 +28,26 @@ use Rattle.plainmap.proofs.Compares.{few-compared}
 use Rattle.plainmap.proofs.Refuses.{sound-lent, sound-chain}
 
 -- the version of a live slot is that of its line A
-line-version : (l : ℕ) (image : List ℕ) (n s : ℕ) → Live (tableOf l image) n s → versionOf (lineA (word image) s 7) ≡ topOf (tableOf l image s)
+line-version : (l : ℕ) (image : List ℕ) (s : ℕ) → live (tableOf l image) (slotsIn image) s ≡ true
+    → versionOf (lineA (word image) s 7) ≡ topOf (tableOf l image s)
 unfolding content topOf
-line-version l image n s (lives w k v e d) = put-at l (lineA (word image) s) (lineB (word image) s) w k v e .valid .version ∙ sym (ap topOf e)
+line-version l image s a = go (live-is (tableOf l image) (slotsIn image) s a)
+  where
+    go : Live (tableOf l image) (slotsIn image) s → versionOf (lineA (word image) s 7) ≡ topOf (tableOf l image s)
+    go (lives w k v e d) =
+        put-at l (lineA (word image) s) (lineB (word image) s) w k v
+        (sym (settled-live (contentsOf l image) (numbersOf l image) (slotsIn image) s a) ∙ e) .valid .version
+        ∙ sym (ap topOf e)
 
-locate-done : (l : ℕ) (image : List ℕ) (n key : ℕ) (chain : List ℕ) (found : Found) → Sees (tableOf l image) n key chain found
-    → locateDone image found ≡ cond (isHeld (mapOf (tableOf l image) n key)) (gives (holder (tableOf l image) n key)) absent
+locate-done : (l : ℕ) (image : List ℕ) (key : ℕ) (chain : List ℕ) (found : Found) → Sees (tableOf l image) (slotsIn image) key chain found
+    → locateDone image found ≡ cond (isHeld (mapOf (tableOf l image) (slotsIn image) key)) (gives (holder (tableOf l image) (slotsIn image) key)) absent
 unfolding locateDone isHeld holder
-locate-done l image n key chain found (sees-held {old} xs ys v d p i q e m u) =
-    ap (λ (x : ℕ). gives (old ∷ x ∷ [])) (line-version l image n old (live-is (tableOf l image) n old e))
+locate-done l image key chain found (sees-held {old} xs ys v d p i q e m u) =
+    ap (λ (x : ℕ). gives (old ∷ x ∷ [])) (line-version l image old e)
     ∙ ap (λ (s : ℕ). gives (s ∷ topOf (tableOf l image s) ∷ [])) (sym q)
-    ∙ sym (ap (λ (o : Option (List ℕ)). cond (isHeld o) (gives (decider (tableOf l image) n key ∷ topOf (tableOf l image (decider (tableOf l image) n key)) ∷ [])) absent) m)
-locate-done l image n key chain found (sees-absent p m) =
-    sym (ap (λ (o : Option (List ℕ)). cond (isHeld o) (gives (decider (tableOf l image) n key ∷ topOf (tableOf l image (decider (tableOf l image) n key)) ∷ [])) absent) m)
+    ∙ sym (ap (λ (o : Option (List ℕ)). cond (isHeld o) (gives (decider (tableOf l image) (slotsIn image) key ∷ topOf (tableOf l image (decider (tableOf l image) (slotsIn image) key)) ∷ [])) absent) m)
+locate-done l image key chain found (sees-absent p m) =
+    sym (ap (λ (o : Option (List ℕ)). cond (isHeld o) (gives (decider (tableOf l image) (slotsIn image) key ∷ topOf (tableOf l image (decider (tableOf l image) (slotsIn image) key)) ∷ [])) absent) m)
 
 not-refused : (held : Bool) (values : List ℕ) → refusalIn (cond held (gives values) absent) ≡ 0
 unfolding refusalIn
@@ -52,7 +60,7 @@ module _ (l : ℕ) (w : World) (chains : Chain → List ℕ) (a : Accepted l (w 
   unfolding locateResult locateFault
   located key =
       taken-leaves _ _ _ (orElse-later _ _ (sound-lent l w chains a s) ∙ sound-chain l w chains a s key)
-      ∙ locate-done l (w .image) (slotsIn (w .image)) key _ _ (sound-sees l w chains s key)
+      ∙ locate-done l (w .image) key _ _ (sound-sees l w chains s key)
 
   pub locate-right : (key : ℕ) → Right l w (slotsMap l (w .image)) (locate key)
   unfolding called calledLocate plainAnswer plainOut ruleFault outOf

@@ -1,26 +1,26 @@
 -- Play of a record's stores: what a cut leaves of them. Assumes nothing.
-use mathlib.Core.Path.{_≡_, refl, sym, ap, _∙_}
-use mathlib.Core.Bool.{false, cond}
+use mathlib.Core.Path.{_≡_, refl, sym, ap, ap₂, _∙_, subst}
+use mathlib.Core.Bool.{false, not}
 use mathlib.Core.List.{List, [], _∷_}
-use Prim.Native.Nat.{ℕ, _+_, _*_, _≤_, _<_, _/_}
+use Prim.Native.Nat.{ℕ, zero, suc, _+_, _*_, _≤_, _<_, _/_}
 use native.Mathlib.Omega.{arith}
 use lib.Dec.{eqb}
 use lib.ListN.{length, getD, List·getD-append}
 use lib.Seq.{getD-append-add}
-use borrow.Author.Tests.{eq-eqb, ne-eqb}
+use borrow.Author.Tests.{eq-eqb, ne-eqb, le-ltb}
 use Rattle.prelude.proofs.Choice.{pick-true, pick-false}
 use Rattle.prelude.specs.Range.{tabulate}
 use Rattle.layout.specs.Size.{slotsOf, slotsIn}
 use Rattle.prelude.proofs.Any.{any-clear}
-use Rattle.prelude.proofs.Refusals.{taken-leaves, alike, refused-keeps}
+use Rattle.prelude.proofs.Refusals.{say-false, taken-leaves, alike, refused-keeps}
 use Rattle.prelude.proofs.Tabulate.{tabulate-length, tabulate-get}
 use Rattle.stores.specs.Store.{Store, zipped, played, standing}
 use Rattle.stores.specs.Written.{run, lineStores, recordStores}
 use Rattle.stores.specs.inner.Written.{recordNumbers}
-use Rattle.stores.specs.Play.{halfFault, playFault, counted, playResult, wordNumbers, values, playEnd, playListResult}
+use Rattle.stores.specs.Play.{halfFault, playFault, counted, playResult, wordNumbers, values, playEnd, listFault, playListResult, playing, halfCounts}
 use Rattle.stores.proofs.Plays.{half-order, halves-fine, play-halves}
-use Rattle.stores.proofs.Halves.{play-stands, list-plays, playable}
-use Rattle.plainmap.specs.World.{playing}
+use Rattle.stores.proofs.Halves.{play-stands, playable}
+use Rattle.stores.proofs.defs.Cut.{StoresInside, nil-in, cons-in}
 
 -- the stores are their word numbers and values
 pub zipped-stores : (ss : List Store) → zipped (wordNumbers ss) (values ss) ≡ ss
@@ -30,10 +30,10 @@ zipped-stores (s ∷ ss) = ap (λ (t : List Store). s ∷ t) (zipped-stores ss)
 
 -- ---- a record's stores pass play's tests
 
-record-numbers : (l : ℕ) (m : ℕ → ℕ) (s key kind : ℕ) (value : List ℕ) (version : ℕ)
-    → wordNumbers (recordStores l m s key kind value version) ≡ recordNumbers s
+record-numbers : (l : ℕ) (m : ℕ → ℕ) (s key kind number : ℕ) (value : List ℕ) (version : ℕ)
+    → wordNumbers (recordStores l m s key kind number value version) ≡ recordNumbers s
 unfolding wordNumbers recordStores lineStores run recordNumbers tabulate
-record-numbers l m s key kind value version = refl
+record-numbers l m s key kind number value version = refl
 
 first-line : (s i : ℕ) → i < 8 → getD (recordNumbers s) i 0 ≡ 8 * (2 * s) + i
 unfolding recordNumbers
@@ -63,11 +63,11 @@ half-passes len at k n h order =
     start : 8 * n ≡ getD at k 0
     start = let e : k + 0 ≡ k = omega arith in omega (arith, order 0 (omega arith), ap (λ (x : ℕ). getD at x 0) e)
 
-pub record-passes : (l len : ℕ) (m : ℕ → ℕ) (s key kind : ℕ) (value : List ℕ) (version a b : ℕ)
+pub record-passes : (l len : ℕ) (m : ℕ → ℕ) (s key kind number : ℕ) (value : List ℕ) (version a b : ℕ)
     → (slotsOf len ≡ 0 → ⊥) → 128 * (s + 1) ≤ len → a ≤ 8 → b ≤ 8
-    → playFault len (wordNumbers (recordStores l m s key kind value version)) a b ≡ 0
-record-passes l len m s key kind value version a b ne h p q =
-    ap (λ (at : List ℕ). playFault len at a b) (record-numbers l m s key kind value version)
+    → playFault len (wordNumbers (recordStores l m s key kind number value version)) a b ≡ 0
+record-passes l len m s key kind number value version a b ne h p q =
+    ap (λ (at : List ℕ). playFault len at a b) (record-numbers l m s key kind number value version)
     ∙ sym
     (play-halves len (recordNumbers s) a b (slotsOf len) refl ne p q 0
     (halves-fine len (recordNumbers s) false
@@ -93,49 +93,59 @@ playing-none image a b =
     (λ z. let h = playable (length image) [] a b z .first .order 1 (omega arith) in omega (arith, h))
 
 -- PLAY OF A RECORD'S STORES with two counts is what a cut with these counts leaves
-pub playing-record : (l : ℕ) (image : List ℕ) (m : ℕ → ℕ) (s key kind : ℕ) (value : List ℕ) (version a b : ℕ) (counts : ℕ → ℕ)
+pub playing-record : (l : ℕ) (image : List ℕ) (m : ℕ → ℕ) (s key kind number : ℕ) (value : List ℕ) (version a b : ℕ) (counts : ℕ → ℕ)
     → (slotsIn image ≡ 0 → ⊥) → 128 * (s + 1) ≤ length image → a ≤ 8 → b ≤ 8 → counts (2 * s) ≡ a → counts (2 * s + 1) ≡ b
-    → playing image (recordStores l m s key kind value version) a b ≡
-    played (standing counts (recordStores l m s key kind value version)) image
-playing-record l image m s key kind value version a b counts ne h p q e f =
+    → playing image (recordStores l m s key kind number value version) a b ≡
+    played (standing counts (recordStores l m s key kind number value version)) image
+playing-record l image m s key kind number value version a b counts ne h p q e f =
     playing-counted image ss a b passes
     ∙ ap (λ (t : List Store). played t image)
     (ap (counted a b) (sym (zipped-stores ss))
-    ∙ play-stands (length image) (wordNumbers ss) (values ss) a b counts (ap length (record-numbers l m s key kind value version) ∙ places-length s) passes
+    ∙ play-stands (length image) (wordNumbers ss) (values ss) a b counts (ap length (record-numbers l m s key kind number value version) ∙ places-length s) passes
     (ap counts (line-of 0 (2 * s) (first-line s 0 (omega arith))) ∙ e) (ap counts (line-of 8 (2 * s + 1) (second-line s 0 (omega arith))) ∙ f)
     ∙ ap (standing counts) (zipped-stores ss))
   where
     ss : List Store
-    ss = recordStores l m s key kind value version
+    ss = recordStores l m s key kind number value version
 
     passes : playFault (length image) (wordNumbers ss) a b ≡ 0
-    passes = record-passes l (length image) m s key kind value version a b ne h p q
+    passes = record-passes l (length image) m s key kind number value version a b ne h p q
 
     line-of : (k n : ℕ) → getD (recordNumbers s) k 0 ≡ 8 * n + 0 → getD (wordNumbers ss) k 0 / 8 ≡ n
-    line-of k n d = omega (arith, ap (λ (at : List ℕ). getD at k 0) (record-numbers l m s key kind value version), d)
+    line-of k n d = omega (arith, ap (λ (at : List ℕ). getD at k 0) (record-numbers l m s key kind number value version), d)
 
--- THE PLAY OF A LIST of a record's stores leaves what play with 8 and 8 leaves
-pub list-record : (l : ℕ) (image : List ℕ) (m : ℕ → ℕ) (s key kind : ℕ) (value : List ℕ) (version : ℕ)
-    → (slotsIn image ≡ 0 → ⊥) → 128 * (s + 1) ≤ length image → (ss : List Store) → ss ≡ recordStores l m s key kind value version
-    → playListResult image (wordNumbers ss) (values ss) ≡ playEnd 0 (playing image ss 8 8)
-unfolding playResult playing recordStores lineStores run wordNumbers values
-list-record l image m s key kind value version ne h ss e =
-    let z = record-passes l (length image) m s key kind value version 8 8 ne h (omega arith) (omega arith) in
-    ap (λ (t : List Store). playListResult image (wordNumbers t) (values t)) e
-    ∙ list-plays image (wordNumbers (recordStores l m s key kind value version)) (values (recordStores l m s key kind value version)) refl refl z
-    ∙ ap (λ (k : ℕ). playEnd k (playing image (recordStores l m s key kind value version) 8 8)) z
-    ∙ ap (λ (t : List Store). playEnd 0 (playing image t 8 8)) (sym e)
+-- PLAY OF A RECORD'S STORES with two counts is what a cut with these counts leaves, a on its first line and b on the other
+pub record-cut : (l : ℕ) (image : List ℕ) (m : ℕ → ℕ) (s key kind number : ℕ) (value : List ℕ) (version a b : ℕ)
+    → (slotsIn image ≡ 0 → ⊥) → 128 * (s + 1) ≤ length image → a ≤ 8 → b ≤ 8 → (ss : List Store) → ss ≡ recordStores l m s key kind number value version
+    → playing image ss a b ≡ played (standing (halfCounts ss a b) ss) image
+unfolding halfCounts recordStores lineStores run
+record-cut l image m s key kind number value version a b ne h p q ss e =
+    subst (λ (t : List Store). playing image t a b ≡ played (standing (halfCounts t a b) t) image) (sym e)
+    (playing-record l image m s key kind number value version a b _ ne h p q (pick-true (eqb (2 * s) ((8 * (2 * s) + 0) / 8)) a b (eq-eqb (2 * s) ((8 * (2 * s) + 0) / 8) (omega arith)))
+    (pick-false (eqb (2 * s + 1) ((8 * (2 * s) + 0) / 8)) a b (ne-eqb (2 * s + 1) ((8 * (2 * s) + 0) / 8) (λ (z : 2 * s + 1 ≡ (8 * (2 * s) + 0) / 8). omega arith))))
 
--- ---- counts
+-- ---- the play of a list
 
--- a on line A of slot s, b elsewhere
-unfoldable pub countsOf : (s a b : ℕ) → ℕ → ℕ
-countsOf s a b n = cond (eqb n (2 * s)) a b
+list-lengths : (ss : List Store) → length (wordNumbers ss) ≡ length (values ss)
+unfolding wordNumbers values
+list-lengths [] = refl
+list-lengths (s ∷ ss) = omega (arith, list-lengths ss)
 
-pub counts-first : (s a b : ℕ) → countsOf s a b (2 * s) ≡ a
-unfolding countsOf
-counts-first s a b = pick-true (eqb (2 * s) (2 * s)) a b (eq-eqb (2 * s) (2 * s) refl)
+word-inside : {n : ℕ} {ss : List Store} → StoresInside n ss → (i : ℕ) → i < length (wordNumbers ss) → 8 * getD (wordNumbers ss) i 0 + 8 ≤ n
+unfolding wordNumbers
+word-inside nil-in i h = absurd (omega arith)
+word-inside (cons-in a b more) zero h = a
+word-inside (cons-in a b more) (suc i) h = word-inside more i (omega arith)
 
-pub counts-second : (s a b : ℕ) → countsOf s a b (2 * s + 1) ≡ b
-unfolding countsOf
-counts-second s a b = pick-false (eqb (2 * s + 1) (2 * s)) a b (ne-eqb (2 * s + 1) (2 * s) (λ e. omega arith))
+list-fine : (image : List ℕ) (ss : List Store) → StoresInside (length image) ss → listFault (length image) (wordNumbers ss) (length (values ss)) ≡ 0
+unfolding listFault
+list-fine image ss inside =
+    say-false _ 15 _ (ap not (eq-eqb _ _ (list-lengths ss)))
+    ∙ say-false _ 15 0 (any-clear _ 0 (length (wordNumbers ss)) (λ i h. le-ltb _ _ (word-inside inside (0 + i) (omega arith))))
+
+-- THE PLAY OF A LIST makes all the stores
+pub list-played : (image : List ℕ) (ss : List Store) → StoresInside (length image) ss → playListResult image (wordNumbers ss) (values ss) ≡ playEnd 0 (played ss image)
+unfolding playListResult
+list-played image ss inside =
+    ap₂ playEnd (list-fine image ss inside)
+    (taken-leaves _ image _ (list-fine image ss inside) ∙ ap (λ (t : List Store). played t image) (zipped-stores ss))

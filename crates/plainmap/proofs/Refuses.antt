@@ -200,7 +200,7 @@ module _ (l : ℕ) (w : World) (chains : Chain → List ℕ) (a : Accepted l (w 
   get-fault key out =
       orElse-later _ _ sound-lent
       ∙ get-checks (tableOf l (w .image)) (slotsIn (w .image)) key _ l (w .image) (length out)
-      (live-keeps l (w .image) (slotsIn (w .image)) (accepted-right l (w .image) a)) _ (sound-sees l w chains s key)
+      (live-keeps l (w .image) (accepted-right l (w .image) a)) _ (sound-sees l w chains s key)
 
   -- an insert meets 12 exactly where a new key would take the last slot that is not live
   pub twelve-exactly : (key : ℕ) (value : List ℕ)

@@ -1,6 +1,6 @@
 -- In a sound index the chains hold the table's slots, and a search finds what the map of the slots says. Assumes nothing.
-use mathlib.Core.Path.{_≡_, refl, sym, ap, _∙_}
-use mathlib.Core.Bool.{true, false}
+use mathlib.Core.Path.{_≡_, refl, sym, ap, ap₂, _∙_}
+use mathlib.Core.Bool.{Bool, true, false, cond}
 use mathlib.Core.Option.{some, none}
 use mathlib.Core.List.{List, _∷_, _++_}
 use mathlib.Core.Logic.{_⊎_, inl, inr}
@@ -9,7 +9,7 @@ use native.Mathlib.Omega.{arith}
 use lib.ListN.{length}
 use Rattle.prelude.proofs.Choice.{pick-true, pick-false, split}
 use Rattle.prelude.specs.Members.{In, Slot}
-use Rattle.layout.specs.Content.{Table}
+use Rattle.layout.specs.Content.{Content, Table}
 use Rattle.table.specs.Complete.{tableOf}
 use Rattle.table.specs.Table.{keyIn, decider, valueIn, valueAt, mapOf, live}
 use Rattle.table.proofs.defs.Reuse.{Spares}
@@ -41,6 +41,11 @@ place-live f n b s e = pick-true (live f n s) _ _ e
 pub place-idle : (f : Table) (n b s : ℕ) → live f n s ≡ false → placeOf f n b s ≡ reuse
 unfolding placeOf
 place-idle f n b s e = pick-false (live f n s) _ _ e
+
+-- slots with one content, live in both tables or in neither, stand in one chain
+pub same-place : (f g : Table) (n b s : ℕ) → g s ≡ f s → live g n s ≡ live f n s → placeOf g n b s ≡ placeOf f n b s
+unfolding placeOf
+same-place f g n b s e a = ap₂ (λ (x : Bool) (c : Content). cond x (head (headOf (keyIn c) b)) reuse) a e
 
 pub head-placed : (f : Table) (n b s h : ℕ) → placeOf f n b s ≡ head h → (live f n s ≡ true) × (headOf (keyIn (f s)) b ≡ h)
 head-placed f n b s h e = go (split (live f n s))

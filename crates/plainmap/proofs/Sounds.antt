@@ -5,19 +5,22 @@ use Prim.Native.Nat.{ℕ, _+_, _≤_, _<_}
 use native.Mathlib.Omega.{arith}
 use lib.ListN.{length}
 use Rattle.layout.specs.Header.{indexFault}
-use Rattle.prelude.specs.Members.{In}
+use Rattle.prelude.specs.Members.{In, Slot}
 use Rattle.layout.specs.Content.{Table}
+use Rattle.stores.specs.Store.{Store}
 use Rattle.table.specs.Complete.{tableOf}
 use Rattle.table.specs.Table.{live, liveCount, nextVersion}
-use Rattle.table.proofs.defs.Write.{Distinct}
-use Rattle.table.specs.Reuse.{HiddenFirst, BrokenFirst}
+use Rattle.table.proofs.defs.Write.{ApartByKey}
+use Rattle.table.specs.Reuse.{OlderFirst, HighestLast, BrokenFirst}
+use Rattle.table.proofs.Alike.{alike-live, alike-count, alike-next, alike-older-first, alike-highest-last}
+use Rattle.table.proofs.Broken.{broken-carry}
 use Rattle.prelude.proofs.Count.{Gap, gap}
 use Rattle.table.proofs.LiveCount.{room-spare}
-use Rattle.table.proofs.Distinct.{distinct-apart}
-use Rattle.table.proofs.Recovery.{recovery-hidden, recovery-broken}
+use Rattle.table.proofs.ReuseOrder.{recovery-older, recovery-highest-last}
+use Rattle.table.proofs.Recovery.{recovery-broken}
 use Rattle.index.specs.Index.{Index, Chain, reuse, stateOf}
 use Rattle.index.specs.Linked.{Sits}
-use Rattle.index.proofs.Sits.{sits-has}
+use Rattle.index.proofs.Sits.{sits-has, sits-places}
 use Rattle.recovery.specs.Recover.{Result, chainsOf, placeOf, recoveredIndex, recoveredState, recovered}
 use Rattle.recovery.proofs.Represents.{recovered-sits}
 use Rattle.recovery.proofs.Lent.{recovery-taken}
@@ -25,8 +28,8 @@ use Rattle.layout.specs.Size.{slotsIn}
 use Rattle.plainmap.specs.World.{worldAfter, recoveredWorld}
 use Rattle.plainmap.specs.Accepted.{Accepted, RightSize}
 use Rattle.plainmap.specs.Sound.{Starts, starts, Sound}
-use Rattle.plainmap.proofs.Sees.{place-idle}
-use Rattle.plainmap.proofs.AcceptedImages.{accepted-distinct, accepted-room, accepted-recovers}
+use Rattle.plainmap.proofs.Sees.{place-idle, same-place, sits-spares}
+use Rattle.plainmap.proofs.AcceptedImages.{accepted-apart, accepted-room, accepted-recovers}
 use Rattle.layout.proofs.Lents.{index-sized}
 
 -- ---- a spare slot stands in reuse
@@ -42,34 +45,47 @@ room-starts f n b i chains g h = go (room-spare f n h)
         in-starts t (chains reuse)
         (subst (λ (c : Chain). In t (chains c)) (place-idle f n b t e) (sits-has _ _ _ _ _ g t (omega (arith, j .0)) (j .1)))
 
--- ---- from the parts: f is the image's table, n its slots, b the number of heads
+-- ---- from the parts: f has the slots of the image's table, n is their number, b the number of heads
 
-pub sound-parts : (l : ℕ) (image : List ℕ) (i : Index) (alive version n b : ℕ) (f : Table) (chains : Chain → List ℕ)
-    → slotsIn image ≡ n → tableOf l image ≡ f → indexFault n b (n + 1) ≡ 0 → Sits n b (placeOf f n b) i chains → HiddenFirst f n (chains reuse)
-    → BrokenFirst f (chains reuse) → liveCount f n < n → alive ≡ liveCount f n → version ≡ nextVersion f n
-    → Sound l (record { image = image; heads = i .heads; next = i .next; state = stateOf i alive version }) chains
-sound-parts l image i alive version n b f chains en ef size g hf bf room ea ev =
+pub sound-parts : (l : ℕ) (image : List ℕ) (i : Index) (alive version newest n b : ℕ) (f : Table) (chains : Chain → List ℕ)
+    → slotsIn image ≡ n → ((t : ℕ) → Slot n t → tableOf l image t ≡ f t) → indexFault n b (n + 1) ≡ 0 → Sits n b (placeOf f n b) i chains
+    → OlderFirst f (chains reuse) → HighestLast f n (chains reuse) → BrokenFirst f (chains reuse)
+    → liveCount f n < n → alive ≡ liveCount f n → version ≡ nextVersion f n
+    → Sound l (record { image = image; heads = i .heads; next = i .next; state = stateOf i alive version newest }) chains
+sound-parts l image i alive version newest n b f chains en ef size g older highest broken room ea ev =
     record {
       size = ap₂ (λ (x y : ℕ). indexFault (slotsIn image) x y) (g .heads-size) (g .next-size) ∙ ap (λ (x : ℕ). indexFault x b (n + 1)) en ∙ size;
-      index = rw (en, ef, g .heads-size) g;
-      hidden = rw (en, ef) hf;
-      broken = rw ef bf;
+      index =
+          subst (λ (x : ℕ). Sits (slotsIn image) x (placeOf (tableOf l image) (slotsIn image) x) i chains) (sym (g .heads-size))
+          (subst (λ (x : ℕ). Sits x b (placeOf (tableOf l image) x b) i chains) (sym en)
+          (sits-places n b (placeOf f n b) (placeOf (tableOf l image) n b) i chains g (λ x lo hi. place-alike x (omega arith, hi))));
+      older = alike-older-first f (tableOf l image) n ef (chains reuse) slot older;
+      highest =
+          subst (λ (x : ℕ). HighestLast (tableOf l image) x (chains reuse)) (sym en)
+          (alike-highest-last f (tableOf l image) n ef (chains reuse) slot highest);
+      broken = broken-carry f (tableOf l image) (chains reuse) (λ x m. ef x (slot x m)) broken;
       some-spare = room-starts f n b i chains g room;
-      live-count = ea ∙ sym (ap₂ liveCount ef en);
-      next-version = ev ∙ sym (ap₂ nextVersion ef en);
+      live-count = ea ∙ sym (ap (liveCount (tableOf l image)) en ∙ alike-count f (tableOf l image) n ef);
+      next-version = ev ∙ sym (ap (nextVersion (tableOf l image)) en ∙ alike-next f (tableOf l image) n ef);
     }
+  where
+    slot : (t : ℕ) → In t (chains reuse) → Slot n t
+    slot = sits-spares f n b i chains g .slot
+
+    place-alike : (x : ℕ) → Slot n x → placeOf (tableOf l image) n b x ≡ placeOf f n b x
+    place-alike x k = same-place f (tableOf l image) n b x (ef x k) (alike-live f (tableOf l image) n ef x k)
 
 -- ---- from recovery
 
-recovered-parts : (l : ℕ) (image : List ℕ) (b : ℕ) → 1 ≤ b → Distinct (tableOf l image) (slotsIn image) → liveCount (tableOf l image) (slotsIn image) < slotsIn image
-    → indexFault (slotsIn image) b (slotsIn image + 1) ≡ 0
-    → Sound l (worldAfter image (recovered (tableOf l image) (slotsIn image) b)) (chainsOf (tableOf l image) (slotsIn image) b)
+recovered-parts : (l : ℕ) (image : List ℕ) (b : ℕ) (stores : List Store) → 1 ≤ b → ApartByKey (tableOf l image) (slotsIn image)
+    → liveCount (tableOf l image) (slotsIn image) < slotsIn image → indexFault (slotsIn image) b (slotsIn image + 1) ≡ 0
+    → Sound l (worldAfter image (recovered (tableOf l image) (slotsIn image) b stores)) (chainsOf (tableOf l image) (slotsIn image) b)
 unfolding worldAfter recovered recoveredState chainsOf
-recovered-parts l image b few d room size =
+recovered-parts l image b stores few d room size =
     sound-parts l image (recoveredIndex (tableOf l image) (slotsIn image) b) (liveCount (tableOf l image) (slotsIn image))
-    (nextVersion (tableOf l image) (slotsIn image)) (slotsIn image) b (tableOf l image)
-    (chainsOf (tableOf l image) (slotsIn image) b) refl refl size (recovered-sits (tableOf l image) (slotsIn image) b few)
-    (recovery-hidden (tableOf l image) (slotsIn image) (distinct-apart (tableOf l image) (slotsIn image) d))
+    (nextVersion (tableOf l image) (slotsIn image)) 0 (slotsIn image) b (tableOf l image)
+    (chainsOf (tableOf l image) (slotsIn image) b) refl (λ t i. refl) size (recovered-sits (tableOf l image) (slotsIn image) b few)
+    (recovery-older (tableOf l image) (slotsIn image)) (recovery-highest-last (tableOf l image) (slotsIn image))
     (recovery-broken (tableOf l image) (slotsIn image)) room refl refl
 
 -- RECOVERY LEAVES A SOUND INDEX
@@ -80,5 +96,5 @@ recovered-sound l image heads next accepted size =
     let t = index-sized (slotsIn image) (length heads) (length next) size in
     subst (λ (r : Result). Sound l (worldAfter image r) (chainsOf (tableOf l image) (slotsIn image) (length heads)))
     (sym (recovery-taken l image heads next (accepted-recovers l image (length heads) (length next) accepted size)))
-    (recovered-parts l image (length heads) (t .0) (accepted-distinct l image accepted) (accepted-room l image accepted)
+    (recovered-parts l image (length heads) _ (t .0) (accepted-apart l image accepted) (accepted-room l image accepted)
     (ap (indexFault (slotsIn image) (length heads)) (sym (t .2)) ∙ size))

@@ -11,7 +11,7 @@ use Rattle.prelude.proofs.Choice.{pick-true}
 use Rattle.layout.specs.Line.{lineA, lineB}
 use Rattle.layout.specs.Slot.{lineVerdict, isValid}
 use Rattle.layout.specs.Record.{limit, valueOf}
-use Rattle.layout.specs.Content.{putRecord, content}
+use Rattle.layout.specs.Content.{putRecord, content, contentsOf, numbersOf}
 use Rattle.table.specs.Complete.{tableOf}
 use Rattle.layout.specs.Fault.{faultOf, recordFault}
 use Rattle.layout.proofs.Content.{ValidAt, PutAt, put-at, verdict-valid, value-length, length-bound}
@@ -19,13 +19,15 @@ use Rattle.table.specs.Table.{valueIn, mapOf, live}
 use Rattle.prelude.specs.Members.{Slot}
 use Rattle.table.proofs.Map.{Live, lives, live-is}
 use Rattle.table.proofs.OneSlot.{value-at}
+use Rattle.table.proofs.Settled.{settled-live}
 use Rattle.table.proofs.Held.{Held, held, unheld, held-or}
 use Rattle.calls.specs.Get.{slotLength}
 use Rattle.layout.specs.Size.{slotsIn}
 use Rattle.plainmap.specs.Plain.{sizeOf}
 use Rattle.plainmap.specs.Accepted.{Accepted}
 use Rattle.plainmap.specs.Claims.{slotsMap}
-use Rattle.plainmap.proofs.AcceptedImages.{RightSlots, accepted-right}
+use Rattle.images.proofs.Right.{RightSlots}
+use Rattle.plainmap.proofs.AcceptedImages.{accepted-right}
 
 -- a valid slot without a fault has none by its lines
 valid-fault : (l : ℕ) (m : ℕ → ℕ) (s v : ℕ) → ValidAt (lineA m s) (lineB m s) v → recordFault l m s ≡ 0 → faultOf l (lineA m s) (lineB m s) ≡ 0
@@ -45,12 +47,18 @@ pub record KeepsValue (l : ℕ) (image : List ℕ) (s : ℕ) (v : List ℕ) : Ty
 some-some : (v u : List ℕ) → some v ≡ some u → v ≡ u
 some-some v u e = cc
 
-module _ (l : ℕ) (image : List ℕ) (n : ℕ) (right : RightSlots l (word image) n) where
+module _ (l : ℕ) (image : List ℕ) (right : RightSlots l (word image) (slotsIn image)) where
+  abbrev n : ℕ
+  n = slotsIn image
+
   pub live-keeps : (s : ℕ) (v : List ℕ) → Slot n s → live (tableOf l image) n s ≡ true → valueIn (tableOf l image s) ≡ some v
       → KeepsValue l image s v
   unfolding content valueIn
   live-keeps s v i e q = go (live-is (tableOf l image) n s e)
     where
+      own : tableOf l image s ≡ content l (word image) s
+      own = settled-live (contentsOf l image) (numbersOf l image) n s e
+
       kept : (w k : ℕ) → PutAt l (lineA (word image) s) (lineB (word image) s) w k v → KeepsValue l image s v
       kept w k at =
           let size : slotLength l image s ≡ length v = sym (value-length l (lineA (word image) s) (lineB (word image) s)) ∙ ap length (at .value) in
@@ -69,7 +77,7 @@ module _ (l : ℕ) (image : List ℕ) (n : ℕ) (right : RightSlots l (word imag
       go (lives w k u d b) =
           kept w k
           (put-at l (lineA (word image) s) (lineB (word image) s) w k v
-          (d ∙ ap (λ (x : List ℕ). putRecord w k x) (some-some u v (sym (ap valueIn d) ∙ q))))
+          (sym own ∙ d ∙ ap (λ (x : List ℕ). putRecord w k x) (some-some u v (sym (ap valueIn d) ∙ q))))
 
   map-fits : (key : ℕ) → sizeOf (mapOf (tableOf l image) n key) ≤ limit l
   unfolding sizeOf mapOf
@@ -82,4 +90,4 @@ module _ (l : ℕ) (image : List ℕ) (n : ℕ) (right : RightSlots l (word imag
 -- THE LIMIT: in an accepted image no value is longer
 pub accepted-fits : (l : ℕ) (image : List ℕ) → Accepted l image → (key : ℕ) → sizeOf (slotsMap l image key) ≤ limit l
 accepted-fits l image a key =
-    map-fits l image (slotsIn image) (accepted-right l image a) key
+    map-fits l image (accepted-right l image a) key
