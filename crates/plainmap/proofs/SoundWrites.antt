@@ -1,82 +1,47 @@
--- A write on a sound index leaves a sound index: an insert, a replace, a remove. Assumes nothing.
+-- An insert, a replace and a remove, done: the index is the image's own again. Assumes nothing.
 use mathlib.Core.Path.{_≡_, refl, sym, ap, ap₂, _∙_, subst}
-use mathlib.Core.Bool.{Bool, true, false, cond}
-use mathlib.Core.Option.{some, none}
-use mathlib.Core.Logic.{inl}
+use mathlib.Core.Bool.{Bool, true, false, cond, not, _&&_}
+use mathlib.Core.Option.{Option, some, none}
+use mathlib.Core.Logic.{inl, inr}
 use mathlib.Core.List.{List, [], _∷_, _++_, append-nil}
 use Prim.Native.Nat.{ℕ, zero, suc, _+_, _-_, _<_}
 use native.Mathlib.Omega.{arith}
 use lib.Dec.{eqb}
 use lib.ListN.{length}
-use borrow.Author.Tests.{eqb-true, eq-eqb}
-use Rattle.layout.specs.Content.{Content, Table}
-use Rattle.table.specs.Complete.{tableOf}
-use Rattle.layout.specs.Header.{indexFault}
-use Rattle.table.specs.Table.{keyIn, decider, mapOf, live, liveCount, nextVersion}
-use Rattle.prelude.specs.Members.{Slot}
-use Rattle.table.proofs.defs.Write.{Above, Record, Free, only, isPut, upd, holder}
-use Rattle.table.proofs.defs.Reuse.{Spares, appended, joins}
-use Rattle.table.specs.Reuse.{HiddenFirst, BrokenFirst}
-use Rattle.prelude.proofs.Choice.{true-false}
-use Rattle.table.proofs.OneSlot.{upd-same, upd-other, weight-key}
-use Rattle.table.proofs.Held.{held-or, Held, held, unheld, some-none, holder-held, holder-none}
-use Rattle.table.proofs.Write.{above-next, write-live, write-live-own, write-next}
-use Rattle.table.proofs.LiveCount.{room, count-new, count-over, count-removed}
-use Rattle.table.proofs.Hidden.{head-free}
-use Rattle.table.proofs.Reuse.{write-hidden, write-broken}
+use borrow.Author.Tests.{eq-eqb, ne-eqb}
+use Rattle.prelude.specs.Filter.{filter}
+use Rattle.prelude.specs.Members.{In, Once, Slot}
+use Rattle.prelude.proofs.Choice.{true-false, pick-true, pick-false}
+use Rattle.prelude.proofs.Lists.{filter-all}
+use Rattle.prelude.proofs.defs.Among.{member}
+use Rattle.prelude.proofs.Among.{in-member, out-member}
+use Rattle.layout.specs.Size.{slotsIn}
+use Rattle.layout.specs.Content.{Content, Table, contentsOf, numbersOf}
+use Rattle.table.specs.Table.{keyIn, decider, mapOf, live, liveCount, nextVersion, isHeld}
+use Rattle.table.specs.Complete.{NoneVoid, tableOf}
+use Rattle.table.proofs.defs.Write.{isPut, holder}
+use Rattle.table.proofs.defs.Reuse.{appended, joins}
+use Rattle.table.proofs.defs.Basket.{Basket, HeldRemoved, oneIf, putsIn, heldIn, removesIn, insertsIn}
+use Rattle.table.proofs.defs.Struck.{Struck, Finished}
+use Rattle.table.proofs.defs.ReuseAfter.{leftOf, joinsOf, reuseAfter}
+use Rattle.table.proofs.defs.Owners.{moved}
+use Rattle.table.proofs.Held.{Held, held, unheld, held-or, some-none, holder-held, holder-none}
+use Rattle.table.proofs.Alike.{alike-count}
+use Rattle.table.proofs.Accepted.{finished-idle}
+use Rattle.table.proofs.LiveAfter.{finished-live-count}
 use Rattle.index.specs.Index.{Index, Chain, reuse, head, headOf, indexOf, stateOf}
 use Rattle.index.specs.Change.{insertNew, replaceHeld, removeHeld}
-use Rattle.index.specs.Linked.{endOf, Sits}
+use Rattle.index.specs.Linked.{endOf}
 use Rattle.index.proofs.defs.Linked.{withChain}
 use Rattle.index.proofs.Owners.{Told, is, isnt, told}
 use Rattle.index.proofs.Sits.{sits-new, sits-held, sits-remove}
 use Rattle.recovery.specs.Recover.{placeOf}
 use Rattle.plainmap.specs.World.{World}
-use Rattle.layout.specs.Size.{slotsIn}
 use Rattle.plainmap.specs.Sound.{Sound}
 use Rattle.plainmap.proofs.Sees.{place-idle}
-use Rattle.plainmap.proofs.Sounds.{sound-parts}
+use Rattle.plainmap.proofs.SoundAfter.{same-slots, same-live, spares, place-after, sound-after}
 
--- ---- where each slot stands after slot s got the newest record c of a key
-
-module _ (f : Table) (n b s w key : ℕ) (c : Content) (i : Slot n s) (free : Free f n (only s)) (r : Record c w key) (above : Above f n w) where
-  place-by : (x : Bool) (t : ℕ) (d : Content) → live (upd f s c) n t ≡ x → upd f s c t ≡ d → placeOf (upd f s c) n b t ≡ cond x (head (headOf (keyIn d) b)) reuse
-  unfolding placeOf
-  place-by x t d e q = ap₂ (λ (y : Bool) (z : Content). cond y (head (headOf (keyIn z) b)) reuse) e q
-
-  -- the slot of a put in the chain of the key's head
-  pub place-put : isPut c ≡ true → placeOf (upd f s c) n b s ≡ head (headOf key b)
-  place-put p =
-      place-by true s c (write-live-own f n s w key c i free r above ∙ p) (upd-same f s c)
-      ∙ ap (λ (k : ℕ). head (headOf k b)) (weight-key key c (omega (arith, r .own)))
-
-  -- the slot of a remove in reuse
-  pub place-remove : isPut c ≡ false → placeOf (upd f s c) n b s ≡ reuse
-  place-remove p = place-by false s c (write-live-own f n s w key c i free r above ∙ p) (upd-same f s c)
-
-  -- the slot that decided the key in reuse
-  pub place-old : (old : ℕ) → Slot n old → (old ≡ s → ⊥) → decider f n key ≡ old → placeOf (upd f s c) n b old ≡ reuse
-  place-old old j ne e =
-      place-by false old (f old)
-      (write-live f n s w key c i free r above old j ne ∙ ap (λ (x : Bool). cond x false (live f n old)) (eq-eqb (decider f n key) old e))
-      (upd-other f s c old ne)
-
-  -- every other slot where it was
-  pub place-kept : (t : ℕ) → Slot n t → (t ≡ s → ⊥) → (decider f n key ≡ t → live f n t ≡ false) → placeOf (upd f s c) n b t ≡ placeOf f n b t
-  unfolding placeOf
-  place-kept t j ne h =
-      place-by (live f n t) t (f t)
-      (write-live f n s w key c i free r above t j ne ∙ go (eqb (decider f n key) t) refl) (upd-other f s c t ne)
-    where
-      go : (x : Bool) → eqb (decider f n key) t ≡ x → cond x false (live f n t) ≡ live f n t
-      go true e = sym (h (eqb-true (decider f n key) t e))
-      go false e = refl
-
--- ---- what stands in the chains after a write
-
-reuse-now : (chains : Chain → List ℕ) (xs ys : List ℕ) (h : ℕ) → withChain (withChain chains reuse xs) (head h) ys reuse ≡ xs
-unfolding withChain
-reuse-now chains xs ys h = refl
+-- ---- the reuse chain after a write into its first slot
 
 joined-new : (old s : ℕ) → old ≡ 0 → appended old true s ≡ []
 unfolding appended
@@ -93,14 +58,35 @@ unfolding appended
 joined-removed zero s h = absurd (omega arith)
 joined-removed (suc old) s h = refl
 
--- ---- THE WRITE: slot s, the first of reuse, gets the newest record c of the key
+reuse-now : (chains : Chain → List ℕ) (xs ys : List ℕ) (h : ℕ) → withChain (withChain chains reuse xs) (head h) ys reuse ≡ xs
+unfolding withChain
+reuse-now chains xs ys h = refl
 
-module _
-    (l : ℕ) (w : World) (chains : Chain → List ℕ) (g : Sound l w chains) (s : ℕ) (rest : List ℕ) (e : chains reuse ≡ s ∷ rest) (key : ℕ)
-    (c : Content) (sp : Spares (tableOf l (w .image)) (slotsIn (w .image)) (s ∷ rest))
-    (r : Record c (nextVersion (tableOf l (w .image)) (slotsIn (w .image))) key) where
+-- the first slot taken, the others are left
+left-first : (s : ℕ) (rest : List ℕ) → Once (s ∷ rest) → leftOf (s ∷ []) (s ∷ rest) ≡ rest
+unfolding leftOf filter
+left-first s rest o =
+    pick-false (not (member (s ∷ []) s)) (s ∷ filter (λ t. not (member (s ∷ []) t)) rest) _ (ap not (in-member (s ∷ []) s (inl refl)))
+    ∙ filter-all (λ t. not (member (s ∷ []) t)) rest (λ t m. ap not (out-member (s ∷ []) t (λ j. out t m j)))
+  where
+    out : (t : ℕ) → In t rest → In t (s ∷ []) → ⊥
+    out t m (inl e) = o .0 (subst (λ (x : ℕ). In x rest) e m)
+    out t m (inr z) = z
+
+module _ (f : Table) (n s key : ℕ) (rest : List ℕ) (new : Table) (ek : keyIn (new s) ≡ key) where
+  reuse-single : Once (s ∷ rest) → reuseAfter f n (s ∷ []) new (s ∷ rest) ≡ rest ++ appended (holder f n key) (isPut (new s)) s
+  unfolding reuseAfter joinsOf
+  reuse-single o =
+      ap₂ (λ (x y : List ℕ). x ++ y) (left-first s rest o)
+      (append-nil _ ∙ ap (λ (k : ℕ). appended (holder f n k) (isPut (new s)) s) ek)
+
+-- ---- THE WRITE: slot s, the first of reuse, gets the newest record of the key
+
+module _ (l : ℕ) (w : World) (chains : Chain → List ℕ) (g : Sound l w chains)
+    (none-void : NoneVoid (contentsOf l (w .image)) (numbersOf l (w .image)) (slotsIn (w .image)))
+    (s key : ℕ) (rest : List ℕ) (e : chains reuse ≡ s ∷ rest) (new : Table) (ek : keyIn (new s) ≡ key) where
   abbrev f : Table
-  f = tableOf l (w .image)
+  f = contentsOf l (w .image)
 
   abbrev n : ℕ
   n = slotsIn (w .image)
@@ -114,115 +100,122 @@ module _
   abbrev h : ℕ
   h = headOf key b
 
-  hf : HiddenFirst f n (s ∷ rest)
-  hf = subst (HiddenFirst f n) e (g .hidden)
+  abbrev place : ℕ → Chain
+  place = placeOf (tableOf l (w .image)) n b
 
-  at : Slot n s
-  at = sp .slot s (inl refl)
+  once : Once (s ∷ rest)
+  once = subst Once e (spares l w chains g (s ∷ []) new none-void .once)
 
-  free : Free f n (only s)
-  free = head-free f n s rest sp hf
+  alive-is : w .state .live ≡ liveCount f n
+  alive-is =
+      g .live-count ∙ alike-count f (tableOf l (w .image)) n (same-slots l w chains g (s ∷ []) new none-void)
 
-  above : Above f n (nextVersion f n)
-  above = above-next f n
+  module _ (image′ : List ℕ) (en : slotsIn image′ ≡ n)
+      (bk : Basket f (numbersOf l (w .image)) n (nextVersion (tableOf l (w .image)) n) (s ∷ []) new)
+      (st : Struck f (contentsOf l image′) (numbersOf l (w .image)) (numbersOf l image′) n (s ∷ []) new)
+      (z : Finished (contentsOf l image′) (numbersOf l image′) (s ∷ []) new) (removes : HeldRemoved (s ∷ []) new (mapOf f n))
+      (room : liveCount f n + putsIn (s ∷ []) new < n + heldIn (s ∷ []) new (mapOf f n)) where
+    abbrev place′ : ℕ → Chain
+    place′ = placeOf (contentsOf l image′) n b
 
-  -- a slot that is not live is left
-  pub new-room : mapOf f n key ≡ none → isPut c ≡ true → liveCount f n + 1 < n → liveCount (upd f s c) n < n
-  new-room m p room = omega (arith, count-new f n s (nextVersion f n) key c at free r above m p)
+    -- where each slot stands now
+    moves : (t : ℕ) → Slot n t → place′ t ≡ cond (eqb t s) (cond (isPut (new s)) (head h) reuse) (cond (eqb t (holder f n key)) reuse (place t))
+    unfolding moved
+    moves t k =
+        place-after l w chains g (s ∷ []) new none-void image′ en bk st z t k
+        ∙ ap
+        (λ (x : ℕ). cond (eqb t s) (cond (isPut (new s)) (head (headOf x b)) reuse) (cond (eqb t (holder f n x)) reuse (place t))) ek
 
-  pub held-room : (v : List ℕ) → mapOf f n key ≡ some v → liveCount (upd f s c) n < n
-  held-room v m = go (isPut c) refl (room f n s at (sp .idle s (inl refl)))
-    where
-      go : (p : Bool) → isPut c ≡ p → liveCount f n < n → liveCount (upd f s c) n < n
-      go true p k = omega (arith, count-over f n s (nextVersion f n) key c at free r above v m p)
-      go false p k = omega (arith, count-removed f n s (nextVersion f n) key c at free r above v m p)
+    own : (p : Bool) → isPut (new s) ≡ p → place′ s ≡ cond p (head h) reuse
+    own p q =
+        moves s (bk .slot s (inl refl)) ∙ pick-true (eqb s s) _ _ (eq-eqb s s refl) ∙ ap (λ (x : Bool). cond x (head h) reuse) q
 
-  -- the image is now image′
-  module _ (image′ : List ℕ) (en : slotsIn image′ ≡ n) (ef : tableOf l image′ ≡ upd f s c) where
-    -- the index after the call
+    other : (t : ℕ) → Slot n t → (t ≡ s → ⊥) → (t ≡ holder f n key → ⊥) → place′ t ≡ place t
+    other t k ne nh =
+        moves t k ∙ pick-false (eqb t s) _ _ (ne-eqb t s ne) ∙ pick-false (eqb t (holder f n key)) _ _ (ne-eqb t (holder f n key) nh)
+
+    old-now : (t : ℕ) → Slot n t → (t ≡ s → ⊥) → t ≡ holder f n key → place′ t ≡ reuse
+    old-now t k ne eh =
+        moves t k ∙ pick-false (eqb t s) _ _ (ne-eqb t s ne) ∙ pick-true (eqb t (holder f n key)) _ _ (eq-eqb t (holder f n key) eh)
+
+    idle : liveCount (contentsOf l image′) n < n
+    idle = finished-idle bk st z room
+
+    joined : (p : Bool) (xs : List ℕ) → isPut (new s) ≡ p → appended (holder f n key) p s ≡ xs → rest ++ xs ≡ reuseAfter f n (s ∷ []) new (chains reuse)
+    joined p xs q d =
+        sym
+        (ap (reuseAfter f n (s ∷ []) new) e ∙ reuse-single f n s key rest new ek once
+        ∙ ap (λ (x : List ℕ). rest ++ x) (ap (λ (x : Bool). appended (holder f n key) x s) q ∙ d))
+
+    -- the live count: of one record, by what it does
+    counted : (p x : Bool) → isPut (new s) ≡ p → isHeld (mapOf f n key) ≡ x
+        → liveCount (contentsOf l image′) n + (oneIf (not p) + 0) ≡ liveCount f n + (oneIf (p && not x) + 0)
+    unfolding removesIn insertsIn
+    counted p x q d =
+        ap (λ (y : Bool). liveCount (contentsOf l image′) n + (oneIf (not y) + 0)) (sym q)
+        ∙ finished-live-count bk st z removes
+        ∙ ap₂ (λ (y u : Bool). liveCount f n + (oneIf (y && not u) + 0)) q (ap (λ (k : ℕ). isHeld (mapOf f n k)) ek ∙ d)
+
     abbrev after : Index → (alive : ℕ) → World
-    after j alive = record { image = image′; heads = j .heads; next = j .next; state = stateOf j alive (w .state .version + 1) }
-
-    -- once for the three calls: j is the index after the call, and its reuse chain lost s and got what the write appends
-    write-sound : (j : Index) (alive : ℕ) (chains′ : Chain → List ℕ) → Sits n b (placeOf (upd f s c) n b) j chains′
-        → chains′ reuse ≡ rest ++ joins f n s key c → liveCount (upd f s c) n < n → alive ≡ liveCount (upd f s c) n
-        → Sound l (after j alive) chains′
-    write-sound j alive chains′ q d room ea =
-        sound-parts l image′ j alive (w .state .version + 1) n b (upd f s c) chains′ en ef
-        (ap (indexFault n b) (sym (g .index .next-size)) ∙ g .size) q
-        (subst (HiddenFirst (upd f s c) n) (sym d) (write-hidden f n s (nextVersion f n) key c rest r above sp hf))
-        (subst (BrokenFirst (upd f s c)) (sym d) (write-broken f n s (nextVersion f n) key c rest r above sp hf (subst (BrokenFirst f) e (g .broken)))) room ea
-        (omega (arith, g .next-version, write-next f n s (nextVersion f n) key c at free r above))
+    after j alive = record { image = image′; heads = j .heads; next = j .next; state = stateOf j alive (w .state .version + 1) s }
 
     -- an insert
-    pub new-sound : (prev : ℕ) → mapOf f n key ≡ none → isPut c ≡ true → h < b → prev ≡ endOf 0 (chains (head h)) → liveCount f n + 1 < n
+    pub new-sound : (prev : ℕ) → mapOf f n key ≡ none → isPut (new s) ≡ true → h < b → prev ≡ endOf 0 (chains (head h))
         → Sound l (after (insertNew i h prev) (w .state .live + 1))
         (withChain (withChain chains reuse rest) (head h) (chains (head h) ++ s ∷ []))
-    new-sound prev m p few q room =
-        let more = count-new f n s (nextVersion f n) key c at free r above m p in
-        write-sound (insertNew i h prev) (w .state .live + 1) _
-        (sits-new n b (placeOf f n b) i chains (g .index) (placeOf (upd f s c) n b) h prev s rest e few q
-        (place-put f n b s (nextVersion f n) key c at free r above p)
-        (λ x lo hi ne. place-kept f n b s (nextVersion f n) key c at free r above x (omega arith, hi) ne (λ d. unheld-spare x (omega arith, hi) d (held-or f n key))))
-        (reuse-now chains rest _ h ∙ sym (ap (λ (t : List ℕ). rest ++ t) (ap₂ (λ (x : ℕ) (y : Bool). appended x y s) none-holds p ∙ joined-new 0 s refl) ∙ append-nil rest))
-        (new-room m p room) (omega (arith, more, g .live-count))
+    unfolding isHeld
+    new-sound prev m p few q =
+        let c = counted true false p (ap isHeld m) in
+        sound-after l w chains g (s ∷ []) new none-void image′ en bk st z removes (insertNew i h prev) (w .state .live + 1) s _
+        (sits-new n b place i chains (g .index) place′ h prev s rest e few q (own true p)
+        (λ x lo hi ne. other x (omega arith, hi) ne (λ d. omega (arith, d, none-holds))))
+        (reuse-now chains rest _ h ∙ sym (append-nil rest) ∙ joined true [] p (joined-new (holder f n key) s none-holds)) idle
+        (omega (arith, c, alive-is))
       where
-        unheld-spare : (x : ℕ) → Slot n x → decider f n key ≡ x → Held f n key → live f n x ≡ false
-        unheld-spare x j d (held v a t q) = absurd (some-none q m)
-        unheld-spare x j d (unheld a q) = a x j d
-
         none-of : Held f n key → holder f n key ≡ 0
-        none-of (held v a t q) = absurd (some-none q m)
-        none-of (unheld a q) = holder-none f n key a
+        none-of (held v a t d) = absurd (some-none d m)
+        none-of (unheld a d) = holder-none f n key a
 
         none-holds : holder f n key ≡ 0
         none-holds = none-of (held-or f n key)
 
     -- the key is held by slot old, which stands in its head's chain after xs
-    module _
-        (prev old : ℕ) (v xs ys : List ℕ) (m : mapOf f n key ≡ some v) (d : decider f n key ≡ old) (j : Slot n old) (a : live f n old ≡ true)
-        (parts : chains (head h) ≡ xs ++ old ∷ ys) (q : prev ≡ endOf 0 xs) where
+    module _ (prev old : ℕ) (xs ys : List ℕ) (m : isHeld (mapOf f n key) ≡ true) (d : holder f n key ≡ old) (j : Slot n old)
+        (a : live f n old ≡ true) (parts : chains (head h) ≡ xs ++ old ∷ ys) (q : prev ≡ endOf 0 xs) where
       apart : old ≡ s → ⊥
-      apart eq = true-false (ap (live f n) (sym eq) ∙ a) (sp .idle s (inl refl))
-
-      holds : holder f n key ≡ old
-      holds = holder-held f n key (ap (live f n) d ∙ a) ∙ d
-
-      else-kept : (x : ℕ) → Slot n x → (x ≡ s → ⊥) → (x ≡ old → ⊥) → placeOf (upd f s c) n b x ≡ placeOf f n b x
-      else-kept x k ne nq = place-kept f n b s (nextVersion f n) key c at free r above x k ne (λ z. absurd (nq (sym z ∙ d)))
-
-      joins-are : (p : Bool) → isPut c ≡ p → joins f n s key c ≡ appended old p s
-      joins-are p z = ap₂ (λ (x : ℕ) (y : Bool). appended x y s) holds z
+      apart eq = true-false (ap (live f n) (sym eq) ∙ a) (bk .spare s (inl refl))
 
       -- a put
-      pub held-sound : isPut c ≡ true
+      pub held-sound : isPut (new s) ≡ true
           → Sound l (after (replaceHeld i h prev old) (w .state .live))
           (withChain (withChain chains reuse (rest ++ old ∷ [])) (head h) (xs ++ s ∷ ys))
       held-sound p =
-          let same = count-over f n s (nextVersion f n) key c at free r above v m p in
-          write-sound (replaceHeld i h prev old) (w .state .live) _
-          (sits-held n b (placeOf f n b) i chains (g .index) (placeOf (upd f s c) n b) h prev s rest e xs old ys parts q
-          (place-put f n b s (nextVersion f n) key c at free r above p) (place-old f n b s (nextVersion f n) key c at free r above old j apart d)
-          (λ x lo hi ne nq. else-kept x (omega arith, hi) ne nq))
-          (reuse-now chains (rest ++ old ∷ []) _ h ∙ sym (ap (λ (t : List ℕ). rest ++ t) (joins-are true p ∙ joined-held old s (omega (arith, j .0)))))
-          (held-room v m) (omega (arith, same, g .live-count))
+          let c = counted true true p m in
+          sound-after l w chains g (s ∷ []) new none-void image′ en bk st z removes (replaceHeld i h prev old) (w .state .live) s _
+          (sits-held n b place i chains (g .index) place′ h prev s rest e xs old ys parts q (own true p) (old-now old j apart (sym d))
+          (λ x lo hi ne nq. other x (omega arith, hi) ne (λ (y : x ≡ holder f n key). nq (y ∙ d))))
+          (reuse-now chains (rest ++ old ∷ []) _ h
+          ∙ joined true (old ∷ []) p (ap (λ (x : ℕ). appended x true s) d ∙ joined-held old s (omega (arith, j .0)))) idle
+          (omega (arith, c, alive-is))
 
       -- a remove
-      pub removed-sound : isPut c ≡ false
+      pub removed-sound : isPut (new s) ≡ false
           → Sound l (after (removeHeld i h prev old) (w .state .live - 1))
           (withChain (withChain chains reuse (rest ++ old ∷ s ∷ [])) (head h) (xs ++ ys))
       removed-sound p =
-          let fewer = count-removed f n s (nextVersion f n) key c at free r above v m p in
-          write-sound (removeHeld i h prev old) (w .state .live - 1) _
-          (sits-remove n b (placeOf f n b) i chains (g .index) (placeOf (upd f s c) n b) h prev s rest e xs old ys parts q
-          (place-old f n b s (nextVersion f n) key c at free r above old j apart d) (λ x lo hi nq. moves x (omega arith, hi) nq (told x s)))
+          let c = counted false true p m in
+          sound-after l w chains g (s ∷ []) new none-void image′ en bk st z removes (removeHeld i h prev old) (w .state .live - 1) s _
+          (sits-remove n b place i chains (g .index) place′ h prev s rest e xs old ys parts q (old-now old j apart (sym d))
+          (λ x lo hi nq. stays x (omega arith, hi) nq (told x s)))
           (reuse-now chains (rest ++ old ∷ s ∷ []) _ h
-          ∙ sym (ap (λ (t : List ℕ). rest ++ t) (joins-are false p ∙ joined-removed old s (omega (arith, j .0)))))
-          (held-room v m) (omega (arith, fewer, g .live-count))
+          ∙ joined false (old ∷ s ∷ []) p (ap (λ (x : ℕ). appended x false s) d ∙ joined-removed old s (omega (arith, j .0)))) idle
+          (omega (arith, c, alive-is))
         where
-          stays : placeOf (upd f s c) n b s ≡ placeOf f n b s
-          stays = place-remove f n b s (nextVersion f n) key c at free r above p ∙ sym (place-idle f n b s (sp .idle s (inl refl)))
+          idle-here : place s ≡ reuse
+          idle-here =
+              place-idle (tableOf l (w .image)) n b s
+              (same-live l w chains g (s ∷ []) new none-void s (bk .slot s (inl refl)) ∙ bk .spare s (inl refl))
 
-          moves : (x : ℕ) → Slot n x → (x ≡ old → ⊥) → Told x s → placeOf (upd f s c) n b x ≡ placeOf f n b x
-          moves x k nq (is t z) = subst (λ (y : ℕ). placeOf (upd f s c) n b y ≡ placeOf f n b y) (sym z) stays
-          moves x k nq (isnt t ne) = else-kept x k ne nq
+          stays : (x : ℕ) → Slot n x → (x ≡ old → ⊥) → Told x s → place′ x ≡ place x
+          stays x k nq (is t y) = subst (λ (v : ℕ). place′ v ≡ place v) (sym y) (own false p ∙ sym idle-here)
+          stays x k nq (isnt t ne) = other x k ne (λ (y : x ≡ holder f n key). nq (y ∙ d))
