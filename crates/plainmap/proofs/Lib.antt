@@ -6,6 +6,7 @@ pub mod Refuses
 pub mod Sounds
 pub mod Rights
 pub mod Afters
+pub mod Wrote
 pub mod SoundAfter
 pub mod SoundWrites
 pub mod Outcomes
