@@ -11,14 +11,13 @@ use Rattle.layout.specs.Size.{slotsIn}
 use Rattle.layout.specs.Record.{limit}
 use Rattle.layout.specs.Header.{lentFault}
 use Rattle.layout.specs.Line.{versionFault}
-use Rattle.layout.specs.Content.{contentsOf}
-use Rattle.table.specs.Taking.{mayTake}
 use Rattle.stores.specs.Store.{Store, zipped}
 use Rattle.stores.specs.Written.{recordStores}
 use Rattle.index.specs.Index.{Index, indexOf, stateOf, headOf}
 use Rattle.index.specs.Walk.{search, chainFault}
 use Rattle.index.specs.Change.{insertNew, replaceHeld, removeHeld, keyFault, isFound}
-use Rattle.index.specs.Taking.{Taking, takeFrom, reuseFault, roomFault}
+use Rattle.index.specs.Taking.{Taking, reuseFault, roomFault}
+use Rattle.taking.specs.Taking.{takingOf}
 use Rattle.index.specs.declared.State.{State}
 use Rattle.index.specs.declared.Mode.{Mode}
 use Rattle.index.specs.declared.Mode.the-variants.{Insert, Replace}
@@ -77,10 +76,6 @@ unfoldable pub unchanged : Answer → State → (heads next : List ℕ) → Chan
 unchanged answer s heads next = record { answer = answer; state = s; stores = []; heads = heads; next = next }
 
 -- ---- the slot that is taken
-
--- the first `wanted` slots of the reuse chain that may be taken, by the image of n slots and the links
-unfoldable pub takingOf : (l : ℕ) → (image next : List ℕ) → (n first wanted : ℕ) → Taking
-takingOf l image next n first wanted = takeFrom (mayTake (contentsOf l image) n) next n first wanted
 
 -- the refusals of a call that takes these slots, inserts and removes so many keys and is not refused for its keys: "11 (reuse, or fewer live than are removed) now
 -- stands whole before 28", 28 "before 9"

@@ -21,7 +21,7 @@ pub fn clear(list: &mut [u32])
 // The slot goes to the front of its chain: place 0 is reuse, h + 1 the chain of head h.
 fn push_front(heads: &mut [u32], next: &mut [u32], state: State, place: u32, slot: u32) -> State
     requires { ⌜ (slot < length (now next)) × (place ≤ length (now heads)) ⌝ }
-    ensures { λ r. ⌜ PartsOf (now (heads .exit)) (now (next .exit)) r (push (indexOf (now (heads .entry)) (now (next .entry)) state) (chainFrom place) slot) (state .live) (state .version) ⌝ }
+    ensures { λ r. ⌜ PartsOf (now (heads .exit)) (now (next .exit)) r (push (indexOf (now (heads .entry)) (now (next .entry)) state) (chainFrom place) slot) (state .live) (state .version) (state .newest) ⌝ }
 {
     let at = slot as usize;
     if place == 0 {
@@ -32,6 +32,7 @@ fn push_front(heads: &mut [u32], next: &mut [u32], state: State, place: u32, slo
                 last: slot,
                 live: state.live,
                 version: state.version,
+                newest: state.newest,
             };
         }
         return State {
@@ -39,6 +40,7 @@ fn push_front(heads: &mut [u32], next: &mut [u32], state: State, place: u32, slo
             last: state.last,
             live: state.live,
             version: state.version,
+            newest: state.newest,
         };
     }
     let h = (place - 1) as usize;
@@ -51,13 +53,14 @@ fn push_front(heads: &mut [u32], next: &mut [u32], state: State, place: u32, slo
 // starts with zero these are the chains of the order.
 pub fn chain_up(heads: &mut [u32], next: &mut [u32], order: &[u32], places: &[u32]) -> State
     requires { ⌜ Ordered (now heads) (now next) (now order) (now places) ⌝ }
-    ensures { λ r. ⌜ PartsOf (now (heads .exit)) (now (next .exit)) r (build (placeIn (now (places .entry))) (unbuilt (now (heads .entry)) (now (next .entry))) (now (order .entry))) 0 0 ⌝ }
+    ensures { λ r. ⌜ PartsOf (now (heads .exit)) (now (next .exit)) r (build (placeIn (now (places .entry))) (unbuilt (now (heads .entry)) (now (next .entry))) (now (order .entry))) 0 0 0 ⌝ }
 {
     let mut state = State {
         first: 0,
         last: 0,
         live: 0,
         version: 0,
+        newest: 0,
     };
     let mut left = order.len();
     while 0 < left {

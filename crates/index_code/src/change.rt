@@ -34,6 +34,7 @@ fn take(next: &[u32], state: State) -> State
             last: 0,
             live: state.live,
             version: state.version,
+            newest: state.newest,
         };
     }
     State {
@@ -41,6 +42,7 @@ fn take(next: &[u32], state: State) -> State
         last: state.last,
         live: state.live,
         version: state.version,
+        newest: state.newest,
     }
 }
 
@@ -57,6 +59,7 @@ fn append(next: &mut [u32], state: State, slot: u32) -> State
             last: slot,
             live: state.live,
             version: state.version,
+            newest: state.newest,
         };
     }
     let last = state.last as usize;
@@ -66,13 +69,14 @@ fn append(next: &mut [u32], state: State, slot: u32) -> State
         last: slot,
         live: state.live,
         version: state.version,
+        newest: state.newest,
     }
 }
 
 // An insert: the first reuse slot is taken and linked after prev, the last slot of its chain.
 fn insert_new(heads: &mut [u32], next: &mut [u32], state: State, h: usize, prev: u32) -> State
     requires { ⌜ (WritesInside (now heads) (now next) state h prev prev) × (state .live < 65535) ⌝ }
-    ensures { λ r. ⌜ PartsOf (now (heads .exit)) (now (next .exit)) r (insertNew (indexOf (now (heads .entry)) (now (next .entry)) state) h prev) (state .live + 1) (state .version + 1) ⌝ }
+    ensures { λ r. ⌜ PartsOf (now (heads .exit)) (now (next .exit)) r (insertNew (indexOf (now (heads .entry)) (now (next .entry)) state) h prev) (state .live + 1) (state .version + 1) (state .first) ⌝ }
 {
     let slot = state.first;
     let rest = take(next, state);
@@ -84,6 +88,7 @@ fn insert_new(heads: &mut [u32], next: &mut [u32], state: State, h: usize, prev:
         last: rest.last,
         live: rest.live + 1,
         version: rest.version + 1,
+        newest: slot,
     }
 }
 
@@ -97,7 +102,7 @@ fn replace_held(
     old: u32,
 ) -> State
     requires { ⌜ WritesInside (now heads) (now next) state h prev old ⌝ }
-    ensures { λ r. ⌜ PartsOf (now (heads .exit)) (now (next .exit)) r (replaceHeld (indexOf (now (heads .entry)) (now (next .entry)) state) h prev old) (state .live) (state .version + 1) ⌝ }
+    ensures { λ r. ⌜ PartsOf (now (heads .exit)) (now (next .exit)) r (replaceHeld (indexOf (now (heads .entry)) (now (next .entry)) state) h prev old) (state .live) (state .version + 1) (state .first) ⌝ }
 {
     let slot = state.first;
     let rest = take(next, state);
@@ -112,6 +117,7 @@ fn replace_held(
         last: back.last,
         live: back.live,
         version: back.version + 1,
+        newest: slot,
     }
 }
 
@@ -124,7 +130,7 @@ pub fn write_place(
     place: Place,
 ) -> State
     requires { ⌜ PlaceInside (now heads) (now next) state h place ⌝ }
-    ensures { λ r. ⌜ PartsOf (now (heads .exit)) (now (next .exit)) r (writeAt (indexOf (now (heads .entry)) (now (next .entry)) state) h place) (liveAt (state .live) place) (state .version + 1) ⌝ }
+    ensures { λ r. ⌜ PartsOf (now (heads .exit)) (now (next .exit)) r (writeAt (indexOf (now (heads .entry)) (now (next .entry)) state) h place) (liveAt (state .live) place) (state .version + 1) (state .first) ⌝ }
 {
     match place {
         Place::Held { slot, prev } => replace_held(heads, next, state, h, prev, slot),
@@ -142,7 +148,7 @@ pub fn remove_held(
     old: u32,
 ) -> State
     requires { ⌜ (WritesInside (now heads) (now next) state h prev old) × (0 < state .live) ⌝ }
-    ensures { λ r. ⌜ PartsOf (now (heads .exit)) (now (next .exit)) r (removeHeld (indexOf (now (heads .entry)) (now (next .entry)) state) h prev old) (state .live - 1) (state .version + 1) ⌝ }
+    ensures { λ r. ⌜ PartsOf (now (heads .exit)) (now (next .exit)) r (removeHeld (indexOf (now (heads .entry)) (now (next .entry)) state) h prev old) (state .live - 1) (state .version + 1) (state .first) ⌝ }
 {
     let slot = state.first;
     let rest = take(next, state);
@@ -156,5 +162,6 @@ pub fn remove_held(
         last: all.last,
         live: all.live - 1,
         version: all.version + 1,
+        newest: slot,
     }
 }

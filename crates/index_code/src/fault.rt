@@ -1,9 +1,11 @@
 // The refusals that go by the index and the state.
 ghost use mathlib.Core.Path.{_≡_};
 ghost use Prim.Native.Nat.{_+_};
-ghost use lib.ListN.{length};
+ghost use lib.Dec.{leb};
+ghost use Rattle.prelude.specs.Refusal.{say};
 ghost use Rattle.index.specs.Walk.{chainFault};
-ghost use Rattle.index.specs.Change.{keyFault, isFound, roomFault, reuseFault};
+ghost use Rattle.index.specs.Change.{keyFault, isFound};
+ghost use Rattle.index.specs.Taking.{endsFault};
 use index::Found;
 use index::Mode;
 
@@ -63,36 +65,9 @@ pub fn key_fault(mode: Mode, held: bool) -> u32
     }
 }
 
-// 12 for a new key with a live count of n - 1 or more, else 0.
-pub fn room_fault(found: Found, n: u32, live: u32) -> u32
-    ensures { λ r. ⌜ r ≡ roomFault found n live ⌝ }
-{
-    match found {
-        Found::At {
-            slot: _,
-            prev: _,
-            compared: _,
-        } => 0,
-        Found::Missing {
-            prev: _,
-            compared: _,
-        } => {
-            if n <= live {
-                return 12;
-            }
-            if n - live <= 1 {
-                return 12;
-            }
-            0
-        }
-        Found::BadChain => 0,
-    }
-}
-
 // 11 by the ends of the reuse chain, else 0.
-pub fn reuse_fault(next: &[u32], n: u32, first: u32, last: u32) -> u32
-    requires { ⌜ length (now next) ≡ n + 1 ⌝ }
-    ensures { λ r. ⌜ r ≡ reuseFault (now (next .entry)) n first last ⌝ }
+pub fn ends_fault(n: u32, first: u32, last: u32) -> u32
+    ensures { λ r. ⌜ r ≡ endsFault n first last ⌝ }
 {
     if first == 0 {
         return 11;
@@ -106,10 +81,15 @@ pub fn reuse_fault(next: &[u32], n: u32, first: u32, last: u32) -> u32
     if n < last {
         return 11;
     }
-    let at = first as usize;
-    let follow = next[at];
-    if n < follow {
-        return 11;
+    0
+}
+
+// 28 where by the live count no spare slot would be left after so many inserts and removes, else 0.
+pub fn live_fault(n: u32, live: u32, inserts: u32, removes: u32) -> u32
+    ensures { λ r. ⌜ r ≡ say (leb (n + removes) (live + inserts)) 28 0 ⌝ }
+{
+    if n as u64 + removes as u64 <= live as u64 + inserts as u64 {
+        return 28;
     }
     0
 }

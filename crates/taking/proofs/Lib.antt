@@ -1,0 +1,4 @@
+pub mod Walks
+pub mod Contents
+pub mod Takes
+pub mod Tested

@@ -1,0 +1,77 @@
+-- The refusal of a call that wants one slot, from walks by what is known of the highest valid version. Assumes nothing.
+use mathlib.Core.Path.{_≡_, refl, sym, ap, ap₂, _∙_, fun-ext}
+use mathlib.Core.Bool.{Bool, true, false, cond, not, _&&_, true≢false}
+use mathlib.Core.List.{List}
+use Prim.Native.Nat.{ℕ, _+_, _≤_, _<_}
+use native.Mathlib.Omega.{arith}
+use lib.Dec.{ltb}
+use borrow.Author.Tests.{lt-ltb, ltb-true}
+use Rattle.words.specs.Word.{word}
+use Rattle.prelude.specs.Range.{anyOf, greatest}
+use Rattle.prelude.specs.Members.{Slot}
+use Rattle.prelude.proofs.Choice.{both-left, both-right}
+use Rattle.prelude.proofs.Most.{greatest-above}
+use Rattle.layout.specs.Line.{lineA}
+use Rattle.layout.specs.Record.{kindOf, keyOf}
+use Rattle.layout.specs.Content.{topOf, Table, content, contentsOf}
+use Rattle.index.specs.Taking.{takeFrom}
+use Rattle.table.specs.Table.{isRecord}
+use Rattle.table.specs.Taking.{validVersion, highestValid, isRemove, older, mayTake}
+use Rattle.taking.specs.Taking.{takingOf}
+use Rattle.taking.specs.inner.Walk.{takeFault, walkFault}
+use Rattle.taking.specs.inner.Takeable.{slotVersion, takeable}
+use Rattle.taking.proofs.Walks.{walk-fault, still-fine}
+use Rattle.taking.proofs.Contents.{slot-holds, held-version}
+
+-- ---- the highest valid version
+
+-- by the slots' versions
+pub highest-is : (l : ℕ) (m : ℕ → ℕ) (n : ℕ) → greatest (slotVersion m) n ≡ highestValid (content l m) n
+unfolding highestValid
+highest-is l m n = sym (ap (λ (g : ℕ → ℕ). greatest g n) (fun-ext (λ s. held-version (content l m) s _ _ _ (slot-holds l m s))))
+
+-- a slot's version is none above it
+pub version-within : (m : ℕ → ℕ) (n s v : ℕ) → v ≡ slotVersion m s → (s ≡ 0 → ⊥) → s ≤ n → v ≤ greatest (slotVersion m) n
+version-within m n s v e low high = omega (arith, greatest-above (slotVersion m) n s (omega arith, high), e)
+
+-- ---- a slot that may be taken by less than the highest version, and without looking for older records, may be taken
+
+module _ (f : Table) (n : ℕ) where
+  exactly : takeable f n (highestValid f n) true ≡ mayTake f n
+  unfolding mayTake takeable
+  exactly = refl
+
+  surely : (top s : ℕ) → top ≤ highestValid f n → takeable f n top false s ≡ true → mayTake f n s ≡ true
+  unfolding mayTake takeable
+  surely top s h e = go (isRecord (f s)) (isRemove (f s)) e
+    where
+      go : (a b : Bool) → cond a (ltb (topOf (f s)) top && not (b && true)) true ≡ true
+          → cond a (ltb (topOf (f s)) (highestValid f n) && not (b && anyOf (older f s) 1 n)) true ≡ true
+      go false b q = refl
+      go true true q = absurd (true≢false (sym (both-right (ltb (topOf (f s)) top) false q)))
+      go true false q =
+          let low = ltb-true (topOf (f s)) top (both-left (ltb (topOf (f s)) top) true q) in
+          ap (λ (x : Bool). x && true) (lt-ltb (topOf (f s)) (highestValid f n) (omega arith))
+
+-- ---- the refusal
+
+module _ (l : ℕ) (image next : List ℕ) (n first : ℕ) where
+  walked : walkFault (mayTake (contentsOf l image) n) next n n first ≡ takeFault (takingOf l image next n first 1)
+  unfolding takingOf takeFrom
+  walked = sym (walk-fault (mayTake (contentsOf l image) n) next n n 0 first)
+
+  -- a walk among the first slots, by a version that is none above the highest: not refused
+  pub taken-ahead : (top few k : ℕ) → top ≤ greatest (slotVersion (word image)) n → few ≤ n
+      → k ≡ walkFault (takeable (contentsOf l image) n top false) next n few first → k ≡ 0 → 0 ≡ takeFault (takingOf l image next n first 1)
+  taken-ahead top few k h q e z =
+      sym
+      (sym walked
+      ∙ still-fine (takeable (contentsOf l image) n top false) (mayTake (contentsOf l image) n) next n
+      (λ s. surely (contentsOf l image) n top s (omega (arith, highest-is l (word image) n))) few n first q (sym e ∙ z))
+
+  -- a walk along the chain, by the highest version
+  pub taken-by-all : (top r : ℕ) → top ≡ greatest (slotVersion (word image)) n
+      → r ≡ walkFault (takeable (contentsOf l image) n top true) next n n first → r ≡ takeFault (takingOf l image next n first 1)
+  taken-by-all top r h e =
+      e ∙ ap (λ (t : ℕ). walkFault (takeable (contentsOf l image) n t true) next n n first) (h ∙ highest-is l (word image) n)
+      ∙ ap (λ (may : ℕ → Bool). walkFault may next n n first) (exactly (contentsOf l image) n) ∙ walked

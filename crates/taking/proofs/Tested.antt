@@ -1,0 +1,100 @@
+-- What the functions that test slots answer: a slot's version, the highest of all, an older record of a key, and whether a slot may be taken. Assumes nothing.
+use mathlib.Core.Path.{_≡_, refl, sym, ap, ap₂, _∙_, subst}
+use mathlib.Core.Bool.{Bool, true, false, not}
+use Prim.Native.Nat.{ℕ, suc, _+_, _-_, _≤_, _<_, max}
+use native.Mathlib.Omega.{arith}
+use lib.Dec.{eqb, ltb}
+use Rattle.prelude.specs.Range.{anyOf, greatest}
+use Rattle.layout.specs.Line.{lineA}
+use Rattle.layout.specs.Slot.{slotVerdict}
+use Rattle.layout.specs.Record.{Layout, kindOf, keyOf}
+use Rattle.layout.specs.Content.{content}
+use Rattle.layout.specs.inner.Key.{keyWith, highWord}
+use Rattle.layout.specs.declared.Verdict.{Verdict}
+use Rattle.layout.specs.declared.Verdict.the-variants.{Valid, Empty, Broken}
+use Rattle.layout.proofs.KeyWords.{key-parts}
+use Rattle.taking.specs.inner.Takeable.{versionIn, slotVersion, olderThan, takeable}
+use Rattle.taking.proofs.Contents.{Holds, slot-holds, older-none, older-other, older-same, take-none, take-high, take-put, take-blind, take-looked}
+
+-- ---- valid_version
+
+module _ (m : ℕ → ℕ) (s : ℕ) (d : Verdict) (e : d ≡ slotVerdict m s) where
+  pub version-valid : (v : ℕ) → d ≡ Valid v → v ≡ slotVersion m s
+  unfolding slotVersion versionIn
+  version-valid v q = ap versionIn (sym q ∙ e)
+
+  pub version-empty : d ≡ Empty → 0 ≡ slotVersion m s
+  unfolding slotVersion versionIn
+  version-empty q = ap versionIn (sym q ∙ e)
+
+  pub version-broken : (top : ℕ) → d ≡ Broken top → 0 ≡ slotVersion m s
+  unfolding slotVersion versionIn
+  version-broken top q = ap versionIn (sym q ∙ e)
+
+-- ---- highest_valid: the slots up to s are seen
+
+pub record Seen (g : ℕ → ℕ) (n top s : ℕ) : Type 0 where
+  pub position : s ≤ n
+  pub highest : top ≡ greatest g s
+
+pub seen-none : (g : ℕ → ℕ) (n : ℕ) → Seen g n 0 0
+unfolding greatest
+seen-none g n = record { position = omega arith; highest = refl }
+
+pub seen-one : (g : ℕ → ℕ) (n top s : ℕ) → Seen g n top s → s < n → (v r : ℕ) → v ≡ g (s + 1) → r ≡ max top v → Seen g n r (s + 1)
+unfolding greatest
+seen-one g n top s k h v r e q =
+    let d : suc s ≡ s + 1 = omega arith in
+    record {
+      position = omega arith;
+      highest = q ∙ ap₂ max (k .highest) (e ∙ ap g (sym d)) ∙ ap (greatest g) d;
+    }
+
+pub seen-all : (g : ℕ → ℕ) (n top s : ℕ) → Seen g n top s → n ≤ s → top ≡ greatest g n
+seen-all g n top s k h = let d : s ≡ n = omega (arith, k .position) in k .highest ∙ ap (greatest g) d
+
+-- ---- has_older: a search of the slots 1 to n
+
+pub any-slot : (p : ℕ → Bool) (n : ℕ) → anyOf p 1 (n + 1 - 1) ≡ anyOf p 1 n
+any-slot p n = let e : n + 1 - 1 ≡ n = omega arith in ap (anyOf p 1) e
+
+-- ---- is_older: v is the version of slot t
+
+module _ (l : ℕ) (m : ℕ → ℕ) (t key version : ℕ) (b : Bool) (e : b ≡ eqb (keyOf l (lineA m t)) key) where
+  pub other-key : b ≡ false → false ≡ olderThan (content l m) key version t
+  other-key q = older-other (content l m) t _ _ _ (slot-holds l m t) key version (sym e ∙ q)
+
+  module _ (v : ℕ) (f : v ≡ slotVersion m t) where
+    pub not-valid : v ≡ 0 → false ≡ olderThan (content l m) key version t
+    not-valid z = older-none (content l m) t _ _ _ (slot-holds l m t) key version (sym f ∙ z)
+
+    pub same-key : b ≡ true → (v ≡ 0 → ⊥) → ltb v version ≡ olderThan (content l m) key version t
+    same-key q some =
+        ap (λ (x : ℕ). ltb x version) f
+        ∙ older-same (content l m) t _ _ _ (slot-holds l m t) key version (λ z. some (f ∙ z)) (sym e ∙ q)
+
+-- ---- may_take: v is the version of slot s
+
+module _ (l : ℕ) (m : ℕ → ℕ) (n top : ℕ) (scan : Bool) (s v : ℕ) (e : v ≡ slotVersion m s) where
+  held : Holds (kindOf (lineA m s (l + 1))) (keyOf l (lineA m s)) v (content l m s)
+  held = subst (λ (x : ℕ). Holds (kindOf (lineA m s (l + 1))) (keyOf l (lineA m s)) x (content l m s)) (sym e) (slot-holds l m s)
+
+  pub may-invalid : v ≡ 0 → true ≡ takeable (content l m) n top scan s
+  may-invalid z = take-none (content l m) s _ _ _ held n top scan z
+
+  module _ (some : v ≡ 0 → ⊥) where
+    pub may-high : top ≤ v → false ≡ takeable (content l m) n top scan s
+    may-high h = take-high (content l m) s _ _ _ held n top scan some h
+
+    module _ (low : v < top) (kind : ℕ) (k : kind ≡ kindOf (lineA m s (l + 1))) where
+      pub may-put : (kind ≡ 2 → ⊥) → true ≡ takeable (content l m) n top scan s
+      may-put ne = take-put (content l m) s _ _ _ held n top scan some low (λ z. ne (k ∙ z))
+
+      pub may-blind : kind ≡ 2 → scan ≡ false → false ≡ takeable (content l m) n top scan s
+      may-blind q b = take-blind (content l m) s _ _ _ held n top scan some low (sym k ∙ q) b
+
+      pub may-looked : Layout l → kind ≡ 2 → scan ≡ true → (x y : ℕ) → x ≡ lineA m s 1 → y ≡ highWord l (lineA m s) → (b : Bool)
+          → b ≡ anyOf (olderThan (content l m) (keyWith x y) v) 1 n → not b ≡ takeable (content l m) n top scan s
+      may-looked lay q t x y p w b a =
+          take-looked (content l m) s _ _ _ held n top scan some low (sym k ∙ q) t b
+          (a ∙ ap (λ (key : ℕ). anyOf (olderThan (content l m) key v) 1 n) (ap₂ keyWith p w ∙ sym (key-parts l (lineA m s) lay)))

@@ -1,0 +1,10 @@
+-- The slots that a call takes, by an image of n slots and the links of its index. Document 02, A.7: "it takes the first others in the reuse chain".
+use mathlib.Core.List.{List}
+use Prim.Native.Nat.{ℕ}
+use Rattle.layout.specs.Content.{contentsOf}
+use Rattle.table.specs.Taking.{mayTake}
+use Rattle.index.specs.Taking.{Taking, takeFrom}
+
+-- the first `wanted` slots of the reuse chain that may be taken; `first` is the chain's first slot
+unfoldable pub takingOf : (l : ℕ) → (image next : List ℕ) → (n first wanted : ℕ) → Taking
+takingOf l image next n first wanted = takeFrom (mayTake (contentsOf l image) n) next n first wanted

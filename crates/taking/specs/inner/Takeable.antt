@@ -1,0 +1,42 @@
+-- Which slots may be taken, as the functions test it.
+use mathlib.Core.Path.{_≡_}
+use mathlib.Core.Bool.{Bool, true, cond, not, _&&_}
+use mathlib.Core.List.{List}
+use Prim.Native.Nat.{ℕ, _+_, _*_, _≤_}
+use lib.Dec.{eqb, ltb}
+use lib.ListN.{length}
+use Rattle.prelude.specs.Range.{anyOf}
+use Rattle.layout.specs.Record.{Layout}
+use Rattle.layout.specs.Slot.{slotVerdict}
+use Rattle.layout.specs.Content.{topOf, Table}
+use Rattle.layout.specs.declared.Verdict.{Verdict}
+use Rattle.layout.specs.declared.Verdict.the-variants.{Valid, Empty, Broken}
+use Rattle.table.specs.Table.{isRecord, keyIn}
+use Rattle.table.specs.Taking.{isRemove, older}
+
+-- the image and next are those of n slots, in layout l
+pub record Walkable (image next : List ℕ) (l n : ℕ) : Type 0 where
+  pub layout : Layout l
+  pub image-size : length image ≡ 128 * (n + 1)
+  pub next-size : length next ≡ n + 1
+  pub few : n ≤ 65535
+
+-- the version of a valid slot, 0 for any other
+unfoldable pub versionIn : Verdict → ℕ
+versionIn (Valid version) = version
+versionIn Empty = 0
+versionIn (Broken top) = 0
+
+-- the same of slot s, by the words of an image
+unfoldable pub slotVersion : (ℕ → ℕ) → ℕ → ℕ
+slotVersion m s = versionIn (slotVerdict m s)
+
+-- slot t has a valid record of this key, older than this version
+unfoldable pub olderThan : Table → (key version t : ℕ) → Bool
+olderThan f key version t = isRecord (f t) && (eqb (keyIn (f t)) key && ltb (topOf (f t)) version)
+
+-- slot s may be taken by what is known: no version below `top` is the highest valid one. A remove record may only where `scan` says that the image is looked through
+-- for an older record of its key, and none is found
+unfoldable pub takeable : Table → (n top : ℕ) → (scan : Bool) → (s : ℕ) → Bool
+takeable f n top scan s =
+    cond (isRecord (f s)) (ltb (topOf (f s)) top && not (isRemove (f s) && cond scan (anyOf (older f s) 1 n) true)) true

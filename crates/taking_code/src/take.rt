@@ -1,0 +1,103 @@
+// The refusal of a call that wants one slot: 11 by the links, 28 where no slot may be taken.
+ghost use mathlib.Core.Path.{_≡_};
+ghost use Prim.Native.Nat.{_+_, _*_, _≤_};
+ghost use lib.ListN.{length};
+ghost use Rattle.words.specs.Word.{word};
+ghost use Rattle.prelude.specs.Range.{greatest};
+ghost use Rattle.layout.specs.Content.{contentsOf};
+ghost use Rattle.taking.specs.Taking.{takingOf};
+ghost use Rattle.taking.specs.inner.Walk.{takeFault, endFault, walkFault};
+ghost use Rattle.taking.specs.inner.Takeable.{slotVersion, takeable, Walkable};
+use crate::slot::highest_valid;
+use crate::slot::may_take;
+use crate::slot::valid_version;
+
+// So many slots of a chain of n are met before the whole image is looked through.
+fn few_of(n: usize) -> usize
+    ensures { λ r. ⌜ r ≤ n ⌝ }
+{
+    if n < 64 {
+        return n;
+    }
+    64
+}
+
+// 11 by the link of the slot that is taken, else 0; so many slots may still be met.
+fn end_fault(n: usize, left: usize, link: u32) -> u32
+    ensures { λ r. ⌜ r ≡ endFault n left link ⌝ }
+{
+    if link == 0 {
+        return 0;
+    }
+    if n < link as usize {
+        return 11;
+    }
+    if left == 0 {
+        return 11;
+    }
+    0
+}
+
+// Follows the reuse chain, so many slots at most, up to the first slot that may be taken: 11, 28 or 0.
+fn walk_fault(
+    image: &[u8],
+    l: usize,
+    next: &[u32],
+    n: usize,
+    first: u32,
+    most: usize,
+    top: u64,
+    scan: bool,
+) -> u32
+    requires { ⌜ Walkable (now image) (now next) l n ⌝ }
+    ensures { λ r. ⌜ r ≡ walkFault (takeable (contentsOf l (now (image .entry))) n top scan) (now (next .entry)) n most first ⌝ }
+{
+    let mut at = first;
+    let mut left = most;
+    while 0 < left {
+        if at == 0 {
+            return 28;
+        }
+        let slot = at as usize;
+        if n < slot {
+            return 11;
+        }
+        left -= 1;
+        at = next[slot];
+        if may_take(image, l, n, top, scan, slot) {
+            return end_fault(n, left, at);
+        }
+    }
+    if at == 0 {
+        return 28;
+    }
+    11
+}
+
+// The version of the slot that the last call took, if it is valid, else 0: it is none above the highest.
+fn newest_version(image: &[u8], n: usize, newest: u32) -> u64
+    requires { ⌜ 128 * (n + 1) ≤ length (now image) ⌝ }
+    ensures { λ r. ⌜ r ≤ greatest (slotVersion (word (now (image .entry)))) n ⌝ }
+{
+    let s = newest as usize;
+    if s == 0 {
+        return 0;
+    }
+    if n < s {
+        return 0;
+    }
+    valid_version(image, s)
+}
+
+// 11 or 28 by the slots that may be taken, else 0. By the slot that the last call took a few slots tell mostly that there is one; if not, the whole image does.
+pub fn take_fault(image: &[u8], l: usize, next: &[u32], n: usize, first: u32, newest: u32) -> u32
+    requires { ⌜ Walkable (now image) (now next) l n ⌝ }
+    ensures { λ r. ⌜ r ≡ takeFault (takingOf l (now (image .entry)) (now (next .entry)) n first 1) ⌝ }
+{
+    let known = newest_version(image, n, newest);
+    if walk_fault(image, l, next, n, first, few_of(n), known, false) == 0 {
+        return 0;
+    }
+    let top = highest_valid(image, n);
+    walk_fault(image, l, next, n, first, n, top, true)
+}
