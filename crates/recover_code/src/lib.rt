@@ -12,18 +12,23 @@ use crate::scratch::recover_16384;
 use crate::scratch::recover_65536;
 use layout_code::header::lent_fault;
 use layout_code::header::slot_count;
+use recovery::RecoverAnswer;
 use recovery::Recovered;
+use recovery_code::settling::no_openings;
 
 // Recover, in layout l.
-fn recover_in(image: &[u8], l: usize, heads: &mut [u32], next: &mut [u32]) -> Recovered
+fn recover_in(image: &[u8], l: usize, heads: &mut [u32], next: &mut [u32]) -> RecoverAnswer
     requires { ⌜ Layout l ⌝ }
-    ensures { λ r. ⌜ recoverEnd r (now (heads .exit)) (now (next .exit)) ≡ recoverResult l (now (image .entry)) (now (heads .entry)) (now (next .entry)) ⌝ }
+    ensures { λ r. ⌜ recoverEnd (r .recovered) (r .openings) (now (heads .exit)) (now (next .exit)) ≡ recoverResult l (now (image .entry)) (now (heads .entry)) (now (next .entry)) ⌝ }
 {
     let fault = lent_fault(image, l, heads.len(), next.len());
     if fault != 0 {
-        return Recovered::Refused {
-            number: fault,
-            slot: 0,
+        return RecoverAnswer {
+            recovered: Recovered::Refused {
+                number: fault,
+                slot: 0,
+            },
+            openings: no_openings(),
         };
     }
     let n = slot_count(image.len());
@@ -45,9 +50,9 @@ fn recover_in(image: &[u8], l: usize, heads: &mut [u32], next: &mut [u32]) -> Re
     recover_65536(image, l, heads, next, n)
 }
 
-// The index of the image: the state beside the rebuilt heads and next, or a refusal, which changes neither.
-pub fn recover(image: &[u8], heads: &mut [u32], next: &mut [u32]) -> Recovered
-    ensures { λ r. ⌜ recoverEnd r (now (heads .exit)) (now (next .exit)) ≡ recoverResult 1 (now (image .entry)) (now (heads .entry)) (now (next .entry)) ⌝ }
+// The index of the image: the state beside the rebuilt heads and next with the stores that open void slots, or a refusal, which changes neither.
+pub fn recover(image: &[u8], heads: &mut [u32], next: &mut [u32]) -> RecoverAnswer
+    ensures { λ r. ⌜ recoverEnd (r .recovered) (r .openings) (now (heads .exit)) (now (next .exit)) ≡ recoverResult 1 (now (image .entry)) (now (heads .entry)) (now (next .entry)) ⌝ }
 {
     recover_in(image, 1, heads, next)
 }

@@ -2,7 +2,7 @@
 use mathlib.Core.Path.{_≡_, refl, sym, ap, ap₂, _∙_}
 use mathlib.Core.Bool.{true, false, cond}
 use mathlib.Core.Logic.{_⊎_, inl, inr}
-use mathlib.Core.List.{List}
+use mathlib.Core.List.{List, []}
 use Prim.Native.Nat.{ℕ, zero, suc, _+_, _-_, _*_, _%_, _^_, _≤_, _<_}
 use native.Mathlib.Nat.{mod-lt, mul-le-mul-right}
 use native.Mathlib.Omega.{arith}
@@ -33,7 +33,7 @@ use Rattle.recovery.specs.inner.Decide.{livePlace, Within}
 use Rattle.recovery.specs.inner.Judge.{Ready, Roomy, Judgeable, Arranged, Judgement, Left, answerBy}
 use Rattle.recovery.specs.declared.Judged.{Judged}
 use Rattle.recovery.specs.declared.Openings.{Openings}
-use Rattle.recovery.specs.declared.Recovered.{Recovered}
+use Rattle.recovery.specs.declared.RecoverAnswer.{RecoverAnswer}
 use Rattle.recovery.specs.declared.Recovered.the-variants.{Rebuilt, Refused}
 use Rattle.recovery.proofs.Rebuilt.{arranged-index, arranged-place, ordered-whole}
 use Rattle.recovery.proofs.Orders.{whole-within}
@@ -45,20 +45,20 @@ stores l image = openingStores (word image) (voidSlots l (word image) (slotsIn i
 -- the result by the refusal's number and the slot that it names
 module _ (l : ℕ) (image heads next : List ℕ) (fault : ℕ) (e : recoverFault l image (length heads) (length next) ≡ fault) where
   result-refused : (slot : ℕ) → recoverSlot l image (length heads) (length next) ≡ slot → (fault ≡ 0 → ⊥)
-      → refusedResult fault slot heads next ≡ recoverResult l image heads next
+      → refusedResult fault slot (openingsOf []) heads next ≡ recoverResult l image heads next
   unfolding recoverResult
   result-refused slot d ne =
       sym
       (refused-keeps (recovered (tableOf l image) (slotsIn image) (length heads) (stores l image)) _
       (recoverFault l image (length heads) (length next)) (λ z. ne (sym e ∙ z))
-      ∙ ap₂ (λ (k s : ℕ). refusedResult k s heads next) e d)
+      ∙ ap₂ (λ (k s : ℕ). refusedResult k s (openingsOf []) heads next) e d)
 
   result-taken : fault ≡ 0 → recovered (tableOf l image) (slotsIn image) (length heads) (stores l image) ≡ recoverResult l image heads next
   result-taken z = sym (recovery-taken l image heads next (e ∙ z))
 
 -- 1 to 4
 pub lent-refused : (l : ℕ) (image heads next : List ℕ) (fault : ℕ) → fault ≡ lentFault l image (length heads) (length next) → (fault ≡ 0 → ⊥)
-    → refusedResult fault 0 heads next ≡ recoverResult l image heads next
+    → refusedResult fault 0 (openingsOf []) heads next ≡ recoverResult l image heads next
 unfolding recoverFault recoverSlot
 lent-refused l image heads next fault e ne =
     result-refused l image heads next fault (orElse-first _ _ (λ z. ne (e ∙ z)) ∙ sym e) 0
@@ -75,7 +75,7 @@ module _ (l : ℕ) (image heads next : List ℕ) (n : ℕ) (ready : Ready image 
   by-slots fault e = orElse-later _ _ (ready .lent) ∙ ap (slotsFault l (word image)) (ready .sized .slot-count) ∙ sym e
 
   slots-refused : (fault slot : ℕ) → fault ≡ slotsFault l (word image) n → slot ≡ slotsNamed l (word image) n → (fault ≡ 0 → ⊥)
-      → refusedResult fault slot heads next ≡ recoverResult l image heads next
+      → refusedResult fault slot (openingsOf []) heads next ≡ recoverResult l image heads next
   unfolding recoverSlot
   slots-refused fault slot e d ne =
       result-refused l image heads next fault (by-slots fault e) slot
@@ -123,10 +123,10 @@ module _ (l : ℕ) (image heads next : List ℕ) (n : ℕ) (ready : Ready image 
       next-is = omega (arith, a .top-is)
 
 -- both ways of a call, by the refusal's number
-pub slots-answered : (l : ℕ) (image heads next order places : List ℕ) (n : ℕ) (found : Judged) (heads′ next′ : List ℕ) (state : State) (r : Recovered)
+pub slots-answered : (l : ℕ) (image heads next order places : List ℕ) (n : ℕ) (found : Judged) (heads′ next′ : List ℕ) (state : State) (r : RecoverAnswer)
     → Ready image l heads next n → Judgement l (word image) n (length heads) order places found
     → Left (found .fault) heads next order places (found .live) (found .top) heads′ next′ state → r ≡ answerBy (found .fault) (found .slot) state (found .openings)
-    → recoverEnd r heads′ next′ ≡ recoverResult l image heads next
+    → recoverEnd (r .recovered) (r .openings) heads′ next′ ≡ recoverResult l image heads next
 unfolding recoverEnd answerBy
 slots-answered l image heads next order places n found heads′ next′ state r ready j v q = go (zero-or-not fault)
   where
@@ -136,17 +136,24 @@ slots-answered l image heads next order places n found heads′ next′ state r 
     slot : ℕ
     slot = found .slot
 
-    says : (w : Recovered) → answerBy fault slot state (found .openings) ≡ w → recoverEnd r heads′ next′ ≡ recoverEnd w heads′ next′
-    says w u = ap (λ (x : Recovered). recoverEnd x heads′ next′) (q ∙ u)
+    taken : RecoverAnswer
+    taken = record { recovered = Rebuilt state; openings = found .openings }
 
-    go : (fault ≡ 0) ⊎ (fault ≡ 0 → ⊥) → recoverEnd r heads′ next′ ≡ recoverResult l image heads next
+    refusal : RecoverAnswer
+    refusal = record { recovered = Refused fault slot; openings = openingsOf [] }
+
+    says : (w : RecoverAnswer) → cond (eqb fault 0) taken refusal ≡ w
+        → recoverEnd (r .recovered) (r .openings) heads′ next′ ≡ recoverEnd (w .recovered) (w .openings) heads′ next′
+    says w u = ap (λ (x : RecoverAnswer). recoverEnd (x .recovered) (x .openings) heads′ next′) (q ∙ u)
+
+    go : (fault ≡ 0) ⊎ (fault ≡ 0 → ⊥) → recoverEnd (r .recovered) (r .openings) heads′ next′ ≡ recoverResult l image heads next
     go (inl z) =
-        says (Rebuilt state (found .openings)) (pick-true (eqb fault 0) (Rebuilt state (found .openings)) (Refused fault slot) (eq-eqb fault 0 z))
+        says taken (pick-true (eqb fault 0) taken refusal (eq-eqb fault 0 z))
         ∙ slots-taken l image heads next n ready fault (j .fault-is) z order places heads′ next′ (found .live) (found .top) state (found .openings) (j .arranged z)
         (j .openings-are z) (v .rebuilt z)
     go (inr ne) =
-        says (Refused fault slot) (pick-false (eqb fault 0) (Rebuilt state (found .openings)) (Refused fault slot) (ne-eqb fault 0 ne))
-        ∙ ap₂ (λ (h x : List ℕ). recoverEnd (Refused fault slot) h x) (v .kept ne .0) (v .kept ne .1)
+        says refusal (pick-false (eqb fault 0) taken refusal (ne-eqb fault 0 ne))
+        ∙ ap₂ (λ (h x : List ℕ). refusedResult fault slot (openingsOf []) h x) (v .kept ne .0) (v .kept ne .1)
         ∙ slots-refused l image heads next n ready fault slot (j .fault-is) (j .slot-is) ne
 
 -- ---- rebuild can write

@@ -39,20 +39,24 @@ pub record Result : Type 0 where
 abbrev pub stateValues : State → List ℕ
 stateValues s = s .first ∷ s .last ∷ s .live ∷ s .version ∷ []
 
--- the state beside the rebuilt index; with a refusal there is none, and zeros stand for it
+-- with a refusal there is no state, and zeros stand for it
 unfoldable pub noState : State
 noState = record { first = 0; last = 0; live = 0; version = 0; newest = 0 }
 
--- a refused recovery leaves the index as it was lent, and has no stores
-abbrev pub refusedResult : (number slot : ℕ) → (heads next : List ℕ) → Result
-refusedResult number slot heads next =
-    record { answer = refused number; slot = slot; state = noState; openings = openingsOf []; heads = heads; next = next }
+-- a rebuilt index with the state beside it names no slot
+abbrev pub rebuiltResult : State → Openings → (heads next : List ℕ) → Result
+rebuiltResult s openings heads next =
+    record { answer = gives (stateValues s); slot = 0; state = s; openings = openings; heads = heads; next = next }
 
--- what a call of recover with this answer left
-unfoldable pub recoverEnd : Recovered → (heads next : List ℕ) → Result
-recoverEnd (Rebuilt state openings) heads next =
-    record { answer = gives (stateValues state); slot = 0; state = state; openings = openings; heads = heads; next = next }
-recoverEnd (Refused number slot) heads next = refusedResult number slot heads next
+-- a refusal has a number and the slot that it names
+abbrev pub refusedResult : (number slot : ℕ) → Openings → (heads next : List ℕ) → Result
+refusedResult number slot openings heads next =
+    record { answer = refused number; slot = slot; state = noState; openings = openings; heads = heads; next = next }
+
+-- what a call of recover with this answer and these stores left
+unfoldable pub recoverEnd : Recovered → Openings → (heads next : List ℕ) → Result
+recoverEnd (Rebuilt s) openings heads next = rebuiltResult s openings heads next
+recoverEnd (Refused number slot) openings heads next = refusedResult number slot openings heads next
 
 -- 25, and then 8, by the settled table f
 unfoldable pub settledFault : Table → (n : ℕ) → ℕ
@@ -94,20 +98,14 @@ recoveredIndex f n b = chained n b (chainsOf f n b) (placeOf f n b)
 unfoldable pub recoveredState : Table → (n b : ℕ) → State
 recoveredState f n b = stateOf (recoveredIndex f n b) (liveCount f n) (nextVersion f n) 0
 
--- f is the settled table, and stores are those that open its void slots
+-- f is the settled table, and stores are those that open the void slots
 unfoldable pub recovered : Table → (n b : ℕ) → (stores : List Store) → Result
 recovered f n b stores =
-    record {
-      answer = gives (stateValues (recoveredState f n b));
-      slot = 0;
-      state = recoveredState f n b;
-      openings = openingsOf stores;
-      heads = recoveredIndex f n b .heads;
-      next = recoveredIndex f n b .next;
-    }
+    rebuiltResult (recoveredState f n b) (openingsOf stores) (recoveredIndex f n b .heads) (recoveredIndex f n b .next)
 
+-- a refused recovery leaves the index as it was lent, and has no stores
 unfoldable pub recoverResult : (l : ℕ) → (image heads next : List ℕ) → Result
 recoverResult l image heads next =
     unlessRefused (recoverFault l image (length heads) (length next))
     (recovered (tableOf l image) (slotsIn image) (length heads) (openingStores (word image) (voidSlots l (word image) (slotsIn image))))
-    (refusedResult (recoverFault l image (length heads) (length next)) (recoverSlot l image (length heads) (length next)) heads next)
+    (refusedResult (recoverFault l image (length heads) (length next)) (recoverSlot l image (length heads) (length next)) (openingsOf []) heads next)

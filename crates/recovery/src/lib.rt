@@ -2,6 +2,12 @@
 
 use index::State;
 
+// Recovery's answer: the state beside the rebuilt index, or a refusal with the slot that it names, 0 for none.
+pub enum Recovered {
+    Rebuilt(State),
+    Refused { number: u32, slot: u32 },
+}
+
 // The opening stores: `count` of them, store i sets word at[i] of the image to value[i]. Entries from `count` on are zero.
 pub struct Openings {
     pub count: u32,
@@ -9,10 +15,10 @@ pub struct Openings {
     pub value: [u64; 8],
 }
 
-// Recovery's answer: the state beside the rebuilt index with the opening stores, or a refusal with the slot that it names, 0 for none.
-pub enum Recovered {
-    Rebuilt { state: State, openings: Openings },
-    Refused { number: u32, slot: u32 },
+// What recover gives back: the answer and the opening stores, none with a refusal.
+pub struct RecoverAnswer {
+    pub recovered: Recovered,
+    pub openings: Openings,
 }
 
 // What is kept of one slot: its rank in recovery's order, the low and the high word of its key, its chain as a number (0 is the reuse chain),

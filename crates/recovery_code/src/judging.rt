@@ -2,18 +2,18 @@
 ghost use mathlib.Core.Path.{_≡_};
 ghost use Rattle.words.specs.Word.{word};
 ghost use Rattle.recovery.specs.inner.Judge.{Judgeable, foundFault, foundSlot, Judgement};
-use crate::ordering::any_equal_neighbours;
+use crate::comparing::compare;
 use crate::ordering::count_placed;
 use crate::ordering::decide;
-use crate::ordering::order_by_key;
-use crate::ordering::order_by_rank;
 use crate::scanning::scan;
+use crate::settling::judged_rank;
+use crate::settling::settle;
 use recovery::Judged;
 
-// More broken slots than this are refused with 25.
-const BROKEN_LIMIT: u32 = 1;
+// More broken and void slots than this are refused with 25.
+const BROKEN_LIMIT: u32 = 8;
 
-// The refusal of the slots by what was found, else 0: 5, the fault of the lowest slot at fault, 7, 25, 8.
+// The refusal of the slots by what was found, else 0: 5, the fault of the lowest slot at fault, 7, 25, 8. `broken` counts void slots too.
 fn found_fault(mark: bool, fault: u32, shared: bool, broken: u32, live: u32, n: u32) -> u32
     ensures { λ r. ⌜ r ≡ foundFault mark fault shared broken live n ⌝ }
 {
@@ -63,16 +63,29 @@ pub fn judge(
     ensures { λ r. ⌜ Judgement l (word (now (image .entry))) n b (now (order .exit)) (now (places .exit)) r ⌝ }
 {
     let all = scan(image, l, n, b, ranks, lows, highs, places);
-    order_by_rank(ranks, order, scratch);
-    let shared = any_equal_neighbours(ranks, order, n);
-    order_by_key(lows, highs, order, by_key, scratch);
+    let shared = compare(image, l, n, ranks, lows, highs, order, by_key, scratch);
+    let limit = judged_rank(image, l, ranks, order, n);
+    let openings = settle(
+        image,
+        n,
+        limit,
+        ranks,
+        lows,
+        highs,
+        places,
+        order,
+        by_key,
+        scratch,
+    );
     decide(lows, highs, by_key, places, n);
     let live = count_placed(places, n);
-    let fault = found_fault(all.mark, all.fault, shared, all.broken, live, n as u32);
+    let broken = all.broken + openings.count;
+    let fault = found_fault(all.mark, all.fault, shared, broken, live, n as u32);
     Judged {
         fault,
         slot: found_slot(all.mark, all.slot),
         live,
         top: all.top,
+        openings,
     }
 }

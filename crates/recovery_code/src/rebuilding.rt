@@ -7,9 +7,12 @@ ghost use Rattle.index.specs.inner.Build.{build, placeIn, unbuilt, Ordered};
 ghost use Rattle.recovery.specs.Recover.{recoverResult, recoverEnd};
 ghost use Rattle.recovery.specs.inner.Judge.{Ready, Judgeable, Left, answerBy};
 use crate::judging::judge;
+use crate::settling::no_openings;
 use index::State;
 use index_code::build::chain_up;
 use index_code::build::clear;
+use recovery::Openings;
+use recovery::RecoverAnswer;
 use recovery::Recovered;
 
 // Heads and next become the chains of the order, each slot in the chain that places has for it; the state beside them is returned.
@@ -22,7 +25,7 @@ fn rebuild(
     top: u64,
 ) -> State
     requires { ⌜ Ordered (now heads) (now next) (now order) (now places) × (top < 2 ^ 63) ⌝ }
-    ensures { λ r. ⌜ PartsOf (now (heads .exit)) (now (next .exit)) r (build (placeIn (now (places .entry))) (unbuilt (replicate (length (now (heads .entry))) 0) (replicate (length (now (next .entry))) 0)) (now (order .entry))) live (top + 1) ⌝ }
+    ensures { λ r. ⌜ PartsOf (now (heads .exit)) (now (next .exit)) r (build (placeIn (now (places .entry))) (unbuilt (replicate (length (now (heads .entry))) 0) (replicate (length (now (next .entry))) 0)) (now (order .entry))) live (top + 1) 0 ⌝ }
 {
     clear(heads);
     clear(next);
@@ -32,6 +35,7 @@ fn rebuild(
         last: built.last,
         live,
         version: top + 1,
+        newest: 0,
     }
 }
 
@@ -54,21 +58,28 @@ fn rebuild_accepted(
             last: 0,
             live: 0,
             version: 0,
+            newest: 0,
         };
     }
     rebuild(heads, next, order, places, live, top)
 }
 
-// The refusal with the slot that it names, or the state.
-fn answer(fault: u32, slot: u32, state: State) -> Recovered
-    ensures { λ r. ⌜ r ≡ answerBy fault slot state ⌝ }
+// The state and the opening stores, or the refusal with the slot that it names and no stores.
+fn answer(fault: u32, slot: u32, state: State, openings: Openings) -> RecoverAnswer
+    ensures { λ r. ⌜ r ≡ answerBy fault slot state openings ⌝ }
 {
     if fault == 0 {
-        return Recovered::Rebuilt(state);
+        return RecoverAnswer {
+            recovered: Recovered::Rebuilt(state),
+            openings,
+        };
     }
-    Recovered::Refused {
-        number: fault,
-        slot,
+    RecoverAnswer {
+        recovered: Recovered::Refused {
+            number: fault,
+            slot,
+        },
+        openings: no_openings(),
     }
 }
 
@@ -86,9 +97,9 @@ pub fn recover_with(
     order: &mut [u32],
     by_key: &mut [u32],
     scratch: &mut [u32],
-) -> Recovered
+) -> RecoverAnswer
     requires { ⌜ Ready (now image) l (now heads) (now next) n × Judgeable (now image) l (now ranks) (now lows) (now highs) (now places) (now order) (now «by_key») (now scratch) n (length (now heads)) ⌝ }
-    ensures { λ r. ⌜ recoverEnd r (now (heads .exit)) (now (next .exit)) ≡ recoverResult l (now (image .entry)) (now (heads .entry)) (now (next .entry)) ⌝ }
+    ensures { λ r. ⌜ recoverEnd (r .recovered) (r .openings) (now (heads .exit)) (now (next .exit)) ≡ recoverResult l (now (image .entry)) (now (heads .entry)) (now (next .entry)) ⌝ }
 {
     let judged = judge(
         image,
@@ -105,5 +116,6 @@ pub fn recover_with(
     );
     let fault = judged.fault;
     let state = rebuild_accepted(heads, next, order, places, fault, judged.live, judged.top);
-    answer(fault, judged.slot, state)
+    let openings = judged.openings;
+    answer(fault, judged.slot, state, openings)
 }

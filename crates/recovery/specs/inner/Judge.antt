@@ -1,7 +1,7 @@
 -- What recovery finds before it writes anything, and what it leaves.
 use mathlib.Core.Path.{_≡_}
 use mathlib.Core.Bool.{Bool, true, cond}
-use mathlib.Core.List.{List}
+use mathlib.Core.List.{List, []}
 use Prim.Native.Nat.{ℕ, suc, _+_, _-_, _*_, _^_, _≤_, _<_}
 use lib.Dec.{eqb, ltb}
 use lib.ListN.{length, getD, set, replicate}
@@ -25,11 +25,16 @@ use Rattle.stores.specs.Store.{Store}
 use Rattle.stores.specs.Opening.{openingStores}
 use Rattle.recovery.specs.Opening.{voidSlots, openingsOf}
 use Rattle.recovery.specs.inner.Scan.{keyAt}
-use Rattle.recovery.specs.inner.Decide.{runFault, keyTwice, livePlace, Cleared}
+use Rattle.recovery.specs.inner.Decide.{runFault, keyTwice, livePlace, Cleared, Within}
 use Rattle.recovery.specs.declared.Openings.{Openings}
 use Rattle.recovery.specs.declared.Judged.{Judged}
-use Rattle.recovery.specs.declared.Recovered.{Recovered}
+use Rattle.recovery.specs.declared.RecoverAnswer.{RecoverAnswer}
 use Rattle.recovery.specs.declared.Recovered.the-variants.{Rebuilt, Refused}
+
+-- the order of the slots 1 to n by rank, and that order by key
+pub record InOrder (ranks lows highs : List ℕ) (n : ℕ) (order by-key : List ℕ) : Type 0 where
+  pub by-rank : order ≡ sorted (λ x. getD ranks x 0) (slotNumbers n)
+  pub keyed : by-key ≡ sorted (keyAt lows highs) order
 
 -- the image has n slots, there are b heads, and the scratch lists have their sizes: in layout 1 highs has no entry
 pub record Judgeable (image : List ℕ) (l : ℕ) (ranks lows highs places order by-key scratch : List ℕ) (n b : ℕ) : Type 0 where
@@ -46,6 +51,37 @@ pub record Judgeable (image : List ℕ) (l : ℕ) (ranks lows highs places order
   pub few : n ≤ 65535
   pub heads-low : 1 ≤ b
   pub heads-high : b ≤ 65536
+
+-- the image has n slots, and the order has n positions of them
+pub record Numbered (image : List ℕ) (l : ℕ) (order : List ℕ) (n : ℕ) : Type 0 where
+  pub layout : Layout l
+  pub image-size : length image ≡ 128 * (n + 1)
+  pub order-size : length order ≡ n
+  pub within : Within order n
+  pub few : n ≤ 65535
+
+-- the lists have their sizes, as in Judgeable
+pub record Comparable (image : List ℕ) (l n : ℕ) (ranks lows highs order by-key scratch : List ℕ) : Type 0 where
+  pub layout : Layout l
+  pub image-size : length image ≡ 128 * (n + 1)
+  pub ranks-size : length ranks ≡ n + 1
+  pub lows-size : length lows ≡ n + 1
+  pub highs-size : length highs ≡ (l - 1) * (n + 1)
+  pub order-size : length order ≡ n
+  pub by-key-size : length by-key ≡ n
+  pub scratch-size : length scratch ≡ n
+  pub some-slots : 1 ≤ n
+  pub few : n ≤ 65535
+
+-- the lists have their sizes, and the slots are in order
+pub record Settleable (image : List ℕ) (n : ℕ) (ranks lows highs places order by-key scratch : List ℕ) : Type 0 where
+  pub image-size : length image ≡ 128 * (n + 1)
+  pub ranks-size : length ranks ≡ n + 1
+  pub places-size : length places ≡ n + 1
+  pub scratch-size : length scratch ≡ n
+  pub some-slots : 1 ≤ n
+  pub few : n ≤ 65535
+  pub in-order : InOrder ranks lows highs n order by-key
 
 -- what is lent has no fault of 1 to 4, and the image has n slots
 pub record Ready (image : List ℕ) (l : ℕ) (heads next : List ℕ) (n : ℕ) : Type 0 where
@@ -64,11 +100,6 @@ pub record Roomy (ranks lows highs places order by-key scratch : List ℕ) (n : 
   pub order-room : n < length order
   pub by-key-room : n < length by-key
   pub scratch-room : n < length scratch
-
--- the order of the slots 1 to n by rank, and that order by key
-pub record InOrder (ranks lows highs : List ℕ) (n : ℕ) (order by-key : List ℕ) : Type 0 where
-  pub by-rank : order ≡ sorted (λ x. getD ranks x 0) (slotNumbers n)
-  pub keyed : by-key ≡ sorted (keyAt lows highs) order
 
 -- these orders, and whether 7 is found along them
 pub record Compared (num : Numbers) (ranks lows highs : List ℕ) (n : ℕ) (order by-key : List ℕ) (shared : Bool) : Type 0 where
@@ -117,5 +148,8 @@ unfoldable pub withStore : Openings → Store → Openings
 withStore o s =
     record { count = o .count + 1; at = set (o .at) (o .count) (s .word); value = set (o .value) (o .count) (s .value) }
 
-unfoldable pub answerBy : (fault slot : ℕ) → State → Openings → Recovered
-answerBy fault slot state openings = cond (eqb fault 0) (Rebuilt state openings) (Refused fault slot)
+-- the state and the opening stores, or the refusal and no stores
+unfoldable pub answerBy : (fault slot : ℕ) → State → Openings → RecoverAnswer
+answerBy fault slot state openings =
+    cond (eqb fault 0) (record { recovered = Rebuilt state; openings = openings })
+    (record { recovered = Refused fault slot; openings = openingsOf [] })

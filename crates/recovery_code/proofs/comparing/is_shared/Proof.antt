@@ -1,8 +1,8 @@
--- `recovery_code::ordering::is_shared` meets its contract. Assumes nothing.
+-- `recovery_code::comparing::is_shared` meets its contract. Assumes nothing.
 use borrow.Author.Needs.{needs}
 use Rattle.recovery.proofs.Orders.{neighbours-low, neighbours-test}
-use Rattle.recovery_code.proofs.ordering.is_shared.Statement.{statement}
-use Rattle.recovery_code.proofs.ordering.is_shared.Tie as tie
+use Rattle.recovery_code.proofs.comparing.is_shared.Statement.{statement}
+use Rattle.recovery_code.proofs.comparing.is_shared.Tie as tie
 
 pub is-shared-spec : {M : Type 1} → statement M
 is-shared-spec =
