@@ -7,6 +7,7 @@ pub mod Sounds
 pub mod Rights
 pub mod Afters
 pub mod Wrote
+pub mod Opens
 pub mod SoundAfter
 pub mod SoundWrites
 pub mod Outcomes
