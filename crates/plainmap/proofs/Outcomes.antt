@@ -1,74 +1,78 @@
 -- What insert, replace and remove do in a sound world: they are refused, store nothing, or write one record and leave a sound index. Assumes nothing.
-use mathlib.Core.Path.{_≡_, refl, sym, ap, _∙_, subst}
-use mathlib.Core.Bool.{true, false}
-use mathlib.Core.Option.{none}
-use mathlib.Core.Logic.{inl, by-cases}
+use mathlib.Core.Path.{_≡_, refl, sym, ap, ap₂, _∙_, subst}
+use mathlib.Core.Bool.{Bool, true, false, cond, not, _&&_}
+use mathlib.Core.Option.{Option, some, none}
+use mathlib.Core.Logic.{_⊎_, inl, inr, by-cases}
 use mathlib.Core.List.{List, [], _∷_}
-use Prim.Native.Nat.{ℕ, _+_, _-_, _%_, _^_, _≤_, _<_}
+use Prim.Native.Nat.{ℕ, zero, suc, _+_, _-_, _%_, _^_, _≤_, _<_}
 use native.Mathlib.Nat.{mod-lt}
 use native.Mathlib.Decide.{ℕ-discrete}
 use native.Mathlib.Omega.{arith}
-use lib.Dec.{ltb}
-use lib.ListN.{length}
-use borrow.Author.Tests.{ltb-false}
-use Rattle.words.specs.Word.{AreBytes}
+use lib.Dec.{eqb, ltb, leb}
+use lib.ListN.{length, take}
+use borrow.Author.Tests.{eq-eqb, ltb-false, leb-false}
+use Rattle.words.specs.Word.{word, AreBytes}
+use Rattle.prelude.specs.Refusal.{say}
 use Rattle.prelude.specs.Answer.{absent, refused}
-use Rattle.layout.specs.Record.{limit, Layout}
-use Rattle.layout.specs.Content.{Content, made, Table}
-use Rattle.table.specs.Complete.{tableOf}
-use Rattle.layout.specs.Header.{lentFault}
+use Rattle.prelude.specs.Filter.{filter}
+use Rattle.prelude.specs.Members.{All, none-left, one-more, In, Slot}
+use Rattle.prelude.proofs.Choice.{pick-true, true-false}
+use Rattle.prelude.proofs.Lists.{front-length}
 use Rattle.prelude.proofs.Refusals.{say-zero, orElse-zero, taken-leaves, refused-keeps}
-use Rattle.stores.specs.Cut.{Fields, Lawful, a-put, a-remove}
-use Rattle.table.specs.Table.{mapOf, live, liveCount, nextVersion, isHeld}
-use Rattle.prelude.specs.Members.{Slot}
-use Rattle.table.proofs.defs.Write.{Free, BrokenAt, only, isPut, upd}
+use Rattle.layout.specs.Size.{slotsIn}
+use Rattle.layout.specs.Line.{versionFault}
+use Rattle.layout.specs.Record.{limit, Layout}
+use Rattle.layout.specs.Header.{lentFault}
+use Rattle.layout.specs.Content.{Content, made, content, topOf, Table, contentsOf, numbersOf}
+use Rattle.layout.proofs.Content.{top-is}
+use Rattle.layout.proofs.Lents.{version-fine, index-sized}
+use Rattle.stores.specs.Basket.{BasketRecord, basketSlots}
+use Rattle.stores.specs.Cut.{Fields, Lawful, a-put, a-remove, LawfulNumber, alone, LawfulRecord}
+use Rattle.table.specs.Table.{keyIn, decider, mapOf, live, liveCount, nextVersion, isHeld}
+use Rattle.table.specs.Complete.{tableOf, numberFor, NoneVoid}
+use Rattle.table.specs.Taking.{mayTake, takenOf}
+use Rattle.table.proofs.defs.Write.{Above, Record, isPut, holder}
 use Rattle.table.proofs.defs.Reuse.{Spares}
-use Rattle.table.specs.Reuse.{HiddenFirst, BrokenFirst}
-use Rattle.table.proofs.Hidden.{head-free}
-use Rattle.table.proofs.Broken.{head-broken}
+use Rattle.table.proofs.defs.Basket.{Basket, HeldRemoved, oneIf, putsIn, heldIn, insertsIn, removesIn}
+use Rattle.table.proofs.defs.Struck.{Struck, Finished}
+use Rattle.table.proofs.Complete.{single-number}
+use Rattle.table.proofs.ReuseOrder.{SingleTaken, takes-none, takes-first, single-first}
+use Rattle.table.proofs.Alike.{alike-decider, alike-map, alike-count, alike-highest-last}
+use Rattle.table.proofs.Accepted.{reuse-basket, taken-broken}
+use Rattle.table.proofs.LiveAfter.{spare-by}
+use Rattle.table.proofs.Held.{holder-held}
+use Rattle.table.proofs.Write.{above-next}
 use Rattle.index.specs.Index.{Index, Chain, reuse, head, headOf, indexOf, stateOf}
 use Rattle.index.specs.Walk.{search, chainFault}
-use Rattle.index.specs.Change.{insertNew, replaceHeld, removeHeld, keyFault, isFound, roomFault}
+use Rattle.index.specs.Change.{insertNew, replaceHeld, removeHeld, keyFault, isFound}
+use Rattle.index.specs.Taking.{Taking, fewFault, reuseFault, roomFault}
 use Rattle.index.specs.declared.Mode.{Mode}
-use Rattle.layout.specs.Line.{versionFault}
+use Rattle.index.specs.declared.Mode.the-variants.{Insert, Replace}
 use Rattle.index.specs.declared.Found.{Found}
 use Rattle.index.specs.declared.Found.the-variants.{At, Missing}
-use Rattle.index.proofs.Faults.{room-fine}
-use Rattle.layout.proofs.Lents.{version-fine, index-sized}
 use Rattle.index.proofs.Sits.{sits-first}
-use Rattle.calls.specs.Change.{ChangeResult, changed, unchanged, writeLentFault, writeLaterFault, writeFault, writeDone, writeResult, heldFault, removeLaterFault, removeFault, removeDone, removeResult}
+use Rattle.index.proofs.defs.TakenIn.{takenIn}
+use Rattle.index.proofs.Takings.{sits-taking, few-exact}
+use Rattle.taking.specs.Taking.{takingOf}
+use Rattle.calls.specs.Change.{ChangeResult, storeFault, changed, unchanged, insertsOf, writeLentFault, writeLaterFault, writeFault, writeDone, writeResult, removeLaterFault, removeFault, removeDone, removeResult}
+use Rattle.images.proofs.defs.Entries.{recordAt}
+use Rattle.images.proofs.Entries.{made-record, made-key}
 use Rattle.plainmap.specs.World.{World, Called}
-use Rattle.layout.specs.Size.{slotsIn}
+use Rattle.plainmap.specs.Accepted.{Accepted}
 use Rattle.plainmap.specs.Sound.{Starts, starts, Sound}
-use Rattle.plainmap.proofs.Struck.{made-record, nextRecord}
-use Rattle.plainmap.proofs.Sees.{Sees, sees-held, sees-absent, sound-spares, sound-sees}
-use Rattle.plainmap.proofs.SoundWrites.{new-room, new-sound, held-room, held-sound, removed-sound}
+use Rattle.plainmap.proofs.AcceptedImages.{accepted-right, accepted-room}
+use Rattle.plainmap.proofs.Sees.{Sees, sees-held, sees-absent, sound-sees}
+use Rattle.plainmap.proofs.Wrote.{SomeSound, some-sound, nextOf, WroteRecords}
+use Rattle.plainmap.proofs.SoundAfter.{same-slots, same-live, spares, older, broken}
+use Rattle.plainmap.proofs.SoundWrites.{new-sound, held-sound, removed-sound}
 
 -- the world with image′ that a call with this result leaves
 abbrev pub worldWith : (image′ : List ℕ) → Called → World
 worldWith image′ r = record { image = image′; heads = r .heads; next = r .next; state = r .state }
 
--- a sound index of this world, whatever its chains
-pub data SomeSound (l : ℕ) (w : World) : Type 0 where
-  some-sound : (chains : Chain → List ℕ) → Sound l w chains → SomeSound l w
-
--- a call wrote a record of this kind and value into the first slot of reuse: its result, what the record is, and the index after it
-pub record WroteRecord (l : ℕ) (w : World) (key kind : ℕ) (value : List ℕ) (i : Index) (alive : ℕ) : Type 0 where
-  pub fields : Fields l key kind value
-  pub lawful : Lawful kind value
-  pub small : nextVersion (tableOf l (w .image)) (slotsIn (w .image)) < 2 ^ 63
-  pub slot : Slot (slotsIn (w .image)) (w .state .first)
-  pub free : Free (tableOf l (w .image)) (slotsIn (w .image)) (only (w .state .first))
-  -- "A broken slot is always reused first": the slot is broken where any is
-  pub broken : BrokenAt (tableOf l (w .image)) (slotsIn (w .image)) (w .state .first)
-  pub room :
-      liveCount (upd (tableOf l (w .image)) (w .state .first) (nextRecord l (w .image) key kind value)) (slotsIn (w .image)) < slotsIn (w .image)
-  -- only a held key is removed
-  pub held : kind ≡ 2 → isHeld (mapOf (tableOf l (w .image)) (slotsIn (w .image)) key) ≡ true
-  pub sound :
-      (image′ : List ℕ) → slotsIn image′ ≡ slotsIn (w .image)
-      → tableOf l image′ ≡ upd (tableOf l (w .image)) (w .state .first) (nextRecord l (w .image) key kind value)
-      → SomeSound l (record { image = image′; heads = i .heads; next = i .next; state = stateOf i alive (w .state .version + 1) })
+-- the one record of a single call, for the first slot of reuse
+abbrev pub oneRecord : World → (key kind : ℕ) → (value : List ℕ) → List BasketRecord
+oneRecord w key kind value = record { slot = w .state .first; key = key; kind = kind; value = value } ∷ []
 
 -- the ways a call goes that is to write a record of this kind and value, by its fault; the result is `r`
 pub data Ran (l : ℕ) (w : World) (key kind : ℕ) (value : List ℕ) (fault : ℕ) (r : ChangeResult) : Type 0 where
@@ -76,35 +80,69 @@ pub data Ran (l : ℕ) (w : World) (key kind : ℕ) (value : List ℕ) (fault : 
   ran-absent : fault ≡ 0 → kind ≡ 2 → r ≡ unchanged absent (w .state) (w .heads) (w .next)
       → mapOf (tableOf l (w .image)) (slotsIn (w .image)) key ≡ none → Ran l w key kind value fault r
   ran-wrote : fault ≡ 0 → (i : Index) (alive : ℕ) → r ≡ changed l (w .image) (w .state) key kind value i alive
-      → WroteRecord l w key kind value i alive → Ran l w key kind value fault r
+      → WroteRecords l w (oneRecord w key kind value) i alive (w .state .first)
+      → (kind ≡ 2 → isHeld (mapOf (tableOf l (w .image)) (slotsIn (w .image)) key) ≡ true) → Ran l w key kind value fault r
 
 -- ---- what a call that is not refused has passed
 
-pub record WritePassed (l : ℕ) (w : World) (key size : ℕ) : Type 0 where
+-- 11 (reuse), 28 and 9
+pub record StorePassed (taking : Taking) (n live version inserts removes : ℕ) : Type 0 where
+  pub few : fewFault taking ≡ 0
+  pub room : live + inserts < n + removes
+  pub small : version < 2 ^ 63
+
+store-passed : (taking : Taking) (w : World) (n inserts removes : ℕ) → storeFault taking n (w .state) inserts removes ≡ 0
+    → StorePassed taking n (w .state .live) (w .state .version) inserts removes
+unfolding storeFault roomFault
+store-passed taking w n inserts removes z =
+    let a = orElse-zero (reuseFault taking n (w .state .first) (w .state .last) (w .state .live) removes) _ z in
+    let b = orElse-zero (roomFault taking n (w .state .live) inserts removes) _ (a .1) in
+    let c = orElse-zero (fewFault taking) _ (b .0) in
+    let d = say-zero (leb (n + removes) (w .state .live + inserts)) 28 0 (c .1) (omega arith) in
+    record {
+      few = c .0;
+      room = omega (arith, leb-false (n + removes) (w .state .live + inserts) (d .0));
+      small = version-fine (w .state .version) (b .1);
+    }
+
+pub record WritePassed (l : ℕ) (w : World) (mode : Mode) (key size : ℕ) : Type 0 where
   pub short : size ≤ limit l
-  pub room : roomFault (search l (w .image) (w .heads) (w .next) key) (slotsIn (w .image)) (w .state .live) ≡ 0
-  pub small : w .state .version < 2 ^ 63
+  pub asked : keyFault mode (isFound (search l (w .image) (w .heads) (w .next) key)) ≡ 0
+  pub store :
+      StorePassed (takingOf l (w .image) (w .next) (slotsIn (w .image)) (w .state .first) 1) (slotsIn (w .image)) (w .state .live)
+      (w .state .version) (insertsOf mode) 0
 
 write-passed : (l : ℕ) (w : World) (mode : Mode) (key size : ℕ) → writeFault l (w .image) (w .heads) (w .next) (w .state) mode key size ≡ 0
-    → WritePassed l w key size
+    → WritePassed l w mode key size
 unfolding writeFault writeLentFault writeLaterFault
 write-passed l w mode key size z =
     let a = orElse-zero (writeLentFault l (w .image) (length (w .heads)) (length (w .next)) size) _ z in
     let b = say-zero (ltb (limit l) size) _ _ (orElse-zero _ _ (a .0) .1) (omega arith) in
     let c = orElse-zero (chainFault (search l (w .image) (w .heads) (w .next) key)) _ (a .1) in
     let k = orElse-zero (keyFault mode (isFound (search l (w .image) (w .heads) (w .next) key))) _ (c .1) in
-    let d = orElse-zero (roomFault (search l (w .image) (w .heads) (w .next) key) (slotsIn (w .image)) (w .state .live)) _ (k .1) in
-    let e = orElse-zero (versionFault (w .state .version)) _ (d .1) in
-    record { short = ltb-false (limit l) size (b .0); room = d .0; small = version-fine (w .state .version) (e .0) }
+    record { short = ltb-false (limit l) size (b .0); asked = k .0; store = store-passed _ w (slotsIn (w .image)) (insertsOf mode) 0 (k .1) }
 
 remove-passed : (l : ℕ) (w : World) (key old prev compared : ℕ) → search l (w .image) (w .heads) (w .next) key ≡ At old prev compared
-    → removeFault l (w .image) (w .heads) (w .next) (w .state) key ≡ 0 → w .state .version < 2 ^ 63
-unfolding removeFault removeLaterFault heldFault
+    → removeFault l (w .image) (w .heads) (w .next) (w .state) key ≡ 0
+    → StorePassed (takingOf l (w .image) (w .next) (slotsIn (w .image)) (w .state .first) 1) (slotsIn (w .image)) (w .state .live)
+    (w .state .version) 0 1
+unfolding removeFault removeLaterFault
 remove-passed l w key old prev compared e z =
     let a = orElse-zero (lentFault l (w .image) (length (w .heads)) (length (w .next))) _ z in
-    let b = orElse-zero (versionFault (w .state .version)) _
-    (ap (λ (d : Found). removeLaterFault d (w .next) (slotsIn (w .image)) (w .state)) (sym e) ∙ a .1) in
-    version-fine (w .state .version) (b .0)
+    store-passed _ w (slotsIn (w .image)) 0 1
+    (ap (λ (d : Found). removeLaterFault d (takingOf l (w .image) (w .next) (slotsIn (w .image)) (w .state .first) 1) (slotsIn (w .image)) (w .state)) (sym e)
+    ∙ a .1)
+
+-- an insert of a held key and a replace of one that is not held are refused
+no-insert : (mode : Mode) → keyFault mode true ≡ 0 → insertsOf mode ≡ 0
+unfolding keyFault insertsOf say
+no-insert Insert e = absurd (omega arith)
+no-insert Replace e = refl
+
+an-insert : (mode : Mode) → keyFault mode false ≡ 0 → insertsOf mode ≡ 1
+unfolding keyFault insertsOf say
+an-insert Insert e = refl
+an-insert Replace e = absurd (omega arith)
 
 -- ---- in a sound world
 
@@ -116,15 +154,31 @@ remove-made : (version key : ℕ) (value : List ℕ) → isPut (made 2 version k
 unfolding made isPut
 remove-made version key value = refl
 
-module _ (l : ℕ) (lay : Layout l) (w : World) (chains : Chain → List ℕ) (g : Sound l w chains) where
+record-own : (version s key kind : ℕ) (value : List ℕ)
+    → recordAt version (record { slot = s; key = key; kind = kind; value = value } ∷ []) s ≡ made kind version key value
+unfolding recordAt
+record-own version s key kind value = pick-true (eqb s s) _ _ (eq-eqb s s refl)
+
+same-first : (x y : ℕ) (xs ys : List ℕ) → x ∷ xs ≡ y ∷ ys → x ∷ [] ≡ y ∷ []
+same-first x y xs ys e = ap (λ (l : List ℕ). take 1 l) e
+
+not-held : (o : Option (List ℕ)) → o ≡ none → isHeld o ≡ false
+unfolding isHeld
+not-held o e = ap isHeld e
+
+module _ (l : ℕ) (lay : Layout l) (w : World) (chains : Chain → List ℕ) (accepted : Accepted l (w .image)) (g : Sound l w chains)
+    (none-void : NoneVoid (contentsOf l (w .image)) (numbersOf l (w .image)) (slotsIn (w .image))) where
   abbrev f : Table
-  f = tableOf l (w .image)
+  f = contentsOf l (w .image)
 
   abbrev n : ℕ
   n = slotsIn (w .image)
 
   abbrev s : ℕ
   s = w .state .first
+
+  abbrev version : ℕ
+  version = nextOf l (w .image)
 
   abbrev h : ℕ → ℕ
   h key = headOf key (length (w .heads))
@@ -136,71 +190,216 @@ module _ (l : ℕ) (lay : Layout l) (w : World) (chains : Chain → List ℕ) (g
   first-slot xs d (starts t rest e) =
       (rest, d ∙ e ∙ ap (λ (x : ℕ). x ∷ rest) (sym (sits-first _ _ _ _ _ (g .index) t rest (d ∙ e) .0)))
 
-  -- what all three writes share: rest is the reuse chain behind its first slot
+  -- the slots and what stands of them do not depend on a list of slots to be taken
+  free-spares : Spares f n (chains reuse)
+  free-spares = spares l w chains g [] (λ t. f t) none-void
+
+  same : (t : ℕ) → Slot n t → tableOf l (w .image) t ≡ f t
+  same = same-slots l w chains g [] (λ t. f t) none-void
+
+  same-map : (key : ℕ) → mapOf (tableOf l (w .image)) n key ≡ mapOf f n key
+  same-map key = alike-map f (tableOf l (w .image)) n same key
+
+  above : Above f n version
+  above t i = omega (arith, above-next (tableOf l (w .image)) n t i, ap topOf (same t i))
+
+  -- what all three writes share: rest is the reuse chain behind its first slot, which may be taken
   module _ (rest : List ℕ) (e : chains reuse ≡ s ∷ rest) where
-    spares : Spares f n (s ∷ rest)
-    spares = subst (Spares f n) e (sound-spares l w chains g)
+    -- THE FIRST SLOT IS THE ONE that the taking rule names
+    pub first-taken : fewFault (takingOf l (w .image) (w .next) n s 1) ≡ 0 → takenOf f n 1 (chains reuse) ≡ s ∷ []
+    unfolding takingOf takenOf
+    first-taken few =
+        go (single-first f n (chains reuse) free-spares (older l w chains g [] (λ t. f t) none-void)
+        (alike-highest-last (tableOf l (w .image)) f n (λ t i. sym (same t i)) (chains reuse) (free-spares .slot) (g .highest)))
+      where
+        enough : ltb (length (filter (mayTake f n) (chains reuse))) 1 ≡ false
+        enough =
+            say-zero (ltb (length (filter (mayTake f n) (chains reuse))) 1) 28 0
+            (sym (few-exact (mayTake f n) 0 1 (chains reuse))
+            ∙ ap fewFault (sym (sits-taking n (length (w .heads)) _ (indexOf (w .heads) (w .next) (w .state)) chains (g .index) (mayTake f n) 1)) ∙ few)
+            (omega arith) .0
 
-    module _ (key kind : ℕ) (value : List ℕ) (i : Index) (alive : ℕ) where
-      abbrev c : Content
-      c = nextRecord l (w .image) key kind value
+        go : SingleTaken f n (chains reuse) → takenOf f n 1 (chains reuse) ≡ s ∷ []
+        go (takes-none z) =
+            absurd
+            (omega (
+              arith,
+              front-length 1 (filter (mayTake f n) (chains reuse)) (ltb-false (length (filter (mayTake f n) (chains reuse))) 1 enough),
+              ap (λ (x : List ℕ). length x) z,
+            ))
+        go (takes-first t others d z) = z ∙ same-first t s others rest (sym d ∙ e)
 
-      wrote : Fields l key kind value → Lawful kind value → w .state .version < 2 ^ 63 → liveCount (upd f s c) n < n
-          → (kind ≡ 2 → isHeld (mapOf f n key) ≡ true)
-          → ((image′ : List ℕ) → slotsIn image′ ≡ n → tableOf l image′ ≡ upd f s c
-          → SomeSound l (record { image = image′; heads = i .heads; next = i .next; state = stateOf i alive (w .state .version + 1) }))
-          → WroteRecord l w key kind value i alive
-      wrote fields lawful small room held sound =
+    -- one record c of the key for the first slot
+    module _ (key kind : ℕ) (value : List ℕ) where
+      abbrev es : List BasketRecord
+      es = oneRecord w key kind value
+
+      abbrev new : Table
+      new = recordAt version es
+
+      new-is : (t : ℕ) → In t (s ∷ []) → new t ≡ made kind version key value
+      new-is t (inl q) = ap new q ∙ record-own version s key kind value
+      new-is t (inr z) = absurd z
+
+      key-is : keyIn (new s) ≡ key
+      key-is = ap keyIn (record-own version s key kind value) ∙ made-key kind version key value
+
+      new-record : (t : ℕ) → In t (s ∷ []) → Record (new t) version (keyIn (new t))
+      new-record t j =
+          subst (λ (c : Content). Record c version (keyIn c)) (sym (new-is t j))
+          (subst (Record (made kind version key value) version) (sym (made-key kind version key value)) (made-record kind version key value))
+
+      alike : (x t : ℕ) → In x (s ∷ []) → In t (s ∷ []) → x ≡ t
+      alike x t (inl a) (inl b) = a ∙ sym b
+      alike x t (inl a) (inr z) = absurd z
+      alike x t (inr z) j = absurd z
+
+      inserts-one : (p x : Bool) → isPut (made kind version key value) ≡ p → isHeld (mapOf f n key) ≡ x
+          → insertsIn (s ∷ []) new (mapOf f n) ≡ oneIf (p && not x) + 0
+      unfolding insertsIn
+      inserts-one p x q d =
+          ap₂ (λ (y u : Bool). oneIf (y && not u) + 0) (ap isPut (record-own version s key kind value) ∙ q)
+          (ap (λ (k : ℕ). isHeld (mapOf f n k)) key-is ∙ d)
+
+      removes-one : (p : Bool) → isPut (made kind version key value) ≡ p → removesIn (s ∷ []) new ≡ oneIf (not p) + 0
+      unfolding removesIn
+      removes-one p q = ap (λ (y : Bool). oneIf (not y) + 0) (ap isPut (record-own version s key kind value) ∙ q)
+
+      wrote : (i : Index) (alive : ℕ) → Fields l key kind 0 value → Lawful kind 0 value → fewFault (takingOf l (w .image) (w .next) n s 1) ≡ 0
+          → w .state .version < 2 ^ 63 → HeldRemoved (s ∷ []) new (mapOf f n)
+          → liveCount f n + insertsIn (s ∷ []) new (mapOf f n) < n + removesIn (s ∷ []) new
+          → ((image′ : List ℕ) → slotsIn image′ ≡ n
+          → (bk : Basket f (numbersOf l (w .image)) n version (s ∷ []) new)
+          → (st : Struck f (contentsOf l image′) (numbersOf l (w .image)) (numbersOf l image′) n (s ∷ []) new)
+          → (z : Finished (contentsOf l image′) (numbersOf l image′) (s ∷ []) new)
+          → liveCount f n + putsIn (s ∷ []) new < n + heldIn (s ∷ []) new (mapOf f n)
+          → SomeSound l (record { image = image′; heads = i .heads; next = i .next; state = stateOf i alive (w .state .version + 1) s }))
+          → WroteRecords l w es i alive s
+      unfolding basketSlots numberFor
+      wrote i alive fields lawful few small removes room sound =
           record {
-            fields = fields;
-            lawful = lawful;
+            lawful =
+                one-more {x = record { slot = s; key = key; kind = kind; value = value }}
+                (record {
+                  fields = fields;
+                  lawful = lawful;
+                  above = omega (arith, above s (free-spares .slot s (rw e (inl refl))), top-is l (word (w .image)) s);
+                })
+                none-left;
             small = omega (arith, g .next-version);
-            slot = spares .slot s (inl refl);
-            free = head-free f n s rest spares (subst (HiddenFirst f n) e (g .hidden));
-            broken = head-broken f n s rest spares (subst (BrokenFirst f) e (g .broken));
-            room = room;
-            held = held;
-            sound = sound;
+            basket = basket;
+            broken = taken-broken free-spares taken (broken l w chains g [] (λ t. f t) none-void);
+            room = left;
+            removes = removes;
+            sound = λ image′ en st z. sound image′ en basket st z left;
           }
+        where
+          taken : takenOf f n 1 (chains reuse) ≡ s ∷ []
+          taken = first-taken few
+
+          basket : Basket f (numbersOf l (w .image)) n version (s ∷ []) new
+          basket =
+              reuse-basket free-spares taken (accepted-right l (w .image) accepted .table .agreed) none-void above (omega arith) (omega arith)
+              new-record (λ x t i j q. alike x t i j)
+
+          left : liveCount f n + putsIn (s ∷ []) new < n + heldIn (s ∷ []) new (mapOf f n)
+          left = spare-by f n (s ∷ []) new removes room
+
+    no-removes : (key kind : ℕ) (value : List ℕ) → isPut (made kind version key value) ≡ true → HeldRemoved (s ∷ []) (new key kind value) (mapOf f n)
+    no-removes key kind value p t j q = absurd (true-false (ap isPut (new-is key kind value t j) ∙ p) q)
+
+    live-room : liveCount f n < n
+    live-room = omega (arith, accepted-room l (w .image) accepted, alike-count f (tableOf l (w .image)) n same)
+
+    held-here : (key : ℕ) (v : List ℕ) → mapOf (tableOf l (w .image)) n key ≡ some v → isHeld (mapOf f n key) ≡ true
+    unfolding isHeld
+    held-here key v m = ap isHeld (sym (same-map key) ∙ m)
+
+    holder-is : (key old : ℕ) → Slot n old → decider (tableOf l (w .image)) n key ≡ old → live (tableOf l (w .image)) n old ≡ true
+        → (holder f n key ≡ old) × (live f n old ≡ true)
+    holder-is key old j d a =
+        let x = sym (alike-decider f (tableOf l (w .image)) n same key) ∙ d in
+        let y = sym (same-live l w chains g [] (λ t. f t) none-void old j) ∙ a in
+        (holder-held f n key (ap (live f n) x ∙ y) ∙ x, y)
 
     -- an insert or a replace, by what the key's chain has
-    write-ran : (key : ℕ) (value : List ℕ) (found : Found) → key < (2 ^ 64) ^ l → AreBytes value → WritePassed l w key (length value)
-        → search l (w .image) (w .heads) (w .next) key ≡ found → Sees f n key (chains (head (h key))) found → (r : ChangeResult)
+    write-ran : (mode : Mode) (key : ℕ) (value : List ℕ) (found : Found) → key < (2 ^ 64) ^ l → AreBytes value → WritePassed l w mode key (length value)
+        → search l (w .image) (w .heads) (w .next) key ≡ found → Sees (tableOf l (w .image)) n key (chains (head (h key))) found → (r : ChangeResult)
         → r ≡ writeDone l (w .image) (w .heads) (w .next) (w .state) key value found → (fault : ℕ) → fault ≡ 0 → Ran l w key 1 value fault r
-    unfolding writeDone
-    write-ran key value (At old prev compared) k b p q (sees-held xs ys v parts before j d a m z) r y fault t =
+    unfolding writeDone isFound
+    write-ran mode key value (At old prev compared) k b p q (sees-held xs ys v parts before j d a m z) r y fault t =
+        let c = holder-is key old j d a in
+        let held = held-here key v m in
         ran-wrote t (replaceHeld (indexOf (w .heads) (w .next) (w .state)) (h key) prev old) (w .state .live) y
         (wrote key 1 value _ _
-        (record { layout = lay; key-fits = k; kind-fits = omega arith; size = p .short; bytes = b })
-        (a-put refl) (p .small)
-        (held-room l w chains g s rest e key _ spares (made-record 1 _ key value) v m) (λ z. absurd (omega arith))
-        (λ image′ en ef. some-sound _
-        (held-sound l w chains g s rest e key _ spares (made-record 1 _ key value) image′ en ef prev old v xs ys m d j a parts before
-        (put-made _ key value))))
-    write-ran key value (Missing prev compared) k b p q (sees-absent before m) r y fault t =
-        let room : w .state .live + 1 < n = room-fine n (w .state .live) prev compared (ap (λ (x : Found). roomFault x n (w .state .live)) (sym q) ∙ p .room) in
-        let room′ : liveCount f n + 1 < n = omega (arith, g .live-count) in
+        (record { layout = lay; key-fits = k; kind-fits = omega arith; number-fits = omega arith; size = p .short; bytes = b })
+        (a-put refl (alone refl)) (p .store .few) (p .store .small) (no-removes key 1 value (put-made version key value))
+        (omega (
+          arith,
+          live-room,
+          inserts-one key 1 value true true (put-made version key value) held,
+          removes-one key 1 value true (put-made version key value),
+        ))
+        (λ image′ en bk st fin room. some-sound _
+        (held-sound l w chains g none-void s key rest e (new key 1 value) (key-is key 1 value) image′ en bk st fin
+        (no-removes key 1 value (put-made version key value)) room prev old xs ys held (c .0) j (c .1) parts before
+        (ap isPut (record-own version s key 1 value) ∙ put-made version key value))))
+        (λ x. absurd (omega arith))
+    write-ran mode key value (Missing prev compared) k b p q (sees-absent before m) r y fault t =
+        let none-held = sym (same-map key) ∙ m in
+        let one = an-insert mode (ap (λ (x : Found). keyFault mode (isFound x)) (sym q) ∙ p .asked) in
         ran-wrote t (insertNew (indexOf (w .heads) (w .next) (w .state)) (h key) prev) (w .state .live + 1) y
         (wrote key 1 value _ _
-        (record { layout = lay; key-fits = k; kind-fits = omega arith; size = p .short; bytes = b })
-        (a-put refl) (p .small)
-        (new-room l w chains g s rest e key _ spares (made-record 1 _ key value) m (put-made _ key value) room′) (λ z. absurd (omega arith))
-        (λ image′ en ef. some-sound _
-        (new-sound l w chains g s rest e key _ spares (made-record 1 _ key value) image′ en ef prev m (put-made _ key value) (head-in key) before room′)))
+        (record { layout = lay; key-fits = k; kind-fits = omega arith; number-fits = omega arith; size = p .short; bytes = b })
+        (a-put refl (alone refl)) (p .store .few) (p .store .small) (no-removes key 1 value (put-made version key value))
+        (omega (
+          arith,
+          p .store .room,
+          one,
+          g .live-count,
+          alike-count f (tableOf l (w .image)) n same,
+          inserts-one key 1 value true false (put-made version key value) (not-held (mapOf f n key) none-held),
+          removes-one key 1 value true (put-made version key value),
+        ))
+        (λ image′ en bk st fin room. some-sound _
+        (new-sound l w chains g none-void s key rest e (new key 1 value) (key-is key 1 value) image′ en bk st fin
+        (no-removes key 1 value (put-made version key value)) room prev none-held
+        (ap isPut (record-own version s key 1 value) ∙ put-made version key value) (head-in key) before)))
+        (λ x. absurd (omega arith))
 
     -- a remove
     remove-ran : (key : ℕ) (found : Found) → key < (2 ^ 64) ^ l
-        → ((old prev compared : ℕ) → found ≡ At old prev compared → w .state .version < 2 ^ 63) → Sees f n key (chains (head (h key))) found
+        → ((old prev compared : ℕ) → found ≡ At old prev compared
+        → StorePassed (takingOf l (w .image) (w .next) n s 1) n (w .state .live) (w .state .version) 0 1)
+        → Sees (tableOf l (w .image)) n key (chains (head (h key))) found
         → (r : ChangeResult) → r ≡ removeDone l (w .image) (w .heads) (w .next) (w .state) key found → (fault : ℕ) → fault ≡ 0 → Ran l w key 2 [] fault r
-    unfolding removeDone isHeld
+    unfolding removeDone
     remove-ran key (At old prev compared) k p (sees-held xs ys v parts before j d a m z) r y fault t =
+        let c = holder-is key old j d a in
+        let held = held-here key v m in
+        let passed = p old prev compared refl in
         ran-wrote t (removeHeld (indexOf (w .heads) (w .next) (w .state)) (h key) prev old) (w .state .live - 1) y
         (wrote key 2 [] _ _
-        (record { layout = lay; key-fits = k; kind-fits = omega arith; size = omega arith; bytes = λ i. omega arith })
-        (a-remove refl refl) (p old prev compared refl) (held-room l w chains g s rest e key _ spares (made-record 2 _ key []) v m) (λ z. ap isHeld m)
-        (λ image′ en ef. some-sound _
-        (removed-sound l w chains g s rest e key _ spares (made-record 2 _ key []) image′ en ef prev old v xs ys m d j a parts before
-        (remove-made _ key []))))
+        (record { layout = lay; key-fits = k; kind-fits = omega arith; number-fits = omega arith; size = omega arith; bytes = λ i. omega arith })
+        (a-remove refl refl (alone refl)) (passed .few) (passed .small) (removes-held key held)
+        (omega (
+          arith,
+          live-room,
+          inserts-one key 2 [] false true (remove-made version key []) held,
+          removes-one key 2 [] false (remove-made version key []),
+        ))
+        (λ image′ en bk st fin room. some-sound _
+        (removed-sound l w chains g none-void s key rest e (new key 2 []) (key-is key 2 []) image′ en bk st fin
+        (removes-held key held) room prev old xs ys held (c .0) j (c .1) parts before
+        (ap isPut (record-own version s key 2 []) ∙ remove-made version key []))))
+        (λ x. ap isHeld (same-map key) ∙ held)
+      where
+        removes-held : (key : ℕ) → isHeld (mapOf f n key) ≡ true → HeldRemoved (s ∷ []) (new key 2 []) (mapOf f n)
+        removes-held key held t j q = ap (λ (x : ℕ). isHeld (mapOf f n (keyIn (new key 2 [] x)))) (at t j) ∙ ap (λ (x : ℕ). isHeld (mapOf f n x)) (key-is key 2 []) ∙ held
+          where
+            at : (t : ℕ) → In t (s ∷ []) → t ≡ s
+            at t (inl q) = q
+            at t (inr z) = absurd z
     remove-ran key (Missing prev compared) k p (sees-absent before m) r y fault t = ran-absent t refl y m
 
   -- THE CALLS
@@ -211,7 +410,7 @@ module _ (l : ℕ) (lay : Layout l) (w : World) (chains : Chain → List ℕ) (g
   write-runs mode key value k b =
       by-cases (ℕ-discrete (writeFault l (w .image) (w .heads) (w .next) (w .state) mode key (length value)) 0)
       (λ z. let t = first-slot (chains reuse) refl (g .some-spare) in
-      write-ran (t .0) (t .1) key value _ k b (write-passed l w mode key (length value) z) refl (sound-sees l w chains g key) _
+      write-ran (t .0) (t .1) mode key value _ k b (write-passed l w mode key (length value) z) refl (sound-sees l w chains g key) _
       (taken-leaves _ _ (writeFault l (w .image) (w .heads) (w .next) (w .state) mode key (length value)) z) _ z)
       (λ nz. ran-refused nz (refused-keeps _ _ (writeFault l (w .image) (w .heads) (w .next) (w .state) mode key (length value)) nz))
 
