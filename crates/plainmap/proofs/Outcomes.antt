@@ -154,7 +154,7 @@ remove-made : (version key : ℕ) (value : List ℕ) → isPut (made 2 version k
 unfolding made isPut
 remove-made version key value = refl
 
-record-own : (version s key kind : ℕ) (value : List ℕ)
+pub record-own : (version s key kind : ℕ) (value : List ℕ)
     → recordAt version (record { slot = s; key = key; kind = kind; value = value } ∷ []) s ≡ made kind version key value
 unfolding recordAt
 record-own version s key kind value = pick-true (eqb s s) _ _ (eq-eqb s s refl)

@@ -1,9 +1,8 @@
 -- The refusals of the calls where the image is accepted and the index is its own: those that the rules leave. Assumes nothing.
 use mathlib.Core.Path.{_≡_, refl, sym, ap, ap₂, _∙_}
 use mathlib.Core.Bool.{Bool, true, false, cond, not, _&&_, true≢false}
-use mathlib.Core.Logic.{_↔_}
 use mathlib.Core.Option.{Option, some, none}
-use mathlib.Core.List.{List}
+use mathlib.Core.List.{List, []}
 use Prim.Native.Nat.{ℕ, zero, suc, _+_, _^_, _≤_, _<_}
 use native.Mathlib.Omega.{arith}
 use lib.Dec.{eqb, ltb, leb}
@@ -15,46 +14,53 @@ use Rattle.layout.specs.Record.{limit}
 use Rattle.layout.specs.Header.{lentFault}
 use Rattle.prelude.proofs.Refusals.{say-false, orElse-later}
 use Rattle.layout.specs.Content.{Table}
-use Rattle.table.specs.Complete.{tableOf}
+use Rattle.layout.specs.Content.{contentsOf, numbersOf}
+use Rattle.table.specs.Complete.{tableOf, NoneVoid}
+use Rattle.table.specs.Taking.{mayTake, takeableCount}
+use Rattle.table.proofs.Alike.{alike-takeable}
+use Rattle.table.proofs.TakeableCount.{takeable-count}
 use Rattle.table.specs.Table.{decider, valueIn, mapOf, live, liveCount, isHeld}
 use Rattle.prelude.specs.Members.{Slot}
 use Rattle.prelude.proofs.Count.{count-more}
 use Rattle.table.proofs.Held.{Held, held, unheld, held-or, some-none}
-use Rattle.index.specs.Index.{Index, Chain, reuse}
+use Rattle.index.specs.Index.{Index, Chain, reuse, indexOf}
 use Rattle.index.specs.Linked.{Sits}
 use Rattle.index.specs.Walk.{search, chainFault}
-use Rattle.index.specs.Change.{keyFault, isFound, roomFault, reuseFault}
+use Rattle.index.specs.Change.{keyFault, isFound}
+use Rattle.index.specs.Taking.{Taking, endsFault, linkFault, fewFault, reuseFault, roomFault}
+use Rattle.index.proofs.defs.TakenIn.{takenIn}
+use Rattle.index.proofs.Takings.{sits-taking, few-exact, links-fine}
+use Rattle.taking.specs.Taking.{takingOf}
 use Rattle.index.specs.declared.Mode.{Mode}
-use Rattle.index.specs.declared.Mode.the-variants.{Insert}
 use Rattle.layout.specs.Line.{versionFault}
 use Rattle.index.specs.declared.State.{State}
 use Rattle.index.specs.declared.Found.{Found}
-use Rattle.index.proofs.Sits.{sits-first, sits-last, sits-second}
-use Rattle.calls.specs.Change.{writeLaterFault, writeFault, heldFault, removeLaterFault, removeFault}
+use Rattle.index.proofs.Sits.{sits-first, sits-last}
+use Rattle.calls.specs.Change.{storeFault, insertsOf, writeLaterFault, writeFault, removeLaterFault, removeFault}
 use Rattle.calls.specs.Get.{lengthFault, getLaterFault, getFault}
 use Rattle.calls.proofs.Lookups.{write-after}
 use Rattle.plainmap.specs.World.{World, write, remove, get}
 use Rattle.layout.specs.Size.{slotsIn}
-use Rattle.plainmap.specs.Plain.{sizeOf, ruleFault}
+use Rattle.plainmap.specs.Plain.{sizeOf, roomRule, ruleFault}
 use Rattle.plainmap.specs.Accepted.{Accepted}
 use Rattle.plainmap.specs.Sound.{Starts, starts, Sound}
-use Rattle.plainmap.specs.Claims.{slotsMap, dueFault}
+use Rattle.plainmap.specs.Claims.{slotsMap, roomOf, dueFault}
 use Rattle.plainmap.proofs.AcceptedImages.{accepted-right}
 use Rattle.plainmap.proofs.Sees.{Sees, sees-held, sees-absent, sound-sees}
 use Rattle.plainmap.proofs.Values.{KeepsValue, live-keeps}
+use Rattle.plainmap.proofs.SoundAfter.{same-slots, spares}
 
 -- ---- refusals that are not due
 
--- 11 by the reuse chain
-reuse-fine : (n b : ℕ) (place : ℕ → Chain) (i : Index) (chains : Chain → List ℕ) → Sits n b place i chains → Starts (chains reuse)
-    → reuseFault (i .next) n (i .first) (i .last) ≡ 0
-unfolding reuseFault
-reuse-fine n b place i chains g (starts t rest e) =
+-- 11 by the ends of the reuse chain
+ends-fine : (n b : ℕ) (place : ℕ → Chain) (i : Index) (chains : Chain → List ℕ) → Sits n b place i chains → Starts (chains reuse)
+    → endsFault n (i .first) (i .last) ≡ 0
+unfolding endsFault
+ends-fine n b place i chains g (starts t rest e) =
     let first = sits-first n b place i chains g t rest e in
     let last = sits-last n b place i chains g t rest e in
     say-false _ 11 _ (ne-eqb (i .first) 0 (λ z. omega (arith, first .1))) ∙ say-false _ 11 _ (le-ltb n (i .first) (first .2))
     ∙ say-false _ 11 _ (ne-eqb (i .last) 0 (λ z. omega (arith, last .0))) ∙ say-false _ 11 _ (le-ltb n (i .last) (last .1))
-    ∙ say-false _ 11 _ (le-ltb n _ (sits-second n b place i chains g t rest e))
 
 -- 11 by the live count: a live slot is counted
 live-counted : (f : Table) (n s : ℕ) → Slot n s → live f n s ≡ true → 0 < liveCount f n
@@ -75,19 +81,11 @@ held-counted f n key v e = go (held-or f n key)
 
 -- ---- rows of refusals
 
-or-none : (a b : ℕ) → b ≡ 0 → orElse a b ≡ a
-unfolding orElse
-or-none zero b e = e
-or-none (suc a) b e = refl
-
-or-say : (t : Bool) (k later : ℕ) → orElse (say t (suc k) 0) later ≡ say t (suc k) later
+two-twenty-eight : (a b : Bool) (later : ℕ) → orElse (orElse (say a 28 0) (say b 28 0)) later ≡ say a 28 (say b 28 later)
 unfolding orElse say
-or-say true k later = refl
-or-say false k later = refl
-
--- the row of an insert or a replace after 10 in n slots, with a live count and a next version, where the map has o for the key
-abbrev row : Mode → (n count version : ℕ) → Option (List ℕ) → ℕ
-row mode n count version o = orElse (keyFault mode (isHeld o)) (say (not (isHeld o) && leb n (count + 1)) 12 (versionFault version))
+two-twenty-eight true b later = refl
+two-twenty-eight false true later = refl
+two-twenty-eight false false later = refl
 
 -- ---- the checks after 4, by what the search found
 
@@ -98,24 +96,21 @@ module _ (f : Table) (n key : ℕ) (chain : List ℕ) where
   sees-whole found (sees-held xs ys v d p i q e m u) = refl
   sees-whole found (sees-absent p m) = refl
 
-  write-checks : (mode : Mode) (next : List ℕ) (s : State) → reuseFault next n (s .first) (s .last) ≡ 0 → (found : Found)
-      → Sees f n key chain found → writeLaterFault mode found next n s ≡ row mode n (s .live) (s .version) (mapOf f n key)
-  unfolding writeLaterFault chainFault isFound roomFault orElse say isHeld
-  write-checks mode next s z found (sees-held xs ys v d p i q e m u) =
-      ap (orElse (keyFault mode true)) (or-none (versionFault (s .version)) _ z) ∙ sym (ap (row mode n (s .live) (s .version)) m)
-  write-checks mode next s z found (sees-absent p m) =
-      ap (orElse (keyFault mode false))
-      (or-say (leb n (s .live + 1)) 11 _ ∙ ap (say (leb n (s .live + 1)) 12) (or-none (versionFault (s .version)) _ z))
-      ∙ sym (ap (row mode n (s .live) (s .version)) m)
+  -- `store` is the row of 11 (reuse), 28 and 9
+  write-checks : (mode : Mode) (taking : Taking) (s : State) (found : Found) → Sees f n key chain found
+      → writeLaterFault mode found taking n s ≡ orElse (keyFault mode (isHeld (mapOf f n key))) (storeFault taking n s (insertsOf mode) 0)
+  unfolding writeLaterFault chainFault isFound orElse isHeld
+  write-checks mode taking s found (sees-held xs ys v d p i q e m u) =
+      sym (ap (λ (o : Option (List ℕ)). orElse (keyFault mode (isHeld o)) (storeFault taking n s (insertsOf mode) 0)) m)
+  write-checks mode taking s found (sees-absent p m) =
+      sym (ap (λ (o : Option (List ℕ)). orElse (keyFault mode (isHeld o)) (storeFault taking n s (insertsOf mode) 0)) m)
 
-  remove-checks : (next : List ℕ) (s : State) → reuseFault next n (s .first) (s .last) ≡ 0 → s .live ≡ liveCount f n → (found : Found)
-      → Sees f n key chain found → removeLaterFault found next n s ≡ cond (isHeld (mapOf f n key)) (versionFault (s .version)) 0
-  unfolding removeLaterFault heldFault isHeld
-  remove-checks next s z c found (sees-held xs ys v d p i q e m u) =
-      or-none (versionFault (s .version)) _
-      (orElse-later _ _ z ∙ say-false _ 11 0 (ne-eqb (s .live) 0 (λ y. omega (arith, held-counted f n key v m, c))))
-      ∙ sym (ap (λ (o : Option (List ℕ)). cond (isHeld o) (versionFault (s .version)) 0) m)
-  remove-checks next s z c found (sees-absent p m) = sym (ap (λ (o : Option (List ℕ)). cond (isHeld o) (versionFault (s .version)) 0) m)
+  remove-checks : (taking : Taking) (s : State) (row : ℕ) → (0 < liveCount f n → storeFault taking n s 0 1 ≡ row) → (found : Found)
+      → Sees f n key chain found → removeLaterFault found taking n s ≡ cond (isHeld (mapOf f n key)) row 0
+  unfolding removeLaterFault isHeld
+  remove-checks taking s row z found (sees-held xs ys v d p i q e m u) =
+      z (held-counted f n key v m) ∙ sym (ap (λ (o : Option (List ℕ)). cond (isHeld o) row 0) m)
+  remove-checks taking s row z found (sees-absent p m) = sym (ap (λ (o : Option (List ℕ)). cond (isHeld o) row 0) m)
 
   get-checks : (l : ℕ) (image : List ℕ) (size : ℕ)
       → ((t : ℕ) (v : List ℕ) → Slot n t → live f n t ≡ true → valueIn (f t) ≡ some v → KeepsValue l image t v)
@@ -126,38 +121,6 @@ module _ (f : Table) (n key : ℕ) (chain : List ℕ) where
       say-false _ 23 _ (le-ltb (limit l) _ (omega (arith, k .size, k .fits)))
       ∙ ap (λ (x : ℕ). say (ltb size x) 13 0) (k .size ∙ sym (ap sizeOf m))
   get-checks l image size keeps found (sees-absent p m) = sym (say-false _ 13 0 (le-ltb size _ (omega (arith, ap sizeOf m))))
-
--- ---- 12
-
-twelve : (a b : Bool) (v : ℕ) → say a 10 (say b 12 (versionFault v)) ≡ 12 → (a ≡ false) × (b ≡ true)
-unfolding say versionFault
-twelve true b v e = absurd (let z : ⊥ = omega arith in z)
-twelve false true v e = (refl, refl)
-twelve false false v e = absurd (go (leb (2 ^ 63) v) e)
-  where
-    go : (t : Bool) → say t 9 0 ≡ 12 → ⊥
-    go true q = omega arith
-    go false q = omega arith
-
-not-twelve : (t : Bool) → say t 10 20 ≡ 12 → ⊥
-unfolding say
-not-twelve true e = omega arith
-not-twelve false e = omega arith
-
--- the row of an insert, whose map has o for the key: 12 exactly for a value within the limit, a key that is not held and one slot left
-twelve-row : (limit n count version size : ℕ) (o : Option (List ℕ)) → count < n
-    → (say (ltb limit size) 10 (row Insert n count version o) ≡ 12)
-    ↔ ((size ≤ limit) × (o ≡ none) × (count + 1 ≡ n))
-unfolding say orElse keyFault isHeld
-twelve-row limit n count version size none room = (
-  λ e.
-      let a = twelve _ _ _ e in
-      (ltb-false limit size (a .0), refl, omega (arith, leb-true n (count + 1) (a .1))),
-  λ h.
-      let r : n ≤ count + 1 = omega (arith, h .2) in
-      rw (le-ltb limit size (h .0), le-leb n (count + 1) r),
-)
-twelve-row limit n count version size (some v) room = (λ e. absurd (not-twelve (ltb limit size) e), λ h. absurd (some-none refl (h .1)))
 
 -- ---- in a sound world
 
@@ -171,27 +134,61 @@ module _ (l : ℕ) (w : World) (chains : Chain → List ℕ) (a : Accepted l (w 
   pub sound-chain : (key : ℕ) → chainFault (search l (w .image) (w .heads) (w .next) key) ≡ 0
   sound-chain key = sees-whole (tableOf l (w .image)) (slotsIn (w .image)) key _ _ (sound-sees l w chains s key)
 
-  pub sound-reuse : reuseFault (w .next) (slotsIn (w .image)) (w .state .first) (w .state .last) ≡ 0
-  sound-reuse = reuse-fine _ _ _ _ chains (s .index) (s .some-spare)
+  module _ (none-void : NoneVoid (contentsOf l (w .image)) (numbersOf l (w .image)) (slotsIn (w .image))) where
+    abbrev n : ℕ
+    n = slotsIn (w .image)
 
-  -- INSERT AND REPLACE are refused where the rules refuse them
-  pub write-fault : (mode : Mode) (key : ℕ) (value : List ℕ)
-      → writeFault l (w .image) (w .heads) (w .next) (w .state) mode key (length value) ≡ dueFault l w (slotsMap l (w .image)) (write mode key value)
-  unfolding ruleFault
-  write-fault mode key value =
-      write-after l (w .image) (w .heads) (w .next) (w .state) mode key (length value) sound-lent
-      ∙ ap (say (ltb (limit l) (length value)) 10)
-      (write-checks (tableOf l (w .image)) (slotsIn (w .image)) key _ mode (w .next) (w .state) sound-reuse _ (sound-sees l w chains s key)
-      ∙ ap₂ (λ (c v : ℕ). row mode (slotsIn (w .image)) c v (slotsMap l (w .image) key)) (s .live-count) (s .next-version))
+    abbrev f : Table
+    f = contentsOf l (w .image)
 
-  -- REMOVE is refused where the rules refuse it
-  pub remove-fault : (key : ℕ)
-      → removeFault l (w .image) (w .heads) (w .next) (w .state) key ≡ dueFault l w (slotsMap l (w .image)) (remove key)
-  unfolding removeFault ruleFault
-  remove-fault key =
-      orElse-later _ _ sound-lent
-      ∙ remove-checks (tableOf l (w .image)) (slotsIn (w .image)) key _ (w .next) (w .state) sound-reuse (s .live-count) _ (sound-sees l w chains s key)
-      ∙ ap (λ (v : ℕ). cond (isHeld (slotsMap l (w .image) key)) (versionFault v) 0) (s .next-version)
+    abbrev taking : ℕ → Taking
+    taking wanted = takingOf l (w .image) (w .next) n (w .state .first) wanted
+
+    taking-is : (wanted : ℕ) → taking wanted ≡ takenIn (mayTake f n) 0 wanted (chains reuse)
+    unfolding takingOf
+    taking-is wanted = sits-taking n (length (w .heads)) _ (indexOf (w .heads) (w .next) (w .state)) chains (s .index) (mayTake f n) wanted
+
+    -- 28 by the slots that may be taken
+    taking-few : (wanted : ℕ) → fewFault (taking wanted) ≡ say (ltb (takeableCount (tableOf l (w .image)) n) wanted) 28 0
+    taking-few wanted =
+        ap fewFault (taking-is wanted) ∙ few-exact (mayTake f n) 0 wanted (chains reuse)
+        ∙ ap (λ (x : ℕ). say (ltb x wanted) 28 0)
+        (takeable-count f n (chains reuse) (spares l w chains s [] (λ t. f t) none-void)
+        ∙ sym (alike-takeable f (tableOf l (w .image)) n (same-slots l w chains s [] (λ t. f t) none-void)))
+
+    -- 11 (REUSE), 28 AND 9 of a call that wants so many slots, inserts and removes so many keys
+    pub store-row : (wanted inserts removes : ℕ) → removes ≤ liveCount (tableOf l (w .image)) n
+        → storeFault (taking wanted) n (w .state) inserts removes ≡ roomRule (roomOf l (w .image)) wanted inserts removes
+    unfolding storeFault reuseFault roomFault roomRule
+    store-row wanted inserts removes few =
+        orElse-later _ _
+        (orElse-later _ _ (ends-fine _ _ _ (indexOf (w .heads) (w .next) (w .state)) chains (s .index) (s .some-spare))
+        ∙ orElse-later _ _ (say-false _ 11 0 (le-ltb (w .state .live) removes (omega (arith, s .live-count))))
+        ∙ ap linkFault (taking-is wanted) ∙ links-fine (mayTake f n) 0 wanted (chains reuse))
+        ∙ ap₂ (λ (x y : ℕ). orElse (orElse x (say (leb (n + removes) (y + inserts)) 28 0)) (versionFault (w .state .version))) (taking-few wanted) (s .live-count)
+        ∙ two-twenty-eight _ _ _
+        ∙ ap
+        (λ (v : ℕ). say (ltb (takeableCount (tableOf l (w .image)) n) wanted) 28
+        (say (leb (n + removes) (liveCount (tableOf l (w .image)) n + inserts)) 28 (versionFault v)))
+        (s .next-version)
+
+    -- INSERT AND REPLACE are refused where the rules refuse them
+    pub write-fault : (mode : Mode) (key : ℕ) (value : List ℕ)
+        → writeFault l (w .image) (w .heads) (w .next) (w .state) mode key (length value) ≡ dueFault l w (slotsMap l (w .image)) (write mode key value)
+    unfolding ruleFault
+    write-fault mode key value =
+        write-after l (w .image) (w .heads) (w .next) (w .state) mode key (length value) sound-lent
+        ∙ ap (say (ltb (limit l) (length value)) 10)
+        (write-checks (tableOf l (w .image)) n key _ mode (taking 1) (w .state) _ (sound-sees l w chains s key)
+        ∙ ap (orElse (keyFault mode (isHeld (slotsMap l (w .image) key)))) (store-row 1 (insertsOf mode) 0 (omega arith)))
+
+    -- REMOVE is refused where the rules refuse it
+    pub remove-fault : (key : ℕ)
+        → removeFault l (w .image) (w .heads) (w .next) (w .state) key ≡ dueFault l w (slotsMap l (w .image)) (remove key)
+    unfolding removeFault ruleFault
+    remove-fault key =
+        orElse-later _ _ sound-lent
+        ∙ remove-checks (tableOf l (w .image)) n key _ (taking 1) (w .state) _ (λ some. store-row 1 0 1 some) _ (sound-sees l w chains s key)
 
   -- GET is refused where the rules refuse it: with 13 alone
   pub get-fault : (key : ℕ) (out : List ℕ)
@@ -201,14 +198,3 @@ module _ (l : ℕ) (w : World) (chains : Chain → List ℕ) (a : Accepted l (w 
       orElse-later _ _ sound-lent
       ∙ get-checks (tableOf l (w .image)) (slotsIn (w .image)) key _ l (w .image) (length out)
       (live-keeps l (w .image) (accepted-right l (w .image) a)) _ (sound-sees l w chains s key)
-
-  -- an insert meets 12 exactly where a new key would take the last slot that is not live
-  pub twelve-exactly : (key : ℕ) (value : List ℕ)
-      → (writeFault l (w .image) (w .heads) (w .next) (w .state) Insert key (length value) ≡ 12)
-      ↔ ((length value ≤ limit l) × (slotsMap l (w .image) key ≡ none)
-      × (liveCount (tableOf l (w .image)) (slotsIn (w .image)) + 1 ≡ slotsIn (w .image)))
-  unfolding ruleFault
-  twelve-exactly key value =
-      let r = accepted-right l (w .image) a .room in
-      let t = twelve-row (limit l) (slotsIn (w .image)) _ _ (length value) (slotsMap l (w .image) key) r in
-      (λ e. t .0 (sym (write-fault Insert key value) ∙ e), λ h. write-fault Insert key value ∙ t .1 h)

@@ -68,12 +68,12 @@ module _
         absent-still = λ x. still absent d;
         few = few;
       }
-  ran-right fault r e (ran-wrote z i alive q wr) due =
+  ran-right fault r e (ran-wrote z i alive q wr held) due =
       let d = e ∙ ap calledChange q in
       record {
         refusal = ap (λ (c : Called). refusalIn (c .answer)) d ∙ sym z ∙ due;
         answer = λ x.
-            ap (λ (c : Called). c .answer) d ∙ ap (λ (v : ℕ). gives (w .state .first ∷ v ∷ [])) version ∙ stored (wr .held);
+            ap (λ (c : Called). c .answer) d ∙ ap (λ (v : ℕ). gives (w .state .first ∷ v ∷ [])) version ∙ stored held;
         out = λ x. ap (λ (c : Called). c .out) d ∙ no-out;
         refused-still = λ x. absurd (x (sym due ∙ z));
         absent-still = λ x. absurd (gives-absent _ (sym (ap (λ (c : Called). c .answer) d) ∙ x));

@@ -89,3 +89,17 @@ lines-stand counts (s ∷ ss) h =
           ap (λ (t : List Store). length t) (on-miss n s ss k),
           less-other (s .word / 8) counts n (λ z. k (sym z)),
         )
+
+-- a line has no more stores than there are
+on-most : (n : ℕ) (ss : List Store) → length (onLine n ss) ≤ length ss
+unfolding onLine
+on-most n [] = omega arith
+on-most n (s ∷ ss) = go (eqb (s .word / 8) n) (on-most n ss)
+  where
+    go : (b : Bool) → length (onLine n ss) ≤ length ss → length (cond b (s ∷ onLine n ss) (onLine n ss)) ≤ length (s ∷ ss)
+    go true ih = omega arith
+    go false ih = omega arith
+
+-- so with as many for each line, all stand
+pub many-stand : (ss : List Store) → allStand (λ n. length ss) ss ≡ true
+many-stand ss = lines-stand (λ n. length ss) ss (λ n. on-most n ss)
