@@ -8,18 +8,25 @@ use native.Mathlib.Omega.{arith}
 use Rattle.words.specs.Word.{word}
 use Rattle.prelude.specs.Answer.{gives, absent}
 use Rattle.layout.specs.Size.{slotsOf, slotsIn}
-use Rattle.layout.specs.Content.{empty, Table}
-use Rattle.table.specs.Complete.{tableOf}
+use Rattle.layout.specs.Header.{indexFault}
+use Rattle.layout.specs.Content.{empty, Table, contentsOf, numbersOf}
+use Rattle.table.specs.Complete.{tableOf, NoneVoid}
+use Rattle.table.proofs.Complete.{settled-same}
+use Rattle.table.proofs.Formatted.{format-none-void}
+use Rattle.stores.proofs.AllStand.{many-stand}
+use Rattle.images.proofs.Openings.{openedImage}
+use Rattle.prelude.proofs.defs.Answer.{isRefusal}
+use lib.ListN.{length}
 use Rattle.table.specs.Table.{weight, valueAt, mapOf, isHeld}
-use Rattle.prelude.specs.Members.{Slot, All}
+use Rattle.prelude.specs.Members.{Slot, All, none-left, one-more}
 use Rattle.prelude.proofs.Histories.{throughout}
 use Rattle.table.proofs.Map.{decider-none}
 use Rattle.index.specs.Index.{Chain}
-use Rattle.recovery.specs.Recover.{slotsFault}
+use Rattle.recovery.specs.Recover.{slotsFault, recoverResult, chainsOf}
 use Rattle.calls.specs.Format.{formatted}
 use Rattle.calls.proofs.Formats.{formatted-length, formatted-fault, formatted-content}
 use Rattle.plainmap.proofs.FormattedImages.{formatted-slots}
-use Rattle.plainmap.specs.World.{World, Call, write, remove, get, locate, outOf, called, finished, worldAfter, recoveredWorld}
+use Rattle.plainmap.specs.World.{World, Call, write, remove, get, locate, outOf, called, finished, worldAfter, recoveredWorld, openedWorld, Round, afterRound, afterRounds, Restart, restarted}
 use Rattle.plainmap.specs.Plain.{PlainMap, updates, plainStep, plainAnswer, plainOut}
 use Rattle.plainmap.specs.Accepted.{Accepted, RightSize}
 use Rattle.plainmap.specs.Sound.{Sound, Agrees}
@@ -27,14 +34,16 @@ use Rattle.layout.specs.Record.{Layout}
 use Rattle.plainmap.specs.Claims.{Typed, write-typed, remove-typed, slotsMap, Right, Reads, mapAfterCall}
 use Rattle.plainmap.specs.Map.{PlainRule}
 use Rattle.plainmap.proofs.Sounds.{recovered-sound}
-use Rattle.plainmap.proofs.Outcomes.{SomeSound, some-sound, write-runs, remove-runs}
+use Rattle.plainmap.proofs.Wrote.{SomeSound, some-sound}
+use Rattle.plainmap.proofs.Outcomes.{write-runs, remove-runs}
+use Rattle.plainmap.proofs.Opens.{sound-same, opened-same, opened-accepts, opened-image, none-void-after, round-same, same-map, size}
 use Rattle.plainmap.proofs.Compares.{few-compared}
 use Rattle.plainmap.proofs.Rights.{ran-right, right-refuses}
 use Rattle.plainmap.proofs.Refuses.{write-fault, remove-fault}
 use Rattle.plainmap.proofs.GetAnswers.{sound-reads, get-right}
 use Rattle.plainmap.proofs.LocateAnswers.{locate-right}
-use Rattle.plainmap.proofs.CallSteps.{call-stepped}
-use Rattle.plainmap.proofs.Afters.{after-call, after-sound}
+use Rattle.plainmap.proofs.CallSteps.{Stepped, call-stepped}
+use Rattle.plainmap.proofs.Afters.{after-call, after-sound, after-none-void, all-played}
 
 -- ---- one call
 
@@ -46,16 +55,17 @@ none-answer : (o : Option (List ℕ)) (slot version : ℕ) → o ≡ none → ab
 unfolding isHeld
 none-answer o slot version e = sym (ap (λ (x : Option (List ℕ)). cond (isHeld x) (gives (slot ∷ version ∷ [])) absent) e)
 
-module _ (l : ℕ) (lay : Layout l) (w : World) (chains : Chain → List ℕ) (a : Accepted l (w .image)) (g : Sound l w chains) where
+module _ (l : ℕ) (lay : Layout l) (w : World) (chains : Chain → List ℕ) (a : Accepted l (w .image)) (g : Sound l w chains)
+    (none-void : NoneVoid (contentsOf l (w .image)) (numbersOf l (w .image)) (slotsIn (w .image))) where
   pub call-right : (call : Call) → Typed l call → Right l w (slotsMap l (w .image)) call
   unfolding called plainAnswer plainOut outOf
   call-right (write mode key value) (write-typed k b) =
       ran-right l w (write mode key value) key 1 value (g .next-version) (λ h. refl) (λ z m. absurd (omega arith)) refl refl (few-compared l w chains g (write mode key value)) _ _ refl
-      (write-runs l lay w chains g mode key value k b) (write-fault l w chains a g mode key value)
+      (write-runs l lay w chains a g none-void mode key value k b) (write-fault l w chains a g none-void mode key value)
   call-right (remove key) (remove-typed k) =
       ran-right l w (remove key) key 2 [] (g .next-version) (λ h. held-answer (slotsMap l (w .image) key) _ _ (h refl))
       (λ z m. none-answer (slotsMap l (w .image) key) _ _ m) refl refl (few-compared l w chains g (remove key)) _ _ refl
-      (remove-runs l lay w chains g key k) (remove-fault l w chains a g key)
+      (remove-runs l lay w chains a g none-void key k) (remove-fault l w chains a g none-void key)
   call-right (get key out) s = get-right l w chains a g key out
   call-right (locate key) s = locate-right l w chains a g key
 
@@ -67,28 +77,36 @@ alike l w m g = fun-ext (g .map)
 
 pub agrees-right : (l : ℕ) → Layout l → (w : World) (m : PlainMap) → Agrees l w m → (call : Call) → Typed l call → Right l w m call
 agrees-right l lay w m g call s =
-    subst (λ (x : PlainMap). Right l w x call) (alike l w m g) (call-right l lay w (g .chains) (g .accepted) (g .sound) call s)
+    subst (λ (x : PlainMap). Right l w x call) (alike l w m g) (call-right l lay w (g .chains) (g .accepted) (g .sound) (g .none-void) call s)
 
 pub agrees-reads : (l : ℕ) (w : World) (m : PlainMap) → Agrees l w m → Reads l w m
 agrees-reads l w m g = subst (λ (x : PlainMap). Reads l w x) (alike l w m g) (sound-reads l w (g .chains) (g .accepted) (g .sound))
 
-agrees-by : (l : ℕ) (w : World) (m : PlainMap) → Accepted l (w .image) → SomeSound l w → ((k : ℕ) → slotsMap l (w .image) k ≡ m k) → Agrees l w m
-agrees-by l w m a (some-sound chains s) h = record { accepted = a; chains = chains; sound = s; map = h }
+pub agrees-by : (l : ℕ) (w : World) (m : PlainMap) → Accepted l (w .image)
+    → NoneVoid (contentsOf l (w .image)) (numbersOf l (w .image)) (slotsIn (w .image)) → SomeSound l w
+    → ((k : ℕ) → slotsMap l (w .image) k ≡ m k) → Agrees l w m
+agrees-by l w m a void (some-sound chains s) h = record { accepted = a; none-void = void; chains = chains; sound = s; map = h }
 
 -- m may be given another way
 pub agrees-with : (l : ℕ) (w : World) (m m′ : PlainMap) → Agrees l w m → ((k : ℕ) → m k ≡ m′ k) → Agrees l w m′
-agrees-with l w m m′ g h = record { accepted = g .accepted; chains = g .chains; sound = g .sound; map = λ k. g .map k ∙ h k }
+agrees-with l w m m′ g h = record { accepted = g .accepted; none-void = g .none-void; chains = g .chains; sound = g .sound; map = λ k. g .map k ∙ h k }
+
+pub agrees-stepped : (l : ℕ) → Layout l → (w : World) (m : PlainMap) → Agrees l w m → (call : Call) → Typed l call → Stepped l w call
+agrees-stepped l lay w m g call s = call-stepped l lay w (g .chains) (g .accepted) (g .sound) (g .none-void) call s
 
 -- EVERY CALL with its stores played leaves an accepted image, a sound index and the plain map's next map
 pub agrees-next : (l : ℕ) → Layout l → (w : World) (m : PlainMap) → Agrees l w m → (call : Call) → Typed l call
     → Agrees l (finished l w call) (mapAfterCall l w m call)
-unfolding finished
 agrees-next l lay w m g call s =
-    let t = call-stepped l lay w (g .chains) (g .sound) call s in
-    let p : 8 ≤ 8 = omega arith in
-    let r = after-call l w call (g .accepted) (g .sound .next-version) 8 8 p p t in
-    agrees-by l (finished l w call) (mapAfterCall l w m call) (r .accepted) (after-sound l w call (g .accepted) (g .sound .next-version) t)
-    (λ k. r .map k ∙ ap₂ (λ (b : Bool) (x : PlainMap). plainStep (updates call) b x k) (right-refuses l w m call (agrees-right l lay w m g call s)) (alike l w m g))
+    let t = agrees-stepped l lay w m g call s in
+    let e = all-played l w call (g .accepted) in
+    let r = after-call l w call (g .accepted) (λ n. length (called l w call .stores)) t in
+    agrees-by l (finished l w call) (mapAfterCall l w m call) (subst (Accepted l) e (r .accepted))
+    (after-none-void l w call (g .accepted) (g .none-void) t) (after-sound l w call (g .accepted) t)
+    (λ k. ap (λ (t : List ℕ). slotsMap l t k) (sym e) ∙ r .map k
+    ∙ ap (λ (b : Bool). (cond b (plainStep (updates call) (isRefusal (called l w call .answer)) (slotsMap l (w .image))) (slotsMap l (w .image))) k)
+    (many-stand (called l w call .stores))
+    ∙ ap₂ (λ (b : Bool) (x : PlainMap). plainStep (updates call) b x k) (right-refuses l w m call (agrees-right l lay w m g call s)) (alike l w m g))
 
 -- EVERY LIST OF CALLS answers as the plain map does
 pub plain-rule : (l : ℕ) → Layout l → (w : World) (m : PlainMap) (calls : List Call) → Agrees l w m → All (Typed l) calls → PlainRule l w m calls
@@ -97,27 +115,91 @@ plain-rule l lay =
 
 -- ---- from a recovered image, and from a formatted one
 
--- RECOVERY leaves a set that is the plain map of its slots
-pub recovered-agrees : (l : ℕ) (image heads next : List ℕ) → Accepted l image → RightSize image heads next
-    → Agrees l (recoveredWorld l image heads next) (slotsMap l image)
-unfolding recoveredWorld worldAfter
-recovered-agrees l image heads next a s =
-    agrees-by l (recoveredWorld l image heads next) (slotsMap l image) a (some-sound _ (recovered-sound l image heads next a s)) (λ k. refl)
-
 -- READING THE SLOTS gives what a get through the recovered index gives, for every key
 pub recovered-reads : (l : ℕ) (image heads next : List ℕ) → Accepted l image → RightSize image heads next
     → Reads l (recoveredWorld l image heads next) (slotsMap l image)
+unfolding recoveredWorld worldAfter
 recovered-reads l image heads next a s =
-    agrees-reads l (recoveredWorld l image heads next) (slotsMap l image) (recovered-agrees l image heads next a s)
+    sound-reads l (recoveredWorld l image heads next) _ a (recovered-sound l image heads next a s)
+
+-- recovery and all its opening stores leave a set that is the plain map of its slots
+opened-sound : (l : ℕ) (lay : Layout l) (image heads next : List ℕ) (a : Accepted l image) → RightSize image heads next
+    → SomeSound l (openedWorld l image heads next)
+unfolding openedWorld worldAfter recoveredWorld
+opened-sound l lay image heads next a s =
+    some-sound _
+    (subst (λ (t : List ℕ). Sound l (worldAfter t (recoverResult l image heads next)) (chainsOf (tableOf l image) (slotsIn image) (length heads)))
+    (sym (opened-image l lay image a heads next s))
+    (sound-same l (recoveredWorld l image heads next) _ _ (opened-same l lay image a (λ k. 8)) (recovered-sound l image heads next a s)))
+
+pub opened-agrees : (l : ℕ) (lay : Layout l) (image heads next : List ℕ) (a : Accepted l image) → RightSize image heads next
+    → Agrees l (openedWorld l image heads next) (slotsMap l image)
+unfolding openedWorld worldAfter
+opened-agrees l lay image heads next a s =
+    let e = opened-image l lay image a heads next s in
+    let same = opened-same l lay image a (λ k. 8) in
+    agrees-by l (openedWorld l image heads next) (slotsMap l image)
+    (subst (Accepted l) (sym e) (opened-accepts l lay image a (λ k. 8)))
+    (subst (λ (t : List ℕ). NoneVoid (contentsOf l t) (numbersOf l t) (slotsIn t)) (sym e)
+    (subst (λ (x : ℕ). NoneVoid (contentsOf l (openedImage l lay image (slotsIn image) (size l lay image a) (λ k. 8)))
+    (numbersOf l (openedImage l lay image (slotsIn image) (size l lay image a) (λ k. 8))) x) (sym (same .slots)) (none-void-after l lay image a)))
+    (opened-sound l lay image heads next a s)
+    (λ k. ap (λ (t : List ℕ). slotsMap l t k) e ∙ same-map l image _ same k)
+
+-- ROUND AFTER ROUND the image stays accepted, with the same map
+pub record AfterRounds (l : ℕ) (image image′ : List ℕ) : Type 0 where
+  pub accepted : Accepted l image′
+  pub slots : slotsIn image′ ≡ slotsIn image
+  pub map : (k : ℕ) → slotsMap l image′ k ≡ slotsMap l image k
+
+pub after-round : (l : ℕ) → Layout l → (image : List ℕ) → Accepted l image → (r : Round) → RightSize image (r .heads) (r .next)
+    → AfterRounds l image (afterRound l image r)
+after-round l lay image a r fits =
+    let e = round-same l lay image a r fits in
+    let same = opened-same l lay image a (r .counts) in
+    record {
+      accepted = subst (Accepted l) (sym e) (opened-accepts l lay image a (r .counts));
+      slots = ap (λ (t : List ℕ). slotsIn t) e ∙ same .slots;
+      map = λ k. ap (λ (t : List ℕ). slotsMap l t k) e ∙ same-map l image _ same k;
+    }
+
+pub after-rounds : (l : ℕ) → Layout l → (n : ℕ) (image : List ℕ) → slotsIn image ≡ n → Accepted l image → (rs : List Round)
+    → All (λ (r : Round). indexFault n (length (r .heads)) (length (r .next)) ≡ 0) rs → AfterRounds l image (afterRounds l image rs)
+unfolding afterRounds
+after-rounds l lay n image e a [] none-left = record { accepted = a; slots = refl; map = λ k. refl }
+after-rounds l lay n image e a (r ∷ rs) (one-more f fs) =
+    let first = after-round l lay image a r (rw e f) in
+    let rest = after-rounds l lay n (afterRound l image r) (first .slots ∙ e) (first .accepted) rs fs in
+    record { accepted = rest .accepted; slots = rest .slots ∙ first .slots; map = λ k. rest .map k ∙ first .map k }
+
+-- A RESTART leaves a set that is the plain map of the slots of the image
+pub restarted-agrees : (l : ℕ) → Layout l → (image : List ℕ) → Accepted l image → (r : Restart)
+    → All (λ (x : Round). indexFault (slotsIn image) (length (x .heads)) (length (x .next)) ≡ 0) (r .rounds)
+    → indexFault (slotsIn image) (length (r .heads)) (length (r .next)) ≡ 0 → Agrees l (restarted l image r) (slotsMap l image)
+unfolding restarted
+restarted-agrees l lay image a r fs f =
+    let t = after-rounds l lay (slotsIn image) image refl a (r .rounds) fs in
+    agrees-with l _ _ (slotsMap l image)
+    (opened-agrees l lay (afterRounds l image (r .rounds)) (r .heads) (r .next) (t .accepted)
+    (ap (λ (x : ℕ). indexFault x (length (r .heads)) (length (r .next))) (t .slots) ∙ f)) (t .map)
 
 empty-map : (f : Table) (n k : ℕ) → ((t : ℕ) → Slot n t → f t ≡ empty) → mapOf f n k ≡ none
 unfolding mapOf valueAt weight
 empty-map f n k h = ap (valueAt f) (decider-none f n k (λ t i. ap (weight k) (h t i)))
 
+formatted-none-void : (l len : ℕ) → (slotsOf len ≡ 0 → ⊥) → l < 2 ^ 64
+    → NoneVoid (contentsOf l (formatted l len)) (numbersOf l (formatted l len)) (slotsIn (formatted l len))
+formatted-none-void l len ne b =
+    format-none-void (contentsOf l (formatted l len)) (numbersOf l (formatted l len)) (slotsIn (formatted l len))
+    (λ t i. formatted-content l l len t ne b (i .0))
+
 -- A FORMATTED IMAGE is accepted, and its map is empty
 pub formatted-empty : (l len : ℕ) → (slotsOf len ≡ 0 → ⊥) → l < 2 ^ 64 → (k : ℕ) → slotsMap l (formatted l len) k ≡ none
 formatted-empty l len ne b k =
-    empty-map (tableOf l (formatted l len)) (slotsIn (formatted l len)) k (λ t i. formatted-content l l len t ne b (i .0))
+    empty-map (tableOf l (formatted l len)) (slotsIn (formatted l len)) k
+    (λ t i.
+    settled-same (contentsOf l (formatted l len)) (numbersOf l (formatted l len)) (slotsIn (formatted l len)) t (formatted-none-void l len ne b t i)
+    ∙ formatted-content l l len t ne b (i .0))
 
 pub formatted-fine : (l len : ℕ) → (slotsOf len ≡ 0 → ⊥) → l < 2 ^ 64 → Accepted l (formatted l len)
 formatted-fine l len ne b =
@@ -129,8 +211,8 @@ formatted-fine l len ne b =
 -- EVERY LIST OF CALLS from a formatted image answers as a plain map does that starts empty
 pub formatted-rule : (l : ℕ) → Layout l → (len : ℕ) (heads next : List ℕ) → (slotsOf len ≡ 0 → ⊥)
     → RightSize (formatted l len) heads next → (calls : List Call) → All (Typed l) calls
-    → PlainRule l (recoveredWorld l (formatted l len) heads next) (λ k. none) calls
+    → PlainRule l (openedWorld l (formatted l len) heads next) (λ k. none) calls
 formatted-rule l lay len heads next ne s calls sized =
     let b : l < 2 ^ 64 = omega (arith, lay .high) in
-    plain-rule l lay (recoveredWorld l (formatted l len) heads next) (λ k. none) calls
-    (agrees-with l _ _ (λ k. none) (recovered-agrees l (formatted l len) heads next (formatted-fine l len ne b) s) (formatted-empty l len ne b)) sized
+    plain-rule l lay (openedWorld l (formatted l len) heads next) (λ k. none) calls
+    (agrees-with l _ _ (λ k. none) (opened-agrees l lay (formatted l len) heads next (formatted-fine l len ne b) s) (formatted-empty l len ne b)) sized

@@ -1,15 +1,18 @@
 -- The calls are a plain map. Assumes nothing.
+use mathlib.Core.Path.{_∙_}
 use Prim.Native.Nat.{ℕ}
 use native.Mathlib.Omega.{arith}
+use borrow.Author.Tests.{le-ltb}
+use Rattle.prelude.proofs.Refusals.{say-false}
 use Rattle.layout.specs.Record.{Layout}
 use Rattle.plainmap.specs.Map.{IsMap}
 use Rattle.plainmap.proofs.Sees.{sound-answers}
 use Rattle.plainmap.proofs.Sounds.{recovered-sound}
 use Rattle.plainmap.proofs.Compares.{sound-counted}
-use Rattle.plainmap.proofs.Refuses.{twelve-exactly}
-use Rattle.plainmap.proofs.CallLists.{agrees-right, agrees-next, plain-rule, recovered-reads, formatted-empty, formatted-rule}
+use Rattle.plainmap.proofs.Outcomes.{slot-taken}
+use Rattle.plainmap.proofs.Refuses.{taking-few}
+use Rattle.plainmap.proofs.CallLists.{agrees-right, agrees-stepped, agrees-next, plain-rule, recovered-reads, formatted-empty, formatted-rule}
 use Rattle.plainmap.proofs.Afters.{after-list}
-use Rattle.plainmap.proofs.CallSteps.{call-stepped}
 
 pub is-map : (l : ℕ) → Layout l → IsMap l
 is-map l lay =
@@ -19,8 +22,10 @@ is-map l lay =
       counts = sound-counted l;
       answers = agrees-right l lay;
       keeps = agrees-next l lay;
-      list-plays = λ w m g call s. after-list l w call (g .accepted) (g .sound .next-version) (call-stepped l lay w (g .chains) (g .sound) call s);
-      room = twelve-exactly l;
+      list-plays = λ w m g call s. after-list l w call (g .accepted) (agrees-stepped l lay w m g call s);
+      takes = λ w m g some.
+          slot-taken l lay w (g .chains) (g .accepted) (g .sound) (g .none-void)
+          (taking-few l w (g .chains) (g .accepted) (g .sound) (g .none-void) 1 ∙ say-false _ 28 0 (le-ltb _ 1 some));
       reads = recovered-reads l;
       empty = λ len ne. formatted-empty l len ne (omega (arith, lay .high));
       lists = plain-rule l lay;

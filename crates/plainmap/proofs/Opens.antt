@@ -15,6 +15,7 @@ use Rattle.stores.specs.Opening.{openingStores}
 use Rattle.stores.proofs.Bytes.{played-length}
 use Rattle.stores.proofs.Opening.{opening-all, opening-inside}
 use Rattle.stores.proofs.defs.Cut.{StoresInside}
+use Rattle.table.specs.Table.{mapOf}
 use Rattle.table.specs.Complete.{settled, tableOf, NoneVoid}
 use Rattle.table.proofs.Opened.{opened-settled}
 use Rattle.index.specs.Index.{Chain}
@@ -29,6 +30,7 @@ use Rattle.images.proofs.Right.{right-opened}
 use Rattle.plainmap.specs.World.{World, Round, afterRound, afterRounds}
 use Rattle.plainmap.specs.Accepted.{Accepted, RightSize}
 use Rattle.plainmap.specs.Sound.{Sound}
+use Rattle.plainmap.specs.Claims.{slotsMap}
 use Rattle.plainmap.proofs.AcceptedImages.{accepted-long, accepted-right, accepted-recovers}
 use Rattle.plainmap.proofs.Struck.{stays-accepted}
 
@@ -120,3 +122,12 @@ module _ (l : ℕ) (lay : Layout l) (image : List ℕ) (accepted : Accepted l im
   pub round-same : (r : Round) → RightSize image (r .heads) (r .next) → afterRound l image r ≡ openedImage l lay image n size (r .counts)
   unfolding afterRound
   round-same r fits = ap (λ (ss : List Store). played (standing (r .counts) ss) image) (handed-out (r .heads) (r .next) fits)
+
+  -- the image with all of them played
+  pub opened-image : (heads next : List ℕ) → RightSize image heads next
+      → played (storesIn (recoverResult l image heads next .openings)) image ≡ openedImage l lay image n size (λ k. 8)
+  opened-image heads next fits = ap (λ (ss : List Store). played ss image) (handed-out heads next fits) ∙ all-played
+
+-- the map of the slots is the same
+pub same-map : (l : ℕ) (image image′ : List ℕ) → SameTable l image image′ → (k : ℕ) → slotsMap l image′ k ≡ slotsMap l image k
+same-map l image image′ same k = ap₂ (λ (f : Table) (x : ℕ). mapOf f x k) (same .table) (same .slots)

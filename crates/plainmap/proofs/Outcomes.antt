@@ -206,7 +206,7 @@ module _ (l : ℕ) (lay : Layout l) (w : World) (chains : Chain → List ℕ) (a
   -- what all three writes share: rest is the reuse chain behind its first slot, which may be taken
   module _ (rest : List ℕ) (e : chains reuse ≡ s ∷ rest) where
     -- THE FIRST SLOT IS THE ONE that the taking rule names
-    pub first-taken : fewFault (takingOf l (w .image) (w .next) n s 1) ≡ 0 → takenOf f n 1 (chains reuse) ≡ s ∷ []
+    first-taken : fewFault (takingOf l (w .image) (w .next) n s 1) ≡ 0 → takenOf f n 1 (chains reuse) ≡ s ∷ []
     unfolding takingOf takenOf
     first-taken few =
         go (single-first f n (chains reuse) free-spares (older l w chains g [] (λ t. f t) none-void)
@@ -401,6 +401,10 @@ module _ (l : ℕ) (lay : Layout l) (w : World) (chains : Chain → List ℕ) (a
             at t (inl q) = q
             at t (inr z) = absurd z
     remove-ran key (Missing prev compared) k p (sees-absent before m) r y fault t = ran-absent t refl y m
+
+  -- THE SLOT TAKEN
+  pub slot-taken : fewFault (takingOf l (w .image) (w .next) n s 1) ≡ 0 → takenOf f n 1 (chains reuse) ≡ s ∷ []
+  slot-taken few = let t = first-slot (chains reuse) refl (g .some-spare) in first-taken (t .0) (t .1) few
 
   -- THE CALLS
   pub write-runs : (mode : Mode) (key : ℕ) (value : List ℕ) → key < (2 ^ 64) ^ l → AreBytes value

@@ -149,7 +149,7 @@ module _ (l : ℕ) (w : World) (chains : Chain → List ℕ) (a : Accepted l (w 
     taking-is wanted = sits-taking n (length (w .heads)) _ (indexOf (w .heads) (w .next) (w .state)) chains (s .index) (mayTake f n) wanted
 
     -- 28 by the slots that may be taken
-    taking-few : (wanted : ℕ) → fewFault (taking wanted) ≡ say (ltb (takeableCount (tableOf l (w .image)) n) wanted) 28 0
+    pub taking-few : (wanted : ℕ) → fewFault (taking wanted) ≡ say (ltb (takeableCount (tableOf l (w .image)) n) wanted) 28 0
     taking-few wanted =
         ap fewFault (taking-is wanted) ∙ few-exact (mayTake f n) 0 wanted (chains reuse)
         ∙ ap (λ (x : ℕ). say (ltb x wanted) 28 0)

@@ -11,7 +11,7 @@ use Rattle.index.specs.Walk.{slotKey, search, Counted}
 use Rattle.recovery.specs.Recover.{chainsOf}
 use Rattle.recovery.specs.Represents.{Answers}
 use Rattle.calls.specs.Format.{formatted}
-use Rattle.plainmap.specs.World.{World, Call, finished, recoveredWorld, called}
+use Rattle.plainmap.specs.World.{World, Call, finished, recoveredWorld, openedWorld, called}
 use Rattle.layout.specs.Content.{contentsOf}
 use Rattle.table.specs.Complete.{tableOf}
 use Rattle.plainmap.specs.Plain.{PlainMap}
@@ -54,4 +54,4 @@ pub record IsMap (l : ℕ) : Type 0 where
   -- every list of calls answers as the plain map does, and so does every list from a formatted image
   pub lists : (w : World) (m : PlainMap) (calls : List Call) → Agrees l w m → All (Typed l) calls → PlainRule l w m calls
   pub fresh : (len : ℕ) (heads next : List ℕ) → (slotsOf len ≡ 0 → ⊥) → RightSize (formatted l len) heads next
-      → (calls : List Call) → All (Typed l) calls → PlainRule l (recoveredWorld l (formatted l len) heads next) (λ k. none) calls
+      → (calls : List Call) → All (Typed l) calls → PlainRule l (openedWorld l (formatted l len) heads next) (λ k. none) calls
