@@ -13,4 +13,6 @@ pub mod Neighbours
 pub mod Runs
 pub mod Void
 pub mod OpeningStores
+pub mod Compares
+pub mod Settles
 pub mod defs
