@@ -1,19 +1,21 @@
 -- What the functions that test slots answer: a slot's version, the highest of all, an older record of a key, and whether a slot may be taken. Assumes nothing.
 use mathlib.Core.Path.{_≡_, refl, sym, ap, ap₂, _∙_, subst}
-use mathlib.Core.Bool.{Bool, true, false, not}
-use Prim.Native.Nat.{ℕ, suc, _+_, _-_, _≤_, _<_, max}
+use mathlib.Core.Bool.{Bool, true, false, cond, not, _&&_, true≢false}
+use Prim.Native.Nat.{ℕ, suc, _+_, _-_, _*_, _/_, _≤_, _<_, max}
 use native.Mathlib.Omega.{arith}
 use lib.Dec.{eqb, ltb}
+use borrow.Author.Tests.{lt-ltb, le-ltb, eq-eqb, eqb-true, eqb-false, ltb-true}
 use Rattle.prelude.specs.Range.{anyOf, greatest}
-use Rattle.layout.specs.Line.{lineA}
-use Rattle.layout.specs.Slot.{slotVerdict}
+use Rattle.prelude.proofs.Choice.{both-left, both-right}
+use Rattle.layout.specs.Line.{lineA, lineB, versionOf}
+use Rattle.layout.specs.Slot.{paired, verdictOf, lineVerdict, slotVerdict}
 use Rattle.layout.specs.Record.{Layout, kindOf, keyOf}
 use Rattle.layout.specs.Content.{content}
 use Rattle.layout.specs.inner.Key.{keyWith, highWord}
 use Rattle.layout.specs.declared.Verdict.{Verdict}
 use Rattle.layout.specs.declared.Verdict.the-variants.{Valid, Empty, Broken}
 use Rattle.layout.proofs.KeyWords.{key-parts}
-use Rattle.taking.specs.inner.Takeable.{versionIn, slotVersion, olderThan, takeable}
+use Rattle.taking.specs.inner.Takeable.{versionIn, slotVersion, olderThan, takeable, lowPut}
 use Rattle.taking.proofs.Contents.{Holds, slot-holds, older-none, older-other, older-same, take-none, take-high, take-put, take-blind, take-looked}
 
 -- ---- valid_version
@@ -98,3 +100,47 @@ module _ (l : ℕ) (m : ℕ → ℕ) (n top : ℕ) (scan : Bool) (s v : ℕ) (e 
       may-looked lay q t x y p w b a =
           take-looked (content l m) s _ _ _ held n top scan some low (sym k ∙ q) t b
           (a ∙ ap (λ (key : ℕ). anyOf (olderThan (content l m) key v) 1 n) (ap₂ keyWith p w ∙ sym (key-parts l (lineA m s) lay)))
+
+-- ---- is_low: x is word 7 of line A
+
+module _ (l : ℕ) (m : ℕ → ℕ) (top s x : ℕ) (e : x ≡ m (16 * s + 7)) where
+  stamp-at : x ≡ lineA m s 7
+  stamp-at = e ∙ ap m (omega arith)
+
+  pub not-low : top ≤ x / 2 → false ≡ lowPut l m top s
+  unfolding lowPut
+  not-low h =
+      sym (ap (λ (b : Bool). b && not (eqb (kindOf (lineA m s (l + 1))) 2)) (ap (λ (y : ℕ). ltb (y / 2) top) (sym stamp-at) ∙ le-ltb (x / 2) top h))
+
+  pub low-by-kind : x / 2 < top → (kind : ℕ) → kind ≡ kindOf (lineA m s (l + 1)) → not (eqb kind 2) ≡ lowPut l m top s
+  unfolding lowPut
+  low-by-kind h kind k =
+      ap (λ (y : ℕ). not (eqb y 2)) k
+      ∙ sym (ap (λ (b : Bool). b && not (eqb (kindOf (lineA m s (l + 1))) 2)) (ap (λ (y : ℕ). ltb (y / 2) top) (sym stamp-at) ∙ lt-ltb (x / 2) top h))
+
+-- ---- may_take: a slot that is low may be taken
+
+version-on-line : (m : ℕ → ℕ) (s : ℕ) → slotVersion m s ≤ versionOf (lineA m s 7)
+unfolding slotVersion slotVerdict lineVerdict verdictOf versionIn
+version-on-line m s = go (paired (lineA m s 0) (lineA m s 7) (lineB m s 0) (lineB m s 7)) (eqb (versionOf (lineA m s 7)) 0) _
+  where
+    go : (p q : Bool) (t : ℕ) → versionIn (cond p (cond q Empty (Valid (lineA m s 7 / 2))) (Broken t)) ≤ lineA m s 7 / 2
+    go true true t = omega arith
+    go true false t = omega arith
+    go false q t = omega arith
+
+pub may-low : (l : ℕ) (m : ℕ → ℕ) (n top : ℕ) (scan : Bool) (s : ℕ) (b : Bool) → b ≡ lowPut l m top s → b ≡ true
+    → true ≡ takeable (content l m) n top scan s
+unfolding lowPut
+may-low l m n top scan s b e q = go (eqb (slotVersion m s) 0) refl
+  where
+    low : versionOf (lineA m s 7) < top
+    low = ltb-true _ _ (both-left (ltb (versionOf (lineA m s 7)) top) _ (sym e ∙ q))
+
+    put : kindOf (lineA m s (l + 1)) ≡ 2 → ⊥
+    put z = true≢false (sym (both-right (ltb (versionOf (lineA m s 7)) top) _ (sym e ∙ q)) ∙ ap not (eq-eqb _ _ z))
+
+    go : (c : Bool) → eqb (slotVersion m s) 0 ≡ c → true ≡ takeable (content l m) n top scan s
+    go true z = may-invalid l m n top scan s _ refl (eqb-true (slotVersion m s) 0 z)
+    go false z =
+        may-put l m n top scan s _ refl (eqb-false (slotVersion m s) 0 z) (omega (arith, version-on-line m s, low)) _ refl put

@@ -8,7 +8,7 @@ ghost use Rattle.layout.specs.Record.{Layout};
 ghost use Rattle.layout.specs.Content.{contentsOf};
 ghost use Rattle.layout.specs.inner.Inside.{SlotInside};
 ghost use Rattle.layout.specs.inner.Key.{keyWith};
-ghost use Rattle.taking.specs.inner.Takeable.{slotVersion, olderThan, takeable};
+ghost use Rattle.taking.specs.inner.Takeable.{slotVersion, olderThan, lowPut, takeable};
 use layout::Verdict;
 use layout_code::fields::has_key;
 use layout_code::fields::slot_high;
@@ -16,6 +16,7 @@ use layout_code::fields::slot_kind;
 use layout_code::fields::slot_low;
 use layout_code::line::greater;
 use layout_code::slot::slot_verdict;
+use words_code::read_word;
 
 // The version of slot s where it is valid, else 0.
 pub fn valid_version(image: &[u8], s: usize) -> u64
@@ -74,8 +75,19 @@ fn has_older(image: &[u8], l: usize, n: usize, low: u64, high: u64, version: u64
     false
 }
 
-// May slot s be taken, by a version that no valid one below is the highest? Of a remove record an older record of its key is looked for only where scan says so.
-pub fn may_take(image: &[u8], l: usize, n: usize, top: u64, scan: bool, s: usize) -> bool
+// Is slot s below this version by its line A, and no remove record? Then it may be taken, valid or not.
+fn is_low(image: &[u8], l: usize, s: usize, top: u64) -> bool
+    requires { ⌜ SlotInside (now image) l s ⌝ }
+    ensures { λ r. ⌜ r ≡ lowPut l (word (now (image .entry))) top s ⌝ }
+{
+    if top <= read_word(image, 16 * s + 7) / 2 {
+        return false;
+    }
+    slot_kind(image, l, s) != 2
+}
+
+// May slot s be taken, by a version below which no valid one is the highest? Of a remove record an older record of its key is looked for only where scan says so.
+fn is_takeable(image: &[u8], l: usize, n: usize, top: u64, scan: bool, s: usize) -> bool
     requires { ⌜ SlotInside (now image) l s × (128 * (n + 1) ≤ length (now image)) ⌝ }
     ensures { λ r. ⌜ r ≡ takeable (contentsOf l (now (image .entry))) n top scan s ⌝ }
 {
@@ -95,4 +107,15 @@ pub fn may_take(image: &[u8], l: usize, n: usize, top: u64, scan: bool, s: usize
         return !has_older(image, l, n, low, high, version);
     }
     false
+}
+
+// The same, mostly by line A alone.
+pub fn may_take(image: &[u8], l: usize, n: usize, top: u64, scan: bool, s: usize) -> bool
+    requires { ⌜ SlotInside (now image) l s × (128 * (n + 1) ≤ length (now image)) ⌝ }
+    ensures { λ r. ⌜ r ≡ takeable (contentsOf l (now (image .entry))) n top scan s ⌝ }
+{
+    if is_low(image, l, s, top) {
+        return true;
+    }
+    is_takeable(image, l, n, top, scan, s)
 }

@@ -6,7 +6,8 @@ use Prim.Native.Nat.{ℕ, _+_, _*_, _≤_}
 use lib.Dec.{eqb, ltb}
 use lib.ListN.{length}
 use Rattle.prelude.specs.Range.{anyOf}
-use Rattle.layout.specs.Record.{Layout}
+use Rattle.layout.specs.Line.{lineA, versionOf}
+use Rattle.layout.specs.Record.{Layout, kindOf}
 use Rattle.layout.specs.Slot.{slotVerdict}
 use Rattle.layout.specs.Content.{Content, topOf, Table}
 use Rattle.layout.specs.declared.Verdict.{Verdict}
@@ -42,3 +43,7 @@ takeableIf top older c = cond (isRecord c) (ltb (topOf c) top && not (isRemove c
 -- the same of slot s: one may remain unless `scan` says that the image is looked through, and none is found
 unfoldable pub takeable : Table → (n top : ℕ) → (scan : Bool) → (s : ℕ) → Bool
 takeable f n top scan s = takeableIf top (cond scan (anyOf (older f s) 1 n) true) (f s)
+
+-- by its line A alone, slot s is below `top` and no remove record
+unfoldable pub lowPut : (l : ℕ) → (ℕ → ℕ) → (top s : ℕ) → Bool
+lowPut l m top s = ltb (versionOf (lineA m s 7)) top && not (eqb (kindOf (lineA m s (l + 1))) 2)
