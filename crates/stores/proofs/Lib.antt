@@ -13,5 +13,6 @@ pub mod Basket
 pub mod Opening
 pub mod Halves
 pub mod RecordStores
+pub mod Pasted
 pub mod StandingStores
 pub mod defs
