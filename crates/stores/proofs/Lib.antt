@@ -13,6 +13,7 @@ pub mod Basket
 pub mod Opening
 pub mod Halves
 pub mod RecordStores
+pub mod Pasted
 pub mod StandingStores
 pub mod defs
 pub mod AllStand

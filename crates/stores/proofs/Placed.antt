@@ -7,7 +7,7 @@ use Prim.Native.Nat.{ℕ, zero, suc, _+_, _-_, _*_, _/_, _^_, _≤_, _<_}
 use native.Mathlib.Decide.{decLt, ℕ-discrete}
 use native.Mathlib.Omega.{arith}
 use lib.Dec.{eqb, ltb}
-use lib.ListN.{length, set}
+use lib.ListN.{length, set, length-set}
 use borrow.Author.Tests.{eq-eqb, ne-eqb, lt-ltb, le-ltb}
 use Rattle.words.specs.Word.{AreBytes, word}
 use Rattle.words.proofs.Laws.{word-past, word-range}
@@ -76,23 +76,42 @@ placed-below l value (suc n) p b =
     (λ e. rw (pick-true (eqb p (valuePlace l n)) (word value n) (placedWord l value n p) (eq-eqb p (valuePlace l n) e)) (word-range value n b))
     (λ ne. rw (pick-false (eqb p (valuePlace l n)) (word value n) (placedWord l value n p) (ne-eqb p (valuePlace l n) ne)) (placed-below l value n p b))
 
--- ---- fill_value: one more step, and the last
+-- ---- fill_value: the words before step i are at their places
 
-pub value-next : (l : ℕ) (value start words after : List ℕ) (i next : ℕ) → words ≡ withValue l value i start → next ≡ i + 1
-    → after ≡ set words (valuePlace l i) (word value i) → after ≡ withValue l value next start
+pub value-length : (l : ℕ) (value : List ℕ) (from n : ℕ) (words : List ℕ) → length (withValue l value from n words) ≡ length words
 unfolding withValue
-value-next l value start words after i next e q p =
-    p ∙ ap (λ (ws : List ℕ). set ws (valuePlace l i) (word value i)) e ∙ ap (λ (n : ℕ). withValue l value n start) step
+value-length l value from zero words = refl
+value-length l value from (suc n) words = length-set (withValue l value from n words) _ _ ∙ value-length l value from n words
+
+pub record Filling (l : ℕ) (value start words : List ℕ) (from i : ℕ) : Type 0 where
+  pub low : 8 * i < length value + 8
+  pub size : length words ≡ length start
+  pub so-far : words ≡ withValue l value from i start
+
+pub filling-start : (l : ℕ) (value start : List ℕ) (from : ℕ) → Filling l value start start from 0
+unfolding withValue
+filling-start l value start from = record { low = omega arith; size = refl; so-far = refl }
+
+pub filling-next : (l : ℕ) (value start words after : List ℕ) (from i next : ℕ) → Filling l value start words from i → 8 * i < length value → next ≡ i + 1
+    → after ≡ set words (from + valuePlace l i) (word value i) → Filling l value start after from next
+unfolding withValue
+filling-next l value start words after from i next g h q p =
+    record { low = omega arith; size = ap (λ (t : List ℕ). length t) so-far ∙ value-length l value from next start; so-far = so-far }
   where
     step : suc i ≡ next
     step = omega arith
 
-pub value-end : (l : ℕ) (value start words : List ℕ) (i : ℕ) → 8 * i < length value + 8 → length value ≤ 8 * i → words ≡ withValue l value i start
-    → (i ≡ steps (length value)) × (words ≡ withValue l value (steps (length value)) start)
-value-end l value start words i low high e = (count, e ∙ ap (λ (n : ℕ). withValue l value n start) count)
+    so-far : after ≡ withValue l value from next start
+    so-far =
+        p ∙ ap (λ (ws : List ℕ). set ws (from + valuePlace l i) (word value i)) (g .so-far)
+        ∙ ap (λ (n : ℕ). withValue l value from n start) step
+
+pub filling-end : (l : ℕ) (value start words : List ℕ) (from i : ℕ) → Filling l value start words from i → length value ≤ 8 * i
+    → (i ≡ steps (length value)) × (words ≡ withValue l value from (steps (length value)) start)
+filling-end l value start words from i g high = (count, g .so-far ∙ ap (λ (n : ℕ). withValue l value from n start) count)
   where
     count : i ≡ steps (length value)
-    count = omega arith
+    count = omega (arith, g .low)
 
 -- ---- the stores of a record: word p by its kind word w and by what stands at a value's place
 
@@ -139,11 +158,11 @@ module _ (l a b key version : ℕ) where
       word-same = omega arith
 
   some-words : Layout l → (w : ℕ) (value : List ℕ) (n : ℕ) → l + n ≤ 11
-      → withValue l value n (tabulate (wordAt w 0) 0 16) ≡ tabulate (λ p. wordAt w (placedWord l value n p) p) 0 16
+      → withValue l value 0 n (tabulate (wordAt w 0) 0 16) ≡ tabulate (λ p. wordAt w (placedWord l value n p) p) 0 16
   unfolding withValue placedWord
   some-words lay w value zero h = refl
   some-words lay w value (suc n) h =
-      ap (λ (ws : List ℕ). set ws (valuePlace l n) (word value n)) (some-words lay w value n (omega arith))
+      ap₂ (λ (ws : List ℕ) (p : ℕ). set ws p (word value n)) (some-words lay w value n (omega arith)) place
       ∙ tabulate-put _ _ 16 (valuePlace l n) (word value n) (omega (arith, body .before-stamp-B))
       (in-body w _ (valuePlace l n) body ∙ placed-at l value (suc n) n (omega arith))
       (λ p ne. ap (λ (v : ℕ). wordAt w v p) (pick-false (eqb p (valuePlace l n)) _ _ (ne-eqb p (valuePlace l n) ne)))
@@ -151,12 +170,15 @@ module _ (l a b key version : ℕ) where
       body : InBody l (valuePlace l n)
       body = place-in-body l n lay (omega arith)
 
+      place : 0 + valuePlace l n ≡ valuePlace l n
+      place = omega arith
+
   -- the steps of moving the value into a record without one, whose kind word is the record's, make the record
   pub value-moved : Layout l → (kind number w : ℕ) (value frame words : List ℕ) → length value ≤ limit l → w ≡ kindWord kind (length value) number
-      → frame ≡ recordWords l a b key w 0 [] version → words ≡ withValue l value (steps (length value)) frame
+      → frame ≡ recordWords l a b key w 0 [] version → words ≡ withValue l value 0 (steps (length value)) frame
       → words ≡ recordWords l a b key kind number value version
   value-moved lay kind number w value frame words fits e f moved =
-      moved ∙ ap (withValue l value (steps (length value))) (f ∙ without-value w)
+      moved ∙ ap (withValue l value 0 (steps (length value))) (f ∙ without-value w)
       ∙ some-words lay w value (steps (length value)) (omega (arith, lay .high))
       ∙ ap (λ (g : ℕ → ℕ). tabulate g 0 16) (fun-ext (λ p. ap₂ (λ (x v : ℕ). wordAt x v p) e (all-placed p)))
       ∙ sym (words-by-place kind number value)

@@ -2,6 +2,7 @@
 use mathlib.Core.List.{List, _++_}
 use Prim.Native.Nat.{ℕ, zero, suc, _+_, _*_}
 use lib.ListN.{set}
+use lib.Seq.{paste}
 use Rattle.words.specs.Word.{word}
 use Rattle.layout.specs.Record.{valuePlace}
 use Rattle.prelude.specs.Range.{tabulate}
@@ -16,7 +17,11 @@ unfoldable pub recordWords : (l a b key kind number : ℕ) → List ℕ → (ver
 recordWords l a b key kind number value version =
     tabulate (newA l a key kind number value version) 0 8 ++ tabulate (newB l b value version) 0 8
 
--- these values with the first n words of the value at their places
-unfoldable pub withValue : (l : ℕ) → (value : List ℕ) → (n : ℕ) → (words : List ℕ) → List ℕ
-withValue l value zero words = words
-withValue l value (suc n) words = set (withValue l value n words) (valuePlace l n) (word value n)
+-- a list of values that has such ones from position `from` on, with the first n words of the value at their places
+unfoldable pub withValue : (l : ℕ) → (value : List ℕ) → (from n : ℕ) → (words : List ℕ) → List ℕ
+withValue l value from zero words = words
+withValue l value from (suc n) words = set (withValue l value from n words) (from + valuePlace l n) (word value n)
+
+-- the list `old` with the first n of `new` in place of its n elements from position `from` on
+unfoldable pub pasted : (old : List ℕ) → (from : ℕ) → (new : List ℕ) → (n : ℕ) → List ℕ
+pasted old from new n = paste old from new n

@@ -1,7 +1,6 @@
 -- `stores_code::record::remove_stores` meets its contract. Assumes nothing.
 use borrow.Author.Needs.{needs}
-use Rattle.stores.proofs.Placed.{no-value}
-use Rattle.stores.proofs.RecordStores.{zipped-record}
+use Rattle.stores.proofs.Pasted.{whole-frame}
 use Rattle.stores_code.proofs.record.remove_stores.Statement.{statement}
 use Rattle.stores_code.proofs.record.remove_stores.Tie as tie
 
@@ -11,4 +10,4 @@ remove-stores-spec =
     (tie.spec
     (λ c. search needs) (λ c. search needs) (λ c κs. search needs) (λ c. search needs) (λ c. search needs)
     (λ c κs. search needs) (λ c κs. search needs) (λ c κs. search needs) (λ c κs. search needs)
-    (λ c. search (zipped-record, no-value)))
+    (λ c. search (whole-frame, needs)))

@@ -6,7 +6,7 @@ use Rattle.stores_code.proofs.value.fill_step.Statement.{statement}
 use Rattle.stores_code.proofs.value.fill_step.Tie as tie
 
 value-place-requires : tie.Need-value-place-requires
-value-place-requires c κs = (c .before .pre .0, omega (arith, c .before .pre .0 .high))
+value-place-requires c κs = (c .before .before .pre .0, omega (arith, c .before .before .pre .0 .high))
 
 returns : tie.Need-returns
 returns c = (refl, rw (c .before .value-place .ensures .0, c .padded-word .ensures))
@@ -16,5 +16,5 @@ fill-step-spec =
     tie.close
     (tie.spec
     value-place-requires
-    (λ c κs. search needs) (λ c. search needs) (λ c. search needs) (λ c. search needs)
+    (λ c κs. search needs) (λ c. search needs) (λ c. search needs) (λ c. search needs) (λ c. search needs) (λ c. search needs)
     returns)
