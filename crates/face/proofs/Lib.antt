@@ -4,5 +4,4 @@ pub mod Heads
 pub mod Stored
 pub mod SetLaws
 pub mod Numbers
-pub mod defs
 pub mod Located

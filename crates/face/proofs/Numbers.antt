@@ -1,8 +1,8 @@
 -- The numbers with which each call is refused, whatever it is given. Assumes nothing.
 use mathlib.Core.Path.{_≡_, refl, sym, ap, _∙_, subst}
-use mathlib.Core.Bool.{Bool, true, false, cond}
+use mathlib.Core.Bool.{Bool, true, false, cond, not}
 use mathlib.Core.Logic.{_⊎_, inl, inr}
-use mathlib.Core.List.{List}
+use mathlib.Core.List.{List, []}
 use Prim.Native.Nat.{ℕ, zero, suc, _≤_}
 use native.Mathlib.Omega.{arith}
 use lib.Dec.{eqb, ltb}
@@ -19,25 +19,28 @@ use Rattle.prelude.proofs.Lowest.{Lowest, nowhere, there, lowest-is}
 use Rattle.prelude.proofs.Refusals.{say-false, orElse-first}
 use Rattle.layout.specs.Size.{slotsIn}
 use Rattle.layout.specs.Slot.{lineVerdict, isValid}
-use Rattle.layout.specs.Content.{content}
-use Rattle.table.specs.Complete.{tableOf}
+use Rattle.layout.specs.Content.{content, numberIn}
+use Rattle.table.specs.Complete.{settled, tableOf}
+use Rattle.table.specs.Shared.{sharersFault}
+use Rattle.stores.specs.Opening.{openingStores}
+use Rattle.recovery.specs.Opening.{voidSlots, openingsOf}
 use Rattle.layout.specs.Fault.{markFault, wordFault, faultOf, recordFault}
-use Rattle.table.specs.Table.{sharedVersion, manyBroken, allLive}
 use Rattle.layout.specs.Record.{limit}
 use Rattle.layout.specs.Line.{lineA, lineB, versionFault}
 use Rattle.layout.specs.Header.{headerFault, imageFault, indexFault, lentFault}
 use Rattle.index.specs.Walk.{search, chainFault}
-use Rattle.index.specs.Change.{keyFault, isFound, roomFault, reuseFault}
+use Rattle.index.specs.Change.{keyFault, isFound}
+use Rattle.index.specs.Taking.{Taking, taken, tooFew, badLink, endsFault, linkFault, fewFault, reuseFault, roomFault}
 use Rattle.index.specs.declared.Mode.{Mode}
 use Rattle.index.specs.declared.Mode.the-variants.{Insert, Replace}
 use Rattle.index.specs.declared.State.{State}
 use Rattle.index.specs.declared.Found.{Found}
 use Rattle.index.specs.declared.Found.the-variants.{At, Missing, BadChain}
-use Rattle.recovery.specs.Recover.{Result, slotsFault, slotsNamed, recovered, recoverFault, recoverSlot, refusedResult, recoverResult}
+use Rattle.recovery.specs.Recover.{Result, settledFault, slotsFault, slotsNamed, recovered, recoverFault, recoverSlot, refusedResult, recoverResult}
 use Rattle.calls.specs.Format.{FormatResult, formatFault, formatResult}
-use Rattle.calls.specs.Change.{ChangeResult, unchanged, changed, writeLentFault, writeLaterFault, writeFault, writeDone, writeResult, heldFault, removeLaterFault, removeFault, removeDone, removeResult}
+use Rattle.calls.specs.Change.{ChangeResult, unchanged, changed, writeLentFault, writeLaterFault, writeFault, writeDone, writeResult, storeFault, removeLaterFault, removeFault, removeDone, removeResult}
 use Rattle.calls.specs.Get.{GetResult, lengthFault, getLaterFault, getFault, getDone, getResult}
-use Rattle.face.specs.Numbers.{Numbered, AnswersAsAsked, formatRefusals, noSlotRefusals, slotRefusals, recoverRefusals, Names, a-slot, no-slot, writeRefusals, askedRefusals, removeRefusals, getRefusals, roomyGetRefusals, locateRefusals}
+use Rattle.face.specs.Numbers.{Numbered, AnswersAsAsked, formatRefusals, noSlotRefusals, slotRefusals, recoverRefusals, Names, a-slot, no-slot, writeRefusals, storingRefusals, getRefusals, roomyGetRefusals, locateRefusals}
 use Rattle.calls.specs.Locate.{locateFault, locateDone, locateResult}
 
 -- ---- rows of refusals
@@ -76,49 +79,43 @@ module _ (ks : List ℕ) (eleven : isOne 11 ks ≡ true) where
   chain-due (Missing prev compared) = none-due ks
   chain-due BadChain = inr (one-of 11 ks eleven)
 
-  reuse-due : (next : List ℕ) (n first last : ℕ) → Due ks (reuseFault next n first last)
-  unfolding reuseFault
-  reuse-due next n first last =
-      let i = one-of 11 ks eleven in
-      say-due ks _ 11 _ i (say-due ks _ 11 _ i (say-due ks _ 11 _ i (say-due ks _ 11 _ i (say-due ks _ 11 0 i (none-due ks)))))
-
 version-due : (ks : List ℕ) → isOne 9 ks ≡ true → (version : ℕ) → Due ks (versionFault version)
 unfolding versionFault
 version-due ks nine version = say-due ks _ 9 0 (one-of 9 ks nine) (none-due ks)
 
-room-due : (ks : List ℕ) → isOne 12 ks ≡ true → (found : Found) (n live : ℕ) → Due ks (roomFault found n live)
-unfolding roomFault
-room-due ks twelve (At slot prev compared) n live = none-due ks
-room-due ks twelve (Missing prev compared) n live = say-due ks _ 12 0 (one-of 12 ks twelve) (none-due ks)
-room-due ks twelve BadChain n live = none-due ks
+-- 11 (reuse), 28 and 9
+store-due : (ks : List ℕ) → isOne 11 ks ≡ true → isOne 28 ks ≡ true → isOne 9 ks ≡ true → (taking : Taking) (n : ℕ) (s : State) (inserts removes : ℕ)
+    → Due ks (storeFault taking n s inserts removes)
+unfolding storeFault reuseFault endsFault linkFault roomFault fewFault
+store-due ks eleven room nine taking n s inserts removes =
+    else-due ks _ _ (else-due ks _ _ ends (else-due ks _ _ (say-due ks _ 11 0 i (none-due ks)) (links taking)))
+    (else-due ks _ _ (else-due ks _ _ (few taking) (say-due ks _ 28 0 (one-of 28 ks room) (none-due ks))) (version-due ks nine (s .version)))
+  where
+    i : In 11 ks
+    i = one-of 11 ks eleven
 
--- the numbers by which the key and the room refuse
-abbrev Asks : Mode → List ℕ → Type 0
-Asks Insert ks = (isOne 20 ks ≡ true) × (isOne 12 ks ≡ true)
-Asks Replace ks = isOne 21 ks ≡ true
+    ends : Due ks (endsFault n (s .first) (s .last))
+    ends = say-due ks _ 11 _ i (say-due ks _ 11 _ i (say-due ks _ 11 _ i (say-due ks _ 11 0 i (none-due ks))))
 
--- a replace meets no 12: 21 comes before it
-key-due : (ks : List ℕ) (mode : Mode) → Asks mode ks → (found : Found) (n live later : ℕ) → Due ks later
-    → Due ks (orElse (keyFault mode (isFound found)) (orElse (roomFault found n live) later))
-unfolding keyFault isFound roomFault say orElse
-key-due ks Insert a found n live later d =
-    else-due ks _ _ (say-due ks (isFound found) 20 0 (one-of 20 ks (a .0)) (none-due ks)) (else-due ks _ _ (room-due ks (a .1) found n live) d)
-key-due ks Replace a (At slot prev compared) n live later d = d
-key-due ks Replace a (Missing prev compared) n live later d = inr (one-of 21 ks a)
-key-due ks Replace a BadChain n live later d = inr (one-of 21 ks a)
+    links : (t : Taking) → Due ks (linkFault t)
+    links (taken ts) = none-due ks
+    links tooFew = none-due ks
+    links badLink = inr i
 
--- the key as a mode asks for it: a replace then meets no 12 either
-abbrev AsAsked : Mode → List ℕ → Type 0
-AsAsked Insert ks = isOne 12 ks ≡ true
-AsAsked Replace ks = Unit
+    few : (t : Taking) → Due ks (fewFault t)
+    few (taken ts) = none-due ks
+    few tooFew = inr (one-of 28 ks room)
+    few badLink = none-due ks
 
-asked-due : (ks : List ℕ) (mode : Mode) → AsAsked mode ks → (found : Found) (n live later : ℕ) → keyFault mode (isFound found) ≡ 0 → Due ks later
-    → Due ks (orElse (keyFault mode (isFound found)) (orElse (roomFault found n live) later))
-unfolding keyFault isFound roomFault say orElse
-asked-due ks Insert a found n live later z d = else-due ks _ _ (inl z) (else-due ks _ _ (room-due ks a found n live) d)
-asked-due ks Replace a (At slot prev compared) n live later z d = d
-asked-due ks Replace a (Missing prev compared) n live later z d = absurd (omega arith)
-asked-due ks Replace a BadChain n live later z d = absurd (omega arith)
+-- 20 or 21
+abbrev keyRefusal : Mode → ℕ
+keyRefusal Insert = 20
+keyRefusal Replace = 21
+
+key-due : (ks : List ℕ) (mode : Mode) → isOne (keyRefusal mode) ks ≡ true → (held : Bool) → Due ks (keyFault mode held)
+unfolding keyFault
+key-due ks Insert a held = say-due ks held 20 0 (one-of 20 ks a) (none-due ks)
+key-due ks Replace a held = say-due ks (not held) 21 0 (one-of 21 ks a) (none-due ks)
 
 -- ---- what a call answers
 
@@ -170,10 +167,10 @@ record-due l m s = go (isValid (lineVerdict (lineA m s) (lineB m s)))
 
 module _ (l : ℕ) (m : ℕ → ℕ) (n : ℕ) where
   late : ℕ
-  late = say (sharedVersion (content l m) n) 7 (say (manyBroken (content l m) n) 25 (say (allLive (content l m) n) 8 0))
+  late = say (sharersFault (content l m) (numberIn l m) n) 7 (settledFault (settled (content l m) (numberIn l m) n) n)
 
   late-due : Due noSlotRefusals late
-  unfolding late
+  unfolding late settledFault
   late-due =
       say-due noSlotRefusals _ 7 _ (one-of 7 noSlotRefusals refl)
       (say-due noSlotRefusals _ 25 _ (one-of 25 noSlotRefusals refl) (say-due noSlotRefusals _ 8 0 (one-of 8 noSlotRefusals refl) (none-due noSlotRefusals)))
@@ -215,7 +212,7 @@ module _ (l : ℕ) (image heads next : List ℕ) where
   recover-names k = go _ _ fault-names
     where
       left : (fault slot : ℕ) → Result
-      left fault slot = unlessRefused fault (recovered (tableOf l image) (slotsIn image) (length heads)) (refusedResult fault slot heads next)
+      left fault slot = unlessRefused fault (recovered (tableOf l image) (slotsIn image) (length heads) (openingStores (word image) (voidSlots l (word image) (slotsIn image)))) (refusedResult fault slot (openingsOf []) heads next)
 
       go : (fault slot : ℕ) → DueAt (slotsIn image) fault slot → left fault slot .answer ≡ refused k → Names (slotsIn image) k (left fault slot .slot)
       go zero slot d e = absurd (gives-refused _ k e)
@@ -261,16 +258,13 @@ module _ (l : ℕ) (image heads next : List ℕ) (s : State) (key : ℕ) where
   write-done ks e value (Missing prev compared) = tt
   write-done ks e value BadChain = one-of 11 ks e
 
-  -- what the key and the room say is `asked`
   write-due : (ks : List ℕ) → isOne 1 ks ≡ true → isOne 2 ks ≡ true → isOne 3 ks ≡ true → isOne 4 ks ≡ true → isOne 11 ks ≡ true
-      → isOne 9 ks ≡ true → (mode : Mode) (size : ℕ) → Due ks (say (ltb (limit l) size) 10 0)
-      → ((n later : ℕ) → Due ks later
-      → Due ks (orElse (keyFault mode (isFound (search l image heads next key))) (orElse (roomFault (search l image heads next key) n (s .live)) later)))
-      → Due ks (writeFault l image heads next s mode key size)
+      → isOne 28 ks ≡ true → isOne 9 ks ≡ true → (mode : Mode) (size : ℕ) → Due ks (say (ltb (limit l) size) 10 0)
+      → Due ks (keyFault mode (isFound (search l image heads next key))) → Due ks (writeFault l image heads next s mode key size)
   unfolding writeFault writeLentFault writeLaterFault
-  write-due ks a b c d e g mode size ten asked =
+  write-due ks a b c d e r g mode size ten asked =
       else-due ks _ _ (else-due ks _ _ (lent-due ks a b c d l image (length heads) (length next)) ten)
-      (else-due ks _ _ (chain-due ks e _) (asked _ _ (else-due ks _ _ (version-due ks g _) (reuse-due ks e _ _ _ _))))
+      (else-due ks _ _ (chain-due ks e _) (else-due ks _ _ asked (store-due ks e r g _ _ s _ _)))
 
   write-by : (ks : List ℕ) → isOne 11 ks ≡ true → (mode : Mode) (value : List ℕ) → Due ks (writeFault l image heads next s mode key (length value))
       → Numbered ks (writeResult l image heads next s mode key value .answer)
@@ -278,37 +272,32 @@ module _ (l : ℕ) (image heads next : List ℕ) (s : State) (key : ℕ) where
   write-by ks e mode value d =
       numbered ks (λ (r : ChangeResult). r .answer) (λ fault. unchanged (refused fault) s heads next) (λ k. refl) _ d _ (write-done ks e value _)
 
-  -- INSERT AND REPLACE: 1, 2, 3, 4, 10, 11, 9, and 20, 12 or 21
+  -- INSERT AND REPLACE: 1, 2, 3, 4, 10, 11, 20 or 21, 28, 9
   pub write-numbered : (mode : Mode) (value : List ℕ) → Numbered (writeRefusals mode) (writeResult l image heads next s mode key value .answer)
   write-numbered Insert value =
       write-by (writeRefusals Insert) refl Insert value
-      (write-due (writeRefusals Insert) refl refl refl refl refl refl Insert (length value) (say-due (writeRefusals Insert) _ 10 0 (one-of 10 (writeRefusals Insert) refl) (none-due (writeRefusals Insert)))
-      (λ n. key-due (writeRefusals Insert) Insert (refl, refl) _ n _))
+      (write-due (writeRefusals Insert) refl refl refl refl refl refl refl Insert (length value)
+      (say-due (writeRefusals Insert) _ 10 0 (one-of 10 (writeRefusals Insert) refl) (none-due (writeRefusals Insert))) (key-due (writeRefusals Insert) Insert refl _))
   write-numbered Replace value =
       write-by (writeRefusals Replace) refl Replace value
-      (write-due (writeRefusals Replace) refl refl refl refl refl refl Replace (length value) (say-due (writeRefusals Replace) _ 10 0 (one-of 10 (writeRefusals Replace) refl) (none-due (writeRefusals Replace)))
-      (λ n. key-due (writeRefusals Replace) Replace refl _ n _))
+      (write-due (writeRefusals Replace) refl refl refl refl refl refl refl Replace (length value)
+      (say-due (writeRefusals Replace) _ 10 0 (one-of 10 (writeRefusals Replace) refl) (none-due (writeRefusals Replace))) (key-due (writeRefusals Replace) Replace refl _))
 
   -- without 10 where the value is short enough, and without 20 or 21 where the key is as the call asks
   asked-by : (mode : Mode) (value : List ℕ) → length value ≤ limit l → keyFault mode (isFound (search l image heads next key)) ≡ 0
-      → Numbered (askedRefusals mode) (writeResult l image heads next s mode key value .answer)
-  asked-by Insert value h z =
-      write-by (askedRefusals Insert) refl Insert value
-      (write-due (askedRefusals Insert) refl refl refl refl refl refl Insert (length value) (inl (say-false _ 10 0 (le-ltb (limit l) (length value) h)))
-      (λ n later. asked-due (askedRefusals Insert) Insert refl _ n _ later z))
-  asked-by Replace value h z =
-      write-by (askedRefusals Replace) refl Replace value
-      (write-due (askedRefusals Replace) refl refl refl refl refl refl Replace (length value) (inl (say-false _ 10 0 (le-ltb (limit l) (length value) h)))
-      (λ n later. asked-due (askedRefusals Replace) Replace tt _ n _ later z))
+      → Numbered storingRefusals (writeResult l image heads next s mode key value .answer)
+  asked-by mode value h z =
+      write-by storingRefusals refl mode value
+      (write-due storingRefusals refl refl refl refl refl refl refl mode (length value) (inl (say-false _ 10 0 (le-ltb (limit l) (length value) h))) (inl z))
 
   -- by a locate that finds the key absent, for an insert, or by a get that finds it held, for a replace
   pub locate-asked : (value : List ℕ) → length value ≤ limit l → AnswersAsAsked Insert (locateResult l image heads next key)
-      → Numbered (askedRefusals Insert) (writeResult l image heads next s Insert key value .answer)
+      → Numbered storingRefusals (writeResult l image heads next s Insert key value .answer)
   unfolding locateResult
   locate-asked value h e = asked-by Insert value h (located-asked image (locateFault l image heads next key) (search l image heads next key) e)
 
   pub get-asked : (value out : List ℕ) → length value ≤ limit l → AnswersAsAsked Replace (getResult l image heads next key out .answer)
-      → Numbered (askedRefusals Replace) (writeResult l image heads next s Replace key value .answer)
+      → Numbered storingRefusals (writeResult l image heads next s Replace key value .answer)
   unfolding getResult
   get-asked value out h e =
       asked-by Replace value h (got-asked l image out (getFault l image heads next key (length out)) (search l image heads next key) e)
@@ -319,19 +308,19 @@ module _ (l : ℕ) (image heads next : List ℕ) (s : State) (key : ℕ) where
   remove-done ks e (Missing prev compared) = tt
   remove-done ks e BadChain = one-of 11 ks e
 
-  remove-due : (ks : List ℕ) → isOne 11 ks ≡ true → isOne 9 ks ≡ true → (found : Found) (n : ℕ) → Due ks (removeLaterFault found next n s)
-  unfolding removeLaterFault heldFault
-  remove-due ks e g (At old prev compared) n =
-      else-due ks _ _ (version-due ks g _) (else-due ks _ _ (reuse-due ks e _ _ _ _) (say-due ks _ 11 0 (one-of 11 ks e) (none-due ks)))
-  remove-due ks e g (Missing prev compared) n = none-due ks
-  remove-due ks e g BadChain n = inr (one-of 11 ks e)
+  remove-due : (ks : List ℕ) → isOne 11 ks ≡ true → isOne 28 ks ≡ true → isOne 9 ks ≡ true → (found : Found) (taking : Taking) (n : ℕ)
+      → Due ks (removeLaterFault found taking n s)
+  unfolding removeLaterFault
+  remove-due ks e r g (At old prev compared) taking n = store-due ks e r g taking n s 0 1
+  remove-due ks e r g (Missing prev compared) taking n = none-due ks
+  remove-due ks e r g BadChain taking n = inr (one-of 11 ks e)
 
-  -- REMOVE: 1, 2, 3, 4, 11, 9
-  pub remove-numbered : Numbered removeRefusals (removeResult l image heads next s key .answer)
+  -- REMOVE: 1, 2, 3, 4, 11, 28, 9
+  pub remove-numbered : Numbered storingRefusals (removeResult l image heads next s key .answer)
   unfolding removeResult removeFault unchanged
   remove-numbered =
-      numbered removeRefusals (λ (r : ChangeResult). r .answer) (λ fault. unchanged (refused fault) s heads next) (λ k. refl) _
-      (else-due removeRefusals _ _ (lent-due removeRefusals refl refl refl refl l image (length heads) (length next)) (remove-due removeRefusals refl refl _ _)) _ (remove-done removeRefusals refl _)
+      numbered storingRefusals (λ (r : ChangeResult). r .answer) (λ fault. unchanged (refused fault) s heads next) (λ k. refl) _
+      (else-due storingRefusals _ _ (lent-due storingRefusals refl refl refl refl l image (length heads) (length next)) (remove-due storingRefusals refl refl refl _ _ _)) _ (remove-done storingRefusals refl _)
 
 module _ (l : ℕ) (image heads next : List ℕ) (key : ℕ) where
   get-done : (ks : List ℕ) → isOne 11 ks ≡ true → (out : List ℕ) (found : Found) → Numbered ks (getDone l image out found .answer)

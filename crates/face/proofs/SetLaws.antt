@@ -1,8 +1,8 @@
 -- THE LAWS OF THE SET, proved. Assumes nothing.
-use mathlib.Core.Path.{_≡_, ap, _∙_}
+use mathlib.Core.Path.{_≡_, refl, sym, ap, _∙_, subst}
 use mathlib.Core.Option.{none}
 use mathlib.Core.List.{List, []}
-use Prim.Native.Nat.{ℕ, _^_, _≤_, _<_}
+use Prim.Native.Nat.{ℕ, _+_, _*_, _^_, _≤_, _<_}
 use native.Mathlib.Omega.{arith}
 use lib.ListN.{length}
 use Rattle.words.specs.Word.{word}
@@ -11,33 +11,30 @@ use Rattle.layout.specs.Record.{Layout}
 use Rattle.layout.specs.Header.{indexFault}
 use Rattle.layout.proofs.Size.{sized}
 use Rattle.layout.proofs.Lents.{index-sized}
-use Rattle.stores.specs.Play.{wordNumbers, playFault}
+use Rattle.prelude.specs.Members.{Slot}
+use Rattle.stores.specs.Store.{Store, played, standing}
+use Rattle.stores.specs.Play.{wordNumbers, playFault, playing, halfCounts}
 use Rattle.recovery.specs.Recover.{recoverFault}
-use Rattle.calls.specs.Change.{changed}
 use Rattle.calls.specs.Format.{formatted}
 use Rattle.calls.proofs.Formats.{formatted-length}
-use Rattle.plainmap.specs.World.{World, Call, Called, calledChange, called, recoveredWorld}
+use Rattle.plainmap.specs.World.{World, Call, called, openedWorld}
 use Rattle.plainmap.specs.Plain.{PlainMap}
 use Rattle.plainmap.specs.Accepted.{Accepted, RightSize}
 use Rattle.plainmap.specs.Claims.{Typed, slotsMap}
 use Rattle.plainmap.specs.Sound.{Agrees}
 use Rattle.plainmap.proofs.AcceptedImages.{accepted-recovers, recovers-accepted, accepted-slots, accepted-long}
 use Rattle.plainmap.proofs.Afters.{after-list}
-use Rattle.plainmap.proofs.CallLists.{agrees-right, agrees-reads, agrees-with, recovered-agrees, formatted-empty, formatted-fine}
-use Rattle.plainmap.proofs.CallSteps.{Stepped, stored-none, stored-record, call-stepped}
-use Rattle.plainmap.proofs.Playing.{record-passes, playing-none}
+use Rattle.plainmap.proofs.CallLists.{agrees-right, agrees-reads, agrees-with, agrees-stepped, opened-agrees, restarted-agrees, formatted-empty, formatted-fine}
+use Rattle.plainmap.proofs.Playing.{record-passes, record-cut, playing-none}
 use Rattle.face.specs.Laws.{Lengths, CallLaws, SetLaws}
-use Rattle.face.proofs.Images.{accepted-gives, passed-size, state-answered}
-use Rattle.face.proofs.Events.{event-agrees, event-slots}
-use Rattle.face.proofs.Stored.{few-given, hands-out, some-stores}
+use Rattle.face.proofs.Images.{accepted-gives, state-answered}
+use Rattle.face.proofs.Events.{gives-along, event-agrees, event-along, event-slots}
+use Rattle.face.proofs.Stored.{few-given, hands-out, OneStored, none-stored, one-stored, stored-one, some-stores}
 use Rattle.face.proofs.Heads.{called-heads, recovered-heads}
 
 module _ (l : ℕ) (lay : Layout l) where
-  the-recovered : (image heads next : List ℕ) → recoverFault l image (length heads) (length next) ≡ 0
-      → Agrees l (recoveredWorld l image heads next) (slotsMap l image)
-  the-recovered image heads next z =
-      recovered-agrees l image heads next (recovers-accepted l image (length heads) (length next) z)
-      (passed-size l image (length heads) (length next) z)
+  passed : (image heads next : List ℕ) → recoverFault l image (length heads) (length next) ≡ 0 → Accepted l image
+  passed image heads next z = recovers-accepted l image (length heads) (length next) z
 
   small : l < 2 ^ 64
   small = omega (arith, lay .high)
@@ -53,8 +50,8 @@ module _ (l : ℕ) (lay : Layout l) where
     new-accepted : recoverFault l (formatted l len) (length heads) (length next) ≡ 0
     new-accepted = accepted-recovers l (formatted l len) (length heads) (length next) fine right-size
 
-    new-agrees : Agrees l (recoveredWorld l (formatted l len) heads next) (λ k. none)
-    new-agrees = agrees-with l _ _ (λ k. none) (recovered-agrees l (formatted l len) heads next fine right-size) (formatted-empty l len some small)
+    new-agrees : Agrees l (openedWorld l (formatted l len) heads next) (λ k. none)
+    new-agrees = agrees-with l _ _ (λ k. none) (opened-agrees l lay (formatted l len) heads next fine right-size) (formatted-empty l len some small)
 
   module _ (w : World) (m : PlainMap) (g : Agrees l w m) where
     the-lengths : Lengths w
@@ -66,21 +63,35 @@ module _ (l : ℕ) (lay : Layout l) where
         }
 
     module _ (call : Call) (typed : Typed l call) where
-      stepped : Stepped l w call
-      stepped = call-stepped l lay w (g .chains) (g .sound) call typed
+      room : (s : ℕ) → Slot (slotsIn (w .image)) s → 128 * (s + 1) ≤ length (w .image)
+      room s i = omega (arith, i .1, accepted-long l (w .image) (g .accepted) .size)
 
       -- PLAY of a call's stores, if it has any, refuses no counts up to 8
       the-plays : (called l w call .stores ≡ [] → ⊥) → (a b : ℕ) → a ≤ 8 → b ≤ 8
           → playFault (length (w .image)) (wordNumbers (called l w call .stores)) a b ≡ 0
-      unfolding calledChange changed
-      the-plays some a b p q = go stepped
+      the-plays some a b p q = go (stored-one l lay w m g call typed)
         where
-          go : Stepped l w call → playFault (length (w .image)) (wordNumbers (called l w call .stores)) a b ≡ 0
-          go (stored-none e sound same) = absurd (some e)
-          go (stored-record key kind value i alive d wr same) =
-              ap (λ (c : Called). playFault (length (w .image)) (wordNumbers (c .stores)) a b) d
-              ∙ record-passes l (length (w .image)) (word (w .image)) (w .state .first) key kind value (w .state .version) a b
-              (accepted-slots l (w .image) (g .accepted)) (omega (arith, wr .slot, accepted-long l (w .image) (g .accepted) .size)) p q
+          go : OneStored l w (called l w call .stores) → playFault (length (w .image)) (wordNumbers (called l w call .stores)) a b ≡ 0
+          go (none-stored e) = absurd (some e)
+          go (one-stored key kind value e i) =
+              ap (λ (ss : List Store). playFault (length (w .image)) (wordNumbers ss) a b) e
+              ∙ record-passes l (length (w .image)) (word (w .image)) (w .state .first) key kind 0 value (w .state .version) a b
+              (accepted-slots l (w .image) (g .accepted)) (room (w .state .first) i) p q
+
+      -- and leaves what a cut with these counts leaves
+      the-cut : (a b : ℕ) → a ≤ 8 → b ≤ 8 → playing (w .image) (called l w call .stores) a b ≡
+          played (standing (halfCounts (called l w call .stores) a b) (called l w call .stores)) (w .image)
+      unfolding standing played
+      the-cut a b p q = go (stored-one l lay w m g call typed)
+        where
+          go : OneStored l w (called l w call .stores)
+              → playing (w .image) (called l w call .stores) a b ≡
+              played (standing (halfCounts (called l w call .stores) a b) (called l w call .stores)) (w .image)
+          go (none-stored e) =
+              subst (λ (ss : List Store). playing (w .image) ss a b ≡ played (standing (halfCounts ss a b) ss) (w .image)) (sym e) (playing-none (w .image) a b)
+          go (one-stored key kind value e i) =
+              record-cut l (w .image) (word (w .image)) (w .state .first) key kind 0 value (w .state .version) a b
+              (accepted-slots l (w .image) (g .accepted)) (room (w .state .first) i) p q _ e
 
   -- WHAT HOLDS OF THE CALLS whatever the set
   pub call-laws : CallLaws l
@@ -100,16 +111,20 @@ module _ (l : ℕ) (lay : Layout l) where
   pub set-laws : SetLaws l (Agrees l)
   set-laws =
       record {
-        after-recovery = the-recovered;
+        after-recovery = λ image r z fits. restarted-agrees l lay image (passed image (r .heads) (r .next) z) r (fits .rounds) (fits .size);
+        along = λ image r z fits.
+            gives-along l lay (slotsIn image) image (slotsMap l image) refl (passed image (r .heads) (r .next) z) (λ k. refl) (r .rounds) (fits .rounds);
         fresh = λ len heads next some size. (new-accepted len heads next some size, new-agrees len heads next some size);
         keeps = event-agrees l lay;
-        recovers = λ w m g. accepted-gives l (w .image) m (g .accepted) (g .map);
+        keeps-along = event-along l lay;
+        recovers = λ w m g. accepted-gives l lay (w .image) m (g .accepted) (g .map);
         reads = agrees-reads l;
         lengths = the-lengths;
         answers = agrees-right l lay;
-        some-stores = λ w m g. some-stores l lay w (g .chains) (g .sound);
+        some-stores = some-stores l lay;
         plays = the-plays;
-        plays-list = λ w m g call s. after-list l w call (g .accepted) (g .sound .next-version) (stepped w m g call s);
+        plays-cut = the-cut;
+        plays-list = λ w m g call s. after-list l w call (g .accepted) (agrees-stepped l lay w m g call s);
         accepts = λ w m g heads next s. accepted-recovers l (w .image) (length heads) (length next) (g .accepted) s;
         keeps-slots = event-slots l lay;
       }

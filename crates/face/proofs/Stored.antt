@@ -1,17 +1,21 @@
 -- A call answers at most two values, and hands out stores where it answers a slot; a call that writes and is neither refused nor absent has stores; a refused call changes nothing. Assumes nothing.
 use mathlib.Core.Path.{_≡_, refl, sym, ap, _∙_}
 use mathlib.Core.Bool.{true≢false}
+use mathlib.Core.Logic.{inl}
 use mathlib.Core.List.{List, []}
 use Prim.Native.Nat.{ℕ, _≤_}
 use native.Mathlib.Omega.{arith}
 use lib.ListN.{length}
+use Rattle.words.specs.Word.{word}
+use Rattle.prelude.specs.Members.{Slot}
 use Rattle.prelude.proofs.Refusals.{by-refusal}
 use Rattle.prelude.specs.Answer.{Answer, gives, absent, refused}
 use Rattle.prelude.proofs.defs.Answer.{isRefusal}
+use Rattle.layout.specs.Size.{slotsIn}
 use Rattle.layout.specs.Record.{Layout}
 use Rattle.stores.specs.Store.{Store}
+use Rattle.stores.specs.Basket.{basketSlots}
 use Rattle.stores.specs.Written.{run, lineStores, recordStores}
-use Rattle.index.specs.Index.{Chain}
 use Rattle.index.specs.declared.Found.{Found}
 use Rattle.index.specs.declared.Found.the-variants.{At, Missing, BadChain}
 use Rattle.calls.specs.Change.{ChangeResult, handedOut, changed, unchanged, writeDone, writeResult, removeDone, removeResult}
@@ -21,7 +25,7 @@ use Rattle.plainmap.specs.World.{World, Call, write, remove, get, locate, Calle
 use Rattle.plainmap.specs.Plain.{PlainMap}
 use Rattle.plainmap.specs.Claims.{Typed, write-typed, remove-typed, Untouched, Right}
 use Rattle.plainmap.proofs.Rights.{plain-given}
-use Rattle.plainmap.specs.Sound.{Sound}
+use Rattle.plainmap.specs.Sound.{Agrees}
 use Rattle.face.specs.Laws.{Writes, write-writes, remove-writes}
 use Rattle.plainmap.proofs.Outcomes.{Ran, ran-refused, ran-absent, ran-wrote, write-runs, remove-runs}
 
@@ -105,7 +109,31 @@ module _ (l : ℕ) (w : World) (lent : List Store) where
   hands-out (write mode key value) write-writes = by-refusal HandsOut _ _ _ (write-out key value _) (refused-out _)
   hands-out (remove key) remove-writes = by-refusal HandsOut _ _ _ (remove-out key _) (refused-out _)
 
-module _ (l : ℕ) (lay : Layout l) (w : World) (chains : Chain → List ℕ) (g : Sound l w chains) where
+-- the stores of a call: none, or those of one record for the first slot of reuse
+pub data OneStored (l : ℕ) (w : World) : List Store → Type 0 where
+  none-stored : {ss : List Store} → ss ≡ [] → OneStored l w ss
+  one-stored : {ss : List Store} (key kind : ℕ) (value : List ℕ)
+      → ss ≡ recordStores l (word (w .image)) (w .state .first) key kind 0 value (w .state .version) → Slot (slotsIn (w .image)) (w .state .first)
+      → OneStored l w ss
+
+module _ (l : ℕ) (lay : Layout l) (w : World) (m : PlainMap) (g : Agrees l w m) where
+  ran-one : (call : Call) (key kind : ℕ) (value : List ℕ) (fault : ℕ) (r : ChangeResult) → called l w call ≡ calledChange r
+      → Ran l w key kind value fault r → OneStored l w (called l w call .stores)
+  unfolding calledChange unchanged changed basketSlots
+  ran-one call key kind value fault r d (ran-refused nz q) = none-stored (ap (λ (c : Called). c .stores) (d ∙ ap calledChange q))
+  ran-one call key kind value fault r d (ran-absent f k q u) = none-stored (ap (λ (c : Called). c .stores) (d ∙ ap calledChange q))
+  ran-one call key kind value fault r d (ran-wrote f i alive q wr held) =
+      one-stored key kind value (ap (λ (c : Called). c .stores) (d ∙ ap calledChange q)) (wr .basket .slot (w .state .first) (inl refl))
+
+  pub stored-one : (call : Call) → Typed l call → OneStored l w (called l w call .stores)
+  unfolding called calledGet calledLocate
+  stored-one (write mode key value) (write-typed k b) =
+      ran-one (write mode key value) key 1 value _ _ refl (write-runs l lay w (g .chains) (g .accepted) (g .sound) (g .none-void) mode key value k b)
+  stored-one (remove key) (remove-typed k) =
+      ran-one (remove key) key 2 [] _ _ refl (remove-runs l lay w (g .chains) (g .accepted) (g .sound) (g .none-void) key k)
+  stored-one (get key out) s = none-stored refl
+  stored-one (locate key) s = none-stored refl
+
   -- a call that writes
   ran-stores : (call : Call) (key kind : ℕ) (value : List ℕ) (fault : ℕ) (r : ChangeResult) → called l w call ≡ calledChange r
       → Ran l w key kind value fault r → (given : List ℕ) → called l w call .answer ≡ gives given
@@ -115,15 +143,15 @@ module _ (l : ℕ) (lay : Layout l) (w : World) (chains : Chain → List ℕ) (g
       omega (arith, ap answerCase (sym (ap (λ (c : Called). c .answer) (d ∙ ap calledChange q)) ∙ e))
   ran-stores call key kind value fault r d (ran-absent f k q u) given e z =
       omega (arith, ap answerCase (sym (ap (λ (c : Called). c .answer) (d ∙ ap calledChange q)) ∙ e))
-  ran-stores call key kind value fault r d (ran-wrote f i alive q wr) given e z =
+  ran-stores call key kind value fault r d (ran-wrote f i alive q wr held) given e z =
       omega (arith, ap (λ (ss : List Store). length ss) (sym (ap (λ (c : Called). c .stores) (d ∙ ap calledChange q)) ∙ z))
 
   pub some-stores : (call : Call) → Typed l call → Writes call → (given : List ℕ) → called l w call .answer ≡ gives given
       → called l w call .stores ≡ [] → ⊥
   unfolding called
   some-stores (write mode key value) (write-typed k b) write-writes =
-      ran-stores (write mode key value) key 1 value _ _ refl (write-runs l lay w chains g mode key value k b)
-  some-stores (remove key) (remove-typed k) remove-writes = ran-stores (remove key) key 2 [] _ _ refl (remove-runs l lay w chains g key k)
+      ran-stores (write mode key value) key 1 value _ _ refl (write-runs l lay w (g .chains) (g .accepted) (g .sound) (g .none-void) mode key value k b)
+  some-stores (remove key) (remove-typed k) remove-writes = ran-stores (remove key) key 2 [] _ _ refl (remove-runs l lay w (g .chains) (g .accepted) (g .sound) (g .none-void) key k)
 
 -- a call that answers a refusal is one that the rules refuse
 pub refusal-still : (l : ℕ) (w : World) (m : PlainMap) (call : Call) → Right l w m call → (number : ℕ) → called l w call .answer ≡ refused number

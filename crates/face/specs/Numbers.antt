@@ -42,19 +42,14 @@ pub data Names (n number slot : ℕ) : Type 0 where
   a-slot : In number slotRefusals → Slot n slot → Names n number slot
   no-slot : In number noSlotRefusals → slot ≡ 0 → Names n number slot
 
--- insert and replace: a replace is never refused for room
+-- insert and replace
 abbrev pub writeRefusals : Mode → List ℕ
-writeRefusals Insert = 1 ∷ 2 ∷ 3 ∷ 4 ∷ 10 ∷ 11 ∷ 20 ∷ 12 ∷ 9 ∷ []
-writeRefusals Replace = 1 ∷ 2 ∷ 3 ∷ 4 ∷ 10 ∷ 11 ∷ 21 ∷ 9 ∷ []
+writeRefusals Insert = 1 ∷ 2 ∷ 3 ∷ 4 ∷ 10 ∷ 11 ∷ 20 ∷ 28 ∷ 9 ∷ []
+writeRefusals Replace = 1 ∷ 2 ∷ 3 ∷ 4 ∷ 10 ∷ 11 ∷ 21 ∷ 28 ∷ 9 ∷ []
 
--- the same, where the value is short enough and the key is as the call asks
-abbrev pub askedRefusals : Mode → List ℕ
-askedRefusals Insert = 1 ∷ 2 ∷ 3 ∷ 4 ∷ 11 ∷ 12 ∷ 9 ∷ []
-askedRefusals Replace = 1 ∷ 2 ∷ 3 ∷ 4 ∷ 11 ∷ 9 ∷ []
-
--- remove
-abbrev pub removeRefusals : List ℕ
-removeRefusals = 1 ∷ 2 ∷ 3 ∷ 4 ∷ 11 ∷ 9 ∷ []
+-- remove; and insert and replace, where the value is short enough and the key is as the call asks
+abbrev pub storingRefusals : List ℕ
+storingRefusals = 1 ∷ 2 ∷ 3 ∷ 4 ∷ 11 ∷ 28 ∷ 9 ∷ []
 
 -- get
 abbrev pub getRefusals : List ℕ

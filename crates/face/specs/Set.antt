@@ -19,7 +19,9 @@ unfoldable pub use Rattle.stores.specs.Play.{wordNumbers, values, playing, half
 pub use Rattle.index.specs.declared.State.{State}
 pub use Rattle.recovery.specs.Recover.{Result, stateValues}
 pub use Rattle.recovery.specs.Recover.{recoverFault, recoverResult}
-unfoldable pub use Rattle.recovery.specs.Recover.{recoverSays, recoverNames, noState, recoverState}
+unfoldable pub use Rattle.recovery.specs.Recover.{noState, recoverEnd}
+pub use Rattle.recovery.specs.declared.Openings.{Openings}
+unfoldable pub use Rattle.recovery.specs.Opening.{storesIn}
 pub use Rattle.calls.specs.Format.{FormatResult}
 pub use Rattle.calls.specs.Format.{formatted}
 unfoldable pub use Rattle.calls.specs.Format.{formatSays, formatFault, formatResult}
