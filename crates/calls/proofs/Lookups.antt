@@ -64,7 +64,7 @@ store-row : (taking : Taking) (n : ℕ) (s : State) (inserts removes : ℕ)
     (orElse (takeFault taking) (orElse (say (leb (n + removes) (s .live + inserts)) 28 0) (versionFault (s .version)))))
     ≡ storeFault taking n s inserts removes
 unfolding storeFault reuseFault roomFault takeFault orElse
-store-row taking n s inserts removes = 
+store-row taking n s inserts removes =
     go (endsFault n (s .first) (s .last)) (say (ltb (s .live) removes) 11 0) (linkFault taking) (fewFault taking)
     (say (leb (n + removes) (s .live + inserts)) 28 0) (versionFault (s .version))
   where
@@ -136,12 +136,21 @@ module _ (l n size m : ℕ) (e : m ≡ limit l) where
   unfolding lengthFault
   length-fits h k = sym (say-false _ _ _ (le-ltb (limit l) n (omega arith)) ∙ say-false _ _ _ (le-ltb size n k))
 
--- a held key is refused for what the state is, and a value for its length
-pub held-later : (found : Found) (slot prev compared : ℕ) (taking : Taking) (n : ℕ) (s : State) (r : ℕ) → found ≡ At slot prev compared
-    → r ≡ storeFault taking n s 0 1 → r ≡ removeLaterFault found taking n s
-unfolding removeLaterFault
-held-later found slot prev compared taking n s r e q = q ∙ sym (ap (λ (f : Found). removeLaterFault f taking n s) e)
+-- remove_later_fault: by what was found
+module _ (taking : Taking) (n : ℕ) (s : State) (found : Found) where
+  pub held-later : (slot prev compared r : ℕ) → found ≡ At slot prev compared → r ≡ storeFault taking n s 0 1 → r ≡ removeLaterFault found taking n s
+  unfolding removeLaterFault
+  held-later slot prev compared r e q = q ∙ sym (ap (λ (f : Found). removeLaterFault f taking n s) e)
 
+  pub absent-later : (prev compared : ℕ) → found ≡ Missing prev compared → 0 ≡ removeLaterFault found taking n s
+  unfolding removeLaterFault
+  absent-later prev compared e = sym (ap (λ (f : Found). removeLaterFault f taking n s) e)
+
+  pub bad-later : found ≡ BadChain → 11 ≡ removeLaterFault found taking n s
+  unfolding removeLaterFault
+  bad-later e = sym (ap (λ (f : Found). removeLaterFault f taking n s) e)
+
+-- a value is refused for its length
 pub length-later : (l : ℕ) (image : List ℕ) (size : ℕ) (found : Found) (slot prev compared len r : ℕ) → found ≡ At slot prev compared
     → len ≡ slotLength l image slot → r ≡ lengthFault l len size → r ≡ getLaterFault l image size found
 unfolding getLaterFault

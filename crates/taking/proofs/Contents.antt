@@ -17,7 +17,7 @@ use Rattle.layout.specs.declared.Verdict.the-variants.{Valid, Empty, Broken}
 use Rattle.layout.proofs.Content.{ValidAt, Reading, reads-broken, reads-empty, reads-put, reads-remove, reading, verdict-valid, verdict-empty, verdict-broken}
 use Rattle.table.specs.Table.{isRecord, keyIn}
 use Rattle.table.specs.Taking.{validVersion, isRemove, older}
-use Rattle.taking.specs.inner.Takeable.{versionIn, slotVersion, olderThan, takeable}
+use Rattle.taking.specs.inner.Takeable.{versionIn, slotVersion, olderThan, takeableIf, takeable}
 
 -- what a slot with this content holds, by the version v of a valid slot (0 for any other), the kind and the key in its words
 pub data Holds (kind key v : ℕ) (c : Content) : Type 0 where
@@ -96,52 +96,64 @@ module _ (f : Table) (s kind key v : ℕ) (h : Holds kind key v (f s)) where
     pub older-same : (v ≡ 0 → ⊥) → eqb key k ≡ true → ltb v version ≡ olderThan f k version s
     older-same some e = sym (of-record some ∙ ap (λ (b : Bool). b && ltb v version) e)
 
-  -- ---- may it be taken?
+  -- ---- may it be taken? `b` tells whether an older record of its key may remain
 
-  module _ (n top : ℕ) (scan : Bool) where
-    abbrev take-by : Content → Bool
-    take-by c = cond (isRecord c) (ltb (topOf c) top && not (isRemove c && cond scan (anyOf (older f s) 1 n) true)) true
-
-    pub take-none : v ≡ 0 → true ≡ takeable f n top scan s
-    unfolding takeable
-    take-none z = sym (go h)
+  module _ (top : ℕ) (b : Bool) where
+    if-none : v ≡ 0 → true ≡ takeableIf top b (f s)
+    unfolding takeableIf
+    if-none z = sym (go h)
       where
-        go : Holds kind key v (f s) → take-by (f s) ≡ true
+        go : Holds kind key v (f s) → takeableIf top b (f s) ≡ true
         go (holds-none q e) = pick-false (isRecord (f s)) _ _ e
         go (holds-put value ne k e) = absurd (ne z)
         go (holds-remove ne k e) = absurd (ne z)
 
     module _ (some : v ≡ 0 → ⊥) where
-      pub take-high : top ≤ v → false ≡ takeable f n top scan s
-      unfolding takeable isRecord topOf isRemove
-      take-high q = sym (go h)
+      if-high : top ≤ v → false ≡ takeableIf top b (f s)
+      unfolding takeableIf isRecord topOf isRemove
+      if-high q = sym (go h)
         where
-          go : Holds kind key v (f s) → take-by (f s) ≡ false
+          go : Holds kind key v (f s) → takeableIf top b (f s) ≡ false
           go (holds-none z e) = absurd (some z)
-          go (holds-put value ne k e) = ap take-by e ∙ ap (λ (b : Bool). b && not (false && cond scan (anyOf (older f s) 1 n) true)) (le-ltb v top q)
-          go (holds-remove ne k e) = ap take-by e ∙ ap (λ (b : Bool). b && not (true && cond scan (anyOf (older f s) 1 n) true)) (le-ltb v top q)
+          go (holds-put value ne k e) = ap (takeableIf top b) e ∙ ap (λ (x : Bool). x && not (false && b)) (le-ltb v top q)
+          go (holds-remove ne k e) = ap (takeableIf top b) e ∙ ap (λ (x : Bool). x && not (true && b)) (le-ltb v top q)
 
-      pub take-put : v < top → (kind ≡ 2 → ⊥) → true ≡ takeable f n top scan s
-      unfolding takeable isRecord topOf isRemove
-      take-put q put = sym (go h)
+      if-put : v < top → (kind ≡ 2 → ⊥) → true ≡ takeableIf top b (f s)
+      unfolding takeableIf isRecord topOf isRemove
+      if-put q put = sym (go h)
         where
-          go : Holds kind key v (f s) → take-by (f s) ≡ true
+          go : Holds kind key v (f s) → takeableIf top b (f s) ≡ true
           go (holds-none z e) = absurd (some z)
-          go (holds-put value ne k e) = ap take-by e ∙ ap (λ (b : Bool). b && not (false && cond scan (anyOf (older f s) 1 n) true)) (lt-ltb v top q)
+          go (holds-put value ne k e) = ap (takeableIf top b) e ∙ ap (λ (x : Bool). x && not (false && b)) (lt-ltb v top q)
           go (holds-remove ne k e) = absurd (put k)
 
-      take-remove : v < top → kind ≡ 2 → takeable f n top scan s ≡ not (cond scan (anyOf (older f s) 1 n) true)
-      unfolding takeable isRecord topOf isRemove
-      take-remove q remove = go h
+      if-remove : v < top → kind ≡ 2 → takeableIf top b (f s) ≡ not b
+      unfolding takeableIf isRecord topOf isRemove
+      if-remove q remove = go h
         where
-          go : Holds kind key v (f s) → take-by (f s) ≡ not (cond scan (anyOf (older f s) 1 n) true)
+          go : Holds kind key v (f s) → takeableIf top b (f s) ≡ not b
           go (holds-none z e) = absurd (some z)
           go (holds-put value ne k e) = absurd (k remove)
-          go (holds-remove ne k e) = ap take-by e ∙ ap (λ (b : Bool). b && not (true && cond scan (anyOf (older f s) 1 n) true)) (lt-ltb v top q)
+          go (holds-remove ne k e) = ap (takeableIf top b) e ∙ ap (λ (x : Bool). x && not (true && b)) (lt-ltb v top q)
+
+  module _ (n top : ℕ) (scan : Bool) where
+    pub take-none : v ≡ 0 → true ≡ takeable f n top scan s
+    unfolding takeable
+    take-none z = if-none top _ z
+
+    module _ (some : v ≡ 0 → ⊥) where
+      pub take-high : top ≤ v → false ≡ takeable f n top scan s
+      unfolding takeable
+      take-high q = if-high top _ some q
+
+      pub take-put : v < top → (kind ≡ 2 → ⊥) → true ≡ takeable f n top scan s
+      unfolding takeable
+      take-put q put = if-put top _ some q put
 
       -- the image is not looked through
       pub take-blind : v < top → kind ≡ 2 → scan ≡ false → false ≡ takeable f n top scan s
-      take-blind q remove e = sym (take-remove q remove ∙ ap (λ (b : Bool). not (cond b (anyOf (older f s) 1 n) true)) e)
+      unfolding takeable
+      take-blind q remove e = sym (if-remove top _ some q remove ∙ ap (λ (x : Bool). not (cond x (anyOf (older f s) 1 n) true)) e)
 
       older-here : kind ≡ 2 → (t : ℕ) → olderThan f key v t ≡ older f s t
       unfolding older olderThan keyIn topOf
@@ -154,7 +166,8 @@ module _ (f : Table) (s kind key v : ℕ) (h : Holds kind key v (f s)) where
 
       -- it is, and b tells whether there is an older record
       pub take-looked : v < top → kind ≡ 2 → scan ≡ true → (b : Bool) → b ≡ anyOf (olderThan f key v) 1 n → not b ≡ takeable f n top scan s
+      unfolding takeable
       take-looked q remove e b g =
           sym
-          (take-remove q remove ∙ ap (λ (x : Bool). not (cond x (anyOf (older f s) 1 n) true)) e
+          (if-remove top _ some q remove ∙ ap (λ (x : Bool). not (cond x (anyOf (older f s) 1 n) true)) e
           ∙ ap (λ (p : ℕ → Bool). not (anyOf p 1 n)) (sym (fun-ext (older-here remove))) ∙ ap not (sym g))

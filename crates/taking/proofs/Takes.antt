@@ -19,7 +19,7 @@ use Rattle.table.specs.Table.{isRecord}
 use Rattle.table.specs.Taking.{validVersion, highestValid, isRemove, older, mayTake}
 use Rattle.taking.specs.Taking.{takingOf}
 use Rattle.taking.specs.inner.Walk.{takeFault, walkFault}
-use Rattle.taking.specs.inner.Takeable.{slotVersion, takeable}
+use Rattle.taking.specs.inner.Takeable.{slotVersion, takeableIf, takeable}
 use Rattle.taking.proofs.Walks.{walk-fault, still-fine}
 use Rattle.taking.proofs.Contents.{slot-holds, held-version}
 
@@ -38,11 +38,11 @@ version-within m n s v e low high = omega (arith, greatest-above (slotVersion m)
 
 module _ (f : Table) (n : ℕ) where
   exactly : takeable f n (highestValid f n) true ≡ mayTake f n
-  unfolding mayTake takeable
+  unfolding mayTake takeable takeableIf
   exactly = refl
 
   surely : (top s : ℕ) → top ≤ highestValid f n → takeable f n top false s ≡ true → mayTake f n s ≡ true
-  unfolding mayTake takeable
+  unfolding mayTake takeable takeableIf
   surely top s h e = go (isRecord (f s)) (isRemove (f s)) e
     where
       go : (a b : Bool) → cond a (ltb (topOf (f s)) top && not (b && true)) true ≡ true
@@ -62,9 +62,9 @@ module _ (l : ℕ) (image next : List ℕ) (n first : ℕ) where
 
   -- a walk among the first slots, by a version that is none above the highest: not refused
   pub taken-ahead : (top few k : ℕ) → top ≤ greatest (slotVersion (word image)) n → few ≤ n
-      → k ≡ walkFault (takeable (contentsOf l image) n top false) next n few first → k ≡ 0 → 0 ≡ takeFault (takingOf l image next n first 1)
+      → k ≡ walkFault (takeable (contentsOf l image) n top false) next n few first → k ≡ 0 → k ≡ takeFault (takingOf l image next n first 1)
   taken-ahead top few k h q e z =
-      sym
+      z ∙ sym
       (sym walked
       ∙ still-fine (takeable (contentsOf l image) n top false) (mayTake (contentsOf l image) n) next n
       (λ s. surely (contentsOf l image) n top s (omega (arith, highest-is l (word image) n))) few n first q (sym e ∙ z))

@@ -95,8 +95,9 @@ pub fn take_fault(image: &[u8], l: usize, next: &[u32], n: usize, first: u32, ne
     ensures { λ r. ⌜ r ≡ takeFault (takingOf l (now (image .entry)) (now (next .entry)) n first 1) ⌝ }
 {
     let known = newest_version(image, n, newest);
-    if walk_fault(image, l, next, n, first, few_of(n), known, false) == 0 {
-        return 0;
+    let ahead = walk_fault(image, l, next, n, first, few_of(n), known, false);
+    if ahead == 0 {
+        return ahead;
     }
     let top = highest_valid(image, n);
     walk_fault(image, l, next, n, first, n, top, true)

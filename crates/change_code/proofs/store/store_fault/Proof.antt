@@ -5,23 +5,23 @@ use Rattle.change_code.proofs.store.store_fault.Statement.{statement}
 use Rattle.change_code.proofs.store.store_fault.Tie as tie
 
 returns : tie.Need-returns
-returns c = store-ends _ _ (@args .state) _ _ _ (@ends-fault .ensures) (@if1 .taken)
+returns c = store-ends _ _ (c .before .before .before .before .args .state) _ _ _ (c .before .ends-fault .ensures) (c .if1 .taken)
 
 returns-2 : tie.Need-returns-2
-returns-2 c = store-live _ _ (@args .state) _ _ _ (@ends-fault .ensures) (@if1 .left) (@if2 .taken)
+returns-2 c = store-live _ _ (c .before .before .before .before .before .before .args .state) _ _ _ (c .before .before .before .ends-fault .ensures) (c .before .before .if1 .left) (c .if2 .taken)
 
 returns-3 : tie.Need-returns-3
-returns-3 c = store-take _ _ (@args .state) _ _ _ (@ends-fault .ensures) (@if1 .left) (@if2 .left) _ (@take-fault .ensures) (@if3 .taken)
+returns-3 c = store-take _ _ (c .before .before .before .before .before .before .before .before .args .state) _ _ _ (c .before .before .before .before .before .ends-fault .ensures) (c .before .before .before .before .if1 .left) (c .before .before .if2 .left) _ (c .before .take-fault .ensures) (c .if3 .taken)
 
 returns-4 : tie.Need-returns-4
 returns-4 c =
-    store-room _ _ (@args .state) _ _ _ (@ends-fault .ensures) (@if1 .left) (@if2 .left) _ (@take-fault .ensures) (@if3 .left) _ (@live-fault .ensures)
-    (@if4 .taken)
+    store-room _ _ (c .before .before .before .before .before .before .before .before .before .before .args .state) _ _ _ (c .before .before .before .before .before .before .before .ends-fault .ensures) (c .before .before .before .before .before .before .if1 .left) (c .before .before .before .before .if2 .left) _ (c .before .before .before .take-fault .ensures) (c .before .before .if3 .left) _ (c .before .live-fault .ensures)
+    (c .if4 .taken)
 
 returns-5 : tie.Need-returns-5
 returns-5 c =
-    store-version _ _ (@args .state) _ _ _ (@ends-fault .ensures) (@if1 .left) (@if2 .left) _ (@take-fault .ensures) (@if3 .left) _ (@live-fault .ensures)
-    (@if4 .left) _ (@version-fault .ensures)
+    store-version _ _ (c .before .before .before .before .before .before .before .before .before .before .before .args .state) _ _ _ (c .before .before .before .before .before .before .before .before .ends-fault .ensures) (c .before .before .before .before .before .before .before .if1 .left) (c .before .before .before .before .before .if2 .left) _ (c .before .before .before .before .take-fault .ensures) (c .before .before .before .if3 .left) _ (c .before .before .live-fault .ensures)
+    (c .before .if4 .left) _ (c .version-fault .ensures)
 
 pub store-fault-spec : {M : Type 1} → statement M
 store-fault-spec =
