@@ -13,6 +13,7 @@ pub mod SoundWrites
 pub mod Outcomes
 pub mod GetAnswers
 pub mod LocateAnswers
+pub mod BasketKeys
 pub mod CallSteps
 pub mod AcceptedImages
 pub mod CallLists
