@@ -51,7 +51,7 @@ puts Insert = true
 puts Replace = true
 puts Remove = false
 
-put-by : (action : Action) (version key : ℕ) (value : List ℕ) → isPut (made (kindBy action) version key value) ≡ puts action
+pub put-by : (action : Action) (version key : ℕ) (value : List ℕ) → isPut (made (kindBy action) version key value) ≡ puts action
 unfolding kindBy puts made isPut
 put-by Insert version key value = refl
 put-by Replace version key value = refl

@@ -14,6 +14,7 @@ pub mod Outcomes
 pub mod GetAnswers
 pub mod LocateAnswers
 pub mod BasketKeys
+pub mod BasketRuns
 pub mod CallSteps
 pub mod AcceptedImages
 pub mod CallLists
