@@ -57,17 +57,17 @@ put-by Insert version key value = refl
 put-by Replace version key value = refl
 put-by Remove version key value = refl
 
-insert-free : (held : Bool) → actionFault Insert held ≡ 0 → held ≡ false
+pub insert-free : (held : Bool) → actionFault Insert held ≡ 0 → held ≡ false
 unfolding actionFault say
 insert-free true e = absurd (omega arith)
 insert-free false e = refl
 
-replace-held : (held : Bool) → actionFault Replace held ≡ 0 → held ≡ true
+pub replace-held : (held : Bool) → actionFault Replace held ≡ 0 → held ≡ true
 unfolding actionFault say
 replace-held true e = refl
 replace-held false e = absurd (omega arith)
 
-remove-held : (held : Bool) → actionFault Remove held ≡ 0 → held ≡ true
+pub remove-held : (held : Bool) → actionFault Remove held ≡ 0 → held ≡ true
 unfolding actionFault say
 remove-held true e = refl
 remove-held false e = absurd (omega arith)

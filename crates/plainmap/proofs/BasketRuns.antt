@@ -14,7 +14,8 @@ use Rattle.prelude.specs.Refusal.{say}
 use Rattle.prelude.specs.Filter.{filter}
 use Rattle.prelude.specs.Members.{All, none-left, one-more, In, Once, Slot}
 use Rattle.prelude.proofs.Choice.{pick-true, pick-false, true-false}
-use Rattle.prelude.proofs.Lists.{front-length, once-take}
+use Rattle.prelude.proofs.Lists.{front-length, once-take, in-append, once-append}
+use Rattle.prelude.proofs.defs.Among.{member}
 use Rattle.sorting.proofs.Order.{once-filter}
 use Rattle.prelude.proofs.Refusals.{say-zero, orElse-zero}
 use Rattle.layout.specs.Size.{slotsIn}
@@ -29,20 +30,26 @@ use Rattle.table.specs.Complete.{tableOf, numberFor, NoneVoid}
 use Rattle.table.specs.Taking.{mayTake, takenOf}
 use Rattle.table.proofs.defs.Write.{Record, isPut, holder}
 use Rattle.table.proofs.defs.Basket.{Basket, HeldRemoved, putsIn, heldIn}
-use Rattle.table.proofs.Alike.{alike-count}
+use Rattle.table.proofs.Alike.{alike-count, alike-live}
+use Rattle.table.proofs.OneSlot.{weight-key}
 use Rattle.table.proofs.Held.{Held, held, unheld, held-or, held-holder, holder-none, Holder, holder-is, is-holder}
-use Rattle.table.proofs.Accepted.{reuse-basket, taken-broken}
-use Rattle.table.proofs.LiveAfter.{spare-by}
+use Rattle.table.proofs.defs.Struck.{Struck, Finished}
+use Rattle.table.proofs.defs.ReuseAfter.{leftOf, reuseAfter}
+use Rattle.table.proofs.Accepted.{reuse-basket, taken-broken, finished-idle}
+use Rattle.table.proofs.LiveAfter.{spare-by, finished-live-count}
 use Rattle.index.specs.Index.{Index, Chain, reuse, head, headOf, indexOf, stateOf}
 use Rattle.index.specs.Walk.{search, chainFault}
 use Rattle.index.specs.Change.{isFound}
 use Rattle.index.specs.Taking.{Taken, Taking, taken, fewFault}
-use Rattle.index.specs.Basket.{takenSlots}
+use Rattle.index.specs.Basket.{takenSlots, basketIndex}
 use Rattle.index.specs.declared.Action.{Action}
 use Rattle.index.specs.declared.Action.the-variants.{Insert, Replace, Remove}
 use Rattle.index.specs.declared.Found.{Found}
 use Rattle.index.specs.declared.Found.the-variants.{At, Missing, BadChain}
-use Rattle.index.proofs.defs.TakenIn.{takesIn, takenIn}
+use Rattle.index.proofs.defs.TakenIn.{takesIn}
+use Rattle.index.proofs.Baskets.{SitsWith, sits-basket}
+use Rattle.index.proofs.defs.Items.{appendsOf, oldsBy, oldsOf, OldStands, Ready}
+use Rattle.recovery.specs.Recover.{placeOf}
 use Rattle.index.proofs.Takings.{sits-taking, takes-slots, few-exact, taken-enough}
 use Rattle.taking.specs.Taking.{takingOf}
 use Rattle.calls.specs.Change.{storeFault}
@@ -53,10 +60,11 @@ use Rattle.plainmap.specs.World.{World}
 use Rattle.plainmap.specs.Accepted.{Accepted}
 use Rattle.plainmap.specs.Sound.{Sound}
 use Rattle.plainmap.proofs.AcceptedImages.{accepted-right}
-use Rattle.plainmap.proofs.Sees.{Sees, sees-held, sees-absent, sound-sees}
-use Rattle.plainmap.proofs.Wrote.{nextOf, WroteRecords}
-use Rattle.plainmap.proofs.Outcomes.{StorePassed, store-passed, free-spares, same, same-map, above, holder-at}
-use Rattle.plainmap.proofs.BasketKeys.{KeyReady, recordFor, puts, put-by, removed-held, inserts-alike, removes-alike, moves-alike, joins-alike, record-slots, item-slots, records-length, records-all}
+use Rattle.plainmap.proofs.Sees.{place-live, Sees, sees-held, sees-absent, sound-sees}
+use Rattle.plainmap.proofs.Wrote.{SomeSound, some-sound, nextOf, WroteRecords}
+use Rattle.plainmap.proofs.SoundAfter.{broken, place-after, sound-after}
+use Rattle.plainmap.proofs.Outcomes.{StorePassed, store-passed, head-in, free-spares, same, same-map, above, holder-at}
+use Rattle.plainmap.proofs.BasketKeys.{KeyReady, recordFor, itemFor, puts, put-by, insert-free, replace-held, remove-held, removed-held, inserts-alike, removes-alike, moves-alike, joins-alike, record-slots, item-slots, records-length, records-all}
 
 -- ---- what a basket that is not refused has passed
 
@@ -421,3 +429,148 @@ module _ (l : ℕ) (lay : Layout l) (w : World) (chains : Chain → List ℕ) (a
           inserts-alike f n found version b new cs ts as-many ready each,
           removes-alike f n found version b new cs ts as-many each,
         ))
+
+    -- ---- the index
+
+    abbrev place : ℕ → Chain
+    place = placeOf (tableOf l (w .image)) n b
+
+    -- where the old record of a held key stands
+    old-place : (key : ℕ) → 0 < holder f n key → Slot n (holder f n key) × (place (holder f n key) ≡ head (headOf key b)) × (keyIn (f (holder f n key)) ≡ key)
+    old-place key h = go (is-holder f n key h)
+      where
+        go : Holder f n key → Slot n (holder f n key) × (place (holder f n key) ≡ head (headOf key b)) × (keyIn (f (holder f n key)) ≡ key)
+        go (holder-is i a q) =
+            let e = same l lay w chains accepted g none-void (holder f n key) i in
+            let k = weight-key key (f (holder f n key)) q in
+            (i,
+            place-live (tableOf l (w .image)) n b (holder f n key) (alike-live f (tableOf l (w .image)) n (same l lay w chains accepted g none-void) (holder f n key) i ∙ a)
+            ∙ ap (λ (x : ℕ). head (headOf x b)) (ap keyIn e ∙ k),
+            k)
+
+    stands-by : (a : Action) (key : ℕ) → actionFault a (isHeld (mapOf f n key)) ≡ 0 → KeyReady f n found (record { action = a; key = key; value = [] })
+        → OldStands n place a (headOf key b) (oldIn (found key))
+    stands-by Insert key z r = r .old-is ∙ r .none-holds (insert-free _ z)
+    stands-by Replace key z r = rw (r .old-is) (let o = old-place key (r .holds (replace-held _ z)) in (o .0, o .1))
+    stands-by Remove key z r = rw (r .old-is) (let o = old-place key (r .holds (remove-held _ z)) in (o .0, o .1))
+
+    item-ready : (c : KeyChange) (s : ℕ) → KeyReady f n found c → Ready n b place (itemFor f n found version b new c s)
+    item-ready c s r =
+        record {
+          head-in = head-in l lay w chains accepted g none-void (c .key);
+          stands = stands-by (c .action) (c .key) (r .asked) (record { asked = r .asked; old-is = r .old-is; holds = r .holds; none-holds = r .none-holds });
+        }
+
+    items-ready : (ks : List KeyChange) (us : List Taken) → All (KeyReady f n found) ks → All (Ready n b place) (itemsFor found b ks us)
+    unfolding itemsFor
+    items-ready [] us rs = none-left
+    items-ready (c ∷ ks) [] rs = none-left
+    items-ready (c ∷ ks) (t ∷ us) (one-more r rs) = one-more (item-ready c (t .slot) r) (items-ready ks us rs)
+
+    -- ---- the old slots are distinct
+
+    -- the holders of two keys are two slots
+    one-holder : (j k : ℕ) → 0 < holder f n j → 0 < holder f n k → holder f n j ≡ holder f n k → j ≡ k
+    one-holder j k p q e = sym (old-place j p .2) ∙ ap (λ (x : ℕ). keyIn (f x)) e ∙ old-place k q .2
+
+    held-old : (a : Action) (key : ℕ) → KeyReady f n found (record { action = a; key = key; value = [] }) → (x : ℕ) → In x (oldsBy a (oldIn (found key)))
+        → (0 < holder f n key) × (x ≡ holder f n key)
+    unfolding oldsBy
+    held-old Insert key r x i = absurd i
+    held-old Replace key r x (inl e) = (r .holds (replace-held _ (r .asked)), e ∙ r .old-is)
+    held-old Replace key r x (inr z) = absurd z
+    held-old Remove key r x (inl e) = (r .holds (remove-held _ (r .asked)), e ∙ r .old-is)
+    held-old Remove key r x (inr z) = absurd z
+
+    once-old : (a : Action) (old : ℕ) → Once (oldsBy a old)
+    unfolding oldsBy
+    once-old Insert old = tt
+    once-old Replace old = ((λ z. z), tt)
+    once-old Remove old = ((λ z. z), tt)
+
+    bare : (c : KeyChange) → KeyReady f n found c → KeyReady f n found (record { action = c .action; key = c .key; value = [] })
+    bare c r = record { asked = r .asked; old-is = r .old-is; holds = r .holds; none-holds = r .none-holds }
+
+    -- the holder of another key is no old slot
+    no-old : (key : ℕ) → 0 < holder f n key → (ks : List KeyChange) (us : List Taken) → All (λ (c : KeyChange). c .key ≡ key → ⊥) ks
+        → All (KeyReady f n found) ks → In (holder f n key) (oldsOf (itemsFor found b ks us)) → ⊥
+    unfolding oldsOf itemsFor
+    no-old key h [] us ns rs i = i
+    no-old key h (c ∷ ks) [] ns rs i = i
+    no-old key h (c ∷ ks) (t ∷ us) (one-more ne ns) (one-more r rs) i =
+        go (no-old key h ks us ns rs) (in-append (holder f n key) (oldsBy (c .action) (oldIn (found (c .key)))) _ i)
+      where
+        go : (In (holder f n key) (oldsOf (itemsFor found b ks us)) → ⊥)
+            → In (holder f n key) (oldsBy (c .action) (oldIn (found (c .key)))) ⊎ In (holder f n key) (oldsOf (itemsFor found b ks us)) → ⊥
+        go ih (inl j) = let o = held-old (c .action) (c .key) (bare c r) (holder f n key) j in ne (sym (one-holder key (c .key) h (o .0) (o .1)))
+        go ih (inr j) = ih j
+
+    olds-once : (ks : List KeyChange) (us : List Taken) → anyTwice ks ≡ false → All (KeyReady f n found) ks → Once (oldsOf (itemsFor found b ks us))
+    unfolding oldsOf itemsFor anyTwice
+    olds-once [] us e rs = tt
+    olds-once (c ∷ ks) [] e rs = tt
+    olds-once (c ∷ ks) (t ∷ us) e (one-more r rs) = go (among (c .key) ks) refl (λ z. olds-once ks us z rs) e
+      where
+        go : (x : Bool) → among (c .key) ks ≡ x → (anyTwice ks ≡ false → Once (oldsOf (itemsFor found b ks us))) → cond x true (anyTwice ks) ≡ false
+            → Once (oldsBy (c .action) (oldIn (found (c .key))) ++ oldsOf (itemsFor found b ks us))
+        go true q ih z = absurd (true-false refl z)
+        go false q ih z =
+            once-append (oldsBy (c .action) (oldIn (found (c .key)))) _ (once-old (c .action) (oldIn (found (c .key)))) (ih z)
+            (λ x i j.
+            let o = held-old (c .action) (c .key) (bare c r) x i in
+            no-old (c .key) (o .0) ks us (none-among (c .key) ks q) rs (subst (λ (y : ℕ). In y (oldsOf (itemsFor found b ks us))) (o .1) j))
+
+    -- ---- THE RECORDS ARE WRITTEN, and the index is the image's own
+
+    abbrev pub indexIs : Index
+    indexIs = basketIndex n (indexOf (w .heads) (w .next) (w .state)) ts (itemsFor found b cs ts)
+
+    pub basket-wrote : WroteRecords l w es indexIs (w .state .live + total insertsBy cs - total removesBy cs) (getD (takenSlots ts) 0 0)
+    unfolding reuseAfter leftOf
+    basket-wrote =
+        record {
+          lawful = lawful;
+          small = omega (arith, p .store .small, g .next-version);
+          basket = basket;
+          broken = taken-broken (free-spares l lay w chains accepted g none-void) first (broken l w chains g [] (λ t. f t) none-void);
+          room = room;
+          removes = removes;
+          sound = λ image′ en st z. after image′ en st z;
+        }
+      where
+        after : (image′ : List ℕ) → slotsIn image′ ≡ n
+            → (st : Struck f (contentsOf l image′) (numbersOf l (w .image)) (numbersOf l image′) n (basketSlots es) new)
+            → (z : Finished (contentsOf l image′) (numbersOf l image′) (basketSlots es) new)
+            → SomeSound l (record { image = image′; heads = indexIs .heads; next = indexIs .next; state = stateOf indexIs (w .state .live + total insertsBy cs - total removesBy cs) (w .state .version + 1) (getD (takenSlots ts) 0 0) })
+        after image′ en st z =
+            some-sound _
+            (sound-after l w chains g (basketSlots es) new none-void image′ en basket st z removes indexIs _ _ (sits .chains) (sits .sits) chain-is idle alive-is)
+          where
+            sits : SitsWith n b (placeOf (contentsOf l image′) n b) indexIs
+                (filter (λ t. not (member (takenSlots ts) t)) (chains reuse) ++ appendsOf (itemsFor found b cs ts))
+            sits =
+                sits-basket n b place (indexOf (w .heads) (w .next) (w .state)) chains (g .index) (mayTake f n) (length cs) (itemsFor found b cs ts)
+                (item-slots found b cs ts as-many) (items-ready cs ts ready) (olds-once cs ts (p .distinct) ready) (placeOf (contentsOf l image′) n b)
+                (λ x lo hi.
+                place-after l w chains g (basketSlots es) new none-void image′ en basket st z x (omega arith, hi)
+                ∙ moves-alike f n found version b new cs ts ready each place x)
+
+            chain-is : sits .chains reuse ≡ reuseAfter f n (basketSlots es) new (chains reuse)
+            chain-is =
+                sits .reuse-is
+                ∙ ap₂ (λ (x y : List ℕ). x ++ y) (ap (λ (t : List ℕ). filter (λ x. not (member t x)) (chains reuse)) (sym (record-slots cs ts as-many)))
+                (sym (joins-alike f n found version b new cs ts ready each))
+
+            idle : liveCount (contentsOf l image′) n < n
+            idle = finished-idle basket st z room
+
+            alive-is : w .state .live + total insertsBy cs - total removesBy cs ≡ liveCount (contentsOf l image′) n
+            alive-is =
+                omega (
+                  arith,
+                  finished-live-count basket st z removes,
+                  g .live-count,
+                  alike-count f (tableOf l (w .image)) n (same l lay w chains accepted g none-void),
+                  inserts-alike f n found version b new cs ts as-many ready each,
+                  removes-alike f n found version b new cs ts as-many each,
+                )
