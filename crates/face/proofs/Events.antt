@@ -46,8 +46,8 @@ restarted-slots l lay image a r fits =
 
 module _ (l : ℕ) (lay : Layout l) (w : World) (m : PlainMap) (g : Agrees l w m) where
   -- a call with some of its stores played
-  after : (call : Call) (counts : ℕ → ℕ) → Typed l call → After l w call counts
-  after call counts s = after-call l w call (g .accepted) counts (agrees-stepped l lay w m g call s)
+  after : (call : Call) (counts : ℕ → ℕ) → Typed l call → After l w (updates call) (called l w call) counts
+  after call counts s = after-call l w (updates call) (called l w call) (g .accepted) counts (agrees-stepped l lay w m g call s)
 
   -- a struck call: the plain map's step where all stores stand, and nothing where not
   struck-map : (call : Call) (cut : Cut) → Typed l call → (k : ℕ)
