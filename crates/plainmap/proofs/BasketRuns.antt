@@ -59,17 +59,18 @@ use Rattle.images.proofs.Entries.{slots-length, EntryAt, entry-at, made-record,
 use Rattle.plainmap.specs.World.{World}
 use Rattle.plainmap.specs.Accepted.{Accepted}
 use Rattle.plainmap.specs.Sound.{Sound}
+use Rattle.plainmap.specs.Baskets.{TypedChange}
 use Rattle.plainmap.proofs.AcceptedImages.{accepted-right}
 use Rattle.plainmap.proofs.Sees.{place-live, Sees, sees-held, sees-absent, sound-sees}
 use Rattle.plainmap.proofs.Wrote.{SomeSound, some-sound, nextOf, WroteRecords}
 use Rattle.plainmap.proofs.SoundAfter.{broken, place-after, sound-after}
 use Rattle.plainmap.proofs.Outcomes.{StorePassed, store-passed, head-in, free-spares, same, same-map, above, holder-at}
-use Rattle.plainmap.proofs.BasketKeys.{KeyReady, recordFor, itemFor, puts, put-by, insert-free, replace-held, remove-held, removed-held, inserts-alike, removes-alike, moves-alike, joins-alike, record-slots, item-slots, records-length, records-all}
+use Rattle.plainmap.proofs.BasketKeys.{KeyReady, recordFor, puts, put-by, insert-free, replace-held, remove-held, removed-held, inserts-alike, removes-alike, moves-alike, joins-alike, record-slots, item-slots, records-length, records-all}
 
 -- ---- what a basket that is not refused has passed
 
 -- no key has the fault
-first-none : (fault : KeyChange → ℕ) (cs : List KeyChange) → firstFault fault cs ≡ 0 → All (λ (c : KeyChange). fault c ≡ 0) cs
+pub first-none : (fault : KeyChange → ℕ) (cs : List KeyChange) → firstFault fault cs ≡ 0 → All (λ (c : KeyChange). fault c ≡ 0) cs
 unfolding firstFault
 first-none fault [] e = none-left
 first-none fault (c ∷ cs) e =
@@ -169,7 +170,7 @@ module _ (version : ℕ) where
       one-more {x = e} (head-record e es (e .slot) refl)
       (all-slots es (λ x i p. tail-record e es (x .slot) (once .0) i ∙ p) (record-each es (once .1)))
 
-  key-of : (e : BasketRecord) → keyIn (recordOf version e) ≡ e .key
+  pub key-of : (e : BasketRecord) → keyIn (recordOf version e) ≡ e .key
   key-of e = made-key (e .kind) version (e .key) (e .value)
 
   -- the first record's key is that of no other slot
@@ -217,11 +218,6 @@ number-fits m q = go (eqb m 1)
     go true = omega arith
     go false = omega arith
 
--- the key of a change has l words, and its value is bytes
-pub record TypedChange (l : ℕ) (c : KeyChange) : Type 0 where
-  pub key-fits : c .key < (2 ^ 64) ^ l
-  pub bytes : AreBytes (c .value)
-
 fields-by : (l : ℕ) → Layout l → (number : ℕ) → number < 256 → (a : Action) (key : ℕ) (value : List ℕ) → key < (2 ^ 64) ^ l → AreBytes value
     → sizeFault l a (length value) ≡ 0 → Fields l key (kindBy a) number (valueBy a value)
 unfolding kindBy valueBy sizeFault
@@ -243,7 +239,7 @@ both-all : {P Q : KeyChange → Type 0} {cs : List KeyChange} {R : KeyChange →
 both-all h none-left none-left = none-left
 both-all h (one-more p ps) (one-more q qs) = one-more (h _ p q) (both-all h ps qs)
 
-map-all : {P Q : KeyChange → Type 0} {cs : List KeyChange} → ((c : KeyChange) → P c → Q c) → All P cs → All Q cs
+pub map-all : {P Q : KeyChange → Type 0} {cs : List KeyChange} → ((c : KeyChange) → P c → Q c) → All P cs → All Q cs
 map-all h none-left = none-left
 map-all h (one-more p ps) = one-more (h _ p) (map-all h ps)
 
@@ -280,7 +276,7 @@ module _ (l : ℕ) (lay : Layout l) (w : World) (chains : Chain → List ℕ) (a
   found key = search l (w .image) (w .heads) (w .next) key
 
   -- a key as its chain shows it
-  key-ready : (c : KeyChange) → actionFault (c .action) (isFound (found (c .key))) ≡ 0 → KeyReady f n found c
+  pub key-ready : (c : KeyChange) → actionFault (c .action) (isFound (found (c .key))) ≡ 0 → KeyReady f n found c
   unfolding isFound oldIn
   key-ready c z = go (found (c .key)) refl (sound-sees l w chains g (c .key))
     where
@@ -310,14 +306,104 @@ module _ (l : ℕ) (lay : Layout l) (w : World) (chains : Chain → List ℕ) (a
             none-holds = none-there;
           }
 
+  -- ---- the index
+
+  abbrev place : ℕ → Chain
+  place = placeOf (tableOf l (w .image)) n b
+
+  -- where the old record of a held key stands
+  pub old-place : (key : ℕ) → 0 < holder f n key → Slot n (holder f n key) × (place (holder f n key) ≡ head (headOf key b)) × (keyIn (f (holder f n key)) ≡ key)
+  old-place key h = go (is-holder f n key h)
+    where
+      go : Holder f n key → Slot n (holder f n key) × (place (holder f n key) ≡ head (headOf key b)) × (keyIn (f (holder f n key)) ≡ key)
+      go (holder-is i a q) =
+          let e = same l lay w chains accepted g none-void (holder f n key) i in
+          let k = weight-key key (f (holder f n key)) q in
+          (i,
+          place-live (tableOf l (w .image)) n b (holder f n key) (alike-live f (tableOf l (w .image)) n (same l lay w chains accepted g none-void) (holder f n key) i ∙ a)
+          ∙ ap (λ (x : ℕ). head (headOf x b)) (ap keyIn e ∙ k),
+          k)
+
+  stands-by : (a : Action) (key : ℕ) → actionFault a (isHeld (mapOf f n key)) ≡ 0 → KeyReady f n found (record { action = a; key = key; value = [] })
+      → OldStands n place a (headOf key b) (oldIn (found key))
+  stands-by Insert key z r = r .old-is ∙ r .none-holds (insert-free _ z)
+  stands-by Replace key z r = rw (r .old-is) (let o = old-place key (r .holds (replace-held _ z)) in (o .0, o .1))
+  stands-by Remove key z r = rw (r .old-is) (let o = old-place key (r .holds (remove-held _ z)) in (o .0, o .1))
+
+  item-ready : (c : KeyChange) (s : ℕ) → KeyReady f n found c → Ready n b place (record { action = c .action; key-head = headOf (c .key) b; old = oldIn (found (c .key)); slot = s })
+  item-ready c s r =
+      record {
+        head-in = head-in l lay w chains accepted g none-void (c .key);
+        stands = stands-by (c .action) (c .key) (r .asked) (record { asked = r .asked; old-is = r .old-is; holds = r .holds; none-holds = r .none-holds });
+      }
+
+  items-ready : (ks : List KeyChange) (us : List Taken) → All (KeyReady f n found) ks → All (Ready n b place) (itemsFor found b ks us)
+  unfolding itemsFor
+  items-ready [] us rs = none-left
+  items-ready (c ∷ ks) [] rs = none-left
+  items-ready (c ∷ ks) (t ∷ us) (one-more r rs) = one-more (item-ready c (t .slot) r) (items-ready ks us rs)
+
+  -- ---- the old slots are distinct
+
+  -- the holders of two keys are two slots
+  one-holder : (j k : ℕ) → 0 < holder f n j → 0 < holder f n k → holder f n j ≡ holder f n k → j ≡ k
+  one-holder j k p q e = sym (old-place j p .2) ∙ ap (λ (x : ℕ). keyIn (f x)) e ∙ old-place k q .2
+
+  pub held-old : (a : Action) (key : ℕ) → KeyReady f n found (record { action = a; key = key; value = [] }) → (x : ℕ) → In x (oldsBy a (oldIn (found key)))
+      → (0 < holder f n key) × (x ≡ holder f n key)
+  unfolding oldsBy
+  held-old Insert key r x i = absurd i
+  held-old Replace key r x (inl e) = (r .holds (replace-held _ (r .asked)), e ∙ r .old-is)
+  held-old Replace key r x (inr z) = absurd z
+  held-old Remove key r x (inl e) = (r .holds (remove-held _ (r .asked)), e ∙ r .old-is)
+  held-old Remove key r x (inr z) = absurd z
+
+  once-old : (a : Action) (old : ℕ) → Once (oldsBy a old)
+  unfolding oldsBy
+  once-old Insert old = tt
+  once-old Replace old = ((λ z. z), tt)
+  once-old Remove old = ((λ z. z), tt)
+
+  bare : (c : KeyChange) → KeyReady f n found c → KeyReady f n found (record { action = c .action; key = c .key; value = [] })
+  bare c r = record { asked = r .asked; old-is = r .old-is; holds = r .holds; none-holds = r .none-holds }
+
+  -- the holder of another key is no old slot
+  no-old : (key : ℕ) → 0 < holder f n key → (ks : List KeyChange) (us : List Taken) → All (λ (c : KeyChange). c .key ≡ key → ⊥) ks
+      → All (KeyReady f n found) ks → In (holder f n key) (oldsOf (itemsFor found b ks us)) → ⊥
+  unfolding oldsOf itemsFor
+  no-old key h [] us ns rs i = i
+  no-old key h (c ∷ ks) [] ns rs i = i
+  no-old key h (c ∷ ks) (t ∷ us) (one-more ne ns) (one-more r rs) i =
+      go (no-old key h ks us ns rs) (in-append (holder f n key) (oldsBy (c .action) (oldIn (found (c .key)))) _ i)
+    where
+      go : (In (holder f n key) (oldsOf (itemsFor found b ks us)) → ⊥)
+          → In (holder f n key) (oldsBy (c .action) (oldIn (found (c .key)))) ⊎ In (holder f n key) (oldsOf (itemsFor found b ks us)) → ⊥
+      go ih (inl j) = let o = held-old (c .action) (c .key) (bare c r) (holder f n key) j in ne (sym (one-holder key (c .key) h (o .0) (o .1)))
+      go ih (inr j) = ih j
+
+  pub olds-once : (ks : List KeyChange) (us : List Taken) → anyTwice ks ≡ false → All (KeyReady f n found) ks → Once (oldsOf (itemsFor found b ks us))
+  unfolding oldsOf itemsFor anyTwice
+  olds-once [] us e rs = tt
+  olds-once (c ∷ ks) [] e rs = tt
+  olds-once (c ∷ ks) (t ∷ us) e (one-more r rs) = go (among (c .key) ks) refl (λ z. olds-once ks us z rs) e
+    where
+      go : (x : Bool) → among (c .key) ks ≡ x → (anyTwice ks ≡ false → Once (oldsOf (itemsFor found b ks us))) → cond x true (anyTwice ks) ≡ false
+          → Once (oldsBy (c .action) (oldIn (found (c .key))) ++ oldsOf (itemsFor found b ks us))
+      go true q ih z = absurd (true-false refl z)
+      go false q ih z =
+          once-append (oldsBy (c .action) (oldIn (found (c .key)))) _ (once-old (c .action) (oldIn (found (c .key)))) (ih z)
+          (λ x i j.
+          let o = held-old (c .action) (c .key) (bare c r) x i in
+          no-old (c .key) (o .0) ks us (none-among (c .key) ks q) rs (subst (λ (y : ℕ). In y (oldsOf (itemsFor found b ks us))) (o .1) j))
+
   -- ---- a basket that has passed
 
   module _ (cs : List KeyChange) (typed : All (TypedChange l) cs) (p : BasketPassed l w cs) where
-    ready : All (KeyReady f n found) cs
+    pub ready : All (KeyReady f n found) cs
     ready = map-all (λ c z. key-ready c z) (p .asked)
 
     -- the slots that are taken
-    abbrev ts : List Taken
+    abbrev pub ts : List Taken
     ts = takesIn (mayTake f n) 0 (length cs) (chains reuse)
 
     enough : length cs ≤ length (filter (mayTake f n) (chains reuse))
@@ -333,7 +419,7 @@ module _ (l : ℕ) (lay : Layout l) (w : World) (chains : Chain → List ℕ) (a
     unfolding takenOf
     slots-taken = takes-slots (mayTake f n) 0 (length cs) (chains reuse)
 
-    as-many : length ts ≡ length cs
+    pub as-many : length ts ≡ length cs
     unfolding takenOf
     as-many =
         sym (taken-length ts) ∙ ap (λ (x : List ℕ). length x) slots-taken
@@ -347,10 +433,10 @@ module _ (l : ℕ) (lay : Layout l) (w : World) (chains : Chain → List ℕ) (a
         ∙ taken-enough (mayTake f n) 0 (length cs) (chains reuse) enough
 
     -- the records
-    abbrev es : List BasketRecord
+    abbrev pub es : List BasketRecord
     es = recordsFor cs ts
 
-    abbrev new : Table
+    abbrev pub new : Table
     new = recordAt version es
 
     slots-are : basketSlots es ≡ takenOf f n (length cs) (chains reuse)
@@ -365,14 +451,14 @@ module _ (l : ℕ) (lay : Layout l) (w : World) (chains : Chain → List ℕ) (a
     first : takenOf f n (length (basketSlots es)) (chains reuse) ≡ basketSlots es
     first = ap (λ (x : ℕ). takenOf f n x (chains reuse)) many-slots ∙ sym slots-are
 
-    once : Once (basketSlots es)
+    pub once : Once (basketSlots es)
     unfolding takenOf
     once =
         subst Once (sym slots-are)
         (once-take (length cs) (filter (mayTake f n) (chains reuse))
         (once-filter (mayTake f n) (chains reuse) (free-spares l lay w chains accepted g none-void .once)))
 
-    each : All (λ (e : BasketRecord). new (e .slot) ≡ recordOf version e) es
+    pub each : All (λ (e : BasketRecord). new (e .slot) ≡ recordOf version e) es
     each = record-each version es once
 
     at : (t : ℕ) → In t (basketSlots es) → EntryAt (λ (e : BasketRecord). new (e .slot) ≡ recordOf version e) version es t
@@ -385,7 +471,7 @@ module _ (l : ℕ) (lay : Layout l) (w : World) (chains : Chain → List ℕ) (a
         (subst (Record (recordOf version (r .entry)) version) (sym (key-of version (r .entry)))
         (made-record (r .entry .kind) version (r .entry .key) (r .entry .value)))
 
-    basket : Basket f (numbersOf l (w .image)) n version (basketSlots es) new
+    pub basket : Basket f (numbersOf l (w .image)) n version (basketSlots es) new
     basket =
         reuse-basket (free-spares l lay w chains accepted g none-void) first (accepted-right l (w .image) accepted .table .agreed) none-void
         (above l lay w chains accepted g none-void) (omega (arith, many-slots, p .some-keys)) (omega (arith, many-slots, p .few-keys)) is-record
@@ -429,96 +515,6 @@ module _ (l : ℕ) (lay : Layout l) (w : World) (chains : Chain → List ℕ) (a
           inserts-alike f n found version b new cs ts as-many ready each,
           removes-alike f n found version b new cs ts as-many each,
         ))
-
-    -- ---- the index
-
-    abbrev place : ℕ → Chain
-    place = placeOf (tableOf l (w .image)) n b
-
-    -- where the old record of a held key stands
-    old-place : (key : ℕ) → 0 < holder f n key → Slot n (holder f n key) × (place (holder f n key) ≡ head (headOf key b)) × (keyIn (f (holder f n key)) ≡ key)
-    old-place key h = go (is-holder f n key h)
-      where
-        go : Holder f n key → Slot n (holder f n key) × (place (holder f n key) ≡ head (headOf key b)) × (keyIn (f (holder f n key)) ≡ key)
-        go (holder-is i a q) =
-            let e = same l lay w chains accepted g none-void (holder f n key) i in
-            let k = weight-key key (f (holder f n key)) q in
-            (i,
-            place-live (tableOf l (w .image)) n b (holder f n key) (alike-live f (tableOf l (w .image)) n (same l lay w chains accepted g none-void) (holder f n key) i ∙ a)
-            ∙ ap (λ (x : ℕ). head (headOf x b)) (ap keyIn e ∙ k),
-            k)
-
-    stands-by : (a : Action) (key : ℕ) → actionFault a (isHeld (mapOf f n key)) ≡ 0 → KeyReady f n found (record { action = a; key = key; value = [] })
-        → OldStands n place a (headOf key b) (oldIn (found key))
-    stands-by Insert key z r = r .old-is ∙ r .none-holds (insert-free _ z)
-    stands-by Replace key z r = rw (r .old-is) (let o = old-place key (r .holds (replace-held _ z)) in (o .0, o .1))
-    stands-by Remove key z r = rw (r .old-is) (let o = old-place key (r .holds (remove-held _ z)) in (o .0, o .1))
-
-    item-ready : (c : KeyChange) (s : ℕ) → KeyReady f n found c → Ready n b place (itemFor f n found version b new c s)
-    item-ready c s r =
-        record {
-          head-in = head-in l lay w chains accepted g none-void (c .key);
-          stands = stands-by (c .action) (c .key) (r .asked) (record { asked = r .asked; old-is = r .old-is; holds = r .holds; none-holds = r .none-holds });
-        }
-
-    items-ready : (ks : List KeyChange) (us : List Taken) → All (KeyReady f n found) ks → All (Ready n b place) (itemsFor found b ks us)
-    unfolding itemsFor
-    items-ready [] us rs = none-left
-    items-ready (c ∷ ks) [] rs = none-left
-    items-ready (c ∷ ks) (t ∷ us) (one-more r rs) = one-more (item-ready c (t .slot) r) (items-ready ks us rs)
-
-    -- ---- the old slots are distinct
-
-    -- the holders of two keys are two slots
-    one-holder : (j k : ℕ) → 0 < holder f n j → 0 < holder f n k → holder f n j ≡ holder f n k → j ≡ k
-    one-holder j k p q e = sym (old-place j p .2) ∙ ap (λ (x : ℕ). keyIn (f x)) e ∙ old-place k q .2
-
-    held-old : (a : Action) (key : ℕ) → KeyReady f n found (record { action = a; key = key; value = [] }) → (x : ℕ) → In x (oldsBy a (oldIn (found key)))
-        → (0 < holder f n key) × (x ≡ holder f n key)
-    unfolding oldsBy
-    held-old Insert key r x i = absurd i
-    held-old Replace key r x (inl e) = (r .holds (replace-held _ (r .asked)), e ∙ r .old-is)
-    held-old Replace key r x (inr z) = absurd z
-    held-old Remove key r x (inl e) = (r .holds (remove-held _ (r .asked)), e ∙ r .old-is)
-    held-old Remove key r x (inr z) = absurd z
-
-    once-old : (a : Action) (old : ℕ) → Once (oldsBy a old)
-    unfolding oldsBy
-    once-old Insert old = tt
-    once-old Replace old = ((λ z. z), tt)
-    once-old Remove old = ((λ z. z), tt)
-
-    bare : (c : KeyChange) → KeyReady f n found c → KeyReady f n found (record { action = c .action; key = c .key; value = [] })
-    bare c r = record { asked = r .asked; old-is = r .old-is; holds = r .holds; none-holds = r .none-holds }
-
-    -- the holder of another key is no old slot
-    no-old : (key : ℕ) → 0 < holder f n key → (ks : List KeyChange) (us : List Taken) → All (λ (c : KeyChange). c .key ≡ key → ⊥) ks
-        → All (KeyReady f n found) ks → In (holder f n key) (oldsOf (itemsFor found b ks us)) → ⊥
-    unfolding oldsOf itemsFor
-    no-old key h [] us ns rs i = i
-    no-old key h (c ∷ ks) [] ns rs i = i
-    no-old key h (c ∷ ks) (t ∷ us) (one-more ne ns) (one-more r rs) i =
-        go (no-old key h ks us ns rs) (in-append (holder f n key) (oldsBy (c .action) (oldIn (found (c .key)))) _ i)
-      where
-        go : (In (holder f n key) (oldsOf (itemsFor found b ks us)) → ⊥)
-            → In (holder f n key) (oldsBy (c .action) (oldIn (found (c .key)))) ⊎ In (holder f n key) (oldsOf (itemsFor found b ks us)) → ⊥
-        go ih (inl j) = let o = held-old (c .action) (c .key) (bare c r) (holder f n key) j in ne (sym (one-holder key (c .key) h (o .0) (o .1)))
-        go ih (inr j) = ih j
-
-    olds-once : (ks : List KeyChange) (us : List Taken) → anyTwice ks ≡ false → All (KeyReady f n found) ks → Once (oldsOf (itemsFor found b ks us))
-    unfolding oldsOf itemsFor anyTwice
-    olds-once [] us e rs = tt
-    olds-once (c ∷ ks) [] e rs = tt
-    olds-once (c ∷ ks) (t ∷ us) e (one-more r rs) = go (among (c .key) ks) refl (λ z. olds-once ks us z rs) e
-      where
-        go : (x : Bool) → among (c .key) ks ≡ x → (anyTwice ks ≡ false → Once (oldsOf (itemsFor found b ks us))) → cond x true (anyTwice ks) ≡ false
-            → Once (oldsBy (c .action) (oldIn (found (c .key))) ++ oldsOf (itemsFor found b ks us))
-        go true q ih z = absurd (true-false refl z)
-        go false q ih z =
-            once-append (oldsBy (c .action) (oldIn (found (c .key)))) _ (once-old (c .action) (oldIn (found (c .key)))) (ih z)
-            (λ x i j.
-            let o = held-old (c .action) (c .key) (bare c r) x i in
-            no-old (c .key) (o .0) ks us (none-among (c .key) ks q) rs (subst (λ (y : ℕ). In y (oldsOf (itemsFor found b ks us))) (o .1) j))
 
     -- ---- THE RECORDS ARE WRITTEN, and the index is the image's own
 

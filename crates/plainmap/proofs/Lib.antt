@@ -21,3 +21,4 @@ pub mod CallLists
 pub mod IsMap
 pub mod FormattedImages
 pub mod Compares
+pub mod BasketRights
