@@ -214,3 +214,85 @@ module _ (l : ℕ) (lay : Layout l) (w : World) (chains : Chain → List ℕ) (a
 
       distinct : givenFault cs (b .at) (b .words) ≡ 0 → anyTwice cs ≡ false
       distinct z = say-zero (anyTwice cs) 27 _ (orElse-zero (countFault (length cs)) _ z .1) (omega arith) .0
+
+  -- ---- what it does
+
+  -- with no refusal: the slots are taken, and the records are written
+  made-is : (b : Basket) (p : BasketPassed l w (b .changes)) (typed : All (TypedChange l) (b .changes))
+      → basketFault l (w .image) (w .heads) (w .next) (w .state) (b .changes) (b .at) (b .words) ≡ 0
+      → basketResult l (w .image) (w .heads) (w .next) (w .state) (b .changes) (b .at) (b .words) ≡
+      basketMade l (w .image) (w .state) (b .changes) (ts l lay w chains accepted g none-void (b .changes) typed p)
+      (indexAfter l (w .image) (w .heads) (w .next) (w .state) (b .changes) (ts l lay w chains accepted g none-void (b .changes) typed p))
+  unfolding basketResult basketDone
+  made-is b p typed z =
+      taken-leaves _ _ _ z
+      ∙ ap (basketDone l (w .image) (w .heads) (w .next) (w .state) (b .changes)) (taking-is l lay w chains accepted g none-void (b .changes) typed p)
+
+  refused-is : (b : Basket) → (basketFault l (w .image) (w .heads) (w .next) (w .state) (b .changes) (b .at) (b .words) ≡ 0 → ⊥)
+      → basketResult l (w .image) (w .heads) (w .next) (w .state) (b .changes) (b .at) (b .words) ≡
+      unchanged (refused (basketFault l (w .image) (w .heads) (w .next) (w .state) (b .changes) (b .at) (b .words))) (w .state) (w .heads) (w .next)
+  unfolding basketResult
+  refused-is b nz = refused-keeps _ _ _ nz
+
+  -- THE BASKET: it stores nothing and the plain map stays, or it writes its records, which is the plain map's step
+  pub basket-stepped : (b : Basket) → All (TypedChange l) (b .changes) → Stepped l w (basketUpdates (b .changes)) (basketCalled l w b)
+  unfolding basketCalled calledChange unchanged basketMade indexAfter isRefusal plainStep
+  basket-stepped b typed =
+      by-cases (ℕ-discrete (basketFault l (w .image) (w .heads) (w .next) (w .state) cs (b .at) (b .words)) 0)
+      (λ z.
+      let p = basket-passed l w cs (b .at) (b .words) z in
+      let d = ap calledChange (made-is b p typed z) in
+      stored-records (es l lay w chains accepted g none-void cs typed p) _ _ _
+      (ap (λ (c : Called). c .stores) d
+      ∙ ap₂ (λ (x y : ℕ). basketStores l (word (w .image)) x y (es l lay w chains accepted g none-void cs typed p))
+      (sym (ap numberFor (many l lay w chains accepted g none-void cs typed p))) (g .next-version))
+      (λ image′. ap (λ (c : Called). worldWith image′ c) d) (basket-wrote l lay w chains accepted g none-void cs typed p)
+      (λ k.
+      changes-in-turn (basketSlots (es l lay w chains accepted g none-void cs typed p)) (new l lay w chains accepted g none-void cs typed p)
+      (slotsMap l (w .image)) (once l lay w chains accepted g none-void cs typed p) (basket l lay w chains accepted g none-void cs typed p .keys) k
+      ∙ in-turn (nextOf l (w .image)) (new l lay w chains accepted g none-void cs typed p) cs (ts l lay w chains accepted g none-void cs typed p)
+      (as-many l lay w chains accepted g none-void cs typed p) (each l lay w chains accepted g none-void cs typed p) _ _ (λ j. refl) k
+      ∙ sym
+      (ap (λ (x : Bool). (cond x (slotsMap l (w .image)) (plainNext (basketUpdates cs) (slotsMap l (w .image)))) k)
+      (ap (λ (c : Called). isRefusal (c .answer)) d))))
+      (λ nz.
+      let d = ap calledChange (refused-is b nz) in
+      stored-none (ap (λ (c : Called). c .stores) d)
+      (subst (λ (c : Called). SomeSound l (worldWith (w .image) c)) (sym d) (some-sound chains g))
+      (λ k.
+      sym
+      (ap (λ (x : Bool). (cond x (slotsMap l (w .image)) (plainNext (basketUpdates cs) (slotsMap l (w .image)))) k)
+      (ap (λ (c : Called). isRefusal (c .answer)) d))))
+    where
+      cs : List KeyChange
+      cs = b .changes
+
+  -- ITS ANSWER IS RIGHT
+  pub basket-right : (b : Basket) → All (TypedChange l) (b .changes) → BasketRight l w (slotsMap l (w .image)) b
+  unfolding basketCalled calledChange unchanged basketMade refusalIn slotsTaken
+  basket-right b typed =
+      by-cases (ℕ-discrete (basketFault l (w .image) (w .heads) (w .next) (w .state) (b .changes) (b .at) (b .words)) 0)
+      (λ z.
+      let p = basket-passed l w (b .changes) (b .at) (b .words) z in
+      let d = ap calledChange (made-is b p typed z) in
+      record {
+        refusal = ap (λ (c : Called). refusalIn (c .answer)) d ∙ sym z ∙ basket-fault b;
+        answer = λ x.
+            ap (λ (c : Called). c .answer) d
+            ∙ ap₂ (λ (v : ℕ) (t : Taking). gives (v ∷ slotsTaken t)) (g .next-version)
+            (sym (taking-is l lay w chains accepted g none-void (b .changes) typed p));
+        refused-still = λ nz. absurd (nz (sym (basket-fault b) ∙ z));
+      })
+      (λ nz.
+      let d = ap calledChange (refused-is b nz) in
+      record {
+        refusal = ap (λ (c : Called). refusalIn (c .answer)) d ∙ basket-fault b;
+        answer = λ x. absurd (nz (basket-fault b ∙ x));
+        refused-still = λ x.
+            record {
+              stores = ap (λ (c : Called). c .stores) d;
+              heads = ap (λ (c : Called). c .heads) d;
+              next = ap (λ (c : Called). c .next) d;
+              state = ap (λ (c : Called). c .state) d;
+            };
+      })
