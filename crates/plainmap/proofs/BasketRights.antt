@@ -1,6 +1,6 @@
 -- A basket where the image is accepted and the index is its own: it is refused where the rules refuse it, and otherwise is the plain map's step. Assumes nothing.
 use mathlib.Core.Path.{_≡_, refl, sym, ap, ap₂, _∙_, subst}
-use mathlib.Core.Bool.{Bool, true, false, cond}
+use mathlib.Core.Bool.{Bool, true, false, cond, not}
 use mathlib.Core.Option.{Option, some, none}
 use mathlib.Core.Logic.{_⊎_, inl, inr, by-cases}
 use mathlib.Core.List.{List, [], _∷_, _++_}
@@ -11,7 +11,8 @@ use lib.Dec.{eqb}
 use lib.ListN.{length, getD, length-append}
 use Rattle.words.specs.Word.{word}
 use Rattle.prelude.specs.Refusal.{say, orElse, unlessRefused}
-use Rattle.prelude.specs.Answer.{gives, refused, refusalIn}
+use borrow.Author.Tests.{eqb-true, eqb-false}
+use Rattle.prelude.specs.Answer.{gives, refused, refusalIn, refuses}
 use Rattle.prelude.specs.Members.{All, none-left, one-more, In, Slot}
 use Rattle.prelude.proofs.defs.Among.{member}
 use Rattle.prelude.proofs.Among.{member-in, count-member}
@@ -54,6 +55,7 @@ use Rattle.plainmap.proofs.Outcomes.{worldWith, same, same-map}
 use Rattle.prelude.proofs.Lists.{in-append}
 use Rattle.plainmap.proofs.Sees.{Sees, sees-held, sees-absent, sound-sees}
 use Rattle.plainmap.proofs.Refuses.{sound-lent, sound-chain, store-row}
+use Rattle.plainmap.proofs.Rights.{refusal-told}
 use Rattle.plainmap.proofs.CallSteps.{Stepped, stored-none, stored-records}
 use Rattle.plainmap.proofs.BasketKeys.{KeyReady}
 use Rattle.plainmap.proofs.BasketRuns.{basket-passed, BasketPassed, key-ready, first-none, map-all, held-old, old-place, olds-once, taking-is, ts, es, new, many, as-many, once, each, basket, key-of, basket-wrote}
@@ -296,3 +298,12 @@ module _ (l : ℕ) (lay : Layout l) (w : World) (chains : Chain → List ℕ) (a
               state = ap (λ (c : Called). c .state) d;
             };
       })
+
+-- the answer is a refusal exactly where the rules refuse
+pub basket-refuses : (l : ℕ) (w : World) (m : PlainMap) (b : Basket) → BasketRight l w m b → isRefusal (basketCalled l w b .answer) ≡ refuses (basketDue l w m b)
+unfolding refuses isRefusal
+basket-refuses l w m b r = go (eqb (basketDue l w m b) 0) refl
+  where
+    go : (x : Bool) → eqb (basketDue l w m b) 0 ≡ x → isRefusal (basketCalled l w b .answer) ≡ not x
+    go true e = ap isRefusal (r .answer (eqb-true _ 0 e))
+    go false e = refusal-told (basketCalled l w b .answer) (λ z. eqb-false _ 0 e (sym (r .refusal) ∙ z))
