@@ -127,6 +127,9 @@ pub fn take_fault(image: &[u8], l: usize, next: &[u32], n: usize, first: u32, ne
     requires { ⌜ Walkable (now image) (now next) l n ⌝ }
     ensures { λ r. ⌜ r ≡ takeFault (takingOf l (now (image .entry)) (now (next .entry)) n first 1) ⌝ }
 {
+    if newest == 0 {
+        return chain_fault(image, l, next, n, first, 0);
+    }
     let known = newest_version(image, n, newest);
     if is_open(image, l, next, n, first, known) {
         return 0;
