@@ -19,3 +19,4 @@ pub mod CallLists
 pub mod IsMap
 pub mod FormattedImages
 pub mod Compares
+pub mod Room
