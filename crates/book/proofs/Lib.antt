@@ -9,3 +9,4 @@ pub mod defs
 pub mod Numbers
 pub mod Sums
 pub mod Conservation
+pub mod StepRoom

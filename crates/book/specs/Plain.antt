@@ -121,6 +121,13 @@ pub data TypedStep (l : ℕ) : Step → Type 0 where
   fill-typed : {key quantity : ℕ} → key < (2 ^ 64) ^ l → quantity < 2 ^ 64 → TypedStep l (fill key quantity)
   withdraw-typed : {key : ℕ} → key < (2 ^ 64) ^ l → TypedStep l (withdraw key)
 
+-- a new order that the book's rules do not refuse, and no other step
+abbrev pub NewOrder : PlainMap → Step → Type 0
+NewOrder m (new key quantity) = bookFault m (new key quantity) ≡ 0
+NewOrder m (acknowledge key) = ⊥
+NewOrder m (fill key quantity) = ⊥
+NewOrder m (withdraw key) = ⊥
+
 -- ---- events of book steps
 
 -- what a step leaves, its stores not yet played

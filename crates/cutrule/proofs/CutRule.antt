@@ -56,12 +56,19 @@ module _ (l : ℕ) (Inv : World → PlainMap → Type 0) (laws : SetLaws l Inv) 
   -- ---- every list
 
   -- the invariant of a set of n slots
-  abbrev InvOf : (n : ℕ) → World → PlainMap → Type 0
+  abbrev pub InvOf : (n : ℕ) → World → PlainMap → Type 0
   InvOf n w m = Inv w m × (slotsIn (w .image) ≡ n)
 
-  fits-here : (n : ℕ) (w : World) (m : PlainMap) (event : Event Request) → InvOf n w m → FitsBy (TypedRequest l) n event
+  pub fits-here : (n : ℕ) (w : World) (m : PlainMap) (event : Event Request) → InvOf n w m → FitsBy (TypedRequest l) n event
       → FitsBy (TypedRequest l) (slotsIn (w .image)) event
   fits-here n w m event i f = subst (λ (k : ℕ). FitsBy (TypedRequest l) k event) (sym (i .1)) f
+
+  -- every event keeps it
+  pub keeps-of : (n : ℕ) (w : World) (m : PlainMap) → InvOf n w m → (event : Event Request) → FitsBy (TypedRequest l) n event
+      → InvOf n (worldAfterRequest l w event) (mapAfterRequest l w m event)
+  keeps-of n w m i event f =
+      let here = fits-here n w m event i f in
+      (keeps w m (i .0) event here, same-slots w m (i .0) event here ∙ i .1)
 
   -- EVERY LIST OF EVENTS is right
   pub all-right : (w : World) (m : PlainMap) (events : List (Event Request)) → Inv w m → All (FitsBy (TypedRequest l) (slotsIn (w .image))) events
@@ -71,16 +78,15 @@ module _ (l : ℕ) (Inv : World → PlainMap → Type 0) (laws : SetLaws l Inv) 
       (λ v p j. laws .recovers v p (j .0))
       (λ v p j event f.
       (right v p (j .0) (requestOf event) (typed-request l _ event f), cut-right v p (j .0) event (fits-here (slotsIn (w .image)) v p event j f)))
-      (λ v p j event f.
-      let here = fits-here (slotsIn (w .image)) v p event j f in
-      (keeps v p (j .0) event here, same-slots v p (j .0) event here ∙ j .1))
+      (keeps-of (slotsIn (w .image)))
       w m events (i, refl) fit
 
   from-recovery : CallLaws l → CutRuleIn l
-  from-recovery calls image start z restart events fit =
-      (laws .along image start z restart,
-      all-right (restarted l image start) _ events (laws .after-recovery image start z restart)
-      (subst (λ (n : ℕ). All (FitsBy (TypedRequest l) n) events) (sym (calls .restart-slots image start)) fit))
+  from-recovery calls image start z restart events fit = (
+    laws .along image start z restart,
+    all-right (restarted l image start) _ events (laws .after-recovery image start z restart)
+        (subst (λ (n : ℕ). All (FitsBy (TypedRequest l) n) events) (sym (calls .restart-slots image start)) fit),
+  )
 
 -- THE CUT RULE in layout l
 pub cut-rule-in : (l : ℕ) → Layout l → CutRuleIn l

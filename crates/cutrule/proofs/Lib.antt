@@ -1,1 +1,2 @@
 pub mod CutRule
+pub mod GrownRoom

@@ -4,10 +4,8 @@ use mathlib.Core.List.{List}
 use Prim.Native.Nat.{ℕ}
 use lib.ListN.{length}
 use Rattle.prelude.specs.Answer.{gives, refusalIn}
-use Rattle.prelude.proofs.Refusals.{orElse-zero}
 use Rattle.layout.specs.Size.{slotsIn}
 use Rattle.layout.specs.Record.{Layout}
-use Rattle.layout.specs.Header.{imageFault, indexFault, lentFault}
 use Rattle.table.specs.Complete.{tableOf}
 use Rattle.table.proofs.defs.Keys.{keysTo}
 use Rattle.table.proofs.KeyCount.{map-keys, live-keys}
@@ -51,10 +49,6 @@ accepted-gives l lay image m a h =
       again = λ heads next heads′ next′ s p q.
           same-recovery l image heads next heads′ next′ p q (accepted-recovers l image (length heads) (length next) a s);
     }
-
-pub passed-size : (l : ℕ) (image : List ℕ) (heads next : ℕ) → recoverFault l image heads next ≡ 0 → indexFault (slotsIn image) heads next ≡ 0
-unfolding recoverFault lentFault
-passed-size l image heads next z = orElse-zero (imageFault l image) _ (orElse-zero (lentFault l image heads next) _ z .0) .1
 
 -- the answer is the state
 pub state-answered : (l : ℕ) (image heads next : List ℕ) → recoverFault l image (length heads) (length next) ≡ 0

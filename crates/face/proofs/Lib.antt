@@ -5,3 +5,5 @@ pub mod Stored
 pub mod SetLaws
 pub mod Numbers
 pub mod Located
+pub mod Rooms
+pub mod defs

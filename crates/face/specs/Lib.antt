@@ -3,3 +3,4 @@ pub mod Event
 pub mod Recovers
 pub mod Laws
 pub mod Numbers
+pub mod Room

@@ -22,3 +22,4 @@ pub mod IsMap
 pub mod FormattedImages
 pub mod Compares
 pub mod BasketRights
+pub mod Room

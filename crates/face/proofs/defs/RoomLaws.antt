@@ -1,0 +1,27 @@
+-- The laws of room by which a layer above knows the set, beside those of SetLaws.
+use mathlib.Core.Path.{_≡_}
+use mathlib.Core.List.{List}
+use Prim.Native.Nat.{ℕ}
+use lib.ListN.{length}
+use Rattle.layout.specs.Size.{slotsOf, slotsIn}
+use Rattle.recovery.specs.Recover.{recoverFault}
+use Rattle.calls.specs.Format.{formatted}
+use Rattle.plainmap.specs.World.{World, Call, Restart, restarted}
+use Rattle.plainmap.specs.Plain.{PlainMap}
+use Rattle.plainmap.specs.Claims.{dueFault}
+use Rattle.face.specs.Event.{Event, step, RestartFits, Fits}
+use Rattle.face.specs.Room.{SomeTakeable, InsertsNew, RoomRight}
+
+-- of a set in layout l with the invariant Inv: `Room` is kept from a formatted image on, and nothing else is known of it
+pub record RoomLaws (l : ℕ) (Inv : World → PlainMap → Type 0) (Room : List ℕ → Type 0) : Type 0 where
+  -- a formatted image has room
+  pub fresh-room : (len : ℕ) → (slotsOf len ≡ 0 → ⊥) → Room (formatted l len)
+  -- a restart keeps it, with any cuts among the opening stores
+  pub restart-room : (image : List ℕ) (r : Restart) → recoverFault l image (length (r .heads)) (length (r .next)) ≡ 0
+      → RestartFits (slotsIn image) r → Room image → Room (restarted l image r .image)
+  -- every event, struck or not, keeps it
+  pub keeps-room : (w : World) (m : PlainMap) → Inv w m → Room (w .image) → (event : Event Call) → Fits l (slotsIn (w .image)) event
+      → Room (step l w event .image)
+  -- where there is room some spare slot may be taken, and 28 is due only to an insert: a replace and a remove never meet it
+  pub takeable : (w : World) (m : PlainMap) → Inv w m → Room (w .image) → SomeTakeable l w
+  pub room-right : (w : World) (m : PlainMap) → Inv w m → Room (w .image) → (call : Call) → RoomRight l w (InsertsNew l m call) (dueFault l w m call)
