@@ -20,7 +20,7 @@ pub use Rattle.stores.specs.Cut.{bothStand}
 pub use Rattle.index.specs.declared.State.{State}
 pub use Rattle.recovery.specs.Recover.{Result, stateValues}
 pub use Rattle.recovery.specs.Recover.{recoverFault, recoverResult}
-unfoldable pub use Rattle.recovery.specs.Recover.{recoverSays, recoverNames, noState, recoverState}
+unfoldable pub use Rattle.recovery.specs.Recover.{noState, recoverEnd}
 pub use Rattle.calls.specs.Format.{FormatResult}
 pub use Rattle.calls.specs.Format.{formatted}
 unfoldable pub use Rattle.calls.specs.Format.{formatSays, formatFault, formatResult}

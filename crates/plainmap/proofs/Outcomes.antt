@@ -20,7 +20,8 @@ use Rattle.prelude.proofs.Refusals.{say-zero, orElse-zero, taken-leaves, refuse
 use Rattle.stores.specs.Cut.{Fields, Lawful, a-put, a-remove}
 use Rattle.table.specs.Table.{mapOf, live, liveCount, nextVersion, isHeld}
 use Rattle.prelude.specs.Members.{Slot}
-use Rattle.table.proofs.defs.Write.{Free, BrokenAt, only, isPut, upd}
+use Rattle.table.specs.inner.Class.{isPut}
+use Rattle.table.proofs.defs.Write.{Free, BrokenAt, only, upd}
 use Rattle.table.proofs.defs.Reuse.{Spares}
 use Rattle.table.specs.Reuse.{HiddenFirst, BrokenFirst}
 use Rattle.table.proofs.Hidden.{head-free}

@@ -13,7 +13,8 @@ use Rattle.layout.specs.Content.{Content, Table, tableOf}
 use Rattle.layout.specs.Header.{indexFault}
 use Rattle.table.specs.Table.{keyIn, decider, mapOf, live, liveCount, nextVersion}
 use Rattle.prelude.specs.Members.{Slot}
-use Rattle.table.proofs.defs.Write.{Above, Record, Free, only, isPut, upd, holder}
+use Rattle.table.specs.inner.Class.{isPut}
+use Rattle.table.proofs.defs.Write.{Above, Record, Free, only, upd, holder}
 use Rattle.table.proofs.defs.Reuse.{Spares, appended, joins}
 use Rattle.table.specs.Reuse.{HiddenFirst, BrokenFirst}
 use Rattle.prelude.proofs.Choice.{true-false}

@@ -101,20 +101,20 @@ module _ (l : ℕ) (image : List ℕ) (n b : ℕ) (ranks lows highs places₁ or
   abbrev lateBy : (shared : Bool) → (broken live : ℕ) → ℕ
   lateBy shared broken live = say shared 7 (say (ltb brokenLimit broken) 25 (say (eqb live n) 8 0))
 
-  late : lateBy (sharedVersion f n) (all .broken) live-count ≡ say (sharedVersion f n) 7 (say (manyBroken f n) 25 (say (allLive f n) 8 0))
+  late : lateBy (sharedVersion f n) (all .classes .broken) live-count ≡ say (sharedVersion f n) 7 (say (manyBroken f n) 25 (say (allLive f n) 8 0))
   unfolding allLive manyBroken f
   late = go (split (sharedVersion f n))
     where
       go : (sharedVersion f n ≡ true) ⊎ (sharedVersion f n ≡ false)
-          → lateBy (sharedVersion f n) (all .broken) live-count ≡ lateBy (sharedVersion f n) (brokenCount f n) (liveCount f n)
+          → lateBy (sharedVersion f n) (all .classes .broken) live-count ≡ lateBy (sharedVersion f n) (brokenCount f n) (liveCount f n)
       go (inl e) = say-true (sharedVersion f n) 7 _ e ∙ sym (say-true (sharedVersion f n) 7 _ e)
-      go (inr e) = ap₂ (lateBy (sharedVersion f n)) (s .broken-is) (live-is e)
+      go (inr e) = ap₂ (lateBy (sharedVersion f n)) (s .classed .broken-is) (live-is e)
 
-  fault-is : foundFault (all .mark) (all .fault) shared (all .broken) live-count n ≡ slotsFault l (word image) n
+  fault-is : foundFault (all .mark) (all .fault) shared (all .classes .broken) live-count n ≡ slotsFault l (word image) n
   unfolding foundFault slotsFault f
   fault-is =
-      ap₂ (λ (x : Bool) (y : ℕ). say x 5 (orElse y (lateBy shared (all .broken) live-count))) (s .marks-are) (s .fault-is)
-      ∙ ap (λ (z : Bool). say (anyOf (markFault (word image)) 1 n) 5 (orElse records (lateBy z (all .broken) live-count))) shared-is
+      ap₂ (λ (x : Bool) (y : ℕ). say x 5 (orElse y (lateBy shared (all .classes .broken) live-count))) (s .marks-are) (s .fault-is)
+      ∙ ap (λ (z : Bool). say (anyOf (markFault (word image)) 1 n) 5 (orElse records (lateBy z (all .classes .broken) live-count))) shared-is
       ∙ ap (λ (k : ℕ). say (anyOf (markFault (word image)) 1 n) 5 (orElse records k)) late
     where
       records : ℕ
@@ -136,7 +136,7 @@ module _ (l : ℕ) (image : List ℕ) (n b : ℕ) (ranks lows highs places₁ or
         greatest-least (λ t. topOf (tableOf l image t)) n (2 ^ 63 - 1) (λ t i. let h = top-small l image t bytes in omega arith),
       )
 
-  pub judged : (fault slot : ℕ) → fault ≡ foundFault (all .mark) (all .fault) shared (all .broken) live-count n → slot ≡ foundSlot (all .mark) (all .slot)
+  pub judged : (fault slot : ℕ) → fault ≡ foundFault (all .mark) (all .fault) shared (all .classes .broken) live-count n → slot ≡ foundSlot (all .mark) (all .slot)
       → Judgement l (word image) n b order places (record { fault = fault; slot = slot; live = live-count; top = all .top })
   unfolding f nextVersion
   judged fault slot e d =

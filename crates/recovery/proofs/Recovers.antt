@@ -12,7 +12,6 @@ use lib.Dec.{eqb}
 use borrow.Author.Tests.{eq-eqb, ne-eqb}
 use Rattle.words.specs.Word.{word}
 use Rattle.prelude.proofs.Choice.{pick-true, pick-false, split}
-use Rattle.prelude.specs.Answer.{gives}
 use Rattle.layout.specs.Size.{slotsIn}
 use Rattle.layout.specs.Header.{lentFault}
 use Rattle.layout.specs.Record.{Layout}
@@ -24,7 +23,7 @@ use Rattle.index.specs.inner.Parts.{PartsOf}
 use Rattle.index.specs.inner.Build.{build, placeIn, unbuilt, Ordered}
 use Rattle.index.specs.declared.State.{State}
 use Rattle.layout.proofs.Lents.{lent-sized, lent-heads, lent-slots}
-use Rattle.recovery.specs.Recover.{Result, stateValues, recoverSays, recoverNames, slotsFault, slotsNamed, recoverFault, recoverSlot, recoveredIndex, recoveredState, recovered, recoverResult, recoverEnd, recoverState, refusedResult}
+use Rattle.recovery.specs.Recover.{Result, rebuiltResult, refusedResult, recoverEnd, slotsFault, slotsNamed, recoverFault, recoverSlot, recoveredIndex, recoveredState, recovered, recoverResult}
 use Rattle.recovery.specs.inner.Decide.{livePlace, Within}
 use Rattle.recovery.specs.inner.Judge.{Ready, Roomy, Judgeable, Arranged, Judgement, Left, answerBy}
 use Rattle.recovery.specs.declared.Judged.{Judged}
@@ -77,19 +76,12 @@ module _ (l : ℕ) (image heads next : List ℕ) (n : ℕ) (ready : Ready image 
 
   -- the result of an index with this live count and this next version
   shown : Index → (live-count version : ℕ) → Result
-  shown i live-count version =
-      record {
-        answer = gives (stateValues (stateOf i live-count version));
-        slot = 0;
-        state = stateOf i live-count version;
-        heads = i .heads;
-        next = i .next;
-      }
+  shown i live-count version = rebuiltResult (stateOf i live-count version) (i .heads) (i .next)
 
   slots-taken : (fault : ℕ) → fault ≡ slotsFault l (word image) n → fault ≡ 0 → (order places heads′ next′ : List ℕ) (live-count top : ℕ) (r : State)
       → Arranged (tableOf l image) n (length heads) order places live-count top
       → PartsOf heads′ next′ r (build (placeIn places) (unbuilt (replicate (length heads) 0) (replicate (length next) 0)) order) live-count (top + 1)
-      → record { answer = gives (stateValues r); slot = 0; state = r; heads = heads′; next = next′ } ≡ recoverResult l image heads next
+      → rebuiltResult r heads′ next′ ≡ recoverResult l image heads next
   unfolding shown recovered recoveredState
   slots-taken fault e z order places heads′ next′ live-count top r a h =
       ap (λ (i : Index). shown i (r .live) (r .version)) (h .index ∙ built)
@@ -115,7 +107,7 @@ pub slots-answered : (l : ℕ) (image heads next order places : List ℕ) (n : �
     → Ready image l heads next n → Judgement l (word image) n (length heads) order places found
     → Left (found .fault) heads next order places (found .live) (found .top) heads′ next′ state → r ≡ answerBy (found .fault) (found .slot) state
     → recoverEnd r heads′ next′ ≡ recoverResult l image heads next
-unfolding recoverSays recoverNames recoverState answerBy
+unfolding recoverEnd answerBy
 slots-answered l image heads next order places n found heads′ next′ state r ready j v q = go (zero-or-not fault)
   where
     fault : ℕ

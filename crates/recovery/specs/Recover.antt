@@ -31,22 +31,23 @@ pub record Result : Type 0 where
 abbrev pub stateValues : State → List ℕ
 stateValues s = s .first ∷ s .last ∷ s .live ∷ s .version ∷ []
 
-unfoldable pub recoverSays : Recovered → Answer
-recoverSays (Rebuilt s) = gives (stateValues s)
-recoverSays (Refused number slot) = refused number
-
--- the slot that the answer names
-unfoldable pub recoverNames : Recovered → ℕ
-recoverNames (Rebuilt s) = 0
-recoverNames (Refused number slot) = slot
-
--- the state beside the rebuilt index; with a refusal there is none, and zeros stand for it
+-- with a refusal there is no state, and zeros stand for it
 unfoldable pub noState : State
 noState = record { first = 0; last = 0; live = 0; version = 0 }
 
-unfoldable pub recoverState : Recovered → State
-recoverState (Rebuilt s) = s
-recoverState (Refused number slot) = noState
+-- a rebuilt index with the state beside it names no slot
+abbrev pub rebuiltResult : State → (heads next : List ℕ) → Result
+rebuiltResult s heads next = record { answer = gives (stateValues s); slot = 0; state = s; heads = heads; next = next }
+
+-- a refused recovery has a number and the slot that it names, and leaves the index as it was lent
+abbrev pub refusedResult : (number slot : ℕ) → (heads next : List ℕ) → Result
+refusedResult number slot heads next =
+    record { answer = refused number; slot = slot; state = noState; heads = heads; next = next }
+
+-- what a call of recover with this answer left
+unfoldable pub recoverEnd : Recovered → (heads next : List ℕ) → Result
+recoverEnd (Rebuilt s) heads next = rebuiltResult s heads next
+recoverEnd (Refused number slot) heads next = refusedResult number slot heads next
 
 -- 5; then "the lowest slot at fault and what in it": 6, 22, 23 or 24; then 7, 25 ("after 7 and before 8"), 8. Each over all slots before the next
 unfoldable pub slotsFault : (l : ℕ) → (m : ℕ → ℕ) → (n : ℕ) → ℕ
@@ -85,27 +86,10 @@ unfoldable pub recoveredState : Table → (n b : ℕ) → State
 recoveredState f n b = stateOf (recoveredIndex f n b) (liveCount f n) (nextVersion f n)
 
 unfoldable pub recovered : Table → (n b : ℕ) → Result
-recovered f n b =
-    record {
-      answer = gives (stateValues (recoveredState f n b));
-      slot = 0;
-      state = recoveredState f n b;
-      heads = recoveredIndex f n b .heads;
-      next = recoveredIndex f n b .next;
-    }
-
--- a refused recovery leaves the index as it was lent
-abbrev pub refusedResult : (number slot : ℕ) → (heads next : List ℕ) → Result
-refusedResult number slot heads next =
-    record { answer = refused number; slot = slot; state = noState; heads = heads; next = next }
+recovered f n b = rebuiltResult (recoveredState f n b) (recoveredIndex f n b .heads) (recoveredIndex f n b .next)
 
 unfoldable pub recoverResult : (l : ℕ) → (image heads next : List ℕ) → Result
 recoverResult l image heads next =
     unlessRefused (recoverFault l image (length heads) (length next))
     (recovered (tableOf l image) (slotsIn image) (length heads))
     (refusedResult (recoverFault l image (length heads) (length next)) (recoverSlot l image (length heads) (length next)) heads next)
-
--- what a call of recover with this answer left
-abbrev pub recoverEnd : Recovered → (heads next : List ℕ) → Result
-recoverEnd r heads next =
-    record { answer = recoverSays r; slot = recoverNames r; state = recoverState r; heads = heads; next = next }

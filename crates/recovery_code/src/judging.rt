@@ -68,7 +68,14 @@ pub fn judge(
     order_by_key(lows, highs, order, by_key, scratch);
     decide(lows, highs, by_key, places, n);
     let live = count_placed(places, n);
-    let fault = found_fault(all.mark, all.fault, shared, all.broken, live, n as u32);
+    let fault = found_fault(
+        all.mark,
+        all.fault,
+        shared,
+        all.classes.broken,
+        live,
+        n as u32,
+    );
     Judged {
         fault,
         slot: found_slot(all.mark, all.slot),

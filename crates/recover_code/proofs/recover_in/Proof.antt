@@ -1,13 +1,13 @@
 -- `recover_code::recover_in` meets its contract. Assumes nothing.
 use native.Mathlib.Omega.{arith}
 use borrow.Author.Needs.{needs}
-use Rattle.recovery.specs.Recover.{recoverSays, recoverNames, recoverState}
+use Rattle.recovery.specs.Recover.{recoverEnd}
 use Rattle.recovery.proofs.Recovers.{lent-refused, lent-ready, lent-few}
 use Rattle.recover_code.proofs.recover_in.Statement.{statement}
 use Rattle.recover_code.proofs.recover_in.Tie as tie
 
 returns : tie.Need-returns
-unfolding recoverSays recoverNames recoverState
+unfolding recoverEnd
 returns c = lent-refused _ _ _ _ _ (c .before .lent-fault .ensures) (c .if1 .taken)
 
 recover-64-requires : tie.Need-recover-64-requires
