@@ -7,15 +7,14 @@ use Prim.Native.Nat.{ℕ, _+_, _*_, _/_, _%_, _^_, _≤_, _<_, max}
 use native.Mathlib.Decide.{ℕ-discrete}
 use native.Mathlib.Omega.{arith}
 use lib.Dec.{eqb, leb}
-use lib.ListN.{length, take, drop, length-take, length-drop}
+use lib.ListN.{length, drop, length-take, length-drop}
 use borrow.Author.Tests.{lt-leb}
-use Rattle.words.specs.Word.{AreBytes, word, setWord}
+use Rattle.words.specs.Word.{AreBytes, word}
 use Rattle.words.proofs.Laws.{word-same, word-range, word-take, word-drop}
-use Rattle.prelude.specs.Refusal.{say, orElse}
+use Rattle.prelude.specs.Refusal.{say}
 use Rattle.prelude.proofs.Refusals.{say-false, orElse-later, taken-leaves}
 use Rattle.layout.specs.Line.{line, whole, versionOf, firstWord, lastWord, lineTop, versionFault}
 use Rattle.layout.specs.Slot.{paired, verdictOf, lineVerdict, slotVerdict}
-use Rattle.layout.specs.declared.Verdict.{Verdict}
 use Rattle.layout.specs.declared.Verdict.the-variants.{Valid, Empty, Broken}
 use Rattle.stores.specs.Store.{Store, onLine}
 use Rattle.stores.specs.Play.{values}
