@@ -29,11 +29,11 @@
  * power cut can take an order that was answered. Do so at every start that will write.
  *
  * What a call returns: 0 where it is not refused. A refused call leaves everything that it was lent as it was. Format,
- * play and the book's steps return the number of the refusal (enum orderset_refusal). Recover, insert, replace, remove,
- * get and locate return 64 bits: that number in the low 32, read by ORDERSET_REFUSAL, and above them the slot that
- * recover names (ORDERSET_FAULT_SLOT), or the count of slots that the other calls compared (below). So compare
- * ORDERSET_REFUSAL of the result with a number, and the result itself with 0 alone. In get, locate and remove a key that
- * is not held is no refusal: the call returns 0 and answer[0] is ORDERSET_ABSENT.
+ * play, the book's steps and the questions about a line return the number of the refusal (enum orderset_refusal).
+ * Recover, insert, replace, remove, get and locate return 64 bits: that number in the low 32, read by ORDERSET_REFUSAL,
+ * and above them the slot that recover names (ORDERSET_FAULT_SLOT), or the count of slots that the other calls compared
+ * (below). So compare ORDERSET_REFUSAL of the result with a number, and the result itself with 0 alone. In get, locate
+ * and remove a key that is not held is no refusal: the call returns 0 and answer[0] is ORDERSET_ABSENT.
  *
  * Slots compared: insert, replace, remove, get and locate report how many slots of the key's chain were compared with
  * the key: the key's place in the chain, from 1, or the length of the chain where the key is not held. With an index
@@ -49,6 +49,11 @@
  * is filled in full or withdrawn is removed. Over any history of steps since an empty set, with no insert, replace or
  * remove among them, all that was ordered is filled, withdrawn or open.
  *
+ * A single line can be asked about, as 64 bytes and nothing else of the image: orderset_line_whole,
+ * orderset_line_version, orderset_line_first and orderset_line_last. The answers are the set's own rules: a slot is
+ * valid where its two lines are whole with one version of at least 1, and the first and the last word are those of the
+ * stores that a call hands out for that line.
+ *
  * Pointers: none may be null, also where a length is 0, and each is aligned for its type. What a function writes
  * through one pointer must not overlap what it is lent through any other; two regions that are only read may overlap.
  * So in every call image, heads, next, state, version, the value or the output, at, value and answer are separate
@@ -56,7 +61,9 @@
  *
  * Threads: the set has no locks. Gets and locates may run beside each other, each with an output and an answer of its
  * own, and beside nothing else: from the start of an insert, a replace, a remove, a step of the book, a recovery or a
- * play until its stores are made, no other call runs.
+ * play until its stores are made, no other call runs. The questions about a line may run at any time on a copy of the
+ * line; a copy that is taken while another thread or process stores is taken from word 7 down to word 0 (see
+ * examples/sender.c).
  *
  * How many heads: a call walks along the chain of its key's head, so with B near N chains are short. Keys k * B all
  * have one head, and are one chain: with N = 65,535, B = 65,536 and 60,000 keys k * 65,536 a get took 280 microseconds,
@@ -124,6 +131,9 @@ extern "C" {
 #define ORDERSET_SLOTS 1
 #define ORDERSET_FORMAT_ANSWER 2
 
+/* the bytes of an answer about a line: a word, low byte first, as a uint64_t has it on x86-64 */
+#define ORDERSET_LINE_ANSWER 8u
+
 /* What a refused call returned: the number of the refusal, and above it the slots compared, or from orderset_recover
  * the slot that it names, 0 for none. The last two do not widen what they are given, so that the compiler warns where
  * the result was kept in 32 bits: there they are lost. */
@@ -164,8 +174,9 @@ enum orderset_refusal {
     ORDERSET_BAD_KIND = 22,         /* the kind of a valid slot is neither put nor remove */
     ORDERSET_BAD_LENGTH = 23,       /* the length of a valid slot is over 80, or a remove's is not 0; in get: over 80 */
     ORDERSET_BAD_TAIL = 24,         /* a value byte of a valid slot past its length is not zero */
-    ORDERSET_BROKEN_SLOTS = 25      /* more than one slot is broken: no power cut leaves that; look at the memory, and
+    ORDERSET_BROKEN_SLOTS = 25,     /* more than one slot is broken: no power cut leaves that; look at the memory, and
                                        whether every start made the image durable */
+    ORDERSET_NO_LINE_LENGTH = 33    /* a line has not 64 bytes, or the answer about it not 8 */
 };
 
 /* Makes an empty image of the bytes. answer: {ORDERSET_GIVEN, N}. Refusals: 1. A cut during format is not covered:
@@ -265,6 +276,24 @@ ORDERSET_CALL uint32_t orderset_play(uint8_t *image, size_t image_length, const 
 /* Makes all stores of a list, in order, on bytes of any length. Refusals: 15. */
 ORDERSET_CALL uint32_t orderset_play_list(uint8_t *bytes, size_t bytes_length, const uint32_t *at, size_t at_length,
                                           const uint64_t *value, size_t value_length);
+
+/* Is the line whole? The answer is 1, or 0 where it is open. Refusals: 33. */
+ORDERSET_CALL uint32_t orderset_line_whole(const uint8_t *line, size_t line_length, uint8_t *answer,
+                                           size_t answer_length);
+
+/* The version in the line's stamp. The stamp is stored last: of a line that is open because a call is writing it, it is
+ * the version from before that call. Refusals: 33. */
+ORDERSET_CALL uint32_t orderset_line_version(const uint8_t *line, size_t line_length, uint8_t *answer,
+                                             size_t answer_length);
+
+/* The first word that a call which writes this version stores into the line: its mark, against the close bit that
+ * stands there. Refusals: 33, 9. */
+ORDERSET_CALL uint32_t orderset_line_first(const uint8_t *line, size_t line_length, uint64_t version, uint8_t *answer,
+                                           size_t answer_length);
+
+/* The last word that it stores: the stamp, version * 2 + the first word. Refusals: 33, 9. */
+ORDERSET_CALL uint32_t orderset_line_last(const uint8_t *line, size_t line_length, uint64_t version, uint8_t *answer,
+                                          size_t answer_length);
 
 #ifdef __cplusplus
 }
