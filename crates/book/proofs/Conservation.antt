@@ -14,13 +14,13 @@ use Rattle.prelude.specs.Members.{All, none-left, one-more}
 use Rattle.prelude.specs.Refusal.{say}
 use Rattle.prelude.proofs.Choice.{pick-true, pick-false, true-false}
 use Rattle.prelude.proofs.Refusals.{say-zero, orElse-zero, taken-leaves}
-use Rattle.face.proofs.SetLaws.{set-laws}
-use Rattle.face.specs.Set.{Layout, worldAfter, World, Mode, Insert, Replace, Call, write, remove, PlainMap, giving, dropping, updates, updated, plainNext, plainStep, isHeld, Holds, holds, Keys, recoveredWorld, slotsIn, slotsMap}
-use Rattle.face.specs.Event.{Event, requestOf, allStand, plainEvent, FitsBy, done-fits, struck-fits}
+use Rattle.face.proofs.SetLaws.{call-laws, set-laws}
+use Rattle.face.specs.Set.{Layout, World, Mode, Insert, Replace, Call, write, remove, PlainMap, giving, dropping, updates, updated, plainNext, plainStep, isHeld, Holds, holds, Keys, Restart, restarted, slotsIn, slotsMap}
+use Rattle.face.specs.Event.{Event, requestOf, isWhole, plainEvent, FitsBy, done-fits, struck-fits}
 use Rattle.book.specs.declared.Order.{Order}
 use Rattle.book.specs.Orders.{orderBytes, orderOf, isOrder, isState, openOf, sent, acknowledged, filledBy}
 use Rattle.book.specs.Steps.{Step, new, acknowledge, fill, withdraw, quantityFault}
-use Rattle.book.specs.Plain.{stepKey, orderIn, orderFault, bookFault, callBy, stepCall, stepFault, updatesBy, stepUpdates, TypedStep, new-typed, acknowledge-typed, fill-typed, withdraw-typed, worldAfterStep, mapAfterStep}
+use Rattle.book.specs.Plain.{stepKey, orderIn, orderFault, bookFault, callBy, stepCall, stepFault, updatesBy, stepUpdates, TypedStep, new-typed, acknowledge-typed, fill-typed, withdraw-typed, stepLeaves, worldAfterStep, mapAfterStep}
 use Rattle.book.specs.Totals.{openHeld, ofHeld, orderedIn, filledIn, withdrawnIn, counts, totalOf, mapAtEnd, openTotal, Conservation}
 use Rattle.book.proofs.OrderBytes.{BookOrder, BookRecord, order-back, order-record, record-order}
 use Rattle.book.proofs.StepEvents.{to-end}
@@ -218,7 +218,7 @@ module _ (l n : ℕ) where
   records-at-end w m r [] none-left = r
   records-at-end w m r (event ∷ events) (one-more f fs) =
       records-at-end (worldAfterStep l w event) (mapAfterStep l w m event)
-      (moved-records _ _ _ _ m _ r (event-moves l m r w (requestOf event) (typed-request f) (allStand event))) events fs
+      (moved-records _ _ _ _ m _ r (event-moves l m r w (requestOf event) (typed-request f) (isWhole (stepLeaves l) w event))) events fs
 
   -- a key that no step names keeps its value
   pub others-stay : (w : World) (m : PlainMap) → Records m → (events : List (Event Step)) → All (FitsBy (TypedStep l) n) events → (key : ℕ)
@@ -226,7 +226,7 @@ module _ (l n : ℕ) where
   unfolding mapAtEnd
   others-stay w m r [] none-left key none-left = refl
   others-stay w m r (event ∷ events) (one-more f fs) key (one-more ne nes) =
-      let v = event-moves l m r w (requestOf event) (typed-request f) (allStand event) in
+      let v = event-moves l m r w (requestOf event) (typed-request f) (isWhole (stepLeaves l) w event) in
       others-stay (worldAfterStep l w event) (mapAfterStep l w m event) (moved-records _ _ _ _ m _ r v) events fs key nes ∙ v .elsewhere key ne
 
   -- THE BALANCE from any map of book records, with what is open at the start
@@ -237,7 +237,7 @@ module _ (l n : ℕ) where
   unfolding mapAtEnd totalOf counts
   balanced w m r [] none-left ks js a b = omega (arith, open-same m ks js a b)
   balanced w m r (event ∷ events) (one-more f fs) ks js a b =
-      let v = event-moves l m r w (requestOf event) (typed-request f) (allStand event) in
+      let v = event-moves l m r w (requestOf event) (typed-request f) (isWhole (stepLeaves l) w event) in
       moved-before _ _ _ _ m (mapAfterStep l w m event) v ks a _ _ _ _
       (λ is c. balanced (worldAfterStep l w event) (mapAfterStep l w m event) (moved-records _ _ _ _ m _ r v) events fs is js c b)
 
@@ -248,15 +248,19 @@ none-held m empty key value e = absurd (some-none e (empty key))
 
 -- CONSERVATION
 pub conservation : (l : ℕ) → Layout l → Conservation l
-unfolding openTotal recoveredWorld worldAfter
-conservation l layout image heads next z empty events fits = record {
-  recovers = set-laws l layout .recovers _ _ (to-end l _ (set-laws l layout) (slotsIn image) w (slotsMap l image) events (set-laws l layout .after-recovery image heads next z) refl fits);
+unfolding openTotal
+conservation l layout image start z restart empty events fits = record {
+  recovers = set-laws l layout .recovers _ _ (to-end l _ (set-laws l layout) (slotsIn image) w (slotsMap l image) events
+      (set-laws l layout .after-recovery image start z restart) same fits);
   orders = λ key value e. records-at-end l (slotsIn image) w (slotsMap l image) none-there events fits key value e .order;
   balance = λ keys held. omega (arith, balanced l (slotsIn image) w (slotsMap l image) none-there events fits [] keys no-keys held);
 }
   where
     w : World
-    w = recoveredWorld l image heads next
+    w = restarted l image start
+
+    same : slotsIn (w .image) ≡ slotsIn image
+    same = call-laws l layout .restart-slots image start
 
     none-there : Records (slotsMap l image)
     none-there = none-held (slotsMap l image) empty

@@ -14,7 +14,7 @@ use Rattle.prelude.proofs.defs.Among.{areAmong}
 use Rattle.prelude.proofs.Among.{one-of, among}
 use Rattle.book.proofs.OrderBytes.{order-length}
 use Rattle.face.specs.Set.{World, State, Mode, Insert, Replace, ChangeResult, writeResult, removeResult, getResult, locateResult, limit, Layout}
-use Rattle.face.specs.Numbers.{Numbered, AnswersAsAsked, locateRefusals, askedRefusals, removeRefusals, roomyGetRefusals}
+use Rattle.face.specs.Numbers.{Numbered, AnswersAsAsked, locateRefusals, storingRefusals, roomyGetRefusals}
 use Rattle.face.proofs.Numbers.{locate-asked, get-asked, remove-numbered, roomy-get-numbered, locate-numbered}
 use Rattle.book.specs.Orders.{orderBytes, orderOf, isOrder, openOf, sent, acknowledged, filledBy}
 use Rattle.book.specs.Steps.{Step, new, acknowledge, fill, withdraw, declined, idle, changeAnswers, asChange, Sought, order, none-there, soughtIn, soughtBy, seek, newAt, newResult, alreadyAt, acknowledgeAt, acknowledgeResult, quantityFault, fillBy, fillAt, fillResult, withdrawAt, withdrawResult, booked}
@@ -52,7 +52,7 @@ module _ (l : ℕ) (lay : Layout l) (image heads next : List ℕ) (s : State) (k
   insert-step : (o : Order) → AnswersAsAsked Insert (locateResult l image heads next key)
       → StepNumbered (asChange (writeResult l image heads next s Insert key (orderBytes o)) .answer)
   insert-step o h =
-      change-in (askedRefusals Insert) refl (writeResult l image heads next s Insert key (orderBytes o))
+      change-in storingRefusals refl (writeResult l image heads next s Insert key (orderBytes o))
       (locate-asked l image heads next s key (orderBytes o) (omega (arith, order-length o, lay .high)) h)
 
   -- what a get with room for any value answers
@@ -63,11 +63,11 @@ module _ (l : ℕ) (lay : Layout l) (image heads next : List ℕ) (s : State) (k
       → StepNumbered (asChange (writeResult l image heads next s Replace key (orderBytes o)) .answer)
   unfolding got
   replace-step o h =
-      change-in (askedRefusals Replace) refl (writeResult l image heads next s Replace key (orderBytes o))
+      change-in storingRefusals refl (writeResult l image heads next s Replace key (orderBytes o))
       (get-asked l image heads next s key (orderBytes o) (replicate (limit l) 0) (omega (arith, order-length o, lay .high)) h)
 
   remove-step : StepNumbered (asChange (removeResult l image heads next s key) .answer)
-  remove-step = change-in removeRefusals refl (removeResult l image heads next s key) (remove-numbered l image heads next s key)
+  remove-step = change-in storingRefusals refl (removeResult l image heads next s key) (remove-numbered l image heads next s key)
 
   -- what a step on an order finds
   sought-in : StepFound got (seek l image heads next key)

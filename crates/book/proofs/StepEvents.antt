@@ -1,5 +1,5 @@
 -- An event of a book step is an event of the set's call that the step comes to. Assumes nothing.
-use mathlib.Core.Path.{_≡_, refl, sym, ap, _∙_, subst}
+use mathlib.Core.Path.{_≡_, refl, sym, ap, ap₂, _∙_, subst}
 use mathlib.Core.Logic.{by-cases}
 use mathlib.Core.Bool.{Bool, true, false, cond, not}
 use mathlib.Core.Option.{Option, some, none}
@@ -12,12 +12,13 @@ use Rattle.prelude.specs.Answer.{refuses}
 use Rattle.prelude.specs.Members.{All, none-left, one-more}
 use Rattle.prelude.proofs.Choice.{pick-true}
 use Rattle.prelude.proofs.Refusals.{orElse-zero, taken-leaves, refused-keeps, by-refusal}
-use Rattle.face.specs.Set.{World, Insert, Replace, Call, write, remove, locate, PlainMap, Update, updates, plainNext, plainStep, ruleFault, Typed, write-typed, remove-typed, locate-typed, dueFault, slotsIn, bothStand, recoveredWorld}
-use Rattle.face.specs.Event.{Event, done, struck, Leaving, stepBy, imageCut, step, allStand, plainEvent, mapAfterEvent, FitsBy, done-fits, struck-fits, Fits}
+use Rattle.face.specs.Set.{World, Insert, Replace, Call, write, remove, locate, called, PlainMap, Update, updates, plainNext, plainStep, ruleFault, Typed, write-typed, remove-typed, locate-typed, dueFault, slotsIn}
+use Rattle.face.specs.Event.{Cut, Event, done, struck, Leaving, leaving, stepBy, imageCut, step, isWhole, plainEvent, mapAfterEvent, FitsBy, done-fits, struck-fits, Fits}
+use Rattle.face.specs.Recovers.{RecoversAlong}
 use Rattle.face.specs.Laws.{SetLaws}
 use Rattle.book.specs.Orders.{orderBytes, acknowledged, filledBy, openOf, sent}
 use Rattle.book.specs.Steps.{Step, new, acknowledge, fill, withdraw}
-use Rattle.book.specs.Plain.{stepKey, orderIn, bookFault, callBy, stepCall, callFault, stepFault, updatesBy, stepUpdates, callOr, callFor, TypedStep, new-typed, acknowledge-typed, fill-typed, withdraw-typed, worldAfterStep, mapAfterStep}
+use Rattle.book.specs.Plain.{stepKey, orderIn, bookFault, callBy, stepCall, callFault, stepFault, updatesBy, stepUpdates, callOr, callFor, TypedStep, new-typed, acknowledge-typed, fill-typed, withdraw-typed, stepLeaves, worldAfterStep, mapAfterStep}
 use Rattle.book.specs.Totals.{worldAtEnd, mapAtEnd}
 use Rattle.book.specs.declared.Order.{Order}
 use Rattle.book.proofs.defs.CallEvent.{callEvent}
@@ -89,12 +90,6 @@ module _ (l : ℕ) (w : World) (m : PlainMap) (step : Step) where
 
 -- ---- events
 
--- the plain map after an event of a step is that after its call's event
-pub step-event-map : (l : ℕ) (w : World) (m : PlainMap) (event : Event Step) → mapAfterStep l w m event ≡ mapAfterEvent l w m (callEvent l w m event)
-unfolding callEvent plainEvent allStand
-step-event-map l w m (done step) = step-map l w m step
-step-event-map l w m (struck step cut) = ap (λ (p : PlainMap). cond (bothStand (cut .a) (cut .b)) p m) (step-map l w m step)
-
 -- its call's event fits
 pub step-event-fits : (l : ℕ) (w : World) (m : PlainMap) (event : Event Step) → FitsBy (TypedStep l) (slotsIn (w .image)) event
     → Fits l (slotsIn (w .image)) (callEvent l w m event)
@@ -106,26 +101,52 @@ module _ (l : ℕ) (Inv : World → PlainMap → Type 0) (laws : SetLaws l Inv) 
     (fits : FitsBy (TypedStep l) (slotsIn (w .image)) event) where
   -- the set after it is that after its call's event
   pub step-event-world : worldAfterStep l w event ≡ step l w (callEvent l w m event)
-  unfolding callEvent stepBy imageCut
+  unfolding callEvent stepBy
   step-event-world = go event fits
     where
       go : (e : Event Step) → FitsBy (TypedStep l) (slotsIn (w .image)) e → worldAfterStep l w e ≡ step l w (callEvent l w m e)
       go (done request) (done-fits t) =
           ap (λ (r : Leaving). stepBy l (λ v x. r) w (done request)) (step-right l Inv laws w m i request t .leaves)
       go (struck request cut) (struck-fits t f) =
-          ap (λ (r : Leaving). recoveredWorld l (imageCut w r cut) (cut .heads) (cut .next)) (step-right l Inv laws w m i request t .leaves)
+          ap (λ (r : Leaving). stepBy l (λ v x. r) w (struck request cut)) (step-right l Inv laws w m i request t .leaves)
+
+  -- and so is the plain map
+  pub step-event-map : mapAfterStep l w m event ≡ mapAfterEvent l w m (callEvent l w m event)
+  unfolding callEvent plainEvent isWhole
+  step-event-map = go event fits
+    where
+      go : (e : Event Step) → FitsBy (TypedStep l) (slotsIn (w .image)) e → mapAfterStep l w m e ≡ mapAfterEvent l w m (callEvent l w m e)
+      go (done request) (done-fits t) = step-map l w m request
+      go (struck request cut) (struck-fits t f) =
+          ap₂ (λ (r : Leaving) (p : PlainMap). cond (isWhole (λ v x. r) w (struck request cut)) p m) (step-right l Inv laws w m i request t .leaves)
+          (step-map l w m request)
 
   -- an event of a step keeps the invariant, with the plain map's next map
   pub step-event-keeps : Inv (worldAfterStep l w event) (mapAfterStep l w m event)
   step-event-keeps =
       subst (λ (v : World). Inv v (mapAfterStep l w m event)) (sym step-event-world)
-      (subst (Inv (step l w (callEvent l w m event))) (sym (step-event-map l w m event))
+      (subst (Inv (step l w (callEvent l w m event))) (sym step-event-map)
       (laws .keeps w m i (callEvent l w m event) (step-event-fits l w m event fits)))
 
   -- and the number of slots
   pub step-event-slots : slotsIn (worldAfterStep l w event .image) ≡ slotsIn (w .image)
   step-event-slots =
       ap (λ (v : World). slotsIn (v .image)) step-event-world ∙ laws .keeps-slots w m i (callEvent l w m event) (step-event-fits l w m event fits)
+
+-- after a cut recovery gives the plain map's next map of each image on the way
+module _ (l : ℕ) (Inv : World → PlainMap → Type 0) (laws : SetLaws l Inv) (w : World) (m : PlainMap) (i : Inv w m) (request : Step) (cut : Cut)
+    (fits : FitsBy (TypedStep l) (slotsIn (w .image)) (struck request cut)) where
+  typed-step : FitsBy (TypedStep l) (slotsIn (w .image)) (struck request cut) → TypedStep l request
+  typed-step (struck-fits t f) = t
+
+  pub step-along : RecoversAlong l (imageCut w (stepLeaves l w request) cut) (mapAfterStep l w m (struck request cut)) (cut .restart .rounds)
+  unfolding callEvent
+  step-along =
+      subst (λ (r : Leaving). RecoversAlong l (imageCut w r cut) (mapAfterStep l w m (struck request cut)) (cut .restart .rounds))
+      (sym (step-right l Inv laws w m i request (typed-step fits) .leaves))
+      (subst (λ (p : PlainMap). RecoversAlong l (imageCut w (leaving (called l w (callFor l w m request))) cut) p (cut .restart .rounds))
+      (sym (step-event-map l Inv laws w m i (struck request cut) fits))
+      (laws .keeps-along w m i (callFor l w m request) cut (step-event-fits l w m (struck request cut) fits)))
 
 -- every list of events of steps keeps the invariant, with the plain map at the end
 module _ (l : ℕ) (Inv : World → PlainMap → Type 0) (laws : SetLaws l Inv) (n : ℕ) where

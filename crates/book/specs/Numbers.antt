@@ -6,7 +6,7 @@ use Rattle.book.specs.Steps.{BookAnswer, taken, already, declined}
 
 -- a step: those of the set's checks before it, 17, 18, 19, and those of the call that it comes to
 abbrev pub stepRefusals : List ℕ
-stepRefusals = 1 ∷ 2 ∷ 3 ∷ 4 ∷ 11 ∷ 17 ∷ 18 ∷ 19 ∷ 12 ∷ 9 ∷ []
+stepRefusals = 1 ∷ 2 ∷ 3 ∷ 4 ∷ 11 ∷ 17 ∷ 18 ∷ 19 ∷ 28 ∷ 9 ∷ []
 
 -- a refusal's number is one of these
 abbrev pub StepNumbered : BookAnswer → Type 0

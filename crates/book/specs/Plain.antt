@@ -8,7 +8,7 @@ use lib.Dec.{eqb}
 use Rattle.prelude.specs.Answer.{refuses}
 use Rattle.prelude.specs.Refusal.{say, orElse, unlessRefused}
 use Rattle.face.specs.Set.{World, Insert, Replace, Call, write, remove, locate, called, PlainMap, Update, updates, isHeld, holder, nextVersion, tableOf, slotsIn, dueFault}
-use Rattle.face.specs.Event.{Event, Leaving, leaving, requestOf, stepBy, allStand, plainEvent}
+use Rattle.face.specs.Event.{Event, Leaving, leaving, requestOf, stepBy, isWhole, plainEvent}
 use Rattle.book.specs.Orders.{orderBytes, orderOf, isOrder, openOf, sent, acknowledged, filledBy}
 use Rattle.book.specs.Steps.{Step, new, acknowledge, fill, withdraw, BookAnswer, taken, already, declined, BookResult, quantityFault, booked}
 use Rattle.book.specs.declared.Order.{Order}
@@ -123,10 +123,14 @@ pub data TypedStep (l : ℕ) : Step → Type 0 where
 
 -- ---- events of book steps
 
+-- what a step leaves, its stores not yet played
+abbrev pub stepLeaves : (l : ℕ) → World → Step → Leaving
+stepLeaves l w step = bookLeaving (booked l w step)
+
 -- the set and the plain map after an event of a book step
 abbrev pub worldAfterStep : (l : ℕ) → World → Event Step → World
-worldAfterStep l w event = stepBy l (λ v step. bookLeaving (booked l v step)) w event
+worldAfterStep l w event = stepBy l (stepLeaves l) w event
 
 abbrev pub mapAfterStep : (l : ℕ) → World → PlainMap → Event Step → PlainMap
 mapAfterStep l w m event =
-    plainEvent (allStand event) (stepUpdates m (requestOf event)) (refuses (stepFault l w m (requestOf event))) m
+    plainEvent (isWhole (stepLeaves l) w event) (stepUpdates m (requestOf event)) (refuses (stepFault l w m (requestOf event))) m

@@ -8,13 +8,13 @@ use Prim.Native.Nat.{ℕ, _+_}
 use lib.ListN.{length}
 use Rattle.prelude.specs.Answer.{refuses}
 use Rattle.prelude.specs.Members.{All}
-use Rattle.face.specs.Set.{World, PlainMap, Keys, recoverFault, recoveredWorld, slotsIn, slotsMap}
+use Rattle.face.specs.Set.{World, PlainMap, Keys, recoverFault, Restart, restarted, slotsIn, slotsMap}
 use Rattle.face.specs.Recovers.{Recovers}
-use Rattle.face.specs.Event.{Event, requestOf, allStand, FitsBy}
+use Rattle.face.specs.Event.{Event, requestOf, isWhole, RestartFits, FitsBy}
 use Rattle.book.specs.Orders.{orderOf, isOrder, openOf}
 use Rattle.book.specs.declared.Order.{Order}
 use Rattle.book.specs.Steps.{Step, new, acknowledge, fill, withdraw}
-use Rattle.book.specs.Plain.{stepFault, TypedStep, worldAfterStep, mapAfterStep}
+use Rattle.book.specs.Plain.{stepFault, TypedStep, stepLeaves, worldAfterStep, mapAfterStep}
 
 -- a quantity of the order in a key's value, 0 where the key is not held
 unfoldable pub ofHeld : (Order → ℕ) → Option (List ℕ) → ℕ
@@ -47,7 +47,7 @@ withdrawnIn m (withdraw key) = openHeld (m key)
 
 -- an accepted step that no cut made absent
 unfoldable pub counts : (l : ℕ) → World → PlainMap → Event Step → Bool
-counts l w m event = allStand event && not (refuses (stepFault l w m (requestOf event)))
+counts l w m event = isWhole (stepLeaves l) w event && not (refuses (stepFault l w m (requestOf event)))
 
 -- the sum over a list of events of what each step that counts adds
 unfoldable pub totalOf : (adds : PlainMap → Step → ℕ) → (l : ℕ) → World → PlainMap → List (Event Step) → ℕ
@@ -82,9 +82,9 @@ pub record Conserves (l : ℕ) (w : World) (m : PlainMap) (events : List (Event 
   pub balance : (keys : List ℕ) → Keys (mapAtEnd l w m events) keys
       → totalOf orderedIn l w m events ≡ totalOf filledIn l w m events + totalOf withdrawnIn l w m events + openTotal (mapAtEnd l w m events) keys
 
--- "since an empty set": an accepted image whose map is empty
+-- "since an empty set": an accepted image whose map is empty, with the index and state that recovery leaves and its opening stores played, with any cuts among them
 abbrev pub Conservation : (l : ℕ) → Type 0
 Conservation l =
-    (image heads next : List ℕ) → recoverFault l image (length heads) (length next) ≡ 0
+    (image : List ℕ) (start : Restart) → recoverFault l image (length (start .heads)) (length (start .next)) ≡ 0 → RestartFits (slotsIn image) start
     → ((key : ℕ) → slotsMap l image key ≡ none) → (events : List (Event Step)) → All (FitsBy (TypedStep l) (slotsIn image)) events
-    → Conserves l (recoveredWorld l image heads next) (slotsMap l image) events
+    → Conserves l (restarted l image start) (slotsMap l image) events

@@ -16,7 +16,7 @@ use Rattle.plainmap.specs.Accepted.{Accepted}
 use Rattle.plainmap.specs.Claims.{Typed, slotsMap}
 use Rattle.plainmap.specs.Sound.{Agrees}
 use Rattle.plainmap.proofs.Afters.{After, after-call}
-use Rattle.plainmap.proofs.CallLists.{agrees-right, agrees-with, agrees-stepped, agrees-next, after-round, after-rounds, restarted-agrees}
+use Rattle.plainmap.proofs.CallLists.{agrees-right, agrees-with, agrees-stepped, agrees-next, after-round, restarted-agrees}
 use Rattle.plainmap.proofs.Rights.{right-refuses}
 use Rattle.face.specs.Event.{Cut, Event, done, struck, leaving, step, isWhole, plainEvent, mapAfterEvent, RestartFits, Fits, done-fits, struck-fits, stepBy, imageCut}
 use Rattle.face.specs.Recovers.{RecoversAlong}
@@ -30,17 +30,20 @@ pub gives-along : (l : ℕ) → Layout l → (n : ℕ) (image : List ℕ) (m : P
     → RecoversAlong l image m rs
 gives-along l lay n image m e a h [] none-left = accepted-gives l lay image m a h
 gives-along l lay n image m e a h (r ∷ rs) (one-more f fs) =
-    let t = after-round l lay image a r (rw e f) in
-    (accepted-gives l lay image m a h,
-    gives-along l lay n (afterRound l image r) m (t .slots ∙ e) (t .accepted) (λ k. t .map k ∙ h k) rs fs)
+    let t = after-round l lay image a r (rw e f) in (
+      accepted-gives l lay image m a h,
+      gives-along l lay n (afterRound l image r) m (t .slots ∙ e) (t .accepted) (λ k. t .map k ∙ h k) rs fs,
+    )
 
 -- a restart keeps the number of slots
-pub restarted-slots : (l : ℕ) → Layout l → (image : List ℕ) → Accepted l image → (r : Restart) → RestartFits (slotsIn image) r
-    → slotsIn (restarted l image r .image) ≡ slotsIn image
+rounds-length : (l : ℕ) (image : List ℕ) (rs : List Round) → length (afterRounds l image rs) ≡ length image
+unfolding afterRounds afterRound
+rounds-length l image [] = refl
+rounds-length l image (r ∷ rs) = rounds-length l (afterRound l image r) rs ∙ played-length _ image
+
+pub restarted-slots : (l : ℕ) (image : List ℕ) (r : Restart) → slotsIn (restarted l image r .image) ≡ slotsIn image
 unfolding restarted openedWorld worldAfter
-restarted-slots l lay image a r fits =
-    let t = after-rounds l lay (slotsIn image) image refl a (r .rounds) (fits .rounds) in
-    ap slotsOf (played-length _ (afterRounds l image (r .rounds))) ∙ t .slots
+restarted-slots l image r = ap slotsOf (played-length _ (afterRounds l image (r .rounds)) ∙ rounds-length l image (r .rounds))
 
 -- ---- one event
 
@@ -87,5 +90,4 @@ module _ (l : ℕ) (lay : Layout l) (w : World) (m : PlainMap) (g : Agrees l w m
   unfolding stepBy imageCut
   event-slots (done call) (done-fits s) = ap slotsOf (played-length (called l w call .stores) (w .image))
   event-slots (struck call cut) (struck-fits s c) =
-      restarted-slots l lay (imageCut w (leaving (called l w call)) cut) (after call (cut .counts) s .accepted) (cut .restart) (struck-fits-after call cut s c)
-      ∙ after call (cut .counts) s .slot-count
+      restarted-slots l (imageCut w (leaving (called l w call)) cut) (cut .restart) ∙ after call (cut .counts) s .slot-count

@@ -28,7 +28,7 @@ use Rattle.plainmap.proofs.CallLists.{agrees-right, agrees-reads, agrees-with, 
 use Rattle.plainmap.proofs.Playing.{record-passes, record-cut, playing-none}
 use Rattle.face.specs.Laws.{Lengths, CallLaws, SetLaws}
 use Rattle.face.proofs.Images.{accepted-gives, state-answered}
-use Rattle.face.proofs.Events.{gives-along, event-agrees, event-along, event-slots}
+use Rattle.face.proofs.Events.{gives-along, restarted-slots, event-agrees, event-along, event-slots}
 use Rattle.face.proofs.Stored.{few-given, hands-out, OneStored, none-stored, one-stored, stored-one, some-stores}
 use Rattle.face.proofs.Heads.{called-heads, recovered-heads}
 
@@ -102,6 +102,7 @@ module _ (l : ℕ) (lay : Layout l) where
         hands-out = λ w call writes given e lent. hands-out l w lent call writes given e;
         call-heads = called-heads l;
         recovery-heads = recovered-heads l;
+        restart-slots = restarted-slots l;
         plays-nothing = playing-none;
         slots-of = sized;
         formatted-length = formatted-length l;

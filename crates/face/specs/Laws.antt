@@ -44,6 +44,8 @@ pub record CallLaws (l : ℕ) : Type 0 where
   -- a call and recovery leave as many heads as they were lent
   pub call-heads : (w : World) (call : Call) → length (called l w call .heads) ≡ length (w .heads)
   pub recovery-heads : (image heads next : List ℕ) → length (recoveredWorld l image heads next .heads) ≡ length heads
+  -- a restart keeps the number of slots
+  pub restart-slots : (image : List ℕ) (r : Restart) → slotsIn (restarted l image r .image) ≡ slotsIn image
   -- no stores change no byte
   pub plays-nothing : (image : List ℕ) (a b : ℕ) → playing image [] a b ≡ image
   -- the number of slots by an image's length; format keeps that length
