@@ -108,22 +108,22 @@ framed-by : (m : ℕ → ℕ) (ss : List Store) (n version : ℕ) (body : ℕ �
 framed-by m ss n version body first last own p q = rw (own, p, q) (marked-framed n (line m n 7) version body)
 
 -- the stores of a record, on either line of its slot
-record-framed : (l : ℕ) (m : ℕ → ℕ) (s key kind : ℕ) (value : List ℕ) (version n first last : ℕ) → n / 2 ≡ s
+record-framed : (l : ℕ) (m : ℕ → ℕ) (s key kind number : ℕ) (value : List ℕ) (version n first last : ℕ) → n / 2 ≡ s
     → first ≡ firstWord (line m n 7) → last ≡ lastWord (line m n 7) version
-    → Framed (values (onLine n (recordStores l m s key kind value version))) first last
-record-framed l m s key kind value version n first last h p q =
+    → Framed (values (onLine n (recordStores l m s key kind number value version))) first last
+record-framed l m s key kind number value version n first last h p q =
     by-cases (ℕ-discrete n (2 * s))
-    (λ e. framed-by m _ n version (bodyA l key kind value) first last (own-at (2 * s) e (bodyA l key kind value) (has .line-A)) p q)
+    (λ e. framed-by m _ n version (bodyA l key kind number value) first last (own-at (2 * s) e (bodyA l key kind number value) (has .line-A)) p q)
     (λ ne. framed-by m _ n version (bodyB l value) first last (own-at (2 * s + 1) (omega (arith, ne)) (bodyB l value) (has .line-B)) p q)
   where
-    has : Carries l m (recordStores l m s key kind value version) s key kind value version
-    has = record-carries l m s key kind value version
+    has : Carries l m (recordStores l m s key kind number value version) s key kind number value version
+    has = record-carries l m s key kind number value version
 
     own-at : (k : ℕ) → n ≡ k → (body : ℕ → ℕ)
-        → onLine k (recordStores l m s key kind value version) ≡ lineStores k (marked (line m k 7) version body)
-        → onLine n (recordStores l m s key kind value version) ≡ lineStores n (marked (line m n 7) version body)
+        → onLine k (recordStores l m s key kind number value version) ≡ lineStores k (marked (line m k 7) version body)
+        → onLine n (recordStores l m s key kind number value version) ≡ lineStores n (marked (line m n 7) version body)
     own-at k e body own =
-        ap (λ (x : ℕ). onLine x (recordStores l m s key kind value version)) e ∙ own
+        ap (λ (x : ℕ). onLine x (recordStores l m s key kind number value version)) e ∙ own
         ∙ ap (λ (x : ℕ). lineStores x (marked (line m x 7) version body)) (sym e)
 
 -- ---- both lines of slot s
@@ -154,7 +154,7 @@ module _ (image lent : List ℕ) (s : ℕ) (bytes : AreBytes image) (inside : 12
         sized = λ n h. line-sized image lent n (in-line n h) room;
         verdict = the-verdict;
         stores =
-            λ l n key kind value version h small.
-            record-framed l (word image) s key kind value version n _ _ h (first-answer image lent n (in-line n h) room version small)
+            λ l n key kind number value version h small.
+            record-framed l (word image) s key kind number value version n _ _ h (first-answer image lent n (in-line n h) room version small)
             (last-answer image lent n (in-line n h) room version small);
       }

@@ -44,4 +44,4 @@ pub record Framed (words : List ℕ) (first last : ℕ) : Type 0 where
 pub record SlotAgreement (image lent : List ℕ) (s : ℕ) : Type 0 where
   pub sized : (n : ℕ) → n / 2 ≡ s → sliceFault (length (lineBytes image n)) (length lent) ≡ 0
   pub verdict : verdictBy (answerOf wholeQuery image lent (2 * s)) (answerOf versionQuery image lent (2 * s)) (answerOf wholeQuery image lent (2 * s + 1)) (answerOf versionQuery image lent (2 * s + 1)) ≡ slotVerdict (word image) s
-  pub stores : (l n key kind : ℕ) (value : List ℕ) (version : ℕ) → n / 2 ≡ s → version < 2 ^ 63 → Framed (values (onLine n (recordStores l (word image) s key kind value version))) (answerOf (firstQuery version) image lent n) (answerOf (lastQuery version) image lent n)
+  pub stores : (l n key kind number : ℕ) (value : List ℕ) (version : ℕ) → n / 2 ≡ s → version < 2 ^ 63 → Framed (values (onLine n (recordStores l (word image) s key kind number value version))) (answerOf (firstQuery version) image lent n) (answerOf (lastQuery version) image lent n)
