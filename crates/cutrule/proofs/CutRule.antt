@@ -4,14 +4,14 @@ use mathlib.Core.List.{List}
 use Prim.Native.Nat.{ℕ}
 use Rattle.prelude.specs.Members.{All}
 use Rattle.prelude.proofs.Histories.{throughout}
-use Rattle.face.specs.Set.{World, PlainMap, Layout, slotsIn, worldAfter, recoveredWorld}
-use Rattle.face.specs.Event.{Event, done, struck, imageCut, requestOf, stepBy, allStand, FitsBy, done-fits, struck-fits}
-use Rattle.face.specs.Laws.{SetLaws}
-use Rattle.face.proofs.SetLaws.{layout-1, set-laws}
+use Rattle.face.specs.Set.{World, PlainMap, Layout, slotsIn, restarted}
+use Rattle.face.specs.Event.{Event, done, struck, requestOf, stepBy, isWhole, FitsBy, done-fits, struck-fits}
+use Rattle.face.specs.Laws.{CallLaws, SetLaws}
+use Rattle.face.proofs.SetLaws.{layout-1, call-laws, set-laws}
 use Rattle.book.proofs.Steps.{step-right}
-use Rattle.book.proofs.StepEvents.{step-event-keeps, step-event-slots}
+use Rattle.book.proofs.StepEvents.{step-event-keeps, step-event-slots, step-along}
 use Rattle.cutrule.specs.Request.{Request, a-call, a-step, requestLeaves, requestFault, requestUpdates, RequestRight, TypedRequest, worldAfterRequest, mapAfterRequest}
-use Rattle.cutrule.specs.Rule.{AllRight, CutRuleIn, CutRule}
+use Rattle.cutrule.specs.Rule.{CutRight, AllRight, CutRuleIn, CutRule}
 
 typed-request : (l n : ℕ) (event : Event Request) → FitsBy (TypedRequest l) n event → TypedRequest l (requestOf event)
 typed-request l n (done request) (done-fits t) = t
@@ -27,15 +27,21 @@ module _ (l : ℕ) (Inv : World → PlainMap → Type 0) (laws : SetLaws l Inv) 
 
     keeps : (event : Event Request) → FitsBy (TypedRequest l) (slotsIn (w .image)) event
         → Inv (worldAfterRequest l w event) (mapAfterRequest l w m event)
-    unfolding stepBy imageCut allStand requestLeaves requestFault requestUpdates
+    unfolding stepBy isWhole requestLeaves requestFault requestUpdates
     keeps (done (a-call call)) (done-fits t) = laws .keeps w m i (done call) (done-fits t)
     keeps (done (a-step step)) (done-fits t) = step-event-keeps l Inv laws w m i (done step) (done-fits t)
     keeps (struck (a-call call) cut) (struck-fits t c) = laws .keeps w m i (struck call cut) (struck-fits t c)
     keeps (struck (a-step step) cut) (struck-fits t c) = step-event-keeps l Inv laws w m i (struck step cut) (struck-fits t c)
 
+    cut-right : (event : Event Request) → FitsBy (TypedRequest l) (slotsIn (w .image)) event → CutRight l w m event
+    unfolding isWhole requestLeaves requestFault requestUpdates
+    cut-right (done request) f = tt
+    cut-right (struck (a-call call) cut) (struck-fits t c) = laws .keeps-along w m i call cut (struck-fits t c)
+    cut-right (struck (a-step step) cut) (struck-fits t c) = step-along l Inv laws w m i step cut (struck-fits t c)
+
     same-slots : (event : Event Request) → FitsBy (TypedRequest l) (slotsIn (w .image)) event
         → slotsIn (worldAfterRequest l w event .image) ≡ slotsIn (w .image)
-    unfolding stepBy imageCut requestLeaves
+    unfolding stepBy requestLeaves
     same-slots (done (a-call call)) (done-fits t) = laws .keeps-slots w m i (done call) (done-fits t)
     same-slots (done (a-step step)) (done-fits t) = step-event-slots l Inv laws w m i (done step) (done-fits t)
     same-slots (struck (a-call call) cut) (struck-fits t c) = laws .keeps-slots w m i (struck call cut) (struck-fits t c)
@@ -57,20 +63,22 @@ module _ (l : ℕ) (Inv : World → PlainMap → Type 0) (laws : SetLaws l Inv) 
   all-right w m events i fit =
       throughout _ _ _ _ (InvOf (slotsIn (w .image))) (FitsBy (TypedRequest l) (slotsIn (w .image)))
       (λ v p j. laws .recovers v p (j .0))
-      (λ v p j event f. right v p (j .0) (requestOf event) (typed-request l _ event f))
+      (λ v p j event f.
+      (right v p (j .0) (requestOf event) (typed-request l _ event f), cut-right v p (j .0) event (fits-here (slotsIn (w .image)) v p event j f)))
       (λ v p j event f.
       let here = fits-here (slotsIn (w .image)) v p event j f in
       (keeps v p (j .0) event here, same-slots v p (j .0) event here ∙ j .1))
       w m events (i, refl) fit
 
-  from-recovery : CutRuleIn l
-  unfolding recoveredWorld worldAfter
-  from-recovery image heads next z events fit =
-      all-right (recoveredWorld l image heads next) _ events (laws .after-recovery image heads next z) fit
+  from-recovery : CallLaws l → CutRuleIn l
+  from-recovery calls image start z restart events fit =
+      (laws .along image start z restart,
+      all-right (restarted l image start) _ events (laws .after-recovery image start z restart)
+      (subst (λ (n : ℕ). All (FitsBy (TypedRequest l) n) events) (sym (calls .restart-slots image start)) fit))
 
 -- THE CUT RULE in layout l
 pub cut-rule-in : (l : ℕ) → Layout l → CutRuleIn l
-cut-rule-in l layout = from-recovery l _ (set-laws l layout)
+cut-rule-in l layout = from-recovery l _ (set-laws l layout) (call-laws l layout)
 
 -- THE CUT RULE
 pub cut-rule : CutRule

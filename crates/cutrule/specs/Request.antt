@@ -4,8 +4,8 @@ use Prim.Native.Nat.{ℕ}
 use Rattle.prelude.specs.Answer.{refuses}
 use Rattle.face.specs.Set.{World, Call, called, PlainMap, Update, updates, Typed, dueFault, Right}
 use Rattle.face.specs.Event.{Event, Leaving, leaving, requestOf, stepBy, isWhole, plainEvent}
-use Rattle.book.specs.Steps.{Step, booked}
-use Rattle.book.specs.Plain.{bookLeaving, stepFault, stepUpdates, StepRight, TypedStep}
+use Rattle.book.specs.Steps.{Step}
+use Rattle.book.specs.Plain.{stepFault, stepUpdates, StepRight, TypedStep, stepLeaves}
 
 -- an insert, a replace, a remove, a get or a locate; or a book step
 pub data Request : Type 0 where
@@ -15,7 +15,7 @@ pub data Request : Type 0 where
 -- what it leaves, its stores not yet played
 unfoldable pub requestLeaves : (l : ℕ) → World → Request → Leaving
 requestLeaves l w (a-call call) = leaving (called l w call)
-requestLeaves l w (a-step step) = bookLeaving (booked l w step)
+requestLeaves l w (a-step step) = stepLeaves l w step
 
 -- the rules' number for it, and what it makes of the plain map
 unfoldable pub requestFault : (l : ℕ) → World → PlainMap → Request → ℕ

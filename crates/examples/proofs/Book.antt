@@ -3,53 +3,59 @@ use mathlib.Core.Path.{_≡_, refl, ap, _∙_}
 use mathlib.Core.Logic.{inl, inr, by-cases}
 use mathlib.Core.Option.{some, none}
 use mathlib.Core.List.{[], _∷_}
-use Prim.Native.Nat.{ℕ, _+_, _^_, _≤_, _<_}
+use Prim.Native.Nat.{ℕ, _+_, _^_, _<_}
 use native.Mathlib.Decide.{ℕ-discrete}
 use native.Mathlib.Omega.{arith}
 use lib.ListN.{length}
 use Rattle.words.specs.Word.{word, setBytes, setWord}
 use Rattle.prelude.specs.Refusal.{say, orElse, unlessRefused}
 use Rattle.prelude.specs.Range.{anyOf, tabulate, greatest, topmost, lowest, atLowest, count}
+use Rattle.prelude.specs.Filter.{filter}
+use Rattle.prelude.specs.Answer.{refuses}
+use Rattle.prelude.specs.Members.{In, All, none-left, one-more, slotNumbers}
 use Rattle.layout.specs.Size.{slotsOf, slotsIn}
 use Rattle.layout.specs.Line.{lineTop, versionFault}
 use Rattle.layout.specs.Slot.{paired, slotTop, verdictOf, lineVerdict, isValid}
 use Rattle.layout.specs.Record.{keyFrom, keyOf, valuePlace, slotWord, valueWord, valueByte, valueFront, valueOf}
-use Rattle.layout.specs.Content.{made, contentBy, contentOf, content, topOf}
+use Rattle.layout.specs.Content.{made, contentBy, contentOf, content, topOf, top}
 use Rattle.layout.specs.Header.{headerWord, headerFault, imageFault, indexFault, lentFault}
-use Rattle.layout.specs.Fault.{markFault, kindFault, longest, wordFault, tailFault, faultOf, recordFault}
-use Rattle.stores.specs.Store.{zipped, played}
+use Rattle.layout.specs.Fault.{markFault, kindFault, longest, wordFault, tailFault, faultOf, recordFault, bitsFault}
+use Rattle.stores.specs.Store.{zipped, played, less, standing, allStand}
 use Rattle.stores.specs.Written.{marked, placedWord, bodyA, bodyB, run, lineStores, recordStores}
-use Rattle.stores.specs.Play.{halfFault, halvesFault, playFault, counted, playResult, wordNumbers, values}
-use Rattle.prelude.specs.Filter.{filter}
+use Rattle.stores.specs.Play.{wordNumbers, values}
+use Rattle.stores.specs.Opening.{openingStore, openingStores}
 use Rattle.sorting.specs.Sorted.{insert, sorted}
-use Rattle.table.specs.Table.{isRecord, keyIn, weight, nextVersion, decider, valueIn, valueAt, mapOf, decidingPut, live, spare, liveCount, sharedVersion, isBroken, brokenCount, brokenLimit, manyBroken, allLive}
+use Rattle.table.specs.Table.{isRecord, keyIn, weight, nextVersion, decider, valueIn, valueAt, mapOf, decidingPut, live, spare, liveCount, isBroken, brokenCount, brokenLimit, manyBroken, allLive, isHeld}
 use Rattle.table.specs.Order.{rankOf, ordered, chainOf, reuseOf}
-use Rattle.index.specs.Index.{start, ahead, setNext, setStart, setLast, link}
+use Rattle.table.specs.Keys.{Holds, holds, Keys}
+use Rattle.table.specs.Complete.{said, hasVersion, sharers, complete, versionIfComplete, highestComplete, isVoid, settled}
+use Rattle.table.specs.Shared.{clashes, sharersFault}
+use Rattle.table.specs.Taking.{validVersion, highestValid, isRemove, older, mayTake, takeableCount}
+use Rattle.index.specs.Index.{setNext, setStart, setLast, link}
 use Rattle.index.specs.Chained.{firstOf, lastOf, after, nextIn, chained}
-use Rattle.index.specs.Change.{takeFirst, linkNew, append, insertNew, replaceHeld, removeHeld, keyFault, isFound, roomFault, reuseFault}
+use Rattle.index.specs.Change.{takeFirst, linkNew, append, insertNew, replaceHeld, removeHeld, keyFault, isFound, insertAt, replaceAt, removeAt}
 use Rattle.index.specs.Walk.{walk, search, chainFault}
-use Rattle.recovery.specs.Recover.{slotsFault, recoverFault, chainsOf, placeOf, recoveredIndex, recoveredState, recovered, recoverResult, noState}
-use Rattle.calls.specs.Change.{unchanged, changed, writeLentFault, writeLaterFault, writeFault, writeDone, writeResult, heldFault, removeLaterFault, removeFault, removeDone, removeResult}
+use Rattle.index.specs.Taking.{withTaken, atEnd, takeWalk, takeFrom, endsFault, linkFault, fewFault, reuseFault, roomFault}
+use Rattle.taking.specs.Taking.{takingOf}
+use Rattle.recovery.specs.Recover.{slotsFault, recoverFault, chainsOf, placeOf, recoveredIndex, recoveredState, recovered, recoverResult, noState, settledFault, slotsNamed, recoverSlot}
+use Rattle.recovery.specs.Opening.{voidSlots, openingsOf, storesIn}
+use Rattle.calls.specs.Change.{unchanged, changed, writeLentFault, writeLaterFault, writeFault, writeDone, writeResult, removeLaterFault, removeFault, removeDone, removeResult, storeFault, insertsOf}
 use Rattle.calls.specs.Get.{lengthFault, getLaterFault, getFault, getDone, getResult}
-use Rattle.prelude.specs.Answer.{refuses}
-use Rattle.prelude.specs.Members.{In, All, none-left, one-more, slotNumbers}
-use Rattle.table.specs.Table.{holder, isHeld}
 use Rattle.calls.specs.Format.{formatted}
 use Rattle.calls.specs.Locate.{locateFault, locateDone, locateResult}
-use Rattle.plainmap.specs.World.{calledChange, calledGet, calledLocate, called, playing, finished, worldAfter, recoveredWorld}
-use Rattle.plainmap.specs.Plain.{updates, updated, plainNext, plainStep, sizeOf, ruleFault}
-use Rattle.table.specs.Keys.{Holds, holds, Keys}
+use Rattle.plainmap.specs.World.{worldAfter, afterRound, afterRounds, openedWorld, restarted}
+use Rattle.plainmap.specs.Plain.{updates, updated, plainNext, plainStep, sizeOf, ruleFault, roomRule}
 use Rattle.face.proofs.SetLaws.{layout-1}
-use Rattle.face.specs.Event.{CutFits, FitsBy, done-fits, struck-fits, stepBy, imageCut, allStand, plainEvent}
+use Rattle.face.specs.Event.{RestartFits, FitsBy, done-fits, struck-fits, stepBy, imageCut, plainEvent, isWhole}
 use Rattle.book.specs.Orders.{orderBytes, orderOf, isState, isOrder, sent, acknowledged, filledBy}
 use Rattle.book.specs.Steps.{new, fill, idle, changeAnswers, asChange, soughtIn, soughtBy, seek, newAt, newResult, alreadyAt, acknowledgeAt, acknowledgeResult, quantityFault, fillBy, fillAt, fillResult, withdrawAt, withdrawResult, booked}
 use Rattle.book.specs.Plain.{TypedStep, new-typed, acknowledge-typed, fill-typed, withdraw-typed, orderIn, orderFault, bookFault, callBy, stepCall, callFault, stepFault, updatesBy, stepUpdates, bookLeaving}
-use Rattle.book.specs.Totals.{openHeld, ofHeld, orderedIn, filledIn, withdrawnIn, counts, totalOf, mapAtEnd, openTotal, Conserves}
+use Rattle.book.specs.Totals.{ofHeld, orderedIn, filledIn, withdrawnIn, counts, totalOf, mapAtEnd, openTotal, Conserves}
 use Rattle.book.proofs.Conservation.{none-held, others-stay, conservation}
 use Rattle.book.proofs.Sums.{some-none}
 use Rattle.book.specs.declared.Order.{Order}
-use Rattle.examples.specs.Trial.{oneHead}
-use Rattle.examples.specs.Book.{bookAnswers, threeSlots, bookCut, emptyBook, history, historyAnswers, totals, emptyMap, historyMap, historyTotals, historyKeys}
+use Rattle.examples.specs.Trial.{oneHead, recovering, cutAt}
+use Rattle.examples.specs.Book.{bookAnswers, threeSlots, emptyBook, history, historyAnswers, totals, emptyMap, historyMap, historyTotals, historyKeys}
 
 -- order 7 with 30 filled
 unfoldable filled30 : Order
@@ -60,7 +66,7 @@ history-computed : (bookAnswers 1 emptyBook history ≡ historyAnswers) × (tota
     × (recoverFault 1 (formatted 1 512) (length oneHead) (length threeSlots) ≡ 0) × (slotsIn (formatted 1 512) ≡ 3)
     × ((key : ℕ) → emptyMap key ≡ none) × (historyMap 7 ≡ some (orderBytes filled30))
     × (historyMap 8 ≡ none)
-unfolding word setBytes setWord say orElse unlessRefused anyOf tabulate slotsOf lineTop paired slotTop verdictOf lineVerdict isValid keyFrom keyOf valuePlace slotWord valueWord valueByte valueFront valueOf made contentBy contentOf content topOf headerWord headerFault imageFault indexFault lentFault markFault kindFault longest wordFault tailFault faultOf recordFault zipped played marked placedWord bodyA bodyB run lineStores recordStores halfFault halvesFault playFault counted playResult filter insert sorted isRecord keyIn weight greatest topmost lowest atLowest count nextVersion decider valueIn valueAt mapOf decidingPut live spare liveCount sharedVersion isBroken brokenCount brokenLimit manyBroken allLive rankOf slotNumbers ordered chainOf reuseOf start ahead setNext setStart setLast link firstOf lastOf after nextIn chained takeFirst linkNew append insertNew replaceHeld removeHeld keyFault isFound roomFault versionFault reuseFault walk search chainFault slotsFault recoverFault chainsOf placeOf recoveredIndex recoveredState recovered recoverResult formatted unchanged changed writeLentFault writeLaterFault writeFault writeDone writeResult heldFault removeLaterFault removeFault removeDone removeResult lengthFault getLaterFault getFault getDone getResult calledChange calledGet called wordNumbers values playing finished noState worldAfter recoveredWorld imageCut stepBy holder isHeld updates updated plainNext plainStep sizeOf ruleFault refuses locateFault locateDone locateResult calledLocate plainEvent allStand orderBytes orderOf isState isOrder sent acknowledged filledBy idle changeAnswers asChange soughtIn soughtBy seek newAt newResult alreadyAt acknowledgeAt acknowledgeResult quantityFault fillBy fillAt fillResult withdrawAt withdrawResult booked orderIn orderFault bookFault callBy stepCall callFault stepFault updatesBy stepUpdates bookLeaving ofHeld orderedIn filledIn withdrawnIn counts totalOf mapAtEnd openTotal oneHead bookAnswers threeSlots bookCut emptyBook history historyAnswers historyTotals historyKeys totals filled30
+unfolding word setBytes setWord refuses filter slotNumbers anyOf tabulate greatest topmost lowest atLowest count say orElse unlessRefused made contentBy contentOf content top topOf markFault kindFault longest bitsFault wordFault tailFault faultOf recordFault headerWord headerFault imageFault indexFault lentFault lineTop versionFault keyFrom keyOf valuePlace slotWord valueWord valueByte valueFront valueOf slotsOf paired slotTop verdictOf lineVerdict isValid insert sorted openingStore openingStores wordNumbers values zipped played less standing allStand marked placedWord bodyA bodyB run lineStores recordStores said hasVersion sharers complete versionIfComplete highestComplete isVoid settled rankOf ordered chainOf reuseOf clashes sharersFault isRecord isBroken keyIn weight nextVersion decider valueIn valueAt mapOf decidingPut live spare liveCount brokenCount brokenLimit manyBroken allLive isHeld validVersion highestValid isRemove older mayTake takeableCount firstOf lastOf after nextIn chained takeFirst linkNew append insertAt replaceAt removeAt insertNew replaceHeld removeHeld keyFault isFound setNext setStart setLast link withTaken atEnd takeWalk takeFrom endsFault linkFault fewFault reuseFault roomFault walk search chainFault takingOf voidSlots openingsOf storesIn noState settledFault slotsFault slotsNamed recoverFault recoverSlot chainsOf placeOf recoveredIndex recoveredState recovered recoverResult unchanged storeFault changed writeLentFault insertsOf writeLaterFault writeFault writeDone writeResult removeLaterFault removeFault removeDone removeResult formatted lengthFault getLaterFault getFault getDone getResult locateFault locateDone locateResult updates updated plainNext plainStep sizeOf roomRule ruleFault worldAfter afterRound afterRounds openedWorld restarted imageCut stepBy isWhole plainEvent orderBytes orderOf isState isOrder sent acknowledged filledBy orderIn orderFault bookFault callBy stepCall callFault stepFault updatesBy stepUpdates bookLeaving idle changeAnswers asChange soughtIn soughtBy seek newAt newResult alreadyAt acknowledgeAt acknowledgeResult quantityFault fillBy fillAt fillResult withdrawAt withdrawResult booked ofHeld orderedIn filledIn withdrawnIn counts totalOf mapAtEnd openTotal bookAnswers totals threeSlots emptyBook history historyAnswers historyTotals historyKeys oneHead recovering cutAt filled30
 history-computed = (refl, refl, refl, refl, λ key. refl, refl, refl)
 
 pub history-answers : bookAnswers 1 emptyBook history ≡ historyAnswers
@@ -85,17 +91,17 @@ new-sized key quantity k q = new-typed {quantity = quantity} (key-sized key k) (
 fill-sized : (key quantity : ℕ) → key < 256 → quantity < 256 → TypedStep 1 (fill key quantity)
 fill-sized key quantity k q = fill-typed {quantity = quantity} (key-sized key k) (omega arith)
 
-cut-fits : (a b : ℕ) → a ≤ 8 → b ≤ 8 → CutFits 3 (bookCut a b)
-unfolding bookCut
-cut-fits a b p q = record { few-a = p; few-b = q; size = right-size }
+restart-fits : RestartFits 3 (recovering threeSlots)
+unfolding recovering
+restart-fits = record { rounds = none-left; size = right-size }
 
 history-fits : All (FitsBy (TypedStep 1) 3) history
-unfolding history
+unfolding history cutAt
 history-fits =
     one-more (done-fits (new-sized 7 100 (omega arith) (omega arith))) (one-more (done-fits (new-sized 8 50 (omega arith) (omega arith)))
     (one-more (done-fits (acknowledge-typed (key-sized 7 (omega arith)))) (one-more (done-fits (fill-sized 7 30 (omega arith) (omega arith)))
-    (one-more (struck-fits (fill-sized 7 20 (omega arith) (omega arith)) (cut-fits 8 3 (omega arith) (omega arith)))
-    (one-more (struck-fits (withdraw-typed (key-sized 8 (omega arith))) (cut-fits 8 8 (omega arith) (omega arith)))
+    (one-more (struck-fits (fill-sized 7 20 (omega arith) (omega arith)) restart-fits)
+    (one-more (struck-fits (withdraw-typed (key-sized 8 (omega arith))) restart-fits)
     (one-more (done-fits (fill-sized 7 71 (omega arith) (omega arith)))
     (one-more (done-fits (acknowledge-typed (key-sized 7 (omega arith)))) none-left)))))))
 
@@ -126,10 +132,10 @@ history-held = record { once = ((λ i. i), tt); held = held; all = all }
 
 -- AN INSTANCE of conservation
 history-conserves : Conserves 1 emptyBook emptyMap history
-unfolding emptyBook
+unfolding emptyBook recovering
 history-conserves =
-    conservation 1 layout-1 (formatted 1 512) oneHead threeSlots (history-computed .2) (history-computed .4) history
-    slots-fit
+    conservation 1 layout-1 (formatted 1 512) (recovering threeSlots) (history-computed .2) (rw (history-computed .3) restart-fits)
+    (history-computed .4) history slots-fit
 
 pub history-balance : totalOf orderedIn 1 emptyBook emptyMap history
     ≡ totalOf filledIn 1 emptyBook emptyMap history + totalOf withdrawnIn 1 emptyBook emptyMap history + openTotal historyMap historyKeys

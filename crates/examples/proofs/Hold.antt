@@ -12,24 +12,32 @@ use Rattle.layout.specs.Slot.{paired, slotTop, verdictOf, lineVerdict, slotVerd
 use Rattle.layout.specs.Record.{keyFrom, keyOf, valuePlace, slotWord, valueWord, valueByte, valueFront, valueOf}
 use Rattle.layout.specs.Content.{made, contentBy, contentOf, content, top, topOf}
 use Rattle.layout.specs.Header.{headerWord, headerFault, imageFault, indexFault, lentFault}
-use Rattle.layout.specs.Fault.{markFault, kindFault, longest, wordFault, tailFault, faultOf, recordFault}
+use Rattle.layout.specs.Fault.{markFault, kindFault, longest, wordFault, tailFault, faultOf, recordFault, bitsFault}
 use Rattle.stores.specs.Store.{zipped, played}
-use Rattle.stores.specs.Play.{wordNumbers, values, halfFault, halvesFault, playFault, counted, playResult}
+use Rattle.stores.specs.Play.{wordNumbers, values}
 use Rattle.stores.specs.Written.{marked, placedWord, bodyA, bodyB, run, lineStores, recordStores}
+use Rattle.stores.specs.Opening.{openingStore, openingStores}
 use Rattle.sorting.specs.Sorted.{insert, sorted}
-use Rattle.table.specs.Table.{isRecord, keyIn, weight, nextVersion, decider, valueIn, valueAt, mapOf, decidingPut, live, spare, liveCount, sharedVersion, isBroken, brokenCount, brokenLimit, manyBroken, allLive}
+use Rattle.table.specs.Table.{isRecord, keyIn, weight, nextVersion, decider, valueIn, valueAt, mapOf, decidingPut, live, spare, liveCount, isBroken, brokenCount, brokenLimit, manyBroken, allLive}
 use Rattle.table.specs.Order.{rankOf, ordered, chainOf, reuseOf}
+use Rattle.table.specs.Complete.{said, hasVersion, sharers, complete, versionIfComplete, highestComplete, isVoid, settled}
+use Rattle.table.specs.Shared.{clashes, sharersFault}
+use Rattle.table.specs.Taking.{validVersion, highestValid, isRemove, older, mayTake}
 use Rattle.index.specs.Index.{setNext, setStart, setLast, link}
 use Rattle.index.specs.Chained.{firstOf, lastOf, after, nextIn, chained}
 use Rattle.index.specs.Walk.{walk, search, chainFault}
-use Rattle.index.specs.Change.{takeFirst, linkNew, append, insertNew, replaceHeld, removeHeld, keyFault, isFound, roomFault, reuseFault}
-use Rattle.recovery.specs.Recover.{noState, slotsFault, recoverFault, chainsOf, placeOf, recoveredIndex, recoveredState, recovered, recoverResult}
+use Rattle.index.specs.Change.{takeFirst, linkNew, append, insertNew, replaceHeld, removeHeld, keyFault, isFound, insertAt, replaceAt, removeAt}
+use Rattle.index.specs.Taking.{withTaken, atEnd, takeWalk, takeFrom, endsFault, linkFault, fewFault, reuseFault, roomFault}
+use Rattle.taking.specs.Taking.{takingOf}
+use Rattle.recovery.specs.Recover.{noState, slotsFault, recoverFault, chainsOf, placeOf, recoveredIndex, recoveredState, recovered, recoverResult, settledFault, slotsNamed, recoverSlot}
+use Rattle.recovery.specs.Opening.{voidSlots, openingsOf, storesIn}
 use Rattle.calls.specs.Format.{formatFault, formatted, formatResult}
-use Rattle.calls.specs.Change.{unchanged, changed, writeLentFault, writeLaterFault, writeFault, writeDone, writeResult, heldFault, removeLaterFault, removeFault, removeDone, removeResult}
+use Rattle.calls.specs.Change.{unchanged, changed, writeLentFault, writeLaterFault, writeFault, writeDone, writeResult, removeLaterFault, removeFault, removeDone, removeResult, storeFault, insertsOf}
 use Rattle.calls.specs.Get.{lengthFault, getLaterFault, getFault, getDone, getResult}
-use Rattle.plainmap.specs.World.{calledChange, calledGet, called, playing, finished, worldAfter, recoveredWorld}
+use Rattle.calls.specs.Locate.{locateFault, locateDone, locateResult}
+use Rattle.plainmap.specs.World.{calledChange, calledGet, called, finished, worldAfter, calledLocate, openedWorld}
 use Rattle.examples.specs.Examples.{bit, answer, verdict, held, formatNumbers, ends, words, over, leftover, recoveredSet, afterCalls, callAnswers, liveCounts, blank, emptySet, lateSet, removal, removedSet, get7, examples, equal, agree}
 
 pub examples-hold : agree examples ≡ true
-unfolding word setBytes setWord say orElse unlessRefused anyOf tabulate greatest topmost lowest atLowest count slotNumbers filter slotsOf lineTop paired slotTop verdictOf lineVerdict slotVerdict isValid keyFrom keyOf valuePlace slotWord valueWord valueByte valueFront valueOf made contentBy contentOf content top topOf headerWord headerFault imageFault indexFault lentFault markFault kindFault longest wordFault tailFault faultOf recordFault zipped played wordNumbers values halfFault halvesFault playFault counted playResult marked placedWord bodyA bodyB run lineStores recordStores insert sorted isRecord keyIn weight nextVersion decider valueIn valueAt mapOf decidingPut live spare liveCount sharedVersion isBroken brokenCount brokenLimit manyBroken allLive rankOf ordered chainOf reuseOf setNext setStart setLast link firstOf lastOf after nextIn chained walk search chainFault takeFirst linkNew append insertNew replaceHeld removeHeld keyFault isFound roomFault versionFault reuseFault noState slotsFault recoverFault chainsOf placeOf recoveredIndex recoveredState recovered recoverResult formatFault formatted formatResult unchanged changed writeLentFault writeLaterFault writeFault writeDone writeResult heldFault removeLaterFault removeFault removeDone removeResult lengthFault getLaterFault getFault getDone getResult calledChange calledGet called playing finished worldAfter recoveredWorld bit answer verdict held formatNumbers ends words over leftover recoveredSet afterCalls callAnswers liveCounts blank emptySet lateSet removal removedSet get7 examples equal agree
+unfolding word setBytes setWord filter slotNumbers anyOf tabulate greatest topmost lowest atLowest count say orElse unlessRefused made contentBy contentOf content top topOf markFault kindFault longest bitsFault wordFault tailFault faultOf recordFault headerWord headerFault imageFault indexFault lentFault lineTop versionFault keyFrom keyOf valuePlace slotWord valueWord valueByte valueFront valueOf slotsOf paired slotTop verdictOf lineVerdict slotVerdict isValid insert sorted openingStore openingStores wordNumbers values zipped played marked placedWord bodyA bodyB run lineStores recordStores said hasVersion sharers complete versionIfComplete highestComplete isVoid settled rankOf ordered chainOf reuseOf clashes sharersFault isRecord isBroken keyIn weight nextVersion decider valueIn valueAt mapOf decidingPut live spare liveCount brokenCount brokenLimit manyBroken allLive validVersion highestValid isRemove older mayTake firstOf lastOf after nextIn chained takeFirst linkNew append insertAt replaceAt removeAt insertNew replaceHeld removeHeld keyFault isFound setNext setStart setLast link withTaken atEnd takeWalk takeFrom endsFault linkFault fewFault reuseFault roomFault walk search chainFault takingOf voidSlots openingsOf storesIn noState settledFault slotsFault slotsNamed recoverFault recoverSlot chainsOf placeOf recoveredIndex recoveredState recovered recoverResult unchanged storeFault changed writeLentFault insertsOf writeLaterFault writeFault writeDone writeResult removeLaterFault removeFault removeDone removeResult formatFault formatted formatResult lengthFault getLaterFault getFault getDone getResult locateFault locateDone locateResult calledChange calledGet calledLocate called finished worldAfter openedWorld bit answer verdict held formatNumbers ends words over leftover recoveredSet afterCalls callAnswers liveCounts blank emptySet lateSet removal removedSet get7 examples equal agree
 examples-hold = refl

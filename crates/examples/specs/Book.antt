@@ -2,14 +2,14 @@
 use mathlib.Core.List.{List, [], _∷_}
 use Prim.Native.Nat.{ℕ}
 use Rattle.calls.specs.Format.{formatted}
-use Rattle.plainmap.specs.World.{World, recoveredWorld}
+use Rattle.plainmap.specs.World.{World, restarted}
 use Rattle.plainmap.specs.Plain.{PlainMap}
 use Rattle.plainmap.specs.Claims.{slotsMap}
-use Rattle.face.specs.Event.{Cut, Event, done, struck, requestOf}
+use Rattle.face.specs.Event.{Event, done, struck, requestOf}
 use Rattle.book.specs.Steps.{Step, new, acknowledge, fill, withdraw, BookAnswer, taken, already, declined, booked}
 use Rattle.book.specs.Plain.{worldAfterStep}
 use Rattle.book.specs.Totals.{orderedIn, filledIn, withdrawnIn, totalOf, mapAtEnd, openTotal}
-use Rattle.examples.specs.Trial.{oneHead}
+use Rattle.examples.specs.Trial.{recovering, cutAt}
 
 -- what each step of a list answers
 unfoldable pub bookAnswers : (l : ℕ) → World → List (Event Step) → List BookAnswer
@@ -26,12 +26,9 @@ totals l w m events keys =
 unfoldable pub threeSlots : List ℕ
 threeSlots = 9 ∷ 9 ∷ 9 ∷ 9 ∷ []
 
-unfoldable pub bookCut : (a b : ℕ) → Cut
-bookCut a b = record { a = a; b = b; heads = oneHead; next = threeSlots }
-
 -- an empty set of three slots
 unfoldable pub emptyBook : World
-emptyBook = recoveredWorld 1 (formatted 1 512) oneHead threeSlots
+emptyBook = restarted 1 (formatted 1 512) (recovering threeSlots)
 
 -- its map
 abbrev pub emptyMap : PlainMap
@@ -41,8 +38,8 @@ emptyMap = slotsMap 1 (formatted 1 512)
 -- stores stand; more filled than is open; a second acknowledge
 unfoldable pub history : List (Event Step)
 history =
-    done (new 7 100) ∷ done (new 8 50) ∷ done (acknowledge 7) ∷ done (fill 7 30) ∷ struck (fill 7 20) (bookCut 8 3)
-    ∷ struck (withdraw 8) (bookCut 8 8) ∷ done (fill 7 71) ∷ done (acknowledge 7) ∷ []
+    done (new 7 100) ∷ done (new 8 50) ∷ done (acknowledge 7) ∷ done (fill 7 30) ∷ struck (fill 7 20) (cutAt 8 3 threeSlots)
+    ∷ struck (withdraw 8) (cutAt 8 8 threeSlots) ∷ done (fill 7 71) ∷ done (acknowledge 7) ∷ []
 
 unfoldable pub historyAnswers : List BookAnswer
 historyAnswers =

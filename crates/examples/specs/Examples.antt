@@ -13,13 +13,13 @@ use Rattle.layout.specs.Content.{content}
 use Rattle.table.specs.Complete.{tableOf}
 use Rattle.layout.specs.declared.Verdict.{Verdict}
 use Rattle.layout.specs.declared.Verdict.the-variants.{Valid, Empty, Broken}
-use Rattle.stores.specs.Store.{Store}
+use Rattle.stores.specs.Store.{Store, played}
 use Rattle.stores.specs.Play.{values}
 use Rattle.stores.specs.Written.{recordStores}
 use Rattle.table.specs.Table.{nextVersion, liveCount, mapOf}
 use Rattle.calls.specs.Format.{FormatResult, formatResult}
 use Rattle.index.specs.declared.Mode.the-variants.{Insert, Replace}
-use Rattle.plainmap.specs.World.{World, Call, write, remove, get, called, playing, finished, recoveredWorld}
+use Rattle.plainmap.specs.World.{World, Call, write, remove, get, called, finished, openedWorld}
 use Rattle.layout.specs.Size.{slotsIn}
 
 -- ---- results as numbers
@@ -64,7 +64,7 @@ words (w ∷ v ∷ rest) i = cond (eqb i w) v (words rest i)
 
 -- the stores of a put of key 7 with version 4 into slot 1, whose line A has this mark and stamp
 unfoldable pub over : (mark stamp : ℕ) → List Store
-over mark stamp = recordStores 1 (words (16 ∷ mark ∷ 23 ∷ stamp ∷ [])) 1 7 1 [] 4
+over mark stamp = recordStores 1 (words (16 ∷ mark ∷ 23 ∷ stamp ∷ [])) 1 7 1 0 [] 4
 
 -- slot 1 valid with version 2, slot 2 broken: line A whole with version 3, line B open
 unfoldable pub leftover : ℕ → ℕ
@@ -72,9 +72,9 @@ leftover = words (18 ∷ 1 ∷ 23 ∷ 4 ∷ 31 ∷ 4 ∷ 39 ∷ 6 ∷ 47 ∷ 1 �
 
 -- ---- sets of three slots
 
--- an image with the index, of one head, and the state that recovery leaves
+-- an image with the index, of one head, and the state that recovery leaves, its opening stores played
 unfoldable pub recoveredSet : (image : List ℕ) → World
-recoveredSet image = recoveredWorld 1 image (0 ∷ []) (replicate 4 0)
+recoveredSet image = openedWorld 1 image (0 ∷ []) (replicate 4 0)
 
 -- the set after these calls, all their stores played
 unfoldable pub afterCalls : World → List Call → World
@@ -100,7 +100,7 @@ emptySet = recoveredSet blank
 
 -- slot 1 holds a put of key 7 with version 2^63 − 2
 unfoldable pub lateSet : World
-lateSet = recoveredSet (playing blank (recordStores 1 (word blank) 1 7 1 [] (2 ^ 63 - 2)) 8 8)
+lateSet = recoveredSet (played (recordStores 1 (word blank) 1 7 1 0 [] (2 ^ 63 - 2)) blank)
 
 -- in an empty set, these calls insert key 7 at version 2 and remove it at 4
 unfoldable pub removal : List Call
@@ -145,10 +145,10 @@ examples =
     ∷ row (ends (over 1 7)) (0 ∷ 8 ∷ [])
     -- E8: a value of 80 bytes is taken; 81 gives 10
     ∷ row (callAnswers emptySet (write Insert 7 (replicate 80 5) ∷ write Replace 7 (replicate 81 5) ∷ [])) (0 ∷ 1 ∷ 1 ∷ 2 ∷ 10 ∷ [])
-    -- E9: N = 3, new key: taken at live count 1, 12 at 2
+    -- E9: N = 3, new key: taken at live count 1; at 2 28, "in place of 12 as the rule on room" (document 02, A.7)
     ∷ row (liveCounts (afterCalls emptySet (write Insert 7 [] ∷ []))) (1 ∷ 1 ∷ [])
     ∷ row (liveCounts (afterCalls emptySet (write Insert 7 [] ∷ write Insert 8 [] ∷ []))) (2 ∷ 2 ∷ [])
-    ∷ row (callAnswers emptySet (write Insert 7 [] ∷ write Insert 8 [] ∷ write Insert 9 [] ∷ [])) (0 ∷ 1 ∷ 1 ∷ 0 ∷ 2 ∷ 2 ∷ 2 ∷ 12 ∷ [])
+    ∷ row (callAnswers emptySet (write Insert 7 [] ∷ write Insert 8 [] ∷ write Insert 9 [] ∷ [])) (0 ∷ 1 ∷ 1 ∷ 0 ∷ 2 ∷ 2 ∷ 2 ∷ 28 ∷ [])
     -- E10: the only whole line above version 2 is version 3 in a broken slot: next is 4
     ∷ row (nextVersion (content 1 leftover) 3 ∷ []) (4 ∷ [])
     -- E11: version 2^63 − 1 is still written; the call after gives 9

@@ -1,11 +1,13 @@
 -- Document 01's trial session as a list of events, with the answers that it gives there.
+use mathlib.Core.Bool.{cond}
 use mathlib.Core.List.{List, [], _∷_}
-use Prim.Native.Nat.{ℕ}
+use Prim.Native.Nat.{ℕ, _%_}
+use lib.Dec.{eqb}
 use lib.ListN.{replicate}
 use Rattle.prelude.specs.Answer.{Answer, gives, absent, refused}
 use Rattle.calls.specs.Format.{formatted}
 use Rattle.index.specs.declared.Mode.the-variants.{Insert, Replace}
-use Rattle.plainmap.specs.World.{World, Call, write, remove, get, called, recoveredWorld}
+use Rattle.plainmap.specs.World.{World, Call, write, remove, get, called, Restart, restarted}
 use Rattle.cutrule.specs.Request.{Request, a-call}
 use Rattle.face.specs.Event.{Cut, Event, done, struck, requestOf, step}
 
@@ -31,19 +33,23 @@ oneHead = 9 ∷ []
 unfoldable pub twoSlots : List ℕ
 twoSlots = 9 ∷ 9 ∷ 9 ∷ []
 
--- a cut that leaves a stores of line A and b of line B
-unfoldable pub cutAt : (a b : ℕ) → Cut
-cutAt a b = record { a = a; b = b; heads = oneHead; next = twoSlots }
+-- a recovery with one head and no cut among its opening stores
+unfoldable pub recovering : (next : List ℕ) → Restart
+recovering next = record { rounds = []; heads = oneHead; next = next }
+
+-- a cut that leaves a stores of line A and b of line B, and the recovery after it: line n of the image is line A of a slot where n is even
+unfoldable pub cutAt : (a b : ℕ) → (next : List ℕ) → Cut
+cutAt a b next = record { counts = λ n. cond (eqb (n % 2) 0) a b; restart = recovering next }
 
 -- "n 2": format and recover
 unfoldable pub fresh : World
-fresh = recoveredWorld 1 (formatted 1 384) oneHead twoSlots
+fresh = restarted 1 (formatted 1 384) (recovering twoSlots)
 
 -- "p 7 100 / p 8 5 / p 7 101 / c 8 3 / p 7 102 / g 7 / r 7 / g 7 / p 8 5"
 unfoldable pub session : List (Event Call)
 session =
     done (write Insert 7 (small 100)) ∷ done (write Insert 8 (small 5)) ∷ done (write Replace 7 (small 101))
-    ∷ struck (write Replace 7 (small 102)) (cutAt 8 3)
+    ∷ struck (write Replace 7 (small 102)) (cutAt 8 3 twoSlots)
     ∷ done (get 7 (replicate 8 0)) ∷ done (remove 7) ∷ done (get 7 (replicate 8 0)) ∷ done (write Insert 8 (small 5)) ∷ []
 
 -- the same as requests of the cut rule
@@ -52,10 +58,11 @@ asRequests [] = []
 asRequests (done call ∷ events) = done (a-call call) ∷ asRequests events
 asRequests (struck call cut ∷ events) = struck (a-call call) cut ∷ asRequests events
 
--- "ok 1 1 / no 12 / ok 2 2 / cut 8 3 / ok 1 3 / found 101 / ok 1 4 / absent / ok 2 5": `c 8 3` is no call, and for `found` a get answers the length
+-- "ok 1 1 / no 12 / ok 2 2 / cut 8 3 / ok 1 3 / found 101 / ok 1 4 / absent / ok 2 5", with 28 "in place of 12 .. in the trial too" (document 02, A.7): `c 8 3` is no
+-- call, and for `found` a get answers the length
 unfoldable pub expected : List Answer
 expected =
-    gives (1 ∷ 1 ∷ []) ∷ refused 12 ∷ gives (2 ∷ 2 ∷ []) ∷ gives (1 ∷ 3 ∷ []) ∷ gives (8 ∷ []) ∷ gives (1 ∷ 4 ∷ []) ∷ absent
+    gives (1 ∷ 1 ∷ []) ∷ refused 28 ∷ gives (2 ∷ 2 ∷ []) ∷ gives (1 ∷ 3 ∷ []) ∷ gives (8 ∷ []) ∷ gives (1 ∷ 4 ∷ []) ∷ absent
     ∷ gives (2 ∷ 5 ∷ []) ∷ []
 
 -- `found 101`: the output of the first get; absent leaves that of the second as it was
