@@ -57,8 +57,8 @@ pub fn start() -> Set {
             first: 0,
             last: 0,
             live: 0,
-            version: 0,
             newest: 0,
+            version: 0,
         },
         lent: Fronts {
             image: 0,
@@ -105,8 +105,8 @@ fn state_of(n: [u64; 5]) -> State {
         first: low(n[1]),
         last: low(n[2]),
         live: low(n[3]),
-        version: n[4],
         newest: 0,
+        version: n[4],
     }
 }
 

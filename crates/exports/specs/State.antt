@@ -11,6 +11,6 @@ stateFrom state version =
       first = getD state 0 0;
       last = getD state 1 0;
       live = getD state 2 0;
-      version = getD version 0 0;
       newest = getD state 3 0;
+      version = getD version 0 0;
     }

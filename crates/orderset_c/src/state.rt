@@ -11,8 +11,8 @@ pub fn state_from(state: &[u32; 4], version: &[u64; 1]) -> State
         first: state[0],
         last: state[1],
         live: state[2],
-        version: version[0],
         newest: state[3],
+        version: version[0],
     }
 }
 
