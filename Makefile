@@ -24,7 +24,8 @@ CPLUS := $(CXX) -std=c++11 -Wall -Wextra -Iinclude $(CXXFLAGS) $(LDFLAGS)
 HEADERS := include/orderset.h include/orderset_persist.h
 CRATES := crates.txt $(shell find crates -name '*.rt' -o -name '*.antt')
 
-.PHONY: test planted gateway heads bench archive run-names run-header run-persist run-guard run-storm run-lock run-kills run-heads run-differential
+.PHONY: test planted gateway heads bench archive run-names run-header run-persist run-guard run-storm run-lock run-watch \
+	run-kills run-heads run-differential
 archive: $(ARCHIVE)
 
 $(ARCHIVE): $(CRATES)
@@ -34,11 +35,12 @@ $(OUT):
 	mkdir -p $(OUT)
 
 # the tests: docs/TESTS.md; SEED=... repeats a run, and run-storm and the like run one of them
-TESTS := persist guard storm lock kills heads differential
+TESTS := persist guard storm lock kills heads watch differential
 $(OUT)/persist: tests/persist.c tests/chance.c
 $(OUT)/guard $(OUT)/differential: $(OUT)/%: tests/%.c tests/images.c tests/model.c tests/chance.c
 $(OUT)/storm: tests/storm.c tests/chance.c
 $(OUT)/lock $(OUT)/kills $(OUT)/heads: $(OUT)/%: tests/%.c tests/child.c tests/chance.c
+$(OUT)/watch: tests/watch.c tests/model.c tests/child.c tests/chance.c
 
 $(TESTS:%=$(OUT)/%): $(wildcard tests/*.h) $(HEADERS) $(ARCHIVE) | $(OUT)
 	$(C) -Itests $(filter %.c,$^) $(ARCHIVE) -o $@
@@ -51,7 +53,7 @@ $(OUT)/gateway_on_disk: examples/gateway.c tests/disk.c $(HEADERS) $(ARCHIVE) | 
 	$(C) examples/gateway.c tests/disk.c $(ARCHIVE) -Wl,--wrap=mmap,--wrap=msync,--wrap=fsync,--wrap=renameat2 -o $@
 
 .NOTPARALLEL:
-test: run-names run-header run-persist run-lock run-heads run-storm run-kills run-guard run-differential
+test: run-names run-header run-persist run-lock run-watch run-heads run-storm run-kills run-guard run-differential
 run-names:
 	@tests/names
 run-header: $(OUT)/header
@@ -60,6 +62,8 @@ run-persist run-guard run-storm run-differential: run-%: $(OUT)/%
 	@$(OUT)/$* $(SEED)
 run-lock run-heads: run-%: $(OUT)/% $(OUT)/gateway
 	@$(OUT)/$* $(OUT)/gateway $(OUT)/$*.img $(SEED)
+run-watch: $(OUT)/watch $(OUT)/sender
+	@$(OUT)/watch $(OUT)/sender $(OUT)/watch.img $(SEED)
 run-kills: $(OUT)/kills $(OUT)/gateway $(OUT)/gateway_on_disk
 	@$(OUT)/kills $(OUT)/gateway $(OUT)/gateway_on_disk $(OUT)/kills.img $(SEED)
 
@@ -67,8 +71,8 @@ run-kills: $(OUT)/kills $(OUT)/gateway $(OUT)/gateway_on_disk
 planted: $(ARCHIVE)
 	tests/planted.sh
 
-$(OUT)/gateway: examples/gateway.c $(HEADERS) $(ARCHIVE) | $(OUT)
-	$(C) examples/gateway.c $(ARCHIVE) -o $@
+$(OUT)/gateway $(OUT)/sender: $(OUT)/%: examples/%.c $(HEADERS) $(ARCHIVE) | $(OUT)
+	$(C) examples/$*.c $(ARCHIVE) -o $@
 
 # a new file and two starts on it: what the first one was told, the second one recovers
 gateway: $(OUT)/gateway

@@ -8,11 +8,12 @@
  *   image    ORDERSET_IMAGE_BYTES(N) bytes; 64-byte aligned if its stores are to be persisted (orderset_persist.h)
  *   heads    B numbers, B from 1 to ORDERSET_HEADS_MAX; key k belongs to head k % B
  *   next     N + 1 numbers
- *   state    three numbers: the reuse chain's first and last slot and the live count (ORDERSET_FIRST, ORDERSET_LAST,
- *            ORDERSET_LIVE)
+ *   state    four numbers: the reuse chain's first and last slot, the live count, and the slot that the last call took,
+ *            0 for none since recovery (ORDERSET_FIRST, ORDERSET_LAST, ORDERSET_LIVE, ORDERSET_NEWEST)
  *   version  one number: the next version
  * heads, next, state and version are the index. orderset_recover fills them; insert, replace, remove and the book's
- * steps keep them up to date. They are never persisted.
+ * steps keep them up to date. They are never persisted. state[ORDERSET_NEWEST] is a hint that makes calls faster:
+ * whatever stands there, no answer and no store is another.
  *
  * How to write: orderset_insert, orderset_replace, orderset_remove and the book's steps change the index and hand out
  * 16 stores, eight for each of two lines, and leave the image as it is. The caller makes all 16, in order within each
@@ -28,12 +29,29 @@
  * durable; then orderset_recover comes after the whole image was made durable (orderset_persist_image), or a later
  * power cut can take an order that was answered. Do so at every start that will write.
  *
+ * After recovery: it hands out at most ORDERSET_OPENINGS stores, one for each void record, a record of a basket that a
+ * cut left incomplete (below). They are made, their lines are flushed and a fence is passed before any other call: with
+ * orderset_play_list(image, image_length, at, count[0], value, count[0]) and a flush of each line, or by whatever
+ * persists stores. If that was not finished, orderset_recover comes next: it gives the same map and hands out what is
+ * left. Where count[0] is 0 there is nothing to do.
+ *
+ * Baskets: records that were written together have one version, and each tells in bits 16 to 23 of its kind word how
+ * many they are, from 2 to 8; a record that was written alone has 0 there. Of valid slots the highest version counts if
+ * as many of them have it as its records tell. Otherwise these records are void, and the next version down is judged in
+ * turn. A void record holds nothing for its key, and its slot is spare.
+ *
+ * Which slot a call takes: the first of the reuse chain that may be taken. No call takes a slot of the highest version
+ * among valid slots, nor a record of a remove while an older valid record of its key is in the image. 28 says that no
+ * slot may be taken, or that a new key would leave no spare slot. In a set that was formatted and then changed by these
+ * calls alone, an insert is refused with 28 only where one slot is spare. An image from elsewhere that recovery accepts
+ * may have no slot to take; there replace and remove are refused with 28 too.
+ *
  * What a call returns: 0 where it is not refused. A refused call leaves everything that it was lent as it was. Format,
- * play and the book's steps return the number of the refusal (enum orderset_refusal). Recover, insert, replace, remove,
- * get and locate return 64 bits: that number in the low 32, read by ORDERSET_REFUSAL, and above them the slot that
- * recover names (ORDERSET_FAULT_SLOT), or the count of slots that the other calls compared (below). So compare
- * ORDERSET_REFUSAL of the result with a number, and the result itself with 0 alone. In get, locate and remove a key that
- * is not held is no refusal: the call returns 0 and answer[0] is ORDERSET_ABSENT.
+ * play, the book's steps and the questions about a line return the number of the refusal (enum orderset_refusal).
+ * Recover, insert, replace, remove, get and locate return 64 bits: that number in the low 32, read by ORDERSET_REFUSAL,
+ * and above them the slot that recover names (ORDERSET_FAULT_SLOT), or the count of slots that the other calls compared
+ * (below). So compare ORDERSET_REFUSAL of the result with a number, and the result itself with 0 alone. In get, locate
+ * and remove a key that is not held is no refusal: the call returns 0 and answer[0] is ORDERSET_ABSENT.
  *
  * Slots compared: insert, replace, remove, get and locate report how many slots of the key's chain were compared with
  * the key: the key's place in the chain, from 1, or the length of the chain where the key is not held. With an index
@@ -49,14 +67,21 @@
  * is filled in full or withdrawn is removed. Over any history of steps since an empty set, with no insert, replace or
  * remove among them, all that was ordered is filled, withdrawn or open.
  *
+ * A single line can be asked about, as 64 bytes and nothing else of the image: orderset_line_whole,
+ * orderset_line_version, orderset_line_first and orderset_line_last. The answers are the set's own rules: a slot is
+ * valid where its two lines are whole with one version of at least 1, and the first and the last word are those of the
+ * stores that a call hands out for that line.
+ *
  * Pointers: none may be null, also where a length is 0, and each is aligned for its type. What a function writes
  * through one pointer must not overlap what it is lent through any other; two regions that are only read may overlap.
- * So in every call image, heads, next, state, version, the value or the output, at, value and answer are separate
- * pieces of memory.
+ * So in every call image, heads, next, state, version, the value or the output, count, at, value and answer are
+ * separate pieces of memory.
  *
  * Threads: the set has no locks. Gets and locates may run beside each other, each with an output and an answer of its
  * own, and beside nothing else: from the start of an insert, a replace, a remove, a step of the book, a recovery or a
- * play until its stores are made, no other call runs.
+ * play until its stores are made, no other call runs. The questions about a line may run at any time on a copy of the
+ * line; a copy that is taken while another thread or process stores is taken from word 7 down to word 0 (see
+ * examples/sender.c).
  *
  * How many heads: a call walks along the chain of its key's head, so with B near N chains are short. Keys k * B all
  * have one head, and are one chain: with N = 65,535, B = 65,536 and 60,000 keys k * 65,536 a get took 280 microseconds,
@@ -91,6 +116,7 @@ extern "C" {
 #define ORDERSET_SLOT_BYTES 128u
 #define ORDERSET_STORES 16u /* the stores of a call, the first half for line A and the second for line B */
 #define ORDERSET_LINE_STORES 8u
+#define ORDERSET_OPENINGS 8u /* the most stores that recovery hands out */
 
 /* the bytes of an image of n slots, and the numbers of its next */
 #define ORDERSET_IMAGE_BYTES(n) ((size_t)ORDERSET_SLOT_BYTES * ((size_t)(n) + 1u))
@@ -100,7 +126,8 @@ extern "C" {
 #define ORDERSET_FIRST 0
 #define ORDERSET_LAST 1
 #define ORDERSET_LIVE 2
-#define ORDERSET_STATE 3
+#define ORDERSET_NEWEST 3
+#define ORDERSET_STATE 4
 
 /* answer[0] of a call that returned 0; the values follow, zeros for ORDERSET_ABSENT, and then, of the calls that report
  * them, the slots compared */
@@ -124,6 +151,9 @@ extern "C" {
 #define ORDERSET_SLOTS 1
 #define ORDERSET_FORMAT_ANSWER 2
 
+/* the bytes of an answer about a line: a word, low byte first, as a uint64_t has it on x86-64 */
+#define ORDERSET_LINE_ANSWER 8u
+
 /* What a refused call returned: the number of the refusal, and above it the slots compared, or from orderset_recover
  * the slot that it names, 0 for none. The last two do not widen what they are given, so that the compiler warns where
  * the result was kept in 32 bits: there they are lost. */
@@ -144,14 +174,15 @@ enum orderset_refusal {
     ORDERSET_NO_HEADER = 3,         /* the header is not the one for this length */
     ORDERSET_NO_INDEX_LENGTH = 4,   /* heads has 0 or more than 65,536 numbers, or next has not N + 1 */
     ORDERSET_BAD_MARK = 5,          /* a mark is neither 0 nor 1 */
-    ORDERSET_BAD_BITS = 6,          /* the kind word of a valid slot has bits above the length byte */
-    ORDERSET_SHARED_VERSION = 7,    /* two valid slots have one version */
+    ORDERSET_BAD_BITS = 6,          /* the kind word of a valid slot has bits above bit 23, or its number of records
+                                       (bits 16 to 23) is 1 or over 8 */
+    ORDERSET_SHARED_VERSION = 7,    /* of valid slots with one version the numbers of records differ, there are more
+                                       than that number (0 meaning one), or two have one key */
     ORDERSET_ALL_LIVE = 8,          /* no slot is spare */
     ORDERSET_NO_VERSION = 9,        /* the next version is 2^63 or more */
     ORDERSET_VALUE_TOO_LONG = 10,   /* the value exceeds 80 bytes */
     ORDERSET_BAD_INDEX = 11,        /* the key's chain or the reuse chain is not one of this image, or the live count is
                                        zero where a key is removed */
-    ORDERSET_FULL = 12,             /* the key is new and only one slot is spare */
     ORDERSET_OUTPUT_TOO_SHORT = 13, /* the output is shorter than the value */
     ORDERSET_BAD_COUNT = 14,        /* a count exceeds 8 */
     ORDERSET_BAD_STORES = 15,       /* the stores are not those of two lines of the image; in play_list: a word is
@@ -164,8 +195,11 @@ enum orderset_refusal {
     ORDERSET_BAD_KIND = 22,         /* the kind of a valid slot is neither put nor remove */
     ORDERSET_BAD_LENGTH = 23,       /* the length of a valid slot is over 80, or a remove's is not 0; in get: over 80 */
     ORDERSET_BAD_TAIL = 24,         /* a value byte of a valid slot past its length is not zero */
-    ORDERSET_BROKEN_SLOTS = 25      /* more than one slot is broken: no power cut leaves that; look at the memory, and
-                                       whether every start made the image durable */
+    ORDERSET_BROKEN_SLOTS = 25,     /* more than eight slots are broken or void: no power cut leaves that; look at the
+                                       memory, and whether every start made the image durable */
+    ORDERSET_NO_ROOM = 28,          /* no slot of the reuse chain may be taken, or the key is new and only one slot is
+                                       spare */
+    ORDERSET_NO_LINE_LENGTH = 33    /* a line has not 64 bytes, or the answer about it not 8 */
 };
 
 /* Makes an empty image of the bytes. answer: {ORDERSET_GIVEN, N}. Refusals: 1. A cut during format is not covered:
@@ -175,6 +209,11 @@ ORDERSET_CALL uint32_t orderset_format(uint8_t *image, size_t image_length, uint
 /* Rebuilds heads, next, state and version from the image, whatever they held. The image is only read; if it may hold
  * stores that are not durable, make it durable first (above). Refusals: 1, 2, 3, 4, 5; then 6, 22, 23, 24; 7, 25, 8.
  *
+ * count[0] is the number of stores that are to be made, flushed and fenced before any other call (above), 0 to
+ * ORDERSET_OPENINGS: store i sets the word at[i], counted from the start of the image, to value[i]. Each opens line A
+ * of a void slot; they are by rising slot, each in a line of its own. The entries from count[0] on are zero and no
+ * stores: made, they would clear the header. Of a refused recovery count, at and value stay as they were.
+ *
  * Returns 0, or the refusal + 2^32 * the slot that it names. 6, 22, 23 and 24 name the lowest slot at fault, and of
  * what is wrong in it the first in that order; the other refusals name none.
  *
@@ -183,19 +222,20 @@ ORDERSET_CALL uint32_t orderset_format(uint8_t *image, size_t image_length, uint
  * thread of glibc where the stack is unlimited (ulimit -s): too little for N from 16,384 on. */
 ORDERSET_CALL uint64_t orderset_recover(const uint8_t *image, size_t image_length, uint32_t *heads, size_t heads_length,
                                         uint32_t *next, size_t next_length, uint32_t state[ORDERSET_STATE],
-                                        uint64_t version[1]);
+                                        uint64_t version[1], uint32_t count[1], uint32_t at[ORDERSET_OPENINGS],
+                                        uint64_t value[ORDERSET_OPENINGS]);
 
 /* Gives the key, which is not held, the value. answer: {ORDERSET_GIVEN, slot, version, slots compared}; the stores are
  * at[i], a word number counted from the start of the image, and value[i]. Refusals: 1, 2, 3, 4, 10, 11 (chain), and
- * with the slots compared 20, 12, 9, 11 (reuse). */
+ * with the slots compared 20, 11 (reuse), 28, 9. */
 ORDERSET_CALL uint64_t orderset_insert(const uint8_t *image, size_t image_length, uint32_t *heads, size_t heads_length,
                                        uint32_t *next, size_t next_length, uint32_t state[ORDERSET_STATE],
                                        uint64_t version[1], uint64_t key, const uint8_t *bytes, size_t bytes_length,
                                        uint32_t at[ORDERSET_STORES], uint64_t value[ORDERSET_STORES],
                                        uint64_t answer[ORDERSET_CHANGE_ANSWER]);
 
-/* Gives the key, which is held, the value in the place of the one that it has. answer and stores as in insert. It is
- * never refused for room. Refusals: 1, 2, 3, 4, 10, 11 (chain), and with the slots compared 21, 9, 11 (reuse). */
+/* Gives the key, which is held, the value in the place of the one that it has. answer and stores as in insert.
+ * Refusals: 1, 2, 3, 4, 10, 11 (chain), and with the slots compared 21, 11 (reuse), 28, 9. */
 ORDERSET_CALL uint64_t orderset_replace(const uint8_t *image, size_t image_length, uint32_t *heads, size_t heads_length,
                                         uint32_t *next, size_t next_length, uint32_t state[ORDERSET_STATE],
                                         uint64_t version[1], uint64_t key, const uint8_t *bytes, size_t bytes_length,
@@ -204,7 +244,7 @@ ORDERSET_CALL uint64_t orderset_replace(const uint8_t *image, size_t image_lengt
 
 /* Drops the key. answer and stores as in insert; or {ORDERSET_ABSENT, 0, 0, slots compared} where the key is not held,
  * and then nothing is to be stored: at and value stay as they were. Refusals: 1, 2, 3, 4, 11 (chain), and for a held
- * key, with the slots compared, 9, 11 (reuse, or a live count of zero). */
+ * key, with the slots compared, 11 (reuse, or a live count of zero), 28, 9. */
 ORDERSET_CALL uint64_t orderset_remove(const uint8_t *image, size_t image_length, uint32_t *heads, size_t heads_length,
                                        uint32_t *next, size_t next_length, uint32_t state[ORDERSET_STATE],
                                        uint64_t version[1], uint64_t key, uint32_t at[ORDERSET_STORES],
@@ -224,7 +264,7 @@ ORDERSET_CALL uint64_t orderset_locate(const uint8_t *image, size_t image_length
                                        uint64_t answer[ORDERSET_CHANGE_ANSWER]);
 
 /* Gives the key, which is not held, a sent order of the quantity, nothing of it filled. answer: {ORDERSET_GIVEN, slot,
- * version}; stores as in insert. Refusals: 1, 2, 3, 4, 11 (chain), 17, 19, 12, 9, 11 (reuse). */
+ * version}; stores as in insert. Refusals: 1, 2, 3, 4, 11 (chain), 17, 19, 11 (reuse), 28, 9. */
 ORDERSET_CALL uint32_t orderset_book_new(const uint8_t *image, size_t image_length, uint32_t *heads,
                                          size_t heads_length, uint32_t *next, size_t next_length,
                                          uint32_t state[ORDERSET_STATE], uint64_t version[1], uint64_t key,
@@ -233,7 +273,7 @@ ORDERSET_CALL uint32_t orderset_book_new(const uint8_t *image, size_t image_leng
 
 /* Makes the key's sent order an acknowledged one. answer and stores as in new. If it is acknowledged already, answer is
  * {ORDERSET_ALREADY, slot, version of its line A} and nothing is to be stored: all but answer stays as it was.
- * Refusals: 1, 2, 3, 4, 11 (chain), 18, and for a sent order 9, 11 (reuse). */
+ * Refusals: 1, 2, 3, 4, 11 (chain), 18, and for a sent order 11 (reuse), 28, 9. */
 ORDERSET_CALL uint32_t orderset_book_acknowledge(const uint8_t *image, size_t image_length, uint32_t *heads,
                                                  size_t heads_length, uint32_t *next, size_t next_length,
                                                  uint32_t state[ORDERSET_STATE], uint64_t version[1], uint64_t key,
@@ -242,7 +282,7 @@ ORDERSET_CALL uint32_t orderset_book_acknowledge(const uint8_t *image, size_t im
 
 /* Adds the quantity to what is filled of the key's order, sent or acknowledged, and keeps its state. What is open is
  * ordered less filled; a fill of all of it removes the order. answer and stores as in new. Refusals: 1, 2, 3, 4,
- * 11 (chain), 18, 19, 9, 11 (reuse, or a live count of zero where the order is removed). */
+ * 11 (chain), 18, 19, 11 (reuse, or a live count of zero where the order is removed), 28, 9. */
 ORDERSET_CALL uint32_t orderset_book_fill(const uint8_t *image, size_t image_length, uint32_t *heads,
                                           size_t heads_length, uint32_t *next, size_t next_length,
                                           uint32_t state[ORDERSET_STATE], uint64_t version[1], uint64_t key,
@@ -250,7 +290,7 @@ ORDERSET_CALL uint32_t orderset_book_fill(const uint8_t *image, size_t image_len
                                           uint64_t value[ORDERSET_STORES], uint64_t answer[ORDERSET_STEP_ANSWER]);
 
 /* Withdraws all that is open of the key's order, sent or acknowledged: the order is removed. answer and stores as in
- * new. Refusals: 1, 2, 3, 4, 11 (chain), 18, 9, 11 (reuse, or a live count of zero). */
+ * new. Refusals: 1, 2, 3, 4, 11 (chain), 18, 11 (reuse, or a live count of zero), 28, 9. */
 ORDERSET_CALL uint32_t orderset_book_withdraw(const uint8_t *image, size_t image_length, uint32_t *heads,
                                               size_t heads_length, uint32_t *next, size_t next_length,
                                               uint32_t state[ORDERSET_STATE], uint64_t version[1], uint64_t key,
@@ -265,6 +305,24 @@ ORDERSET_CALL uint32_t orderset_play(uint8_t *image, size_t image_length, const 
 /* Makes all stores of a list, in order, on bytes of any length. Refusals: 15. */
 ORDERSET_CALL uint32_t orderset_play_list(uint8_t *bytes, size_t bytes_length, const uint32_t *at, size_t at_length,
                                           const uint64_t *value, size_t value_length);
+
+/* Is the line whole? The answer is 1, or 0 where it is open. Refusals: 33. */
+ORDERSET_CALL uint32_t orderset_line_whole(const uint8_t *line, size_t line_length, uint8_t *answer,
+                                           size_t answer_length);
+
+/* The version in the line's stamp. The stamp is stored last: of a line that is open because a call is writing it, it is
+ * the version from before that call. Refusals: 33. */
+ORDERSET_CALL uint32_t orderset_line_version(const uint8_t *line, size_t line_length, uint8_t *answer,
+                                             size_t answer_length);
+
+/* The first word that a call which writes this version stores into the line: its mark, against the close bit that
+ * stands there. Refusals: 33, 9. */
+ORDERSET_CALL uint32_t orderset_line_first(const uint8_t *line, size_t line_length, uint64_t version, uint8_t *answer,
+                                           size_t answer_length);
+
+/* The last word that it stores: the stamp, version * 2 + the first word. Refusals: 33, 9. */
+ORDERSET_CALL uint32_t orderset_line_last(const uint8_t *line, size_t line_length, uint64_t version, uint8_t *answer,
+                                          size_t answer_length);
 
 #ifdef __cplusplus
 }

@@ -1,6 +1,7 @@
 /* The archive against the model of document 01 and of the order book, call by call: every return code, answer, count of
  * slots compared, state, store, index number, output and image byte is compared, and after a cut the recovered set is
- * compared with a plain map. There the counts are those of a chain for each head: the held keys of a head have the
+ * compared with a plain map. The answers about single lines are compared too: of random and damaged lines, and of every
+ * line of the images in histories; and what they say will be stored first and last with what each call hands out. There the counts are those of a chain for each head: the held keys of a head have the
  * counts from 1 to their number, each once, and any other key of that head has their number. In histories that are book
  * steps only, total ordered is total filled plus total withdrawn plus what is open. Ends with status 1 at the first
  * difference and prints the case.
@@ -60,13 +61,15 @@ struct set {
 };
 
 enum which {
-    FORMAT, RECOVER, INSERT, REPLACE, REMOVE, GET, LOCATE, NEW, ACKNOWLEDGE, FILL, WITHDRAW, PLAY, PLAY_LIST, WHICH
+    FORMAT, RECOVER, INSERT, REPLACE, REMOVE, GET, LOCATE, NEW, ACKNOWLEDGE, FILL, WITHDRAW, PLAY, PLAY_LIST,
+    LINE_WHOLE, LINE_VERSION, LINE_FIRST, LINE_LAST, WHICH
 };
-static const char *const name[WHICH] = {"format", "recover",     "insert", "replace",  "remove", "get",      "locate",
-                                        "new",    "acknowledge", "fill",   "withdraw", "play",   "play_list"};
+static const char *const name[WHICH] = {"format",    "recover",    "insert",       "replace",    "remove",   "get",
+                                        "locate",    "new",        "acknowledge",  "fill",       "withdraw", "play",
+                                        "play_list", "line_whole", "line_version", "line_first", "line_last"};
 
 enum { DONE = 0, ABSENT = 100, ALREADY = 101, ANSWERS };  /* answers that are no refusal */
-static uint64_t calls, strikes, met[WHICH][ANSWERS];      /* met: by the answer */
+static uint64_t calls, strikes, queries, met[WHICH][ANSWERS]; /* queries: of lines; met: by the answer */
 static uint64_t compared, longest, far_met[WHICH][ANSWERS]; /* slots: of the last call, the most; with 2 or more */
 static uint32_t named; /* the slot that the last recovery named */
 static const char *phase = "";
@@ -118,13 +121,17 @@ static void same_bytes(const char *what, const void *archive, const void *model,
             differ("in %s, byte %zu of %zu: archive %u, model %u", what, i, length, x[i], y[i]);
 }
 
-static void begin(const struct set *s, enum which which, uint64_t key, size_t size, size_t a, size_t b) {
+static void keep_case(const struct set *s, enum which which, uint64_t key, size_t size, size_t a, size_t b) {
     now = s;
     call = which;
     call_key = key;
     call_size = size;
     call_a = a;
     call_b = b;
+}
+
+static void begin(const struct set *s, enum which which, uint64_t key, size_t size, size_t a, size_t b) {
+    keep_case(s, which, key, size, a, b);
     calls++;
 }
 
@@ -203,6 +210,64 @@ static void lend_same(struct set *s) {
     s->state[ORDERSET_LAST] = s->model.state.last;
     s->state[ORDERSET_LIVE] = s->model.state.live;
     s->version[0] = s->model.state.version;
+}
+
+/* ---- what is asked of a line, on both sides */
+
+static uint32_t archive_line(enum which which, const uint8_t *line, size_t length, uint64_t version, uint8_t *answer,
+                             size_t room) {
+    switch (which) {
+    case LINE_WHOLE: return orderset_line_whole(line, length, answer, room);
+    case LINE_VERSION: return orderset_line_version(line, length, answer, room);
+    case LINE_FIRST: return orderset_line_first(line, length, version, answer, room);
+    default: return orderset_line_last(line, length, version, answer, room);
+    }
+}
+
+enum { ROOM = 24 };
+
+/* The word that is answered, or the refusal. In a case that is shown the version is the key, the room the first count. */
+static uint64_t try_line(const struct set *s, enum which which, const uint8_t *line, size_t length, uint64_t version,
+                         size_t room) {
+    uint8_t answer[ROOM], expected[ROOM];
+    fill(answer, ROOM);
+    memcpy(expected, answer, ROOM);
+    keep_case(s, which, version, length, room, 0);
+    queries++;
+    uint32_t code = archive_line(which, line, length, version, answer, room);
+    int refusal = m_line((enum m_query)(which - LINE_WHOLE), line, length, version, expected, room);
+    same_code(code, refusal, DONE);
+    same_bytes("the answer about a line", answer, expected, ROOM);
+    return code ? code : m_word(answer, 0);
+}
+
+static uint64_t any_version(void) {
+    static const uint64_t versions[] = {0, 1, 2, (1ull << 63) - 1, 1ull << 63, (1ull << 63) + 1, UINT64_MAX};
+    return below(2) ? versions[below(sizeof versions / sizeof *versions)] : chance() >> below(64);
+}
+
+static void ask_all(const struct set *s, const uint8_t *line) {
+    for (unsigned which = LINE_WHOLE; which <= LINE_LAST; which++)
+        try_line(s, (enum which)which, line, ORDERSET_LINE_BYTES, any_version(), ORDERSET_LINE_ANSWER);
+}
+
+/* Every line of the image, the header's too. */
+static void every_line(const struct set *s) {
+    for (size_t at = 0; at < s->length; at += ORDERSET_LINE_BYTES)
+        ask_all(s, s->image + at);
+}
+
+/* Before the stores of a call are made, the lines say what it stores into them first and last. */
+static void framed(const struct set *s, uint32_t slot, uint64_t version) {
+    for (size_t i = 0; i < ORDERSET_STORES; i += ORDERSET_LINE_STORES) {
+        const uint8_t *line = s->image + ORDERSET_SLOT_BYTES * (size_t)slot + 8 * i;
+        const enum which asked = call;
+        const uint64_t first = try_line(s, LINE_FIRST, line, ORDERSET_LINE_BYTES, version, ORDERSET_LINE_ANSWER),
+                       last = try_line(s, LINE_LAST, line, ORDERSET_LINE_BYTES, version, ORDERSET_LINE_ANSWER);
+        call = asked;
+        same_number("the first store of a line", s->value[i], first);
+        same_number("the last store of a line", s->value[i + ORDERSET_LINE_STORES - 1], last);
+    }
 }
 
 /* ---- the calls, each on both sides */
@@ -310,6 +375,8 @@ static unsigned compare_change(struct set *s, uint64_t code, const uint64_t *ans
     }
     same_bytes("the stores' words", s->at, at, sizeof at);
     same_bytes("the stores' values", s->value, value, sizeof value);
+    if (answered == DONE)
+        framed(s, c.slot, c.version);
     compare(s);
     return answered;
 }
@@ -741,8 +808,12 @@ static void history(uint32_t n, size_t heads, uint32_t keys, unsigned steps, uns
     }
     same_number("recovery of an empty set", (uint64_t)try_recover(s), 0);
     same_map(s, p);
-    for (unsigned k = 0; k < steps; k++)
+    for (unsigned k = 0; k < steps; k++) {
         s = step(s, p, cuts);
+        if (n <= SMALL && below(8) == 0)
+            every_line(s);
+    }
+    every_line(s);
     same_map(s, p);
     same_number("the last recovery", (uint64_t)try_recover(s), 0);
     same_map(s, p);
@@ -841,6 +912,27 @@ static void lengths(void) {
     }
     try_play_list(s, at, places, value, values);
     try_format(s);
+    close_set(s);
+}
+
+/* A line of an image, sound or damaged, or any bytes; lengths that are mostly right. */
+static void lines(void) {
+    phase = "single lines";
+    uint32_t n = 2 + (uint32_t)below(6);
+    uint8_t bytes[2 * ORDERSET_LINE_BYTES];
+    struct set *s = open_set(ORDERSET_IMAGE_BYTES(n), 1, ORDERSET_NEXT_LENGTH(n));
+    any_image(s->model_image, n, 1 + below(2 * n));
+    for (uint64_t k = below(4); k > 0; k--)
+        damage(s->model_image, n);
+    lend_garbage(s);
+    every_line(s);
+    for (int i = 0; i < 16; i++) {
+        fill(bytes, sizeof bytes);
+        m_set_word(bytes, 0, below(4) ? below(4) : chance());
+        m_set_word(bytes, 7, chance() >> below(64));
+        try_line(s, LINE_WHOLE + (unsigned)below(4), bytes, below(4) ? ORDERSET_LINE_BYTES : below(sizeof bytes + 1),
+                 any_version(), below(4) ? ORDERSET_LINE_ANSWER : below(ROOM + 1));
+    }
     close_set(s);
 }
 
@@ -1171,8 +1263,57 @@ static void directed(const struct directed *c, enum which which) {
     close_set(s);
 }
 
+/* Lines by their mark and stamp, and what is answered: whole, version, and the first and last word for version 9. */
+static const struct line_case {
+    uint64_t mark, stamp, whole, version, first, last;
+} line_cases[] = {
+    {0, 0, 1, 0, 1, 19},
+    {1, 1, 1, 0, 0, 18},
+    {1, 0, 0, 0, 1, 19},
+    {0, 15, 0, 7, 0, 18},
+    {1, 15, 1, 7, 0, 18},
+    {3, 15, 0, 7, 0, 18},
+    {2, 14, 0, 7, 1, 19},
+    {1ull << 32, 14, 0, 7, 1, 19},
+    {1, UINT64_MAX, 1, UINT64_MAX / 2, 0, 18},
+    {0, UINT64_MAX - 1, 1, UINT64_MAX / 2, 1, 19},
+};
+
+static void directed_line(const struct set *s, const struct line_case *c) {
+    uint8_t line[ORDERSET_LINE_BYTES];
+    const uint64_t said[] = {c->whole, c->version, c->first, c->last};
+    fill(line, sizeof line);
+    m_set_word(line, 0, c->mark);
+    m_set_word(line, 7, c->stamp);
+    for (unsigned k = 0; k < 4; k++)
+        same_number("a directed case's line", try_line(s, LINE_WHOLE + k, line, sizeof line, 9, 8), said[k]);
+}
+
+/* 33 for either slice, also at version 2^63, which is 9 by itself where a next version is given. */
+static void directed_lengths(const struct set *s) {
+    static const size_t wrong[][2] = {{63, 8}, {65, 8}, {0, 8}, {128, 8}, {64, 7}, {64, 9}, {64, 0}, {8, 16}};
+    uint8_t line[128];
+    fill(line, sizeof line);
+    for (unsigned which = LINE_WHOLE; which <= LINE_LAST; which++) {
+        for (size_t i = 0; i < sizeof wrong / sizeof *wrong; i++)
+            for (uint64_t k = 0; k < 2; k++)
+                same_number("a length that is not due", try_line(s, which, line, wrong[i][0], k << 63, wrong[i][1]), 33);
+        if (which >= LINE_FIRST)
+            same_number("a version that cannot be written", try_line(s, which, line, 64, 1ull << 63, 8), 9);
+    }
+}
+
+static void directed_lines(void) {
+    struct set *s = directed_set(SOUND);
+    for (size_t i = 0; i < sizeof line_cases / sizeof *line_cases; i++)
+        directed_line(s, &line_cases[i]);
+    directed_lengths(s);
+    close_set(s);
+}
+
 static void all_directed(void) {
     phase = "directed cases";
+    directed_lines();
     for (size_t i = 0; i < sizeof cases / sizeof *cases; i++)
         for (unsigned which = 0; which < WHICH; which++)
             if (cases[i].calls >> which & 1)
@@ -1204,6 +1345,10 @@ static const char *const answers[WHICH] = {
     [WITHDRAW] = "0 1 2 3 4 9 11 18",
     [PLAY] = "0 1 14 15",
     [PLAY_LIST] = "0 15",
+    [LINE_WHOLE] = "0 33",
+    [LINE_VERSION] = "0 33",
+    [LINE_FIRST] = "0 9 33",
+    [LINE_LAST] = "0 9 33",
 };
 
 /* those that come with the slots compared */
@@ -1220,6 +1365,7 @@ static void round_of_calls(void) {
         damaged();
         garbage();
         lengths();
+        lines();
     }
     for (int i = 0; i < 20; i++)
         small_history();
@@ -1252,9 +1398,9 @@ int main(int count, char **word) {
         large_history(k);
     least = least_met(met, answers);
     far_least = least_met(far_met, far_answers);
-    printf("%" PRIu64 " calls, %" PRIu64
-           " of them struck with all 81 pairs of counts, each answer of the rules at least %" PRIu64
+    printf("%" PRIu64 " calls, %" PRIu64 " of them struck with all 81 pairs of counts, %" PRIu64
+           " questions about lines, each answer of the rules at least %" PRIu64
            " times, %" PRIu64 " with 2 or more slots compared, up to %" PRIu64 ": no difference (%.0f s)\n",
-           calls, strikes, least, far_least, longest, seconds());
+           calls, strikes, queries, least, far_least, longest, seconds());
     return least == 0 || far_least == 0;
 }

@@ -22,10 +22,12 @@
 
 enum { CALLS = 5000000, PAGE = 4096, NEAR = 64 };
 enum which {
-    FORMAT, RECOVER, INSERT, REPLACE, REMOVE, NEW, ACKNOWLEDGE, FILL, WITHDRAW, GET, LOCATE, PLAY, PLAY_LIST, WHICH
+    FORMAT, RECOVER, INSERT, REPLACE, REMOVE, NEW, ACKNOWLEDGE, FILL, WITHDRAW, GET, LOCATE, PLAY, PLAY_LIST,
+    LINE_WHOLE, LINE_VERSION, LINE_FIRST, LINE_LAST, WHICH
 };
-static const char *const name[WHICH] = {"format", "recover",  "insert", "replace", "remove", "new",      "acknowledge",
-                                        "fill",   "withdraw", "get",    "locate",  "play",   "play_list"};
+static const char *const name[WHICH] = {"format",      "recover",      "insert",     "replace",  "remove", "new",
+                                        "acknowledge", "fill",         "withdraw",   "get",      "locate", "play",
+                                        "play_list",   "line_whole",   "line_version", "line_first", "line_last"};
 
 static uint64_t calls, already, answers[WHICH][2]; /* [0] not refused, [1] refused; already: second acknowledges */
 static enum which call;
@@ -263,6 +265,23 @@ static void call_play_list(void) {
     end(orderset_play_list(w(IMAGE), piece[IMAGE].length, r(AT), places, r(VALUE), values), writable);
 }
 
+/* A line is lent as bytes, and its answer as bytes too. */
+static uint32_t ask(uint64_t version) {
+    const size_t length = piece[BYTES].length, room = piece[ANSWER].length;
+    switch (call) {
+    case LINE_WHOLE: return orderset_line_whole(r(BYTES), length, w(ANSWER), room);
+    case LINE_VERSION: return orderset_line_version(r(BYTES), length, w(ANSWER), room);
+    case LINE_FIRST: return orderset_line_first(r(BYTES), length, version, w(ANSWER), room);
+    default: return orderset_line_last(r(BYTES), length, version, w(ANSWER), room);
+    }
+}
+
+static void call_line(void) {
+    static const enum what writable[] = {ANSWER, PIECES};
+    begin(call, writable);
+    end(ask(chance() >> below(64)), writable);
+}
+
 /* ---- sessions: an image, an index, and some calls on them */
 
 static size_t any_length(uint32_t n) {
@@ -330,11 +349,19 @@ static size_t answer_length(void) {
     }
 }
 
+/* A line and the answer about it, mostly of their lengths. */
+static void place_line(void) {
+    place(BYTES, below(4) ? ORDERSET_LINE_BYTES : any_size());
+    place(ANSWER, below(4) ? ORDERSET_LINE_ANSWER : below(2 * ORDERSET_LINE_ANSWER));
+}
+
 static void lend_for_one_call(void) {
     place(AT, 4 * ORDERSET_STORES);
     place(VALUE, 8 * ORDERSET_STORES);
     place(ANSWER, 8 * answer_length());
     place(BYTES, any_size());
+    if (call >= LINE_WHOLE)
+        place_line();
     place(OUTPUT, below(3) ? below(ORDERSET_VALUE_MAX + 17) : ORDERSET_VALUE_MAX);
     fill(w(AT), piece[AT].length);
     fill(w(VALUE), piece[VALUE].length);
@@ -346,7 +373,8 @@ static void lend_for_one_call(void) {
 static void any_call(uint64_t keys) {
     static const enum which often[] = {RECOVER, RECOVER, INSERT,      INSERT,      INSERT, REPLACE, REPLACE, REPLACE,
                                        REMOVE,  REMOVE,  NEW,         NEW,         FILL,   FILL,    FILL,    WITHDRAW,
-                                       GET,     GET,     ACKNOWLEDGE, ACKNOWLEDGE, GET,    LOCATE,  PLAY,    PLAY_LIST};
+                                       GET,     GET,     ACKNOWLEDGE, ACKNOWLEDGE, GET,    LOCATE,  PLAY,    PLAY_LIST,
+                                       LINE_WHOLE, LINE_VERSION, LINE_FIRST, LINE_LAST};
     call = below(40) ? often[below(sizeof often / sizeof *often)] : FORMAT;
     lend_for_one_call();
     switch (call) {
@@ -356,6 +384,7 @@ static void any_call(uint64_t keys) {
     case LOCATE: call_locate(key_of_image(keys)); break;
     case PLAY: any_stores(), call_play(below(10), below(10)); break;
     case PLAY_LIST: call_play_list(); break;
+    case LINE_WHOLE: case LINE_VERSION: case LINE_FIRST: case LINE_LAST: call_line(); break;
     default:
         if (call_change(key_of_image(keys)) && below(4))
             call_play(below(4) ? 8 : below(10), below(4) ? 8 : below(10));

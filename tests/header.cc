@@ -1,7 +1,7 @@
 // The headers in C++: an image is made durable, a value is inserted, made durable, found, replaced, found, removed and
 // not found; an insert of a held key, a replace of one that is not held and a value that is too long are refused and
 // store nothing; the slots compared are read from answers and from refusals; an order is sent, acknowledged,
-// acknowledged again and filled.
+// acknowledged again and filled. Before the stores of a call are made, and after that, its lines are asked about.
 #include <cstdio>
 #include <cstring>
 #include <vector>
@@ -62,6 +62,35 @@ bool refused(uint64_t code, uint32_t number, uint32_t compared) {
     return ORDERSET_REFUSAL(code) == number && ORDERSET_REFUSED_COMPARED(code) == compared;
 }
 
+// The lines of the slot that the last call took say which words it stores into them first and last.
+bool lines_foretell() {
+    const uint8_t *line = image + ORDERSET_SLOT_BYTES * answer[ORDERSET_SLOT];
+    uint8_t told[ORDERSET_LINE_ANSWER];
+    for (unsigned i = 0; i < ORDERSET_STORES; i += ORDERSET_LINE_STORES, line += ORDERSET_LINE_BYTES)
+        if (orderset_line_first(line, ORDERSET_LINE_BYTES, answer[ORDERSET_VERSION], told, sizeof told) != ORDERSET_OK
+            || std::memcmp(told, value + i, sizeof told)
+            || orderset_line_last(line, ORDERSET_LINE_BYTES, answer[ORDERSET_VERSION], told, sizeof told) != ORDERSET_OK
+            || std::memcmp(told, value + i + ORDERSET_LINE_STORES - 1, sizeof told))
+            return false;
+    return true;
+}
+
+// Both are whole and have the version of that call; a version that no call writes and other lengths are refused.
+bool lines_tell() {
+    const uint8_t *line = image + ORDERSET_SLOT_BYTES * answer[ORDERSET_SLOT];
+    const uint64_t one = 1, last = UINT64_C(1) << 63;
+    uint8_t told[ORDERSET_LINE_ANSWER];
+    for (unsigned i = 0; i < 2; i++, line += ORDERSET_LINE_BYTES)
+        if (orderset_line_whole(line, ORDERSET_LINE_BYTES, told, sizeof told) != ORDERSET_OK
+            || std::memcmp(told, &one, sizeof told)
+            || orderset_line_version(line, ORDERSET_LINE_BYTES, told, sizeof told) != ORDERSET_OK
+            || std::memcmp(told, &answer[ORDERSET_VERSION], sizeof told)
+            || orderset_line_last(line, ORDERSET_LINE_BYTES, last, told, sizeof told) != ORDERSET_NO_VERSION
+            || orderset_line_first(line, ORDERSET_LINE_BYTES - 1, last, told, sizeof told) != ORDERSET_NO_LINE_LENGTH)
+            return false;
+    return true;
+}
+
 // Key 7 is held and key 10, which has its head, is not.
 bool refused_stores_nothing(const char *of_seven) {
     std::vector<uint8_t> before(image, image + sizeof image);
@@ -108,7 +137,8 @@ bool keeps_book(uint64_t key) {
 
 int main() {
     const bool good = start() && made_durable(insert(7, "buy", 3)) && finds(7, "buy") && refused_stores_nothing("buy")
-                      && made_durable(replace(7, "sell", 4)) && finds(7, "sell") && refused_stores_nothing("sell")
+                      && replace(7, "sell", 4) == ORDERSET_OK && lines_foretell() && made_durable(ORDERSET_OK)
+                      && lines_tell() && finds(7, "sell") && refused_stores_nothing("sell")
                       && counts_slots() && made_durable(drop(7)) && finds(7, nullptr) && drop(7) == ORDERSET_OK
                       && answer[0] == ORDERSET_ABSENT && keeps_book(9);
     std::printf("header: a set through the headers in C++: %s\n", good ? "as it should be" : "NOT SO");

@@ -1,4 +1,4 @@
-/* The order set of document 01 as document 02 changes it (A.2, A.4, A.5, A.6), and its order book (A.1), as a plain
+/* The order set of document 01 as document 02 changes it (A.2, A.4, A.5, A.6, A.12), and its order book (A.1), as a plain
  * program. The quotations are their sentences. */
 #include "model.h"
 
@@ -535,5 +535,24 @@ int m_play_list(uint8_t *bytes, size_t length, const uint32_t *at, size_t places
             return 15;
     for (size_t i = 0; i < places; i++)
         m_set_word(bytes, at[i], value[i]);
+    return 0;
+}
+
+/* ---- a single line: "C functions on 64 bytes that say whether the line is whole, its version, and the first and last word for a given next version" */
+
+/* "Each puts its answer, yes being 1, in a lent slice of 8 bytes and returns 0 or the refusal. 33 when a slice has not its length, then 9 when the next version
+ * is 2^63 or more" */
+int m_line(enum m_query query, const uint8_t *line, size_t length, uint64_t version, uint8_t *answer, size_t room) {
+    if (length != 64 || room != 8)
+        return 33;
+    if ((query == M_FIRST || query == M_LAST) && version >> 63)
+        return 9;
+    uint64_t mark = m_word(line, 0), stamp = m_word(line, 7), close = stamp & 1;
+    switch (query) {
+    case M_WHOLE: m_set_word(answer, 0, mark == close); break;
+    case M_VERSION: m_set_word(answer, 0, stamp >> 1); break;
+    case M_FIRST: m_set_word(answer, 0, 1 - close); break;
+    case M_LAST: m_set_word(answer, 0, version * 2 + (1 - close)); break;
+    }
     return 0;
 }

@@ -69,6 +69,11 @@ struct m_change m_new(const uint8_t *image, size_t length, struct m_index *index
 struct m_change m_acknowledge(const uint8_t *image, size_t length, struct m_index *index, uint64_t key);
 struct m_change m_fill(const uint8_t *image, size_t length, struct m_index *index, uint64_t key, uint64_t quantity);
 struct m_change m_withdraw(const uint8_t *image, size_t length, struct m_index *index, uint64_t key);
+
+/* what is asked of a line of 64 bytes, and answered in 8; version: of M_FIRST and M_LAST */
+enum m_query { M_WHOLE, M_VERSION, M_FIRST, M_LAST };
+int m_line(enum m_query query, const uint8_t *line, size_t length, uint64_t version, uint8_t *answer, size_t room);
+
 int m_play(uint8_t *image, size_t length, const uint32_t at[16], const uint64_t value[16], size_t a, size_t b);
 int m_play_list(uint8_t *bytes, size_t length, const uint32_t *at, size_t places, const uint64_t *value, size_t values);
 

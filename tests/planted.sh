@@ -55,6 +55,11 @@ fault header 'the count of a refusal is not looked for' tests/header.cc \
 fault header 'the result is kept in 32 bits' tests/header.cc 's/refused\(uint64_t code/refused(uint32_t code/' \
     'warning: .*shift count >= width of type'
 
+fault header 'the lines are asked about after the stores' tests/header.cc \
+    's/lines_foretell\(\) \&\& made_durable\(ORDERSET_OK\)/made_durable(ORDERSET_OK) \&\& lines_foretell()/' 'NOT SO'
+fault header 'a line of 63 bytes is to be taken' tests/header.cc \
+    's/told\) != ORDERSET_NO_LINE_LENGTH/told) != ORDERSET_NO_VERSION/' 'NOT SO'
+
 fault persist 'the second line is not flushed' $header '/orderset_flush_line\(b, flush\);/d' \
     'NOT SO: then both lines are flushed'
 fault persist 'the first line is flushed twice' $header 's/flush_line\(b, flush\)/flush_line(a, flush)/' \
@@ -86,6 +91,18 @@ fault lock 'no lock' $gateway 's/flock\(file, how \| LOCK_NB\) == 0/(void)how, 1
     'NOT SO: a second gateway .* is refused'
 fault lock 'a lock that writers share' $gateway 's/writing \? LOCK_EX : LOCK_SH/LOCK_SH/' \
     'NOT SO: a second gateway .* is refused'
+
+sender=examples/sender.c
+fault watch 'line B is watched' $sender 's/ORDERSET_SLOT_BYTES \/ 8;/ORDERSET_SLOT_BYTES \/ 8 + WORDS;/' \
+    'NOT SO: the sender says'
+fault watch 'the slot before is watched' $sender 's/return image \+ slot \* /return image + (slot - 1) * /' \
+    'NOT SO: the sender says'
+fault watch 'an open line is called whole' $sender 's/now.whole \? "whole" : "open"/"whole"/' 'NOT SO: the sender says'
+fault watch 'every look is said' $sender 's/if \(printed > 0 \&\&/if (0 \&\&/' 'NOT SO: the sender says'
+fault watch 'the first word is said as the last' $sender 's/now.first, now.last\)/now.last, now.first)/' \
+    'NOT SO: the sender says'
+fault watch 'a refusal is not looked at' $sender 's/if \(refusal == ORDERSET_OK\)/if (refusal != 1)/' \
+    'NOT SO: slot 1 and version 9223372036854775808'
 
 fault heads 'the number of heads is not used' $gateway 's/set.heads_length = \(size_t\)heads;//' \
     "NOT SO: .* it says '[0-9]+ heads'"
@@ -156,6 +173,18 @@ fault guard 'a refused insert changes the version' tests/guard.c \
 fault guard 'a refused replace changes the version' tests/guard.c \
     's/return orderset_replace\(/return (++*(uint8_t *)w(VERSION), orderset_replace)(/' \
     'NOT SO: version changed, by a refused'
+
+for call in LINE_WHOLE LINE_VERSION LINE_LAST; do
+    fault guard "in $call a line one byte longer than lent" tests/guard.c \
+        "/^static uint32_t ask/,/^}/s/r\(BYTES\), length/r(BYTES), length + (call == $call)/" \
+        'NOT SO: signal 11: bytes is touched'
+done
+fault guard 'in LINE_FIRST an answer one byte longer than lent' tests/guard.c \
+    's/room = piece\[ANSWER\].length/& + (call == LINE_FIRST)/' \
+    'NOT SO: (signal 11: answer is touched|answer changed, after what was lent)'
+fault guard 'a refused question changes the answer' tests/guard.c \
+    's/end\(ask\(/(piece[ANSWER].length > 0 \&\& ++*(uint8_t *)w(ANSWER), end)(ask(/' \
+    'NOT SO: answer changed, by a refused'
 
 fault differential 'a remove queues its record first' tests/model.c \
     '/^struct m_change m_remove/,/^}/{s/append\(index, walk.slot\);/append(index, 0);/
@@ -281,6 +310,35 @@ fault differential 'a withdraw counts the ordered quantity' tests/differential.c
 fault differential 'a step that a cut made absent counts' tests/differential.c \
     's/^    if \(a == 8 \&\& b == 8\)$/    p->ordered += a == 8 \&\& b == 8 ? 0 : e->ordered;\n&/' \
     'DIFFERENCE in the totals'
+
+told='DIFFERENCE in the answer about a line'
+fault differential 'the low bit of a mark decides whether a line is whole' tests/model.c \
+    's/, mark == close\)/, (mark \& 1) == close)/' "$told"
+fault differential 'the version of a line has the close bit' tests/model.c 's/0, stamp >> 1\)/0, stamp)/' "$told"
+fault differential 'an open line has no version' tests/model.c \
+    's/0, stamp >> 1\)/0, mark == close ? stamp >> 1 : 0)/' "$told"
+fault differential 'the first word is the close bit' tests/model.c 's/(case M_FIRST: .*)1 - close/\1close/' "$told"
+fault differential 'the first word is against the mark' tests/model.c 's/(case M_FIRST: .*)1 - close/\11 - mark/' \
+    "$told"
+fault differential 'the last word keeps the close bit' tests/model.c \
+    's/version \* 2 \+ \(1 - close\)/version * 2 + close/' "$told"
+fault differential 'the last word is of the version after' tests/model.c \
+    's/version \* 2 \+ \(1 - close\)/(version + 1) * 2 + (1 - close)/' "$told"
+fault differential '9 is tested before 33' tests/model.c \
+    's/if \(length != 64/if ((query == M_FIRST || query == M_LAST) \&\& version >> 63) return 9;\n    &/' \
+    'DIFFERENCE in the code: archive 33, model 9'
+fault differential 'a longer answer is taken' tests/model.c 's/room != 8/room < 8/' \
+    'DIFFERENCE in the code: archive 33, model 0'
+fault differential 'a longer line is taken' tests/model.c 's/length != 64 \|\|/length < 64 ||/' \
+    'DIFFERENCE in the code: archive 33, model 0'
+fault differential 'a refused question clears the answer' tests/model.c \
+    's/^        return 33;/        return memset(answer, 0, room), 33;/' "$told"
+fault differential 'a version of 2^63 - 1 is refused' tests/model.c \
+    '/^int m_line/,/^}/s/version >> 63\)/version >= INT64_MAX)/' 'DIFFERENCE in the code: archive 0, model 9'
+fault differential 'a directed line is whole by the low bit' tests/differential.c 's/\{3, 15, 0,/{3, 15, 1,/' \
+    "DIFFERENCE in a directed case's line"
+fault differential 'a call is to store the mark last' tests/differential.c 's/s->value\[i\], first/s->value[i], last/' \
+    'DIFFERENCE in the first store of a line'
 
 echo "$count faults planted, $((count - unseen)) seen"
 [ $unseen -eq 0 ]

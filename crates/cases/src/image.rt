@@ -1,9 +1,11 @@
-// The calls on the image without a key: format, recover and both plays.
+// The calls on the image without a key: format, recover and the plays.
 ghost use Rattle.io.specs.Counts.{Counts};
 use crate::set::Set;
+use crate::set::at_most;
 use crate::set::lent;
 use crate::set::show_index;
 use crate::step::played_in;
+use orderset::Openings;
 use orderset::Recovered;
 use orderset::State;
 use orderset::format;
@@ -30,6 +32,14 @@ fn state_after(r: Recovered, s: State) -> State {
     }
 }
 
+// The opening stores of a recovery that was not refused, or the ones before.
+fn openings_after(r: Recovered, given: Openings, before: Openings) -> Openings {
+    match r {
+        Recovered::Rebuilt(_) => given,
+        Recovered::Refused { number: _, slot: _ } => before,
+    }
+}
+
 pub fn recovered(set: Set) -> Set {
     let image = set.image;
     let mut heads = set.heads;
@@ -38,12 +48,17 @@ pub fn recovered(set: Set) -> Set {
     let i = fronts.image;
     let h = fronts.heads;
     let k = fronts.next;
-    let r = recover(&image[..i], &mut heads[..h], &mut next[..k]);
+    let answer = recover(&image[..i], &mut heads[..h], &mut next[..k]);
+    let r = answer.recovered;
+    let given = answer.openings;
     show::recovered(r);
+    show::openings(given);
     show_index(&heads, &next);
     let s = set.state;
     let state = state_after(r, s);
+    let before = set.openings;
     let mut after = set;
+    after.openings = openings_after(r, given, before);
     after.heads = heads;
     after.next = next;
     after.state = state;
@@ -61,6 +76,24 @@ fn differing(image: &[u8; 640], before: &[u8; 640]) -> u64 {
         i += 1;
     }
     n
+}
+
+pub fn opened(set: Set, n: [u64; 5]) -> Set {
+    let before = set.image;
+    let mut image = set.image;
+    let openings = set.openings;
+    let at = openings.at;
+    let value = openings.value;
+    let count = at_most(at_most(n[1] as usize, openings.count as usize), 8);
+    let fronts = lent(set);
+    let i = fronts.image;
+    let answer = play_list(&mut image[..i], &at[..count], &value[..count]);
+    show::number(answer as u64);
+    show::text(b" changed");
+    show::number(differing(&image, &before));
+    let mut after = set;
+    after.image = image;
+    after
 }
 
 pub fn played(set: Set, n: [u64; 5]) -> Set {

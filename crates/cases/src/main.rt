@@ -12,6 +12,7 @@ mod step;
 use change::changed;
 use image::formatted;
 use image::listed;
+use image::opened;
 use image::played;
 use image::recovered;
 use image::show_word;
@@ -21,6 +22,7 @@ use lines::until;
 use names::FORMAT;
 use names::GET;
 use names::LIST;
+use names::OPEN;
 use names::PLAY;
 use names::RECOVER;
 use names::STORES;
@@ -40,6 +42,9 @@ fn carry_out(set: Set, name: u64, n: [u64; 5]) -> Set {
     }
     if name == RECOVER {
         return recovered(set);
+    }
+    if name == OPEN {
+        return opened(set, n);
     }
     if name == PLAY {
         return played(set, n);

@@ -1,5 +1,5 @@
-// The set that the lines work on: an image of at most four slots, its index of at most two heads, its state and the stores handed out last. Any
-// number of it may be set to any other, and a call may be lent less than all of it.
+// The set that the lines work on: an image of at most four slots, its index of at most two heads, its state, the stores handed out last and the
+// opening stores. Any number of it may be set to any other, and a call may be lent less than all of it.
 ghost use Prim.Native.Nat.{_≤_};
 ghost use Rattle.io.specs.Counts.{Counts};
 use crate::names::BYTE;
@@ -7,6 +7,7 @@ use crate::names::INDEX;
 use crate::names::LEND;
 use crate::names::STATE;
 use crate::names::STORE;
+use orderset::Openings;
 use orderset::State;
 use orderset::Stores;
 
@@ -31,6 +32,7 @@ pub struct Set {
     pub heads: [u32; 2],
     pub next: [u32; 5],
     pub stores: Stores,
+    pub openings: Openings,
     pub state: State,
     pub lent: Fronts,
     pub book: Book,
@@ -46,10 +48,16 @@ pub fn start() -> Set {
             at: [9; 16],
             value: [9; 16],
         },
+        openings: Openings {
+            count: 0,
+            at: [0; 8],
+            value: [0; 8],
+        },
         state: State {
             first: 0,
             last: 0,
             live: 0,
+            newest: 0,
             version: 0,
         },
         lent: Fronts {
@@ -67,7 +75,7 @@ pub fn start() -> Set {
     }
 }
 
-fn at_most(n: usize, most: usize) -> usize
+pub fn at_most(n: usize, most: usize) -> usize
     ensures { λ r. ⌜ r ≤ most ⌝ }
 {
     if n < most {
@@ -97,6 +105,7 @@ fn state_of(n: [u64; 5]) -> State {
         first: low(n[1]),
         last: low(n[2]),
         live: low(n[3]),
+        newest: 0,
         version: n[4],
     }
 }

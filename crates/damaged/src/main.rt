@@ -1,5 +1,5 @@
-// Recovers an image of three slots, whole and with one or two bytes changed, and prints the answer and the index each time. Every refusal of
-// recovery is among them, with the slot that it names.
+// Recovers an image of three slots, whole and with one or two bytes changed, and one of nine slots with some of them broken, and prints the answer,
+// the opening stores and the index each time. Every refusal of recovery is among them, with the slot that it names.
 use orderset::Recovered;
 use orderset::recover;
 
@@ -43,9 +43,12 @@ fn show_slot(r: Recovered) {
 }
 
 fn show_recover(image: &[u8], heads: &mut [u32], next: &mut [u32]) {
-    let r = recover(image, heads, next);
+    let answer = recover(image, heads, next);
+    let r = answer.recovered;
     show::recovered(r);
     show_slot(r);
+    let stores = answer.openings;
+    show::openings(stores);
     show::index(heads, next);
 }
 
@@ -97,6 +100,42 @@ fn short_next() {
     show_recover(&a, &mut heads, &mut next);
 }
 
+// Nine slots, empty but for slot 9: a put of key 9, version 1, no bytes, with this number of records.
+fn nine_slots(number: u8) -> [u8; 1280] {
+    let mut a = [0u8; 1280];
+    a[0] = 9;
+    a[8] = 1;
+    a[1160] = 9;
+    a[1168] = 1;
+    a[1170] = number;
+    a[1208] = 2;
+    a[1272] = 2;
+    a
+}
+
+// The first so many slots of nine are broken: the mark of line A becomes 1.
+fn break_slots(image: &mut [u8], count: usize) {
+    let mut s = 1;
+    while s < 10 {
+        if s <= count {
+            set_byte(image, 128 * s, 1);
+        }
+        s += 1;
+    }
+}
+
+fn broken(count: usize, number: u8) {
+    show::text(b"broken");
+    show::number(count as u64);
+    show::text(b" number");
+    show::number(number as u64);
+    let mut a = nine_slots(number);
+    break_slots(&mut a, count);
+    let mut heads = [9u32];
+    let mut next = [9u32; 10];
+    show_recover(&a, &mut heads, &mut next);
+}
+
 fn main() {
     short_image();
     no_head();
@@ -111,6 +150,11 @@ fn main() {
     with(384, 1, 448, 3);
     with(144, 3, 511, 0);
     with(146, 1, 511, 0);
+    with(146, 9, 511, 0);
+    with(147, 1, 511, 0);
+    with(146, 8, 511, 0);
+    with(274, 8, 511, 0);
+    with(274, 2, 402, 2);
     with(145, 81, 511, 0);
     with(153, 1, 511, 0);
     with(200, 1, 511, 0);
@@ -132,4 +176,8 @@ fn main() {
     with(312, 0, 376, 0);
     with(312, 0, 144, 9);
     with(184, 5, 248, 5);
+    broken(8, 0);
+    broken(9, 0);
+    broken(7, 2);
+    broken(8, 2);
 }

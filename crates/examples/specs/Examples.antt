@@ -102,7 +102,7 @@ emptySet = recoveredSet blank
 unfoldable pub lateSet : World
 lateSet = recoveredSet (played (recordStores 1 (word blank) 1 7 1 0 [] (2 ^ 63 - 2)) blank)
 
--- in an empty set, these calls put key 7 at version 2 and remove it at 4
+-- in an empty set, these calls insert key 7 at version 2 and remove it at 4
 unfoldable pub removal : List Call
 removal = write Insert 8 [] ∷ write Insert 7 [] ∷ write Replace 8 [] ∷ remove 7 ∷ []
 

@@ -3,7 +3,7 @@ use mathlib.Core.List.{List, [], _∷_, _++_}
 use Prim.Native.Nat.{ℕ, _+_, _*_, _^_}
 use lib.ListN.{replicate}
 use Rattle.prelude.specs.Answer.{Answer, gives, absent, refused, refusalIn}
-use Rattle.face.specs.Set.{Store, State, Result, stateValues, FormatResult, handedOut, ChangeResult, GetResult}
+use Rattle.face.specs.Set.{Store, State, Openings, Result, FormatResult, handedOut, ChangeResult, GetResult}
 
 -- the lent answer of n words: 1 and the values that the call gives, or zeros for absent. "A refused call changes no lent byte, index number or state"
 unfoldable pub answered : (n : ℕ) → Answer → (lent : List ℕ) → List ℕ
@@ -41,29 +41,32 @@ formatCall r answer = record { returns = refusalIn (r .answer); answer = answere
 
 -- ---- recover
 
--- what a call of recover returns, 0 or a refusal's number and slot, and the lent state and index after it
+-- what a call of recover returns, 0 or a refusal's number and slot, and the lent state, opening stores and index after it
 pub record RecoverCall : Type 0 where
   pub returns : ℕ
-  pub state : List ℕ
+  pub state : State
+  pub openings : Openings
   pub heads : List ℕ
   pub next : List ℕ
 
 -- what a call of recover with this code left
-abbrev pub recoverLeft : (code : ℕ) → State → (heads next : List ℕ) → RecoverCall
-recoverLeft code s heads next = record { returns = code; state = stateValues s; heads = heads; next = next }
+abbrev pub recoverLeft : (code : ℕ) → State → Openings → (heads next : List ℕ) → RecoverCall
+recoverLeft code s openings heads next =
+    record { returns = code; state = s; openings = openings; heads = heads; next = next }
 
--- the state that recovery answers, or the one that was lent
-unfoldable pub recoveredValues : Answer → (lent : List ℕ) → List ℕ
-recoveredValues (gives values) lent = values
-recoveredValues absent lent = lent
-recoveredValues (refused number) lent = lent
+-- what a call gives, or what was lent where it gives nothing
+unfoldable pub givenOrLent : {A : Type 0} → Answer → (given lent : A) → A
+givenOrLent (gives values) given lent = given
+givenOrLent absent given lent = lent
+givenOrLent (refused number) given lent = lent
 
--- the same, by the result of recover and the lent state
-unfoldable pub recoverCall : Result → State → RecoverCall
-recoverCall r s =
+-- the same, by the result of recover and the lent state and opening stores
+unfoldable pub recoverCall : Result → State → Openings → RecoverCall
+recoverCall r s openings =
     record {
       returns = returnedWith (r .answer) (r .slot);
-      state = recoveredValues (r .answer) (stateValues s);
+      state = givenOrLent (r .answer) (r .state) s;
+      openings = givenOrLent (r .answer) (r .openings) openings;
       heads = r .heads;
       next = r .next;
     }

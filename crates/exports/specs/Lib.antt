@@ -1,3 +1,4 @@
 pub mod Call
 pub mod State
+pub mod Opening
 pub mod Book

@@ -4,12 +4,13 @@ use Prim.Native.Nat.{ℕ}
 use lib.ListN.{getD}
 use Rattle.face.specs.Set.{State}
 
--- first, last and live count stand in one lent slice, the next version in another
+-- first, last, live count and the slot that the last call took stand in one lent slice, the next version in another
 unfoldable pub stateFrom : (state version : List ℕ) → State
 stateFrom state version =
     record {
       first = getD state 0 0;
       last = getD state 1 0;
       live = getD state 2 0;
+      newest = getD state 3 0;
       version = getD version 0 0;
     }

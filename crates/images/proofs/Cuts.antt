@@ -131,9 +131,12 @@ module _ (l : ℕ) (m m′ : ℕ → ℕ) (number version : ℕ) (es : List Bask
             ap topOf (sym e ∙ new),
             made-record (r .entry .kind) version (r .entry .key) (r .entry .value) .tops,
           ))
-      by (now-new a b e) =
-          (a, b, ap (λ (ss : List Store). length ss) (r .holds .has .line-A) ∙ line-eight (2 * r .entry .slot) _,
-          ap (λ (ss : List Store). length ss) (r .holds .has .line-B) ∙ line-eight (2 * r .entry .slot + 1) _)
+      by (now-new a b e) = (
+        a,
+        b,
+        ap (λ (ss : List Store). length ss) (r .holds .has .line-A) ∙ line-eight (2 * r .entry .slot) _,
+        ap (λ (ss : List Store). length ss) (r .holds .has .line-B) ∙ line-eight (2 * r .entry .slot + 1) _,
+      )
       by (now-broken x y top h e) =
           absurd
           (not-broken top (sym (made-record (r .entry .kind) version (r .entry .key) (r .entry .value) .counted) ∙ ap isRecord (sym new ∙ e)))

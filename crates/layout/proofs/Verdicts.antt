@@ -5,24 +5,50 @@ use Prim.Native.Nat.{ℕ, _+_, _*_, _/_, _≤_, _<_, max}
 use native.Mathlib.Omega.{arith}
 use lib.Dec.{eqb, ltb}
 use borrow.Author.Tests.{eq-eqb, ne-eqb, lt-ltb, le-ltb}
-use Rattle.layout.specs.Line.{lineA, lineTop}
+use Rattle.layout.specs.Line.{lineA, versionOf, whole, lineTop}
 use Rattle.layout.specs.Slot.{paired, verdictOf, lineVerdict, slotVerdict}
 use Rattle.layout.specs.Fault.{markFault}
 use Rattle.layout.specs.declared.Verdict.{Verdict}
 use Rattle.layout.specs.declared.Verdict.the-variants.{Valid, Empty, Broken}
 use Rattle.prelude.proofs.Choice.{pick-true, pick-false}
 
--- judge: p says whether the lines are a pair
-module _ (ma sa mb sb : ℕ) (p : Bool) (e : p ≡ paired ma sa mb sb) where
-  pub judged-empty : p ≡ true → sa / 2 ≡ 0 → Empty ≡ verdictOf ma sa mb sb
-  unfolding verdictOf
-  judged-empty t z =
-      sym (pick-true (paired ma sa mb sb) _ _ (sym e ∙ t) ∙ pick-true (eqb (sa / 2) 0) _ _ (eq-eqb (sa / 2) 0 z))
+-- line_top and is_pair: w says whether the line is whole
+module _ (mark stamp : ℕ) (w : Bool) (e : w ≡ whole mark stamp) where
+  pub top-whole : w ≡ true → (v : ℕ) → v ≡ versionOf stamp → v ≡ lineTop mark stamp
+  unfolding lineTop
+  top-whole t v f = f ∙ sym (pick-true (whole mark stamp) _ _ (sym e ∙ t))
 
-  pub judged-valid : p ≡ true → (sa / 2 ≡ 0 → ⊥) → Valid (sa / 2) ≡ verdictOf ma sa mb sb
-  unfolding verdictOf
-  judged-valid t z =
-      sym (pick-true (paired ma sa mb sb) _ _ (sym e ∙ t) ∙ pick-false (eqb (sa / 2) 0) _ _ (ne-eqb (sa / 2) 0 z))
+  pub top-open : w ≡ false → 0 ≡ lineTop mark stamp
+  unfolding lineTop
+  top-open t = sym (pick-false (whole mark stamp) _ _ (sym e ∙ t))
+
+  pub pair-open : w ≡ false → (mb sb : ℕ) → false ≡ paired mark stamp mb sb
+  unfolding paired
+  pair-open t mb sb = sym (pick-false (whole mark stamp) _ _ (sym e ∙ t))
+
+  module _ (mb sb : ℕ) (x : Bool) (f : x ≡ whole mb sb) where
+    pub pair-half : w ≡ true → x ≡ false → false ≡ paired mark stamp mb sb
+    unfolding paired
+    pair-half t u = sym (pick-true (whole mark stamp) _ _ (sym e ∙ t) ∙ pick-false (whole mb sb) _ _ (sym f ∙ u))
+
+    pub pair-whole : w ≡ true → x ≡ true → (u v : ℕ) → u ≡ versionOf stamp → v ≡ versionOf sb → eqb u v ≡ paired mark stamp mb sb
+    unfolding paired
+    pair-whole t r u v p q =
+        ap₂ eqb p q ∙ sym (pick-true (whole mark stamp) _ _ (sym e ∙ t) ∙ pick-true (whole mb sb) _ _ (sym f ∙ r))
+
+-- judge: p says whether the lines are a pair, and v is the version of line A
+module _ (ma sa mb sb : ℕ) (p : Bool) (e : p ≡ paired ma sa mb sb) where
+  module _ (v : ℕ) (f : v ≡ versionOf sa) where
+    pub judged-empty : p ≡ true → v ≡ 0 → Empty ≡ verdictOf ma sa mb sb
+    unfolding verdictOf
+    judged-empty t z =
+        sym (pick-true (paired ma sa mb sb) _ _ (sym e ∙ t) ∙ pick-true (eqb (sa / 2) 0) _ _ (eq-eqb (sa / 2) 0 (sym f ∙ z)))
+
+    pub judged-valid : p ≡ true → (v ≡ 0 → ⊥) → Valid v ≡ verdictOf ma sa mb sb
+    unfolding verdictOf
+    judged-valid t z =
+        ap Valid f
+        ∙ sym (pick-true (paired ma sa mb sb) _ _ (sym e ∙ t) ∙ pick-false (eqb (sa / 2) 0) _ _ (ne-eqb (sa / 2) 0 (λ q. z (f ∙ q))))
 
   pub judged-broken : p ≡ false → (a b r : ℕ) → a ≡ lineTop ma sa → b ≡ lineTop mb sb → r ≡ max a b
       → Broken r ≡ verdictOf ma sa mb sb

@@ -1,7 +1,21 @@
 // Rules on a line's mark and stamp, as functions of numbers.
 ghost use mathlib.Core.Path.{_≡_};
 ghost use Prim.Native.Nat.{_<_, _^_, max};
-ghost use Rattle.layout.specs.Line.{whole, firstWord, lastWord, lineTop, versionFault};
+ghost use Rattle.layout.specs.Line.{versionOf, whole, firstWord, lastWord, lineTop, versionFault};
+
+// Is a line with this mark and stamp whole?
+pub fn is_whole(mark: u64, stamp: u64) -> bool
+    ensures { λ r. ⌜ r ≡ whole mark stamp ⌝ }
+{
+    mark == stamp % 2
+}
+
+// The version in a stamp.
+pub fn version_of(stamp: u64) -> u64
+    ensures { λ r. ⌜ r ≡ versionOf stamp ⌝ }
+{
+    stamp / 2
+}
 
 // The first word to store over a line that carries this stamp.
 pub fn first_word(stamp: u64) -> u64
@@ -22,8 +36,8 @@ pub fn last_word(stamp: u64, version: u64) -> u64
 pub fn line_top(mark: u64, stamp: u64) -> u64
     ensures { λ r. ⌜ r ≡ lineTop mark stamp ⌝ }
 {
-    if mark == stamp % 2 {
-        return stamp / 2;
+    if is_whole(mark, stamp) {
+        return version_of(stamp);
     }
     0
 }

@@ -6,7 +6,9 @@ ghost use Rattle.words.specs.Word.{word};
 ghost use Rattle.layout.specs.Slot.{paired, verdictOf, slotVerdict};
 ghost use Rattle.layout.specs.Fault.{markFault};
 use crate::line::greater;
+use crate::line::is_whole;
 use crate::line::line_top;
+use crate::line::version_of;
 use layout::Verdict;
 use words_code::read_word;
 
@@ -14,13 +16,13 @@ use words_code::read_word;
 fn is_pair(mark_a: u64, stamp_a: u64, mark_b: u64, stamp_b: u64) -> bool
     ensures { λ r. ⌜ r ≡ paired «mark_a» «stamp_a» «mark_b» «stamp_b» ⌝ }
 {
-    if mark_a != stamp_a % 2 {
+    if !is_whole(mark_a, stamp_a) {
         return false;
     }
-    if mark_b != stamp_b % 2 {
+    if !is_whole(mark_b, stamp_b) {
         return false;
     }
-    stamp_a / 2 == stamp_b / 2
+    version_of(stamp_a) == version_of(stamp_b)
 }
 
 // The verdict that marks and stamps give.
@@ -28,10 +30,11 @@ pub fn judge(mark_a: u64, stamp_a: u64, mark_b: u64, stamp_b: u64) -> Verdict
     ensures { λ r. ⌜ r ≡ verdictOf «mark_a» «stamp_a» «mark_b» «stamp_b» ⌝ }
 {
     if is_pair(mark_a, stamp_a, mark_b, stamp_b) {
-        if stamp_a / 2 == 0 {
+        let version = version_of(stamp_a);
+        if version == 0 {
             return Verdict::Empty;
         }
-        return Verdict::Valid(stamp_a / 2);
+        return Verdict::Valid(version);
     }
     Verdict::Broken(greater(line_top(mark_a, stamp_a), line_top(mark_b, stamp_b)))
 }

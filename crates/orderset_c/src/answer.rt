@@ -23,7 +23,7 @@ pub fn refused_with(number: u32, second: u32) -> u64
 // What a call that writes gives back goes into the lent numbers.
 pub fn hand_out(
     change: Change,
-    state: &mut [u32; 3],
+    state: &mut [u32; 4],
     version: &mut [u64; 1],
     answer: &mut [u64; 4],
 ) -> u64
@@ -51,7 +51,7 @@ pub fn hand_out(
 // What a book step gives back goes into the lent numbers.
 pub fn hand_out_step(
     change: BookChange,
-    state: &mut [u32; 3],
+    state: &mut [u32; 4],
     version: &mut [u64; 1],
     answer: &mut [u64; 3],
 ) -> u32

@@ -2,6 +2,7 @@
 mod answer;
 pub mod format;
 pub mod get;
+pub mod line;
 pub mod locate;
 pub mod play;
 pub mod recover;

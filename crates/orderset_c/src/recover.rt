@@ -2,28 +2,50 @@
 ghost use mathlib.Core.Path.{_≡_};
 ghost use Rattle.face.specs.Set.{recoverResult};
 ghost use Rattle.exports.specs.State.{stateFrom};
+ghost use Rattle.exports.specs.Opening.{openingsFrom};
 ghost use Rattle.exports.specs.Call.{recoverLeft, recoverCall};
 use crate::answer::refused_with;
 use crate::state::keep_state;
+use orderset::Openings;
 use orderset::Recovered;
 use orderset::recover;
 
-// The index of the image is rebuilt; the answer is the state beside it. Returned is 0, or the refusal + 2^32 × the slot that it names.
+// The lent numbers become those of the opening stores.
+pub fn keep_openings(
+    openings: Openings,
+    count: &mut [u32; 1],
+    at: &mut [u32; 8],
+    value: &mut [u64; 8],
+)
+    ensures { λ _. ⌜ openingsFrom (now (count .exit)) (now (at .exit)) (now (value .exit)) ≡ openings ⌝ }
+{
+    *count = [openings.count];
+    *at = openings.at;
+    *value = openings.value;
+}
+
+// The index of the image is rebuilt; the answer is the state beside it, with the opening stores, which are to be made by the caller. Returned is 0, or
+// the refusal + 2^32 × the slot that it names.
 #[no_mangle]
 pub extern "C" fn orderset_recover(
     image: &[u8],
     heads: &mut [u32],
     next: &mut [u32],
-    state: &mut [u32; 3],
+    state: &mut [u32; 4],
     version: &mut [u64; 1],
+    count: &mut [u32; 1],
+    at: &mut [u32; 8],
+    value: &mut [u64; 8],
 ) -> u64
-    ensures { λ r. ⌜ recoverLeft r (stateFrom (now (state .exit)) (now (version .exit))) (now (heads .exit)) (now (next .exit)) ≡ recoverCall (recoverResult 1 (now (image .entry)) (now (heads .entry)) (now (next .entry))) (stateFrom (now (state .entry)) (now (version .entry))) ⌝ }
+    ensures { λ r. ⌜ recoverLeft r (stateFrom (now (state .exit)) (now (version .exit))) (openingsFrom (now (count .exit)) (now (at .exit)) (now (value .exit))) (now (heads .exit)) (now (next .exit)) ≡ recoverCall (recoverResult 1 (now (image .entry)) (now (heads .entry)) (now (next .entry))) (stateFrom (now (state .entry)) (now (version .entry))) (openingsFrom (now (count .entry)) (now (at .entry)) (now (value .entry))) ⌝ }
 {
-    let recovered = recover(image, heads, next);
+    let answer = recover(image, heads, next);
+    let recovered = answer.recovered;
     match recovered {
         Recovered::Refused { number, slot } => refused_with(number, slot),
         Recovered::Rebuilt(after) => {
             keep_state(after, state, version);
+            keep_openings(answer.openings, count, at, value);
             0
         }
     }

@@ -13,7 +13,7 @@ pub extern "C" fn orderset_remove(
     image: &[u8],
     heads: &mut [u32],
     next: &mut [u32],
-    state: &mut [u32; 3],
+    state: &mut [u32; 4],
     version: &mut [u64; 1],
     key: u64,
     at: &mut [u32; 16],

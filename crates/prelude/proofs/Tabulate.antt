@@ -55,9 +55,9 @@ tabulate-list f (x ∷ xs) k h =
     (tabulate-list f xs (suc k) (λ i l. ap f (omega arith) ∙ h (suc i) (omega arith)))
 
 -- another value at one number
-pub tabulate-put : (f g : ℕ → ℕ) (n k v : ℕ) → k < n → g k ≡ v → ((i : ℕ) → (i ≡ k → ⊥) → g i ≡ f i)
+pub set-tabulate : (f g : ℕ → ℕ) (n k v : ℕ) → k < n → g k ≡ v → ((i : ℕ) → (i ≡ k → ⊥) → g i ≡ f i)
     → set (tabulate f 0 n) k v ≡ tabulate g 0 n
-tabulate-put f g n k v h e rest =
+set-tabulate f g n k v h e rest =
     ext-getD 0 (set (tabulate f 0 n) k v) (tabulate g 0 n) (length-set (tabulate f 0 n) k v ∙ tabulate-length f 0 n ∙ sym (tabulate-length g 0 n))
     (λ i p.
     let inside : i < n = omega (arith, p, length-set (tabulate f 0 n) k v, tabulate-length f 0 n) in

@@ -11,7 +11,7 @@ use Rattle.prelude.specs.Filter.{filter}
 use Rattle.prelude.specs.Members.{slotNumbers}
 use Rattle.prelude.proofs.Choice.{pick-true, pick-false}
 use Rattle.prelude.proofs.Lists.{filter-append}
-use Rattle.prelude.proofs.Tabulate.{tabulate-length, tabulate-list, tabulate-put}
+use Rattle.prelude.proofs.Tabulate.{tabulate-length, tabulate-list, set-tabulate}
 use Rattle.sorting.proofs.Order.{Compared, low, high, compared}
 use Rattle.layout.specs.Line.{firstWord}
 use Rattle.stores.specs.Store.{Store, zipped}
@@ -57,7 +57,7 @@ entries-more xs x n = go (compared n (length xs))
   where
     go : Compared n (length xs) → set (tabulate (λ i. getD xs i 0) 0 n) (length xs) x ≡ tabulate (λ i. getD (xs ++ (x ∷ [])) i 0) 0 n
     go (high a h) =
-        tabulate-put (λ i. getD xs i 0) (λ i. getD (xs ++ (x ∷ [])) i 0) n (length xs) x h (getD-append-seam xs x [] 0) (not-last xs x)
+        set-tabulate (λ i. getD xs i 0) (λ i. getD (xs ++ (x ∷ [])) i 0) n (length xs) x h (getD-append-seam xs x [] 0) (not-last xs x)
     go (low a h) =
         set-out (tabulate (λ i. getD xs i 0) 0 n) (length xs) x (omega (arith, tabulate-length (λ i. getD xs i 0) 0 n))
         ∙ tabulate-alike (λ i. getD xs i 0) (λ i. getD (xs ++ (x ∷ [])) i 0) 0 n (λ i u v. sym (not-last xs x i (λ e. omega arith)))

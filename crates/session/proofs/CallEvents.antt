@@ -17,8 +17,8 @@ use Rattle.face.proofs.Stored.{refusal-still}
 use Rattle.face.proofs.Located.{located}
 use Rattle.face.specs.Laws.{Writes, write-writes, remove-writes, SetLaws}
 use Rattle.text.specs.Output.{Printed, ok}
-use Rattle.session.specs.Step.{StepResult, leaves, recoverStep, storedWith, changedAs, changeStep, wordBytes, modeBy, putStep, gotBy, wordFound, lineStep}
-use Rattle.text.specs.declared.Line.the-variants.{Put, Remove, Get}
+use Rattle.session.specs.Step.{StepResult, leaves, recoverStep, storedWith, changedAs, changeStep, wordBytes, modeBy, writeStep, gotBy, wordFound, lineStep}
+use Rattle.text.specs.declared.Line.the-variants.{Write, Remove, Get}
 use Rattle.session.specs.declared.Waiting.{Waiting}
 use Rattle.session.specs.declared.Waiting.the-variants.{Nothing, Counts}
 use Rattle.session.specs.declared.Session.{Session}
@@ -201,8 +201,8 @@ module _ (Inv : World → PlainMap → Type 0) (laws : SetLaws 1 Inv) (s : Sessi
   mode-held false values = refl
 
   pub write-carried : (key x : ℕ) → key < 2 ^ 64
-      → Carried (s .n) (s .waiting) w (write (modeFor (isHeld (m key))) key (wordBytes x)) (lineStep (Put key x) s image heads next)
-  unfolding lineStep putStep printedFor called
+      → Carried (s .n) (s .waiting) w (write (modeFor (isHeld (m key))) key (wordBytes x)) (lineStep (Write key x) s image heads next)
+  unfolding lineStep writeStep printedFor called
   write-carried key x k =
       changed-carried (write (modeFor (isHeld (m key))) key (wordBytes x)) (write-typed k (word-bytes x)) write-writes (λ answer out. refl) _
       (ap (λ (mode : Mode). calledChange (writeResult 1 image heads next (s .state) mode key (wordBytes x)))

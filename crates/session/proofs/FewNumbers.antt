@@ -8,9 +8,9 @@ use Rattle.prelude.specs.Answer.{Answer, gives, absent, refused}
 use Rattle.face.specs.Set.{Store, State, Call, write, remove, calledChange, called, FormatResult, formatResult}
 use Rattle.text.specs.Output.{Printed}
 use Rattle.text.proofs.Storing.{FewNumbers}
-use Rattle.session.specs.Step.{StepResult, recoveredAs, recoveredBy, recoverStep, madeAs, madeBy, makeStep, storedWith, changedAs, changeStep, putStep, gotAs, gotBy, wordFound, lineStep, followedBy, frontStep, stepResult}
+use Rattle.session.specs.Step.{StepResult, recoveredAs, recoveredBy, recoverStep, madeAs, madeBy, makeStep, storedWith, changedAs, changeStep, writeStep, gotAs, gotBy, wordFound, lineStep, followedBy, frontStep, stepResult}
 use Rattle.text.specs.declared.Line.{Line}
-use Rattle.text.specs.declared.Line.the-variants.{New, Put, Remove, Get, Cut, Bad}
+use Rattle.text.specs.declared.Line.the-variants.{New, Write, Remove, Get, Cut, Bad}
 use Rattle.session.specs.declared.Waiting.{Waiting}
 use Rattle.session.specs.declared.Waiting.the-variants.{Nothing, Counts}
 use Rattle.session.specs.declared.Session.{Session}
@@ -70,10 +70,10 @@ call-few : (s : Session) (image heads next : List ℕ) (call : Call)
 call-few s image heads next call = few-by _ (call-laws 1 layout-1 .few-values _ call)
 
 line-few : (line : Line) (s : Session) (image heads next : List ℕ) → FewNumbers (lineStep line s image heads next .answer)
-unfolding lineStep makeStep madeBy formatResult putStep changeStep wordFound gotBy called calledChange
+unfolding lineStep makeStep madeBy formatResult writeStep changeStep wordFound gotBy called calledChange
 line-few (New n) s image heads next =
     made-few n s _ heads next _ (by-refusal (λ (r : FormatResult). Few (r .answer)) _ _ _ (omega arith) tt)
-line-few (Put key w) s image heads next = changed-few s _ _ image _ _ _ (call-few s image heads next (write _ key _))
+line-few (Write key w) s image heads next = changed-few s _ _ image _ _ _ (call-few s image heads next (write _ key _))
 line-few (Remove key) s image heads next = changed-few s _ _ image _ _ _ (call-few s image heads next (remove key))
 line-few (Get key) s image heads next = got-few _ _
 line-few (Cut a b) s image heads next = tt

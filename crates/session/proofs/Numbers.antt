@@ -8,7 +8,7 @@ use borrow.Author.Tests.{ltb-true}
 use Rattle.text.specs.Forms.{areDigits, numberOf, isNumber, firstField, laterFields, withOne, withTwo, withNumbers, withFields, lineOf}
 use Rattle.text.specs.declared.Line.{Line}
 use Rattle.text.specs.declared.Line.the-variants.{Bad}
-use Rattle.session.specs.Rule.{SizedLine, sized-new, sized-put, sized-remove, sized-get, sized-cut, sized-bad}
+use Rattle.session.specs.Rule.{SizedLine, sized-new, sized-write, sized-remove, sized-get, sized-cut, sized-bad}
 
 second-true : (t u : Bool) → cond t u false ≡ true → u ≡ true
 second-true true u e = e
@@ -30,7 +30,7 @@ sized-one letter n h =
 
 sized-two : (letter a b : ℕ) → a < 2 ^ 64 → b < 2 ^ 64 → SizedLine (withTwo letter a b)
 unfolding withTwo
-sized-two letter a b p q = one-of (eqb letter 112) _ _ (sized-put p q) (one-of (eqb letter 99) _ _ sized-cut sized-bad)
+sized-two letter a b p q = one-of (eqb letter 112) _ _ (sized-write p q) (one-of (eqb letter 99) _ _ sized-cut sized-bad)
 
 where-number : (t : Bool) (line : Line) → (t ≡ true → SizedLine line) → SizedLine (cond t line Bad)
 where-number true line h = h refl

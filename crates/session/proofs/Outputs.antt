@@ -14,7 +14,7 @@ use Rattle.session.specs.Step.{StepResult, leaves, noSet}
 use Rattle.session.specs.Stream.{linesOf, stepAfter, StreamResult, streamEnd, atStart, resultOutput, FlushesFull}
 use Rattle.session.proofs.defs.Stream.{outputOf, byteOutput}
 use Rattle.text.specs.declared.Line.{Line}
-use Rattle.text.specs.declared.Line.the-variants.{New, Put, Remove, Get, Cut, Bad}
+use Rattle.text.specs.declared.Line.the-variants.{New, Write, Remove, Get, Cut, Bad}
 use Rattle.text.specs.declared.Parse.the-variants.{Start}
 use Rattle.session.proofs.Streams.{output-of-lines}
 use Rattle.session.proofs.StreamResults.{output-of-results}
@@ -33,7 +33,7 @@ none-some call e = let z : _≡_ {A = ℕ} 0 1 = cc in omega arith
 call-prints : (w : World) (m : PlainMap) (line : Line) (call : Call) → callIn m line ≡ some call → plainPrints w m call ≡ linePrints w m line
 unfolding callIn callPrints linePrints
 call-prints w m (New n) call e = absurd (none-some call e)
-call-prints w m (Put key word) call e = sym (ap (callPrints w m) e)
+call-prints w m (Write key word) call e = sym (ap (callPrints w m) e)
 call-prints w m (Remove key) call e = sym (ap (callPrints w m) e)
 call-prints w m (Get key) call e = sym (ap (callPrints w m) e)
 call-prints w m (Cut a b) call e = absurd (none-some call e)

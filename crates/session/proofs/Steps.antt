@@ -53,11 +53,11 @@ module _ (s : Session) (image heads next : List ℕ) (lent : List Store) where
   abbrev lineWorld : World
   lineWorld = record { image = image; heads = heads; next = next; state = s .state }
 
-  pub put-left : (mode : Mode) (key : ℕ) (value : List ℕ)
+  pub write-left : (mode : Mode) (key : ℕ) (value : List ℕ)
       → changeStep s image (leftIn lent (writeResult 1 image heads next (s .state) mode key value)) ≡
       changeStep s image (writeResult 1 image heads next (s .state) mode key value)
   unfolding called calledChange
-  put-left mode key value = left-step s image lent _ (λ given e. call-laws 1 layout-1 .hands-out lineWorld (write mode key value) write-writes given e lent)
+  write-left mode key value = left-step s image lent _ (λ given e. call-laws 1 layout-1 .hands-out lineWorld (write mode key value) write-writes given e lent)
 
   pub remove-left : (key : ℕ)
       → changeStep s image (leftIn lent (removeResult 1 image heads next (s .state) key)) ≡

@@ -11,7 +11,7 @@ use Rattle.face.specs.Event.{Event, done, struck}
 use Rattle.text.specs.Output.{Printed, ok, notHeld, no}
 use Rattle.session.specs.Step.{StepResult, wordBytes, gotAs}
 use Rattle.text.specs.declared.Line.{Line}
-use Rattle.text.specs.declared.Line.the-variants.{New, Put, Remove, Get, Cut, Bad}
+use Rattle.text.specs.declared.Line.the-variants.{New, Write, Remove, Get, Cut, Bad}
 use Rattle.session.specs.declared.Waiting.{Waiting}
 use Rattle.session.specs.declared.Waiting.the-variants.{Nothing, Counts}
 use Rattle.session.specs.declared.Session.{Session}
@@ -36,7 +36,7 @@ modeFor held = cond held Replace Insert
 
 -- "`p K W` puts the 8-byte word W", "`r K` removes", "`g K`: `found W`", with 80 bytes of output; the other lines make no call. m is the plain map before it
 unfoldable pub callIn : PlainMap → Line → Option Call
-callIn m (Put key word) = some (write (modeFor (isHeld (m key))) key (wordBytes word))
+callIn m (Write key word) = some (write (modeFor (isHeld (m key))) key (wordBytes word))
 callIn m (Remove key) = some (remove key)
 callIn m (Get key) = some (get key (replicate 80 0))
 callIn m (New n) = none

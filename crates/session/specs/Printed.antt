@@ -9,7 +9,7 @@ use Rattle.text.specs.Output.{Printed, ok, cut, text, no}
 use Rattle.session.specs.Step.{StepResult}
 use Rattle.session.specs.Stream.{stepAfter}
 use Rattle.text.specs.declared.Line.{Line}
-use Rattle.text.specs.declared.Line.the-variants.{New, Put, Remove, Get, Cut, Bad}
+use Rattle.text.specs.declared.Line.the-variants.{New, Write, Remove, Get, Cut, Bad}
 use Rattle.session.specs.Lines.{worldOf, callIn}
 use Rattle.session.specs.Rule.{faultAt, plainPrints, mapAfter}
 
@@ -22,7 +22,7 @@ callPrints w m none = no 16
 unfoldable pub linePrints : World → PlainMap → Line → Printed
 linePrints w m (New n) = ok (n ∷ [])
 linePrints w m (Cut a b) = cut a b
-linePrints w m (Put key word) = callPrints w m (callIn m (Put key word))
+linePrints w m (Write key word) = callPrints w m (callIn m (Write key word))
 linePrints w m (Remove key) = callPrints w m (callIn m (Remove key))
 linePrints w m (Get key) = callPrints w m (callIn m (Get key))
 linePrints w m Bad = callPrints w m (callIn m Bad)

@@ -11,7 +11,7 @@ use Rattle.text.specs.Output.{Printed, ok, cut, no}
 use Rattle.session.specs.Step.{StepResult, leaves, noSet, sizeFault, lineFault}
 use Rattle.session.specs.Stream.{stepAfter}
 use Rattle.text.specs.declared.Line.{Line}
-use Rattle.text.specs.declared.Line.the-variants.{New, Put, Remove, Get, Cut, Bad}
+use Rattle.text.specs.declared.Line.the-variants.{New, Write, Remove, Get, Cut, Bad}
 use Rattle.session.specs.declared.Waiting.{Waiting}
 use Rattle.session.specs.declared.Waiting.the-variants.{Nothing, Counts}
 use Rattle.session.specs.declared.Session.{Session}
@@ -43,7 +43,7 @@ mapByCall w waiting m (some call) = mapAfterEvent 1 w m (eventIn w waiting call)
 -- "`n N` formats": the map is empty
 unfoldable pub mapByLine : World → Waiting → PlainMap → Line → PlainMap
 mapByLine w waiting m (New n) = λ k. none
-mapByLine w waiting m (Put key word) = mapByCall w waiting m (callIn m (Put key word))
+mapByLine w waiting m (Write key word) = mapByCall w waiting m (callIn m (Write key word))
 mapByLine w waiting m (Remove key) = mapByCall w waiting m (callIn m (Remove key))
 mapByLine w waiting m (Get key) = mapByCall w waiting m (callIn m (Get key))
 mapByLine w waiting m (Cut a b) = m
@@ -107,7 +107,7 @@ pub data LineRight (r : StepResult) (m : PlainMap) : Line → Type 0 where
 -- "16 is a line .. with a number past 64 bits": keys and words are below 2^64; of the other numbers nothing is asked
 pub data SizedLine : Line → Type 0 where
   sized-new : {n : ℕ} → SizedLine (New n)
-  sized-put : {key word : ℕ} → key < 2 ^ 64 → word < 2 ^ 64 → SizedLine (Put key word)
+  sized-write : {key word : ℕ} → key < 2 ^ 64 → word < 2 ^ 64 → SizedLine (Write key word)
   sized-remove : {key : ℕ} → key < 2 ^ 64 → SizedLine (Remove key)
   sized-get : {key : ℕ} → key < 2 ^ 64 → SizedLine (Get key)
   sized-cut : {a b : ℕ} → SizedLine (Cut a b)

@@ -9,7 +9,7 @@ use Rattle.prelude.specs.Answer.{Answer, gives, absent, refused}
 use Rattle.face.specs.Set.{Store, values, State, Result, noState, recoverResult, FormatResult, formatResult, Mode, Insert, Replace, ChangeResult, writeResult, removeResult, GetResult, getResult, locateResult, playing}
 use Rattle.text.specs.Output.{Printed, ok, found, cut, notHeld, no}
 use Rattle.text.specs.declared.Line.{Line}
-use Rattle.text.specs.declared.Line.the-variants.{New, Put, Remove, Get, Cut, Bad}
+use Rattle.text.specs.declared.Line.the-variants.{New, Write, Remove, Get, Cut, Bad}
 use Rattle.session.specs.declared.Waiting.{Waiting}
 use Rattle.session.specs.declared.Waiting.the-variants.{Nothing, Counts}
 use Rattle.session.specs.declared.Session.{Session}
@@ -35,7 +35,7 @@ noSet = record { n = 0; state = noState; waiting = Nothing }
 -- "16 is a line not of these forms or with a number past 64 bits"
 unfoldable pub formFault : Line → ℕ
 formFault (New n) = 0
-formFault (Put key word) = 0
+formFault (Write key word) = 0
 formFault (Remove key) = 0
 formFault (Get key) = 0
 formFault (Cut a b) = 0
@@ -44,7 +44,7 @@ formFault Bad = 16
 -- the slots that a line is carried out with: those of a new set, or of the set there is
 unfoldable pub slotsFor : Line → Session → ℕ
 slotsFor (New n) s = n
-slotsFor (Put key word) s = s .n
+slotsFor (Write key word) s = s .n
 slotsFor (Remove key) s = s .n
 slotsFor (Get key) s = s .n
 slotsFor (Cut a b) s = s .n
@@ -63,7 +63,7 @@ countFault a b = say (ltb 8 a) 14 (say (ltb 8 b) 14 0)
 -- of a line: only c has counts
 unfoldable pub cutFault : Line → ℕ
 cutFault (New n) = 0
-cutFault (Put key word) = 0
+cutFault (Write key word) = 0
 cutFault (Remove key) = 0
 cutFault (Get key) = 0
 cutFault (Cut a b) = countFault a b
@@ -137,8 +137,8 @@ modeBy (gives values) = Replace
 modeBy absent = Insert
 modeBy (refused number) = Insert
 
-unfoldable pub putStep : (key w : ℕ) → Session → (image heads next : List ℕ) → StepResult
-putStep key w s image heads next =
+unfoldable pub writeStep : (key w : ℕ) → Session → (image heads next : List ℕ) → StepResult
+writeStep key w s image heads next =
     changeStep s image
     (writeResult 1 image heads next (s .state) (modeBy (locateResult 1 image heads next key)) key (wordBytes w))
 
@@ -169,7 +169,7 @@ waitingFor s a b = record { n = s .n; state = s .state; waiting = Counts a b }
 -- each line by its form; a Bad line is refused before it comes here
 unfoldable pub lineStep : Line → Session → (image heads next : List ℕ) → StepResult
 lineStep (New n) s image heads next = makeStep n s image heads next
-lineStep (Put key w) s image heads next = putStep key w s image heads next
+lineStep (Write key w) s image heads next = writeStep key w s image heads next
 lineStep (Remove key) s image heads next = changeStep s image (removeResult 1 image heads next (s .state) key)
 lineStep (Get key) s image heads next = leaves (wordFound image heads next key) s image heads next
 lineStep (Cut a b) s image heads next = leaves (cut a b) (waitingFor s a b) image heads next

@@ -4,7 +4,7 @@ ghost use mathlib.Core.List.{[], _∷_};
 ghost use Rattle.face.specs.Set.{zipped, leftIn, changeEnd, writeResult, removeResult, getResult, locateResult};
 ghost use Rattle.text.specs.inner.Output.{replySays};
 ghost use Rattle.session.specs.inner.Step.{stepEnd};
-ghost use Rattle.session.specs.Step.{recoverStep, makeStep, storedWith, changeStep, wordBytes, modeBy, putStep, gotBy, wordFound};
+ghost use Rattle.session.specs.Step.{recoverStep, makeStep, storedWith, changeStep, wordBytes, modeBy, writeStep, gotBy, wordFound};
 use crate::start::start;
 use orderset::Change;
 use orderset::Formatted;
@@ -138,7 +138,7 @@ fn carry_change(
 }
 
 // The key gets the 8 bytes of the word: an insert or a replace, according to what is held.
-fn put_word(
+fn write_key(
     image: &[u8],
     heads: &mut [u32],
     next: &mut [u32],
@@ -165,7 +165,7 @@ fn put_word(
 }
 
 // `p K W`.
-pub fn put_line(
+pub fn write_line(
     session: Session,
     key: u64,
     word: u64,
@@ -173,12 +173,12 @@ pub fn put_line(
     heads: &mut [u32],
     next: &mut [u32],
 ) -> Stepped
-    ensures { λ r. ⌜ stepEnd r (now (image .exit)) (now (heads .exit)) (now (next .exit)) ≡ putStep key word session (now (image .entry)) (now (heads .entry)) (now (next .entry)) ⌝ }
+    ensures { λ r. ⌜ stepEnd r (now (image .exit)) (now (heads .exit)) (now (next .exit)) ≡ writeStep key word session (now (image .entry)) (now (heads .entry)) (now (next .entry)) ⌝ }
 {
     let state = session.state;
     let mut at = [0u32; 16];
     let mut value = [0u64; 16];
-    let change = put_word(image, heads, next, state, key, word, &mut at, &mut value);
+    let change = write_key(image, heads, next, state, key, word, &mut at, &mut value);
     carry_change(change, Stores { at, value }, session, image, heads, next)
 }
 

@@ -10,7 +10,7 @@ fn form_fault(line: Line) -> u32
 {
     match line {
         Line::New(_) => 0,
-        Line::Put { key: _, word: _ } => 0,
+        Line::Write { key: _, word: _ } => 0,
         Line::Remove(_) => 0,
         Line::Get(_) => 0,
         Line::Cut { a: _, b: _ } => 0,
@@ -24,7 +24,7 @@ pub fn slots_for(line: Line, session: Session) -> u64
 {
     match line {
         Line::New(n) => n,
-        Line::Put { key: _, word: _ } => session.n,
+        Line::Write { key: _, word: _ } => session.n,
         Line::Remove(_) => session.n,
         Line::Get(_) => session.n,
         Line::Cut { a: _, b: _ } => session.n,
@@ -73,7 +73,7 @@ fn cut_fault(line: Line) -> u32
 {
     match line {
         Line::New(_) => 0,
-        Line::Put { key: _, word: _ } => 0,
+        Line::Write { key: _, word: _ } => 0,
         Line::Remove(_) => 0,
         Line::Get(_) => 0,
         Line::Cut { a, b } => count_fault(a, b),

@@ -4,8 +4,8 @@ ghost use Rattle.session.specs.inner.Step.{stepEnd};
 ghost use Rattle.session.specs.Step.{waitingFor, lineStep, stepResult};
 use crate::lines::get_word;
 use crate::lines::make;
-use crate::lines::put_line;
 use crate::lines::remove_line;
+use crate::lines::write_line;
 use crate::refusal::line_fault;
 use crate::refusal::slots_for;
 use session::Session;
@@ -41,7 +41,7 @@ fn carry_line(
 {
     match line {
         Line::New(n) => make(n, session, image, heads, next),
-        Line::Put { key, word } => put_line(session, key, word, image, heads, next),
+        Line::Write { key, word } => write_line(session, key, word, image, heads, next),
         Line::Remove(key) => remove_line(session, key, image, heads, next),
         Line::Get(key) => Stepped {
             reply: get_word(image, heads, next, key),

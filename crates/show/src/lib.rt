@@ -2,6 +2,7 @@
 use libc::STDOUT_FILENO;
 use orderset::Formatted;
 use orderset::Got;
+use orderset::Openings;
 use orderset::Outcome;
 use orderset::Recovered;
 use orderset::State;
@@ -65,6 +66,28 @@ pub fn recovered(r: Recovered) {
         Recovered::Rebuilt(s) => state(s),
         Recovered::Refused { number, slot: _ } => refused(number),
     }
+}
+
+fn pairs(at: &[u32; 8], value: &[u64; 8], count: u32) {
+    let mut i = 0;
+    while i < 8 {
+        if i < count as usize {
+            number(wide(at[i]));
+            number(value[i]);
+        }
+        i += 1;
+    }
+}
+
+// Recovery's opening stores, each a word number and a value; nothing where there are none.
+pub fn openings(stores: Openings) {
+    if stores.count == 0 {
+        return;
+    }
+    text(b" opens");
+    let at = stores.at;
+    let value = stores.value;
+    pairs(&at, &value, stores.count);
 }
 
 // The answer of an insert, a replace or a remove.

@@ -13,7 +13,7 @@ use Rattle.words.specs.Word.{AreBytes, word}
 use Rattle.words.proofs.Laws.{word-past, word-range}
 use Rattle.prelude.proofs.Choice.{pick-true, pick-false}
 use Rattle.prelude.specs.Range.{tabulate}
-use Rattle.prelude.proofs.Tabulate.{tabulate-put}
+use Rattle.prelude.proofs.Tabulate.{set-tabulate}
 use Rattle.layout.specs.Line.{firstWord, lastWord}
 use Rattle.layout.specs.Record.{Layout, keyWord, kindWord, limit, valuePlace}
 use Rattle.layout.specs.inner.Steps.{steps}
@@ -163,7 +163,7 @@ module _ (l a b key version : ℕ) where
   some-words lay w value zero h = refl
   some-words lay w value (suc n) h =
       ap₂ (λ (ws : List ℕ) (p : ℕ). set ws p (word value n)) (some-words lay w value n (omega arith)) place
-      ∙ tabulate-put _ _ 16 (valuePlace l n) (word value n) (omega (arith, body .before-stamp-B))
+      ∙ set-tabulate _ _ 16 (valuePlace l n) (word value n) (omega (arith, body .before-stamp-B))
       (in-body w _ (valuePlace l n) body ∙ placed-at l value (suc n) n (omega arith))
       (λ p ne. ap (λ (v : ℕ). wordAt w v p) (pick-false (eqb p (valuePlace l n)) _ _ (ne-eqb p (valuePlace l n) ne)))
     where

@@ -75,10 +75,11 @@ module _ (f g : Table) (n : ℕ) (same : (t : ℕ) → Slot n t → g t ≡ f t)
 
   pub alike-older-first : (l : List ℕ) → ((t : ℕ) → In t l → Slot n t) → OlderFirst f l → OlderFirst g l
   alike-older-first [] slot h = h
-  alike-older-first (x ∷ l) slot h =
-      (λ t m r o.
-      h .0 t m (sym (ap isRemove (same x (slot x (inl refl)))) ∙ r) (sym (alike-older x t (slot x (inl refl)) (slot t (inr m))) ∙ o),
-      alike-older-first l (λ t m. slot t (inr m)) (h .1))
+  alike-older-first (x ∷ l) slot h = (
+    λ t m r o.
+        h .0 t m (sym (ap isRemove (same x (slot x (inl refl)))) ∙ r) (sym (alike-older x t (slot x (inl refl)) (slot t (inr m))) ∙ o),
+    alike-older-first l (λ t m. slot t (inr m)) (h .1),
+  )
 
   pub alike-highest-last : (l : List ℕ) → ((t : ℕ) → In t l → Slot n t) → HighestLast f n l → HighestLast g n l
   alike-highest-last [] slot h = h

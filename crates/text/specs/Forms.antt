@@ -4,7 +4,7 @@ use mathlib.Core.List.{List, [], _∷_}
 use Prim.Native.Nat.{ℕ, _+_, _-_, _*_, _^_}
 use lib.Dec.{eqb, ltb}
 use Rattle.text.specs.declared.Line.{Line}
-use Rattle.text.specs.declared.Line.the-variants.{New, Put, Remove, Get, Cut, Bad}
+use Rattle.text.specs.declared.Line.the-variants.{New, Write, Remove, Get, Cut, Bad}
 
 -- ---- a number
 
@@ -49,7 +49,7 @@ withOne letter n = cond (eqb letter 110) (New n) (cond (eqb letter 114) (Remove 
 
 -- `p K W`, `c A B`
 unfoldable pub withTwo : (letter first second : ℕ) → Line
-withTwo letter first second = cond (eqb letter 112) (Put first second) (cond (eqb letter 99) (Cut first second) Bad)
+withTwo letter first second = cond (eqb letter 112) (Write first second) (cond (eqb letter 99) (Cut first second) Bad)
 
 -- a letter and the fields after it, which are one or two numbers
 unfoldable pub withNumbers : (letter : ℕ) → List (List ℕ) → Line

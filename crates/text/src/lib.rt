@@ -3,7 +3,7 @@
 // What a line of input asks; Bad is a line of none of the forms.
 pub enum Line {
     New(u64),
-    Put { key: u64, word: u64 },
+    Write { key: u64, word: u64 },
     Remove(u64),
     Get(u64),
     Cut { a: u64, b: u64 },

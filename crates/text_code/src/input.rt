@@ -133,7 +133,7 @@ fn with_two(letter: u8, first: u64, second: u64) -> Line
     ensures { λ r. ⌜ r ≡ withTwo letter first second ⌝ }
 {
     if letter == 112 {
-        return Line::Put {
+        return Line::Write {
             key: first,
             word: second,
         };

@@ -6,8 +6,8 @@ use Prim.Native.Nat.{ℕ, zero, suc, _+_, _-_, _*_, _/_, _%_, _^_, _≤_, _<_, m
 use native.Mathlib.Nat.{div-add-mod, pow-suc, pow-succ', div-one, div-lt-iff-lt-mul, div-div-eq-div-mul, mod-lt, zero-lt-suc}
 use native.Mathlib.Decide.{decLt, ℕ-discrete}
 use native.Mathlib.Omega.{arith}
-use lib.ListN.{length, take, getD, set, length-set, List·getD-eq-default}
-use lib.Seq.{getD-set-same, getD-set-other, set-out, getD-take}
+use lib.ListN.{length, take, drop, getD, set, length-set, List·getD-eq-default}
+use lib.Seq.{getD-set-same, getD-set-other, set-out, getD-take, getD-drop}
 use Rattle.words.specs.Word.{AreBytes, word, setBytes, setWord}
 
 -- the number of the n bytes from a on
@@ -208,3 +208,15 @@ word-take s n i h =
       getD-take n s (8 * i + 6) 0 (omega arith),
       getD-take n s (8 * i + 7) 0 (omega arith),
     )
+
+-- and of what follows a front
+pub word-drop : (s : List ℕ) (k i : ℕ) → word (drop (8 * k) s) i ≡ word s (k + i)
+unfolding word
+word-drop s k i =
+    omega (arith, byte (8 * i) (8 * (k + i)) (omega arith), at 1, at 2, at 3, at 4, at 5, at 6, at 7)
+  where
+    byte : (a b : ℕ) → 8 * k + a ≡ b → getD (drop (8 * k) s) a 0 ≡ getD s b 0
+    byte a b e = getD-drop (8 * k) s a 0 ∙ ap (λ (x : ℕ). getD s x 0) e
+
+    at : (j : ℕ) → getD (drop (8 * k) s) (8 * i + j) 0 ≡ getD s (8 * (k + i) + j) 0
+    at j = byte (8 * i + j) (8 * (k + i) + j) (omega arith)

@@ -1,5 +1,5 @@
 -- `session_code::lines::recovered` meets its contract. Assumes nothing.
-use Rattle.face.specs.Set.{recoverSays, recoverState}
+use Rattle.face.specs.Set.{recoverEnd}
 use Rattle.text.specs.inner.Output.{replySays}
 use Rattle.session.specs.Step.{recoverStep, recoveredBy, recoveredAs}
 use borrow.Author.Needs.{needs}
@@ -7,7 +7,7 @@ use Rattle.session_code.proofs.lines.recovered.Statement.{statement}
 use Rattle.session_code.proofs.lines.recovered.Tie as tie
 
 pub recovered-spec : {M : Type 1} → statement M
-unfolding recoverStep recoveredBy recoveredAs recoverSays recoverState replySays
+unfolding recoverStep recoveredBy recoveredAs recoverEnd replySays
 recovered-spec =
     tie.close
     (tie.spec

@@ -1,11 +1,11 @@
--- `session_code::lines::put_word` meets its contract. Assumes nothing.
+-- `session_code::lines::write_key` meets its contract. Assumes nothing.
 use mathlib.Core.Path.{ap}
 use Rattle.prelude.specs.Answer.{Answer}
 use Rattle.face.specs.Set.{Reported, ChangeResult, locateSays}
 use Rattle.session.specs.Step.{wordBytes, modeBy}
 use borrow.Author.Needs.{needs}
-use Rattle.session_code.proofs.lines.put_word.Statement.{statement}
-use Rattle.session_code.proofs.lines.put_word.Tie as tie
+use Rattle.session_code.proofs.lines.write_key.Statement.{statement}
+use Rattle.session_code.proofs.lines.write_key.Tie as tie
 
 same-length : tie.Need-same-length
 same-length c = c .before .before .before .before .replace .kept .1 .0
@@ -37,8 +37,8 @@ returns-3 : tie.Need-returns-3
 unfolding wordBytes modeBy locateSays
 returns-3 c = rw (← (ap (λ (x : Reported Answer). x .left) (c .before .before .before .before .before .before .before .before .before .before .before .before .locate .ensures)), c .before .before .before .before .before .before .before .before .before .before .enum-told3 .given .1, ← (c .before .before .before .before .before .before .before .before .before .before .before .before .before .before .before .before .write-word .ensures)) (ap (λ (x : Reported ChangeResult). x .left) (c .before .before .before .before .insert2 .ensures))
 
-pub put-word-spec : {M : Type 1} → statement M
-put-word-spec =
+pub write-key-spec : {M : Type 1} → statement M
+write-key-spec =
     tie.close
     (tie.spec
     (λ c. search needs) (λ c κs. search needs) (λ c κs. search needs)

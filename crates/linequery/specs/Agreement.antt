@@ -1,0 +1,47 @@
+-- What is answered of the lines of a slot, beside the set's own rules. Document 02, A.12: "They agree with the set's own rules on every line."
+use mathlib.Core.Path.{_≡_}
+use mathlib.Core.Bool.{Bool, false, cond}
+use mathlib.Core.List.{List}
+use Prim.Native.Nat.{ℕ, _+_, _*_, _/_, _^_, _<_, max}
+use lib.Dec.{eqb}
+use lib.ListN.{length, getD, take, drop}
+use Rattle.words.specs.Word.{word}
+use Rattle.layout.specs.Slot.{slotVerdict}
+use Rattle.layout.specs.declared.Verdict.{Verdict}
+use Rattle.layout.specs.declared.Verdict.the-variants.{Valid, Empty, Broken}
+use Rattle.stores.specs.Store.{onLine}
+use Rattle.stores.specs.Play.{values}
+use Rattle.stores.specs.Written.{recordStores}
+use Rattle.linequery.specs.Query.{QueryResult, sliceFault, wholeQuery, versionQuery, firstQuery, lastQuery}
+
+-- the 64 bytes of line n of an image
+unfoldable pub lineBytes : (image : List ℕ) → (n : ℕ) → List ℕ
+lineBytes image n = take 64 (drop (64 * n) image)
+
+-- the word that a query of line n puts into these 8 bytes
+abbrev pub answerOf : (query : List ℕ → List ℕ → QueryResult) → (image lent : List ℕ) → (n : ℕ) → ℕ
+answerOf query image lent n = word (query (lineBytes image n) lent .answer) 0
+
+-- both lines are whole, by the answers on them, and have one version
+unfoldable pub pairedBy : (wholeA versionA wholeB versionB : ℕ) → Bool
+pairedBy wholeA versionA wholeB versionB = cond (eqb wholeA 1) (cond (eqb wholeB 1) (eqb versionA versionB) false) false
+
+-- "A slot is valid when both lines are whole and carry the same version, at least 1. It is empty when both are whole with version 0.
+-- Every other slot is broken": Broken has the highest version on a whole line
+unfoldable pub verdictBy : (wholeA versionA wholeB versionB : ℕ) → Verdict
+verdictBy wholeA versionA wholeB versionB =
+    cond (pairedBy wholeA versionA wholeB versionB) (cond (eqb versionA 0) Empty (Valid versionA))
+    (Broken (max (cond (eqb wholeA 1) versionA 0) (cond (eqb wholeB 1) versionB 0)))
+
+-- eight words, the first of them this and the last that
+pub record Framed (words : List ℕ) (first last : ℕ) : Type 0 where
+  pub eight : length words ≡ 8
+  pub begins : getD words 0 0 ≡ first
+  pub ends : getD words 7 0 ≡ last
+
+-- no query of its lines gives 33; the answers on them give the slot's verdict; the first and the last word are those of the stores
+-- that a call hands out for the line, whatever record it writes
+pub record SlotAgreement (image lent : List ℕ) (s : ℕ) : Type 0 where
+  pub sized : (n : ℕ) → n / 2 ≡ s → sliceFault (length (lineBytes image n)) (length lent) ≡ 0
+  pub verdict : verdictBy (answerOf wholeQuery image lent (2 * s)) (answerOf versionQuery image lent (2 * s)) (answerOf wholeQuery image lent (2 * s + 1)) (answerOf versionQuery image lent (2 * s + 1)) ≡ slotVerdict (word image) s
+  pub stores : (l n key kind number : ℕ) (value : List ℕ) (version : ℕ) → n / 2 ≡ s → version < 2 ^ 63 → Framed (values (onLine n (recordStores l (word image) s key kind number value version))) (answerOf (firstQuery version) image lent n) (answerOf (lastQuery version) image lent n)

@@ -1,0 +1,1 @@
+// What is asked of a single line: definitions and laws.
