@@ -15,7 +15,7 @@ use Rattle.layout.specs.Record.{Layout, limit}
 use Rattle.layout.specs.Header.{lentFault}
 use Rattle.layout.specs.Line.{versionFault}
 use Rattle.layout.specs.inner.Sized.{Sized}
-use Rattle.layout.proofs.Lents.{version-fine, lent-sized}
+use Rattle.layout.proofs.Lents.{version-fine, lent-sized, lent-slots}
 use Rattle.index.specs.Walk.{search, chainFault}
 use Rattle.index.specs.Change.{keyFault, isFound}
 use Rattle.index.specs.Taking.{Taking, endsFault, linkFault, fewFault, reuseFault, roomFault}
@@ -159,9 +159,9 @@ length-later l image size found slot prev compared len r e q h =
 
 -- ---- what the walks need
 
-sized-walkable : (l : ℕ) (image heads next : List ℕ) (n : ℕ) → Sized image heads next n → Layout l → Walkable image next l n
-sized-walkable l image heads next n sized lay =
-    record { layout = lay; image-size = sized .image-size; next-size = sized .next-size; few = sized .few }
+sized-walkable : (l : ℕ) (image heads next : List ℕ) (n : ℕ) → Sized image heads next n → 2 ≤ n → Layout l → Walkable image next l n
+sized-walkable l image heads next n sized some lay =
+    record { layout = lay; image-size = sized .image-size; next-size = sized .next-size; some = some; few = sized .few }
 
 -- ---- what the writes need
 
@@ -280,7 +280,7 @@ module _
   sized = lent-sized l f image heads next ef z n en
 
   pub lent-walkable : Layout l → Walkable image next l n
-  lent-walkable lay = sized-walkable l image heads next n sized lay
+  lent-walkable lay = sized-walkable l image heads next n sized (lent-slots l f image heads next ef z n en) lay
 
   pub lent-inside : Layout l → FoundInside l image found
   lent-inside lay = found-inside l image heads next key n sized lay found ed
@@ -310,7 +310,8 @@ module _
   write-sized = lent-sized l 0 image heads next (sym (write-passed .0)) refl n en
 
   pub write-walkable : Layout l → Walkable image next l n
-  write-walkable lay = sized-walkable l image heads next n write-sized lay
+  write-walkable lay =
+      sized-walkable l image heads next n write-sized (lent-slots l 0 image heads next (sym (write-passed .0)) refl n en) lay
 
   pub write-looks : (key : ℕ) (found : Found) → found ≡ search l image heads next key → (s : State) (mode : Mode) (k : ℕ)
       → k ≡ writeLaterFault mode found (takingOf l image next n (s .first) 1) n s → (r : Lookup) → r ≡ lookupBy k found → WriteLookup l image heads next s mode key size r

@@ -1,5 +1,6 @@
 pub mod Compared
 pub mod Change
+pub mod Basket
 pub mod Get
 pub mod Locate
 pub mod Format

@@ -1,4 +1,5 @@
 // The types of the public calls; what the calls answer and change is defined in specs.
+use index::Action;
 use index::State;
 
 // The answer of insert, replace and remove: the slot taken and the version, absent, or a refusal.
@@ -45,4 +46,26 @@ pub struct LocateAnswer {
 pub enum Formatted {
     Slots(u32),
     Refused(u32),
+}
+
+// One of a basket's keys: what is asked for it, its low and its high word (not read in layout 1), and the length of its value, which does not
+// matter of a remove.
+pub struct BasketItem {
+    pub action: Action,
+    pub low: u64,
+    pub high: u64,
+    pub length: usize,
+}
+
+// A basket's answer: the version, or a refusal.
+pub enum BasketOutcome {
+    Stored { version: u64 },
+    Refused(u32),
+}
+
+// What a basket gives back: the answer, the slots taken, key by key and then zeros, and the new state. The stores to be played are lent.
+pub struct BasketAnswer {
+    pub outcome: BasketOutcome,
+    pub slots: [u32; 8],
+    pub state: State,
 }

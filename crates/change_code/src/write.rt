@@ -67,11 +67,12 @@ fn write_later_fault(
     requires { ⌜ Walkable (now image) (now next) l n ⌝ }
     ensures { λ r. ⌜ r ≡ writeLaterFault mode found (takingOf l (now (image .entry)) (now (next .entry)) n (state .first) 1) n state ⌝ }
 {
+    let held = is_found(found);
     let chain = chain_fault(found);
     if chain != 0 {
         return chain;
     }
-    let key = key_fault(mode, is_found(found));
+    let key = key_fault(mode, held);
     if key != 0 {
         return key;
     }

@@ -10,7 +10,7 @@ use Rattle.face.specs.Laws.{CallLaws, SetLaws}
 use Rattle.face.proofs.SetLaws.{layout-1, call-laws, set-laws}
 use Rattle.book.proofs.Steps.{step-right}
 use Rattle.book.proofs.StepEvents.{step-event-keeps, step-event-slots, step-along}
-use Rattle.cutrule.specs.Request.{Request, a-call, a-step, requestLeaves, requestFault, requestUpdates, RequestRight, TypedRequest, worldAfterRequest, mapAfterRequest}
+use Rattle.cutrule.specs.Request.{Request, a-call, a-basket, a-step, requestLeaves, requestFault, requestUpdates, RequestRight, TypedRequest, worldAfterRequest, mapAfterRequest}
 use Rattle.cutrule.specs.Rule.{CutRight, AllRight, CutRuleIn, CutRule}
 
 typed-request : (l n : ℕ) (event : Event Request) → FitsBy (TypedRequest l) n event → TypedRequest l (requestOf event)
@@ -23,28 +23,34 @@ module _ (l : ℕ) (Inv : World → PlainMap → Type 0) (laws : SetLaws l Inv) 
   module _ (w : World) (m : PlainMap) (i : Inv w m) where
     right : (request : Request) → TypedRequest l request → RequestRight l w m request
     right (a-call call) t = laws .answers w m i call t
+    right (a-basket b) t = laws .answers-basket w m i b t
     right (a-step step) t = step-right l Inv laws w m i step t
 
     keeps : (event : Event Request) → FitsBy (TypedRequest l) (slotsIn (w .image)) event
         → Inv (worldAfterRequest l w event) (mapAfterRequest l w m event)
     unfolding stepBy isWhole requestLeaves requestFault requestUpdates
     keeps (done (a-call call)) (done-fits t) = laws .keeps w m i (done call) (done-fits t)
+    keeps (done (a-basket b)) (done-fits t) = laws .keeps-basket w m i (done b) (done-fits t)
     keeps (done (a-step step)) (done-fits t) = step-event-keeps l Inv laws w m i (done step) (done-fits t)
     keeps (struck (a-call call) cut) (struck-fits t c) = laws .keeps w m i (struck call cut) (struck-fits t c)
+    keeps (struck (a-basket b) cut) (struck-fits t c) = laws .keeps-basket w m i (struck b cut) (struck-fits t c)
     keeps (struck (a-step step) cut) (struck-fits t c) = step-event-keeps l Inv laws w m i (struck step cut) (struck-fits t c)
 
     cut-right : (event : Event Request) → FitsBy (TypedRequest l) (slotsIn (w .image)) event → CutRight l w m event
     unfolding isWhole requestLeaves requestFault requestUpdates
     cut-right (done request) f = tt
     cut-right (struck (a-call call) cut) (struck-fits t c) = laws .keeps-along w m i call cut (struck-fits t c)
+    cut-right (struck (a-basket b) cut) (struck-fits t c) = laws .keeps-basket-along w m i b cut (struck-fits t c)
     cut-right (struck (a-step step) cut) (struck-fits t c) = step-along l Inv laws w m i step cut (struck-fits t c)
 
     same-slots : (event : Event Request) → FitsBy (TypedRequest l) (slotsIn (w .image)) event
         → slotsIn (worldAfterRequest l w event .image) ≡ slotsIn (w .image)
     unfolding stepBy requestLeaves
     same-slots (done (a-call call)) (done-fits t) = laws .keeps-slots w m i (done call) (done-fits t)
+    same-slots (done (a-basket b)) (done-fits t) = laws .keeps-basket-slots w m i (done b) (done-fits t)
     same-slots (done (a-step step)) (done-fits t) = step-event-slots l Inv laws w m i (done step) (done-fits t)
     same-slots (struck (a-call call) cut) (struck-fits t c) = laws .keeps-slots w m i (struck call cut) (struck-fits t c)
+    same-slots (struck (a-basket b) cut) (struck-fits t c) = laws .keeps-basket-slots w m i (struck b cut) (struck-fits t c)
     same-slots (struck (a-step step) cut) (struck-fits t c) = step-event-slots l Inv laws w m i (struck step cut) (struck-fits t c)
 
   -- ---- every list

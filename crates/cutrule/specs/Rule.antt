@@ -1,4 +1,4 @@
--- THE CUT RULE, demand 3, as one statement over every list of calls and book steps, whichever of them power cuts strike.
+-- THE CUT RULE, demand 3, as one statement over every list of calls, baskets and book steps, whichever of them power cuts strike.
 use mathlib.Core.Path.{_≡_}
 use mathlib.Core.List.{List}
 use Prim.Native.Nat.{ℕ}

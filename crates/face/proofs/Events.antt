@@ -8,17 +8,23 @@ use Rattle.prelude.specs.Members.{All, none-left, one-more}
 use Rattle.layout.specs.Header.{indexFault}
 use Rattle.layout.specs.Record.{Layout}
 use Rattle.layout.specs.Size.{slotsOf, slotsIn}
-use Rattle.stores.specs.Store.{allStand}
+use Rattle.stores.specs.Store.{Store, played, allStand}
+use Rattle.stores.specs.Play.{playEnd, playListResult, wordNumbers, values}
 use Rattle.stores.proofs.Bytes.{played-length}
-use Rattle.plainmap.specs.World.{World, Call, called, finished, worldAfter, Round, afterRound, afterRounds, openedWorld, Restart, restarted}
-use Rattle.plainmap.specs.Plain.{PlainMap, updates}
+use Rattle.prelude.specs.Answer.{refuses}
+use Rattle.prelude.proofs.defs.Answer.{isRefusal}
+use Rattle.plainmap.specs.World.{World, Call, Called, called, finished, worldAfter, Round, afterRound, afterRounds, openedWorld, Restart, restarted}
+use Rattle.plainmap.specs.Plain.{PlainMap, Update, updates}
 use Rattle.plainmap.specs.Accepted.{Accepted}
-use Rattle.plainmap.specs.Claims.{Typed, slotsMap}
+use Rattle.plainmap.specs.Claims.{Typed, dueFault, slotsMap}
+use Rattle.plainmap.specs.Baskets.{Basket, basketCalled, basketUpdates, basketDue, BasketRight}
 use Rattle.plainmap.specs.Sound.{Agrees}
-use Rattle.plainmap.proofs.Afters.{After, after-call}
-use Rattle.plainmap.proofs.CallLists.{agrees-right, agrees-with, agrees-stepped, agrees-next, after-round, restarted-agrees}
+use Rattle.plainmap.proofs.Afters.{After, after-call, after-list}
+use Rattle.plainmap.proofs.CallSteps.{Stepped}
+use Rattle.plainmap.proofs.BasketRights.{basket-stepped, basket-right, basket-refuses}
+use Rattle.plainmap.proofs.CallLists.{agrees-right, agrees-with, agrees-stepped, agrees-after, agrees-next, after-round, restarted-agrees}
 use Rattle.plainmap.proofs.Rights.{right-refuses}
-use Rattle.face.specs.Event.{Cut, Event, done, struck, leaving, step, isWhole, plainEvent, mapAfterEvent, RestartFits, Fits, done-fits, struck-fits, stepBy, imageCut}
+use Rattle.face.specs.Event.{Cut, Event, done, struck, leaving, step, isWhole, plainEvent, mapAfterEvent, RestartFits, FitsBy, Fits, done-fits, struck-fits, stepBy, imageCut, TypedBasket, basketLeaves, basketStep, mapAfterBasket}
 use Rattle.face.specs.Recovers.{RecoversAlong}
 use Rattle.face.proofs.Images.{accepted-gives}
 
@@ -45,49 +51,111 @@ pub restarted-slots : (l : ℕ) (image : List ℕ) (r : Restart) → slotsIn (re
 unfolding restarted openedWorld worldAfter
 restarted-slots l image r = ap slotsOf (played-length _ (afterRounds l image (r .rounds)) ∙ rounds-length l image (r .rounds))
 
--- ---- one event
+-- ---- one event of a request, a single call or a basket, that updates these keys, with its result r; `denied` tells whether the rules refuse it
 
-module _ (l : ℕ) (lay : Layout l) (w : World) (m : PlainMap) (g : Agrees l w m) where
-  -- a call with some of its stores played
-  after : (call : Call) (counts : ℕ → ℕ) → Typed l call → After l w call counts
-  after call counts s = after-call l w call (g .accepted) counts (agrees-stepped l lay w m g call s)
+module _ (l : ℕ) (lay : Layout l) (w : World) (m : PlainMap) (g : Agrees l w m) (us : List Update) (r : Called) (denied : Bool)
+    (same : isRefusal (r .answer) ≡ denied) (stepped : Stepped l w us r) where
+  -- with some of its stores played
+  after : (counts : ℕ → ℕ) → After l w us r counts
+  after counts = after-call l w us r (g .accepted) counts stepped
 
-  -- a struck call: the plain map's step where all stores stand, and nothing where not
-  struck-map : (call : Call) (cut : Cut) → Typed l call → (k : ℕ)
-      → slotsMap l (imageCut w (leaving (called l w call)) cut) k ≡ mapAfterEvent l w m (struck call cut) k
-  unfolding imageCut plainEvent isWhole
-  struck-map call cut s k =
-      after call (cut .counts) s .map k
-      ∙ ap₂ (λ (b : Bool) (x : PlainMap). plainEvent (allStand (cut .counts) (called l w call .stores)) (updates call) b x k)
-      (right-refuses l w m call (agrees-right l lay w m g call s)) (fun-ext (g .map))
+  -- a struck request: the plain map's step where all stores stand, and nothing where not
+  struck-map : (cut : Cut) (k : ℕ) → slotsMap l (imageCut w (leaving r) cut) k ≡ plainEvent (allStand (cut .counts) (r .stores)) us denied m k
+  unfolding imageCut plainEvent
+  struck-map cut k =
+      after (cut .counts) .map k
+      ∙ ap₂ (λ (b : Bool) (x : PlainMap). plainEvent (allStand (cut .counts) (r .stores)) us b x k) same (fun-ext (g .map))
 
   -- what comes after a cut fits the image that the cut leaves
-  struck-fits-after : (call : Call) (cut : Cut) → Typed l call → RestartFits (slotsIn (w .image)) (cut .restart)
-      → RestartFits (slotsIn (imageCut w (leaving (called l w call)) cut)) (cut .restart)
+  fits-after : (cut : Cut) → RestartFits (slotsIn (w .image)) (cut .restart) → RestartFits (slotsIn (imageCut w (leaving r) cut)) (cut .restart)
   unfolding imageCut
-  struck-fits-after call cut s c = subst (λ (n : ℕ). RestartFits n (cut .restart)) (sym (after call (cut .counts) s .slot-count)) c
+  fits-after cut c = subst (λ (n : ℕ). RestartFits n (cut .restart)) (sym (after (cut .counts) .slot-count)) c
+
+  accepts-after : (cut : Cut) → Accepted l (imageCut w (leaving r) cut)
+  unfolding imageCut
+  accepts-after cut = after (cut .counts) .accepted
+
+  slots-after : (cut : Cut) → slotsIn (imageCut w (leaving r) cut) ≡ slotsIn (w .image)
+  unfolding imageCut
+  slots-after cut = after (cut .counts) .slot-count
+
+  pub struck-agrees : (cut : Cut) → RestartFits (slotsIn (w .image)) (cut .restart)
+      → Agrees l (restarted l (imageCut w (leaving r) cut) (cut .restart)) (plainEvent (allStand (cut .counts) (r .stores)) us denied m)
+  struck-agrees cut c =
+      let f = fits-after cut c in
+      agrees-with l _ _ _ (restarted-agrees l lay (imageCut w (leaving r) cut) (accepts-after cut) (cut .restart) (f .rounds) (f .size)) (struck-map cut)
+
+  -- and recovery gives that map of each image on the way
+  pub struck-along : (cut : Cut) → RestartFits (slotsIn (w .image)) (cut .restart)
+      → RecoversAlong l (imageCut w (leaving r) cut) (plainEvent (allStand (cut .counts) (r .stores)) us denied m) (cut .restart .rounds)
+  struck-along cut c =
+      gives-along l lay (slotsIn (w .image)) (imageCut w (leaving r) cut) _ (slots-after cut) (accepts-after cut) (struck-map cut) (cut .restart .rounds) (c .rounds)
+
+  pub struck-slots : (cut : Cut) → RestartFits (slotsIn (w .image)) (cut .restart)
+      → slotsIn (restarted l (imageCut w (leaving r) cut) (cut .restart) .image) ≡ slotsIn (w .image)
+  struck-slots cut c =
+      restarted-slots l (imageCut w (leaving r) cut) (cut .restart) ∙ slots-after cut
+
+played-slots : (ss : List Store) (image : List ℕ) → slotsIn (played ss image) ≡ slotsIn image
+played-slots ss image = ap slotsOf (played-length ss image)
+
+-- ---- one event of a single call
+
+module _ (l : ℕ) (lay : Layout l) (w : World) (m : PlainMap) (g : Agrees l w m) where
+  denied : (call : Call) → Typed l call → isRefusal (called l w call .answer) ≡ refuses (dueFault l w m call)
+  denied call s = right-refuses l w m call (agrees-right l lay w m g call s)
 
   -- ONE EVENT keeps the set and the plain map together
   pub event-agrees : (event : Event Call) → Fits l (slotsIn (w .image)) event → Agrees l (step l w event) (mapAfterEvent l w m event)
-  unfolding stepBy imageCut plainEvent isWhole finished
+  unfolding stepBy plainEvent isWhole finished
   event-agrees (done call) (done-fits s) = agrees-next l lay w m g call s
   event-agrees (struck call cut) (struck-fits s c) =
-      let f = struck-fits-after call cut s c in
-      agrees-with l _ _ _
-      (restarted-agrees l lay (imageCut w (leaving (called l w call)) cut) (after call (cut .counts) s .accepted) (cut .restart) (f .rounds) (f .size))
-      (struck-map call cut s)
+      struck-agrees l lay w m g (updates call) (called l w call) _ (denied call s) (agrees-stepped l lay w m g call s) cut c
 
-  -- and recovery gives that map of each image on the way
   pub event-along : (call : Call) (cut : Cut) → Fits l (slotsIn (w .image)) (struck call cut)
       → RecoversAlong l (imageCut w (leaving (called l w call)) cut) (mapAfterEvent l w m (struck call cut)) (cut .restart .rounds)
-  unfolding imageCut
+  unfolding isWhole
   event-along call cut (struck-fits s c) =
-      gives-along l lay (slotsIn (w .image)) (imageCut w (leaving (called l w call)) cut) _ (after call (cut .counts) s .slot-count)
-      (after call (cut .counts) s .accepted) (struck-map call cut s) (cut .restart .rounds) (c .rounds)
+      struck-along l lay w m g (updates call) (called l w call) _ (denied call s) (agrees-stepped l lay w m g call s) cut c
 
   -- the number of slots stays
   pub event-slots : (event : Event Call) → Fits l (slotsIn (w .image)) event → slotsIn (step l w event .image) ≡ slotsIn (w .image)
-  unfolding stepBy imageCut
-  event-slots (done call) (done-fits s) = ap slotsOf (played-length (called l w call .stores) (w .image))
+  unfolding stepBy
+  event-slots (done call) (done-fits s) = played-slots (called l w call .stores) (w .image)
   event-slots (struck call cut) (struck-fits s c) =
-      restarted-slots l (imageCut w (leaving (called l w call)) cut) (cut .restart) ∙ after call (cut .counts) s .slot-count
+      struck-slots l lay w m g (updates call) (called l w call) _ (denied call s) (agrees-stepped l lay w m g call s) cut c
+
+  -- ---- and of a basket
+
+  pub basket-answers : (b : Basket) → TypedBasket l b → BasketRight l w m b
+  basket-answers b s =
+      subst (λ (x : PlainMap). BasketRight l w x b) (fun-ext (g .map)) (basket-right l lay w (g .chains) (g .accepted) (g .sound) (g .none-void) b s)
+
+  pub basket-steps : (b : Basket) → TypedBasket l b → Stepped l w (basketUpdates (b .changes)) (basketCalled l w b)
+  basket-steps b s = basket-stepped l lay w (g .chains) (g .accepted) (g .sound) (g .none-void) b s
+
+  basket-denied : (b : Basket) → TypedBasket l b → isRefusal (basketCalled l w b .answer) ≡ refuses (basketDue l w m b)
+  basket-denied b s = basket-refuses l w m b (basket-answers b s)
+
+  pub basket-agrees : (event : Event Basket) → FitsBy (TypedBasket l) (slotsIn (w .image)) event → Agrees l (basketStep l w event) (mapAfterBasket l w m event)
+  unfolding stepBy plainEvent isWhole
+  basket-agrees (done b) (done-fits s) = agrees-after l w m g (basketUpdates (b .changes)) (basketCalled l w b) _ (basket-denied b s) (basket-steps b s)
+  basket-agrees (struck b cut) (struck-fits s c) =
+      struck-agrees l lay w m g (basketUpdates (b .changes)) (basketCalled l w b) _ (basket-denied b s) (basket-steps b s) cut c
+
+  pub basket-along : (b : Basket) (cut : Cut) → FitsBy (TypedBasket l) (slotsIn (w .image)) (struck b cut)
+      → RecoversAlong l (imageCut w (basketLeaves l w b) cut) (mapAfterBasket l w m (struck b cut)) (cut .restart .rounds)
+  unfolding isWhole
+  basket-along b cut (struck-fits s c) =
+      struck-along l lay w m g (basketUpdates (b .changes)) (basketCalled l w b) _ (basket-denied b s) (basket-steps b s) cut c
+
+  pub basket-keeps-slots : (event : Event Basket) → FitsBy (TypedBasket l) (slotsIn (w .image)) event → slotsIn (basketStep l w event .image) ≡ slotsIn (w .image)
+  unfolding stepBy
+  basket-keeps-slots (done b) (done-fits s) = played-slots (basketCalled l w b .stores) (w .image)
+  basket-keeps-slots (struck b cut) (struck-fits s c) =
+      struck-slots l lay w m g (basketUpdates (b .changes)) (basketCalled l w b) _ (basket-denied b s) (basket-steps b s) cut c
+
+  pub basket-played : (b : Basket) → TypedBasket l b
+      → playListResult (w .image) (wordNumbers (basketCalled l w b .stores)) (values (basketCalled l w b .stores)) ≡
+      playEnd 0 (played (basketCalled l w b .stores) (w .image))
+  basket-played b s = after-list l w (basketUpdates (b .changes)) (basketCalled l w b) (g .accepted) (basket-steps b s)

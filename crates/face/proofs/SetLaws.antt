@@ -23,12 +23,11 @@ use Rattle.plainmap.specs.Accepted.{Accepted, RightSize}
 use Rattle.plainmap.specs.Claims.{Typed, slotsMap}
 use Rattle.plainmap.specs.Sound.{Agrees}
 use Rattle.plainmap.proofs.AcceptedImages.{accepted-recovers, recovers-accepted, accepted-slots, accepted-long}
-use Rattle.plainmap.proofs.Afters.{after-list}
-use Rattle.plainmap.proofs.CallLists.{agrees-right, agrees-reads, agrees-with, agrees-stepped, opened-agrees, restarted-agrees, formatted-empty, formatted-fine}
+use Rattle.plainmap.proofs.CallLists.{agrees-right, agrees-reads, agrees-with, agrees-list, opened-agrees, restarted-agrees, formatted-empty, formatted-fine}
 use Rattle.plainmap.proofs.Playing.{record-passes, record-cut, playing-none}
 use Rattle.face.specs.Laws.{Lengths, CallLaws, SetLaws}
 use Rattle.face.proofs.Images.{accepted-gives, state-answered}
-use Rattle.face.proofs.Events.{gives-along, restarted-slots, event-agrees, event-along, event-slots}
+use Rattle.face.proofs.Events.{gives-along, restarted-slots, event-agrees, event-along, event-slots, basket-answers, basket-agrees, basket-along, basket-keeps-slots, basket-played}
 use Rattle.face.proofs.Stored.{few-given, hands-out, OneStored, none-stored, one-stored, stored-one, some-stores}
 use Rattle.face.proofs.Heads.{called-heads, recovered-heads}
 
@@ -125,9 +124,14 @@ module _ (l : ℕ) (lay : Layout l) where
         some-stores = some-stores l lay;
         plays = the-plays;
         plays-cut = the-cut;
-        plays-list = λ w m g call s. after-list l w call (g .accepted) (agrees-stepped l lay w m g call s);
+        plays-list = agrees-list l lay;
         accepts = λ w m g heads next s. accepted-recovers l (w .image) (length heads) (length next) (g .accepted) s;
         keeps-slots = event-slots l lay;
+        answers-basket = basket-answers l lay;
+        keeps-basket = basket-agrees l lay;
+        keeps-basket-along = basket-along l lay;
+        keeps-basket-slots = basket-keeps-slots l lay;
+        plays-basket = basket-played l lay;
       }
 
 -- the layout of document 01

@@ -13,6 +13,7 @@ use Rattle.plainmap.specs.World.{World, Call, Called, called, Restart, restarte
 use Rattle.plainmap.specs.Plain.{PlainMap, Update, updates, plainStep}
 use Rattle.prelude.specs.Answer.{refuses}
 use Rattle.plainmap.specs.Claims.{Typed, dueFault}
+use Rattle.plainmap.specs.Baskets.{Basket, basketCalled, basketUpdates, basketDue, TypedChange}
 
 -- a cut: line n holds its first `counts n` stores, and what comes after it
 pub record Cut : Type 0 where
@@ -88,3 +89,19 @@ mapAfterEvent l w m event =
 
 abbrev pub Fits : (l n : ℕ) → Event Call → Type 0
 Fits l n event = FitsBy (Typed l) n event
+
+-- ---- events of baskets
+
+abbrev pub TypedBasket : (l : ℕ) → Basket → Type 0
+TypedBasket l b = All (TypedChange l) (b .changes)
+
+abbrev pub basketLeaves : (l : ℕ) → World → Basket → Leaving
+basketLeaves l w b = leaving (basketCalled l w b)
+
+abbrev pub basketStep : (l : ℕ) → World → Event Basket → World
+basketStep l w event = stepBy l (basketLeaves l) w event
+
+-- the plain map after an event of a basket: all of its changes or none
+abbrev pub mapAfterBasket : (l : ℕ) → World → PlainMap → Event Basket → PlainMap
+mapAfterBasket l w m event =
+    plainEvent (isWhole (basketLeaves l) w event) (basketUpdates (requestOf event .changes)) (refuses (basketDue l w m (requestOf event))) m

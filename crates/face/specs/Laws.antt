@@ -17,7 +17,8 @@ use Rattle.index.specs.declared.Mode.{Mode}
 use Rattle.plainmap.specs.Plain.{PlainMap}
 use Rattle.plainmap.specs.Accepted.{RightSize}
 use Rattle.plainmap.specs.Claims.{Typed, slotsMap, Right, Reads}
-use Rattle.face.specs.Event.{Cut, Event, struck, leaving, imageCut, step, mapAfterEvent, RestartFits, Fits}
+use Rattle.plainmap.specs.Baskets.{Basket, basketCalled, BasketRight}
+use Rattle.face.specs.Event.{Cut, Event, struck, leaving, imageCut, step, mapAfterEvent, RestartFits, FitsBy, Fits, TypedBasket, basketLeaves, basketStep, mapAfterBasket}
 use Rattle.face.specs.Recovers.{Recovers, RecoversAlong}
 
 -- an insert, a replace or a remove
@@ -98,3 +99,18 @@ pub record SetLaws (l : ℕ) (Inv : World → PlainMap → Type 0) : Type 0 wher
   -- an event keeps the number of slots
   pub keeps-slots : (w : World) (m : PlainMap) → Inv w m → (event : Event Call) → Fits l (slotsIn (w .image)) event
       → slotsIn (step l w event .image) ≡ slotsIn (w .image)
+  -- ---- baskets
+
+  -- a basket is refused exactly where the rules refuse it, and otherwise answers its version and slots
+  pub answers-basket : (w : World) (m : PlainMap) → Inv w m → (b : Basket) → TypedBasket l b → BasketRight l w m b
+  -- every event of a basket, struck or not, keeps the invariant, with all of its changes or none, and recovery gives that map of each image on the way
+  pub keeps-basket : (w : World) (m : PlainMap) → Inv w m → (event : Event Basket) → FitsBy (TypedBasket l) (slotsIn (w .image)) event
+      → Inv (basketStep l w event) (mapAfterBasket l w m event)
+  pub keeps-basket-along : (w : World) (m : PlainMap) → Inv w m → (b : Basket) (cut : Cut) → FitsBy (TypedBasket l) (slotsIn (w .image)) (struck b cut)
+      → RecoversAlong l (imageCut w (basketLeaves l w b) cut) (mapAfterBasket l w m (struck b cut)) (cut .restart .rounds)
+  pub keeps-basket-slots : (w : World) (m : PlainMap) → Inv w m → (event : Event Basket) → FitsBy (TypedBasket l) (slotsIn (w .image)) event
+      → slotsIn (basketStep l w event .image) ≡ slotsIn (w .image)
+  -- the play of a list makes its stores
+  pub plays-basket : (w : World) (m : PlainMap) → Inv w m → (b : Basket) → TypedBasket l b
+      → playListResult (w .image) (wordNumbers (basketCalled l w b .stores)) (values (basketCalled l w b .stores)) ≡
+      playEnd 0 (played (basketCalled l w b .stores) (w .image))

@@ -52,3 +52,7 @@ pub use Rattle.plainmap.specs.Plain.{sizeOf, plainOut}
 unfoldable pub use Rattle.plainmap.specs.Plain.{updates, updated, plainNext, plainStep, ruleFault, lengthAnswer, filled, plainAnswer}
 pub use Rattle.plainmap.specs.Accepted.{RightSize}
 pub use Rattle.plainmap.specs.Claims.{Typed, write-typed, remove-typed, get-typed, locate-typed, slotsMap, dueFault, dueAnswer, Untouched, Right, Reads}
+-- baskets
+pub use Rattle.calls.specs.Basket.{KeyChange}
+pub use Rattle.plainmap.specs.Baskets.{Basket, BasketRight, TypedChange, basketDue}
+unfoldable pub use Rattle.plainmap.specs.Baskets.{basketCalled, basketUpdates}

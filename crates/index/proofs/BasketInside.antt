@@ -95,7 +95,7 @@ link-item-last n i k l o s = link-by-last n i (k .action) (k .key-head) (k .old)
 
 -- ---- the slot before a target
 
-before-high : (next : List ℕ) (n left target prev at : ℕ) → prev ≤ n → slotBefore next n left target prev at ≤ n
+pub before-high : (next : List ℕ) (n left target prev at : ℕ) → prev ≤ n → slotBefore next n left target prev at ≤ n
 unfolding slotBefore
 before-high next n zero target prev at p = p
 before-high next n (suc left) target prev at p =

@@ -21,3 +21,4 @@ pub mod BasketSizes
 pub mod BasketInside
 pub mod Baskets
 pub mod defs
+pub mod BasketWrites

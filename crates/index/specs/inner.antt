@@ -1,3 +1,4 @@
 pub mod Build
 pub mod Lookup
 pub mod Parts
+pub mod Basket

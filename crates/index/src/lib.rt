@@ -1,13 +1,13 @@
 // The index: chains of slots in two lent slices of numbers, and a state beside them.
 
-// The reuse chain's first and last slot, the live count, the next version, and the first slot that the last call took, 0 for none: a hint, by
-// which a call finds out faster which slots it may take.
+// The reuse chain's first and last slot, the live count, the first slot that the last call took (0 for none: a hint, by which a call finds out
+// faster which slots it may take), and the next version.
 pub struct State {
     pub first: u32,
     pub last: u32,
     pub live: u32,
-    pub version: u64,
     pub newest: u32,
+    pub version: u64,
 }
 
 // What following a key's chain finds: the key's slot, with the slot before it (0 for the head) and the count of slots compared; no slot, with

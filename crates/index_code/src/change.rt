@@ -9,7 +9,7 @@ use index::Place;
 use index::State;
 
 // The link to what follows prev in the chain of head h becomes slot; prev 0 is the head itself.
-fn link(heads: &mut [u32], next: &mut [u32], h: usize, prev: u32, slot: u32)
+pub fn link(heads: &mut [u32], next: &mut [u32], h: usize, prev: u32, slot: u32)
     requires { ⌜ (h < length (now heads)) × (prev < length (now next)) ⌝ }
     ensures { λ _. ⌜ (now (heads .exit) ≡ linkHeads (now (heads .entry)) h prev slot) × (now (next .exit) ≡ linkNext (now (next .entry)) prev slot) ⌝ }
 {
@@ -47,7 +47,7 @@ fn take(next: &[u32], state: State) -> State
 }
 
 // The slot joins the end of the reuse chain.
-fn append(next: &mut [u32], state: State, slot: u32) -> State
+pub fn append(next: &mut [u32], state: State, slot: u32) -> State
     requires { ⌜ (slot < length (now next)) × (state .last < length (now next)) ⌝ }
     ensures { λ r. ⌜ (r ≡ appendState state slot) × (now (next .exit) ≡ appendNext (now (next .entry)) state slot) ⌝ }
 {

@@ -1,4 +1,5 @@
 // The search of a key's chain, the writes of the index and what is refused by it.
+pub mod basket;
 pub mod build;
 pub mod change;
 pub mod fault;

@@ -17,8 +17,8 @@ use Rattle.table.specs.Complete.{numberFor, NoneVoid}
 use Rattle.stores.proofs.AllStand.{all-standing, many-stand}
 use Rattle.index.specs.Index.{Index}
 use Rattle.prelude.proofs.defs.Answer.{isRefusal}
-use Rattle.plainmap.specs.World.{World, Call, Called, called, finished}
-use Rattle.plainmap.specs.Plain.{PlainMap, updates, plainStep}
+use Rattle.plainmap.specs.World.{World, Called}
+use Rattle.plainmap.specs.Plain.{PlainMap, Update, plainStep}
 use Rattle.plainmap.specs.Accepted.{Accepted}
 use Rattle.plainmap.specs.Claims.{slotsMap}
 use Rattle.plainmap.proofs.Playing.{list-played}
@@ -28,17 +28,17 @@ use Rattle.plainmap.proofs.Outcomes.{worldWith}
 use Rattle.plainmap.proofs.CallSteps.{Stepped, stored-none, stored-records}
 
 -- the image after a cut in a call
-abbrev pub cutImage : (l : ℕ) → World → Call → (counts : ℕ → ℕ) → List ℕ
-cutImage l w call counts = played (standing counts (called l w call .stores)) (w .image)
+abbrev pub cutImage : World → Called → (counts : ℕ → ℕ) → List ℕ
+cutImage w r counts = played (standing counts (r .stores)) (w .image)
 
 -- it is accepted, as long as before, and its map made the plain map's step where all stores stand
-pub record After (l : ℕ) (w : World) (call : Call) (counts : ℕ → ℕ) : Type 0 where
-  pub accepted : Accepted l (cutImage l w call counts)
-  pub slot-count : slotsIn (cutImage l w call counts) ≡ slotsIn (w .image)
+pub record After (l : ℕ) (w : World) (us : List Update) (r : Called) (counts : ℕ → ℕ) : Type 0 where
+  pub accepted : Accepted l (cutImage w r counts)
+  pub slot-count : slotsIn (cutImage w r counts) ≡ slotsIn (w .image)
   pub map :
       (k : ℕ)
-      → slotsMap l (cutImage l w call counts) k ≡
-      (cond (allStand counts (called l w call .stores)) (plainStep (updates call) (isRefusal (called l w call .answer)) (slotsMap l (w .image)))
+      → slotsMap l (cutImage w r counts) k ≡
+      (cond (allStand counts (r .stores)) (plainStep (us) (isRefusal (r .answer)) (slotsMap l (w .image)))
       (slotsMap l (w .image))) k
 
 nothing-stands : (counts : ℕ → ℕ) → (standing counts [] ≡ []) × (allStand counts [] ≡ true)
@@ -49,83 +49,80 @@ either : (t : Bool) (m m′ : PlainMap) (k : ℕ) → m k ≡ m′ k → m k ≡
 either true m m′ k e = e
 either false m m′ k e = refl
 
-module _ (l : ℕ) (w : World) (call : Call) (accepted : Accepted l (w .image)) where
+module _ (l : ℕ) (w : World) (us : List Update) (r : Called) (accepted : Accepted l (w .image)) where
   -- no stores
-  image-kept : (counts : ℕ → ℕ) → called l w call .stores ≡ [] → cutImage l w call counts ≡ w .image
+  image-kept : (counts : ℕ → ℕ) → r .stores ≡ [] → cutImage w r counts ≡ w .image
   unfolding played
   image-kept counts none =
       ap (λ (ss : List Store). played (standing counts ss) (w .image)) none ∙ ap (λ (ss : List Store). played ss (w .image)) (nothing-stands counts .0)
 
   as-struck : (counts : ℕ → ℕ) (es : List BasketRecord) (i : Index) (alive newest : ℕ)
-      → called l w call .stores ≡ basketStores l (word (w .image)) (numberFor (length es)) (nextOf l (w .image)) es
-      → (wr : WroteRecords l w es i alive newest) → cutImage l w call counts ≡ struckImage l w es i alive newest accepted wr counts
+      → r .stores ≡ basketStores l (word (w .image)) (numberFor (length es)) (nextOf l (w .image)) es
+      → (wr : WroteRecords l w es i alive newest) → cutImage w r counts ≡ struckImage l w es i alive newest accepted wr counts
   as-struck counts es i alive newest stores wr = ap (λ (ss : List Store). played (standing counts ss) (w .image)) stores
 
   -- THE IMAGE AFTER A CALL
-  pub after-call : (counts : ℕ → ℕ) → Stepped l w call → After l w call counts
+  pub after-call : (counts : ℕ → ℕ) → Stepped l w us r → After l w us r counts
   after-call counts (stored-none none sound same) =
       let e = image-kept counts none in
       record {
         accepted = subst (Accepted l) (sym e) accepted;
         slot-count = ap (λ (t : List ℕ). slotsIn t) e;
-        map = λ k. ap (λ (t : List ℕ). slotsMap l t k) e ∙ either (allStand counts (called l w call .stores)) (slotsMap l (w .image)) _ k (same k);
+        map = λ k. ap (λ (t : List ℕ). slotsMap l t k) e ∙ either (allStand counts (r .stores)) (slotsMap l (w .image)) _ k (same k);
       }
   after-call counts (stored-records es i alive newest stores world wr step) =
       let e = as-struck counts es i alive newest stores wr in
       record {
         accepted = subst (Accepted l) (sym e) (struck-accepted l w es i alive newest accepted wr counts);
         slot-count = ap (λ (t : List ℕ). slotsIn t) e ∙ struck-slots l w es i alive newest accepted wr counts;
-        map = λ k. ap (λ (t : List ℕ). slotsMap l t k) e ∙ go k (split (allStand counts (called l w call .stores)));
+        map = λ k. ap (λ (t : List ℕ). slotsMap l t k) e ∙ go k (split (allStand counts (r .stores)));
       }
     where
-      go : (k : ℕ) → (allStand counts (called l w call .stores) ≡ true) ⊎ (allStand counts (called l w call .stores) ≡ false)
+      go : (k : ℕ) → (allStand counts (r .stores) ≡ true) ⊎ (allStand counts (r .stores) ≡ false)
           → slotsMap l (struckImage l w es i alive newest accepted wr counts) k ≡
-          (cond (allStand counts (called l w call .stores)) (plainStep (updates call) (isRefusal (called l w call .answer)) (slotsMap l (w .image)))
+          (cond (allStand counts (r .stores)) (plainStep (us) (isRefusal (r .answer)) (slotsMap l (w .image)))
           (slotsMap l (w .image))) k
       go k (inl a) =
           whole-map l w es i alive newest accepted wr counts (sym (ap (allStand counts) stores) ∙ a) k ∙ step k
-          ∙ sym (ap (λ (t : Bool). (cond t (plainStep (updates call) (isRefusal (called l w call .answer)) (slotsMap l (w .image))) (slotsMap l (w .image))) k) a)
+          ∙ sym (ap (λ (t : Bool). (cond t (plainStep (us) (isRefusal (r .answer)) (slotsMap l (w .image))) (slotsMap l (w .image))) k) a)
       go k (inr a) =
           torn-map l w es i alive newest accepted wr counts (sym (ap (allStand counts) stores) ∙ a) k
-          ∙ sym (ap (λ (t : Bool). (cond t (plainStep (updates call) (isRefusal (called l w call .answer)) (slotsMap l (w .image))) (slotsMap l (w .image))) k) a)
+          ∙ sym (ap (λ (t : Bool). (cond t (plainStep (us) (isRefusal (r .answer)) (slotsMap l (w .image))) (slotsMap l (w .image))) k) a)
 
   -- with all stores played
   abbrev all : ℕ → ℕ
-  all = λ n. length (called l w call .stores)
+  all = λ n. length (r .stores)
 
-  pub all-played : cutImage l w call all ≡ finished l w call .image
-  unfolding finished
-  all-played = ap (λ (ss : List Store). played ss (w .image)) (all-standing all (called l w call .stores) (many-stand (called l w call .stores)))
+  pub all-played : cutImage w r all ≡ played (r .stores) (w .image)
+  all-played = ap (λ (ss : List Store). played ss (w .image)) (all-standing all (r .stores) (many-stand (r .stores)))
 
   -- NO RECORD IS VOID after a call with all its stores played
-  pub after-none-void : NoneVoid (contentsOf l (w .image)) (numbersOf l (w .image)) (slotsIn (w .image)) → Stepped l w call
-      → NoneVoid (contentsOf l (finished l w call .image)) (numbersOf l (finished l w call .image)) (slotsIn (finished l w call .image))
+  pub after-none-void : NoneVoid (contentsOf l (w .image)) (numbersOf l (w .image)) (slotsIn (w .image)) → Stepped l w us r
+      → NoneVoid (contentsOf l (played (r .stores) (w .image))) (numbersOf l (played (r .stores) (w .image))) (slotsIn (played (r .stores) (w .image)))
   after-none-void none-void (stored-none none sound same) =
       subst (λ (t : List ℕ). NoneVoid (contentsOf l t) (numbersOf l t) (slotsIn t)) (sym (image-kept all none) ∙ all-played) none-void
   after-none-void none-void (stored-records es i alive newest stores world wr step) =
       subst (λ (t : List ℕ). NoneVoid (contentsOf l t) (numbersOf l t) (slotsIn t)) (sym (as-struck all es i alive newest stores wr) ∙ all-played)
       (subst (λ (x : ℕ). NoneVoid (contentsOf l (struckImage l w es i alive newest accepted wr all)) (numbersOf l (struckImage l w es i alive newest accepted wr all)) x)
       (sym (struck-slots l w es i alive newest accepted wr all))
-      (whole-none-void l w es i alive newest accepted wr all (sym (ap (allStand all) stores) ∙ many-stand (called l w call .stores))))
+      (whole-none-void l w es i alive newest accepted wr all (sym (ap (allStand all) stores) ∙ many-stand (r .stores))))
 
   -- THE INDEX AFTER A CALL with all its stores played
-  pub after-sound : Stepped l w call → SomeSound l (finished l w call)
-  unfolding finished
+  pub after-sound : Stepped l w us r → SomeSound l (worldWith (played (r .stores) (w .image)) r)
   after-sound (stored-none none sound same) =
-      subst (λ (t : List ℕ). SomeSound l (worldWith t (called l w call))) (sym (image-kept all none) ∙ all-played) sound
+      subst (λ (t : List ℕ). SomeSound l (worldWith t (r))) (sym (image-kept all none) ∙ all-played) sound
   after-sound (stored-records es i alive newest stores world wr step) =
-      subst (λ (t : List ℕ). SomeSound l (worldWith t (called l w call))) (sym (as-struck all es i alive newest stores wr) ∙ all-played)
+      subst (λ (t : List ℕ). SomeSound l (worldWith t (r))) (sym (as-struck all es i alive newest stores wr) ∙ all-played)
       (subst (SomeSound l) (sym (world (struckImage l w es i alive newest accepted wr all)))
       (wr .sound (struckImage l w es i alive newest accepted wr all) (struck-slots l w es i alive newest accepted wr all)
       (struck l w es i alive newest accepted wr all)
-      (whole-finished l w es i alive newest accepted wr all (sym (ap (allStand all) stores) ∙ many-stand (called l w call .stores)))))
+      (whole-finished l w es i alive newest accepted wr all (sym (ap (allStand all) stores) ∙ many-stand (r .stores)))))
 
   -- THE PLAY OF A LIST of a call's stores makes them all
-  pub after-list : Stepped l w call
-      → playListResult (w .image) (wordNumbers (called l w call .stores)) (values (called l w call .stores)) ≡ playEnd 0 (finished l w call .image)
-  unfolding finished
-  after-list step = list-played (w .image) (called l w call .stores) (go step)
+  pub after-list : Stepped l w us r
+      → playListResult (w .image) (wordNumbers (r .stores)) (values (r .stores)) ≡ playEnd 0 (played (r .stores) (w .image))
+  after-list step = list-played (w .image) (r .stores) (go step)
     where
-      go : Stepped l w call → StoresInside (length (w .image)) (called l w call .stores)
+      go : Stepped l w us r → StoresInside (length (w .image)) (r .stores)
       go (stored-none none sound same) = rw none nil-in
       go (stored-records es i alive newest stores world wr step) = rw stores (stores-inside l w es i alive newest accepted wr)

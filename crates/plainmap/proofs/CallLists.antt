@@ -6,7 +6,9 @@ use mathlib.Core.List.{List, [], _∷_}
 use Prim.Native.Nat.{ℕ, _^_, _≤_, _<_}
 use native.Mathlib.Omega.{arith}
 use Rattle.words.specs.Word.{word}
-use Rattle.prelude.specs.Answer.{gives, absent}
+use Rattle.prelude.specs.Answer.{gives, absent, refuses}
+use Rattle.stores.specs.Store.{played}
+use Rattle.stores.specs.Play.{playEnd, playListResult, wordNumbers, values}
 use Rattle.layout.specs.Size.{slotsOf, slotsIn}
 use Rattle.layout.specs.Header.{indexFault}
 use Rattle.layout.specs.Content.{empty, Table, contentsOf, numbersOf}
@@ -26,16 +28,16 @@ use Rattle.recovery.specs.Recover.{slotsFault, recoverResult, chainsOf}
 use Rattle.calls.specs.Format.{formatted}
 use Rattle.calls.proofs.Formats.{formatted-length, formatted-fault, formatted-content}
 use Rattle.plainmap.proofs.FormattedImages.{formatted-slots}
-use Rattle.plainmap.specs.World.{World, Call, write, remove, get, locate, outOf, called, finished, worldAfter, recoveredWorld, openedWorld, Round, afterRound, afterRounds, Restart, restarted}
-use Rattle.plainmap.specs.Plain.{PlainMap, updates, plainStep, plainAnswer, plainOut}
+use Rattle.plainmap.specs.World.{World, Call, write, remove, get, locate, outOf, Called, called, finished, worldAfter, recoveredWorld, openedWorld, Round, afterRound, afterRounds, Restart, restarted}
+use Rattle.plainmap.specs.Plain.{PlainMap, Update, updates, plainStep, plainAnswer, plainOut}
 use Rattle.plainmap.specs.Accepted.{Accepted, RightSize}
 use Rattle.plainmap.specs.Sound.{Sound, Agrees}
 use Rattle.layout.specs.Record.{Layout}
-use Rattle.plainmap.specs.Claims.{Typed, write-typed, remove-typed, slotsMap, Right, Reads, mapAfterCall}
+use Rattle.plainmap.specs.Claims.{Typed, write-typed, remove-typed, slotsMap, dueFault, Right, Reads, mapAfterCall}
 use Rattle.plainmap.specs.Map.{PlainRule}
 use Rattle.plainmap.proofs.Sounds.{recovered-sound}
 use Rattle.plainmap.proofs.Wrote.{SomeSound, some-sound}
-use Rattle.plainmap.proofs.Outcomes.{write-runs, remove-runs}
+use Rattle.plainmap.proofs.Outcomes.{worldWith, write-runs, remove-runs}
 use Rattle.plainmap.proofs.Opens.{sound-same, opened-same, opened-accepts, opened-image, none-void-after, round-same, same-map, size}
 use Rattle.plainmap.proofs.Compares.{few-compared}
 use Rattle.plainmap.proofs.Rights.{ran-right, right-refuses}
@@ -43,7 +45,7 @@ use Rattle.plainmap.proofs.Refuses.{write-fault, remove-fault}
 use Rattle.plainmap.proofs.GetAnswers.{sound-reads, get-right}
 use Rattle.plainmap.proofs.LocateAnswers.{locate-right}
 use Rattle.plainmap.proofs.CallSteps.{Stepped, call-stepped}
-use Rattle.plainmap.proofs.Afters.{after-call, after-sound, after-none-void, all-played}
+use Rattle.plainmap.proofs.Afters.{after-call, after-sound, after-none-void, after-list, all-played}
 
 -- ---- one call
 
@@ -91,22 +93,34 @@ agrees-by l w m a void (some-sound chains s) h = record { accepted = a; none-voi
 pub agrees-with : (l : ℕ) (w : World) (m m′ : PlainMap) → Agrees l w m → ((k : ℕ) → m k ≡ m′ k) → Agrees l w m′
 agrees-with l w m m′ g h = record { accepted = g .accepted; none-void = g .none-void; chains = g .chains; sound = g .sound; map = λ k. g .map k ∙ h k }
 
-pub agrees-stepped : (l : ℕ) → Layout l → (w : World) (m : PlainMap) → Agrees l w m → (call : Call) → Typed l call → Stepped l w call
+pub agrees-stepped : (l : ℕ) → Layout l → (w : World) (m : PlainMap) → Agrees l w m → (call : Call) → Typed l call → Stepped l w (updates call) (called l w call)
 agrees-stepped l lay w m g call s = call-stepped l lay w (g .chains) (g .accepted) (g .sound) (g .none-void) call s
+
+-- what a call, single or a basket, leaves with its stores played: `denied` tells whether the rules refuse it
+pub agrees-after : (l : ℕ) (w : World) (m : PlainMap) → Agrees l w m → (us : List Update) (r : Called) (denied : Bool) → isRefusal (r .answer) ≡ denied
+    → Stepped l w us r → Agrees l (worldWith (played (r .stores) (w .image)) r) (plainStep us denied m)
+agrees-after l w m g us r denied d t =
+    let e = all-played l w us r (g .accepted) in
+    let after = after-call l w us r (g .accepted) (λ n. length (r .stores)) t in
+    agrees-by l (worldWith (played (r .stores) (w .image)) r) (plainStep us denied m) (subst (Accepted l) e (after .accepted))
+    (after-none-void l w us r (g .accepted) (g .none-void) t) (after-sound l w us r (g .accepted) t)
+    (λ k. ap (λ (x : List ℕ). slotsMap l x k) (sym e) ∙ after .map k
+    ∙ ap (λ (b : Bool). (cond b (plainStep us (isRefusal (r .answer)) (slotsMap l (w .image))) (slotsMap l (w .image))) k) (many-stand (r .stores))
+    ∙ ap₂ (λ (b : Bool) (x : PlainMap). plainStep us b x k) d (alike l w m g))
 
 -- EVERY CALL with its stores played leaves an accepted image, a sound index and the plain map's next map
 pub agrees-next : (l : ℕ) → Layout l → (w : World) (m : PlainMap) → Agrees l w m → (call : Call) → Typed l call
     → Agrees l (finished l w call) (mapAfterCall l w m call)
+unfolding finished
 agrees-next l lay w m g call s =
-    let t = agrees-stepped l lay w m g call s in
-    let e = all-played l w call (g .accepted) in
-    let r = after-call l w call (g .accepted) (λ n. length (called l w call .stores)) t in
-    agrees-by l (finished l w call) (mapAfterCall l w m call) (subst (Accepted l) e (r .accepted))
-    (after-none-void l w call (g .accepted) (g .none-void) t) (after-sound l w call (g .accepted) t)
-    (λ k. ap (λ (t : List ℕ). slotsMap l t k) (sym e) ∙ r .map k
-    ∙ ap (λ (b : Bool). (cond b (plainStep (updates call) (isRefusal (called l w call .answer)) (slotsMap l (w .image))) (slotsMap l (w .image))) k)
-    (many-stand (called l w call .stores))
-    ∙ ap₂ (λ (b : Bool) (x : PlainMap). plainStep (updates call) b x k) (right-refuses l w m call (agrees-right l lay w m g call s)) (alike l w m g))
+    agrees-after l w m g (updates call) (called l w call) (refuses (dueFault l w m call)) (right-refuses l w m call (agrees-right l lay w m g call s))
+    (agrees-stepped l lay w m g call s)
+
+-- the play of a list of its stores leaves that image too
+pub agrees-list : (l : ℕ) → Layout l → (w : World) (m : PlainMap) → Agrees l w m → (call : Call) → Typed l call
+    → playListResult (w .image) (wordNumbers (called l w call .stores)) (values (called l w call .stores)) ≡ playEnd 0 (finished l w call .image)
+unfolding finished
+agrees-list l lay w m g call s = after-list l w (updates call) (called l w call) (g .accepted) (agrees-stepped l lay w m g call s)
 
 -- EVERY LIST OF CALLS answers as the plain map does
 pub plain-rule : (l : ℕ) → Layout l → (w : World) (m : PlainMap) (calls : List Call) → Agrees l w m → All (Typed l) calls → PlainRule l w m calls

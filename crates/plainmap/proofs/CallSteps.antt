@@ -20,7 +20,7 @@ use Rattle.index.specs.Index.{Index, Chain, stateOf}
 use Rattle.index.specs.declared.Mode.{Mode}
 use Rattle.calls.specs.Change.{ChangeResult, changed, unchanged}
 use Rattle.plainmap.specs.World.{World, Call, write, remove, get, locate, Called, calledChange, calledGet, calledLocate, called}
-use Rattle.plainmap.specs.Plain.{PlainMap, updates, updated, plainNext, plainStep}
+use Rattle.plainmap.specs.Plain.{PlainMap, Update, updates, updated, plainNext, plainStep}
 use Rattle.prelude.proofs.defs.Answer.{isRefusal}
 use Rattle.plainmap.specs.Sound.{Sound}
 use Rattle.layout.specs.Record.{Layout}
@@ -33,22 +33,22 @@ use Rattle.plainmap.proofs.Outcomes.{worldWith, oneRecord, record-own, 
 
 -- ---- what a call does: it stores nothing and the plain map stays, or it writes a record, which is the plain map's step
 
-pub data Stepped (l : ℕ) (w : World) (call : Call) : Type 0 where
-  stored-none : called l w call .stores ≡ [] → SomeSound l (worldWith (w .image) (called l w call))
-      → ((k : ℕ) → slotsMap l (w .image) k ≡ plainStep (updates call) (isRefusal (called l w call .answer)) (slotsMap l (w .image)) k)
-      → Stepped l w call
+pub data Stepped (l : ℕ) (w : World) (us : List Update) (r : Called) : Type 0 where
+  stored-none : r .stores ≡ [] → SomeSound l (worldWith (w .image) (r))
+      → ((k : ℕ) → slotsMap l (w .image) k ≡ plainStep (us) (isRefusal (r .answer)) (slotsMap l (w .image)) k)
+      → Stepped l w us r
   stored-records : (es : List BasketRecord) (i : Index) (alive newest : ℕ)
-      → called l w call .stores ≡ basketStores l (word (w .image)) (numberFor (length es)) (nextOf l (w .image)) es
-      → ((image′ : List ℕ) → worldWith image′ (called l w call) ≡
+      → r .stores ≡ basketStores l (word (w .image)) (numberFor (length es)) (nextOf l (w .image)) es
+      → ((image′ : List ℕ) → worldWith image′ (r) ≡
       record { image = image′; heads = i .heads; next = i .next; state = stateOf i alive (w .state .version + 1) newest })
       → WroteRecords l w es i alive newest
       → ((k : ℕ) → changes (basketSlots es) (recordAt (nextOf l (w .image)) es) (slotsMap l (w .image)) k ≡
-      plainStep (updates call) (isRefusal (called l w call .answer)) (slotsMap l (w .image)) k)
-      → Stepped l w call
+      plainStep (us) (isRefusal (r .answer)) (slotsMap l (w .image)) k)
+      → Stepped l w us r
 
-unchanged-by : (l : ℕ) (w : World) (call : Call) (r : Called) → called l w call ≡ r → r .heads ≡ w .heads → r .next ≡ w .next → r .state ≡ w .state
-    → SomeSound l w → SomeSound l (worldWith (w .image) (called l w call))
-unchanged-by l w call r e h x s q =
+unchanged-by : (l : ℕ) (w : World) (r r′ : Called) → r ≡ r′ → r′ .heads ≡ w .heads → r′ .next ≡ w .next → r′ .state ≡ w .state
+    → SomeSound l w → SomeSound l (worldWith (w .image) r)
+unchanged-by l w r r′ e h x s q =
     subst (λ (c : Called). SomeSound l (worldWith (w .image) c)) (sym e) (rw (h, x, s) q)
 
 -- a key that is not held is not dropped
@@ -108,14 +108,14 @@ module _
       ap (λ (x : Bool). (cond x (slotsMap l (w .image)) (plainNext (updates call) (slotsMap l (w .image)))) k)
       (sym (ap (λ (c : Called). isRefusal (c .answer)) e ∙ z))
 
-  pub ran-stepped : (fault : ℕ) (r : ChangeResult) → called l w call ≡ calledChange r → Ran l w key kind value fault r → Stepped l w call
+  pub ran-stepped : (fault : ℕ) (r : ChangeResult) → called l w call ≡ calledChange r → Ran l w key kind value fault r → Stepped l w (updates call) (called l w call)
   unfolding calledChange unchanged changed isRefusal
   ran-stepped fault r e (ran-refused nz q) =
       let d = e ∙ ap calledChange q in
-      stored-none (ap (λ (c : Called). c .stores) d) (unchanged-by l w call _ d refl refl refl sound) (left _ d refl)
+      stored-none (ap (λ (c : Called). c .stores) d) (unchanged-by l w (called l w call) _ d refl refl refl sound) (left _ d refl)
   ran-stepped fault r e (ran-absent z kd q m) =
       let d = e ∙ ap calledChange q in
-      stored-none (ap (λ (c : Called). c .stores) d) (unchanged-by l w call _ d refl refl refl sound) (λ k. idles kd m k ∙ taken _ d refl k)
+      stored-none (ap (λ (c : Called). c .stores) d) (unchanged-by l w (called l w call) _ d refl refl refl sound) (λ k. idles kd m k ∙ taken _ d refl k)
   ran-stepped fault r e (ran-wrote z i alive q wr held) =
       let d = e ∙ ap calledChange q in
       stored-records (oneRecord w key kind value) i alive (w .state .first)
@@ -132,7 +132,7 @@ module _ (l : ℕ) (lay : Layout l) (w : World) (chains : Chain → List ℕ) (a
   reads-only false k = refl
 
   -- ONE CALL
-  pub call-stepped : (call : Call) → Typed l call → Stepped l w call
+  pub call-stepped : (call : Call) → Typed l call → Stepped l w (updates call) (called l w call)
   unfolding called calledGet calledLocate plainStep plainNext updated updates
   call-stepped (write mode key value) (write-typed k b) =
       ran-stepped l w (write mode key value) key 1 value (some-sound chains g) (g .next-version) (λ j. record-stored (slotsMap l (w .image)) _ mode key j value)

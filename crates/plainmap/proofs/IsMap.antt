@@ -11,8 +11,7 @@ use Rattle.plainmap.proofs.Sounds.{recovered-sound}
 use Rattle.plainmap.proofs.Compares.{sound-counted}
 use Rattle.plainmap.proofs.Outcomes.{slot-taken}
 use Rattle.plainmap.proofs.Refuses.{taking-few}
-use Rattle.plainmap.proofs.CallLists.{agrees-right, agrees-stepped, agrees-next, plain-rule, recovered-reads, formatted-empty, formatted-rule}
-use Rattle.plainmap.proofs.Afters.{after-list}
+use Rattle.plainmap.proofs.CallLists.{agrees-right, agrees-next, agrees-list, plain-rule, recovered-reads, formatted-empty, formatted-rule}
 
 pub is-map : (l : ℕ) → Layout l → IsMap l
 is-map l lay =
@@ -22,7 +21,7 @@ is-map l lay =
       counts = sound-counted l;
       answers = agrees-right l lay;
       keeps = agrees-next l lay;
-      list-plays = λ w m g call s. after-list l w call (g .accepted) (agrees-stepped l lay w m g call s);
+      list-plays = agrees-list l lay;
       takes = λ w m g some.
           slot-taken l lay w (g .chains) (g .accepted) (g .sound) (g .none-void)
           (taking-few l w (g .chains) (g .accepted) (g .sound) (g .none-void) 1 ∙ say-false _ 28 0 (le-ltb _ 1 some));

@@ -13,6 +13,8 @@ pub mod SoundWrites
 pub mod Outcomes
 pub mod GetAnswers
 pub mod LocateAnswers
+pub mod BasketKeys
+pub mod BasketRuns
 pub mod CallSteps
 pub mod AcceptedImages
 pub mod CallLists
@@ -20,3 +22,4 @@ pub mod IsMap
 pub mod FormattedImages
 pub mod Compares
 pub mod Room
+pub mod BasketRights

@@ -91,7 +91,7 @@ pub record StorePassed (taking : Taking) (n live version inserts removes : ℕ) 
   pub room : live + inserts < n + removes
   pub small : version < 2 ^ 63
 
-store-passed : (taking : Taking) (w : World) (n inserts removes : ℕ) → storeFault taking n (w .state) inserts removes ≡ 0
+pub store-passed : (taking : Taking) (w : World) (n inserts removes : ℕ) → storeFault taking n (w .state) inserts removes ≡ 0
     → StorePassed taking n (w .state .live) (w .state .version) inserts removes
 unfolding storeFault roomFault
 store-passed taking w n inserts removes z =
@@ -183,25 +183,33 @@ module _ (l : ℕ) (lay : Layout l) (w : World) (chains : Chain → List ℕ) (a
   abbrev h : ℕ → ℕ
   h key = headOf key (length (w .heads))
 
-  head-in : (key : ℕ) → h key < length (w .heads)
+  pub head-in : (key : ℕ) → h key < length (w .heads)
   head-in key = mod-lt (key % 2 ^ 64) (index-sized n (length (w .heads)) (length (w .next)) (g .size) .0)
 
-  first-slot : (xs : List ℕ) → chains reuse ≡ xs → Starts xs → (rest : List ℕ) × (chains reuse ≡ s ∷ rest)
+  pub first-slot : (xs : List ℕ) → chains reuse ≡ xs → Starts xs → (rest : List ℕ) × (chains reuse ≡ s ∷ rest)
   first-slot xs d (starts t rest e) =
       (rest, d ∙ e ∙ ap (λ (x : ℕ). x ∷ rest) (sym (sits-first _ _ _ _ _ (g .index) t rest (d ∙ e) .0)))
 
   -- the slots and what stands of them do not depend on a list of slots to be taken
-  free-spares : Spares f n (chains reuse)
+  pub free-spares : Spares f n (chains reuse)
   free-spares = spares l w chains g [] (λ t. f t) none-void
 
-  same : (t : ℕ) → Slot n t → tableOf l (w .image) t ≡ f t
+  pub same : (t : ℕ) → Slot n t → tableOf l (w .image) t ≡ f t
   same = same-slots l w chains g [] (λ t. f t) none-void
 
-  same-map : (key : ℕ) → mapOf (tableOf l (w .image)) n key ≡ mapOf f n key
+  pub same-map : (key : ℕ) → mapOf (tableOf l (w .image)) n key ≡ mapOf f n key
   same-map key = alike-map f (tableOf l (w .image)) n same key
 
-  above : Above f n version
+  pub above : Above f n version
   above t i = omega (arith, above-next (tableOf l (w .image)) n t i, ap topOf (same t i))
+
+  -- the slot that holds a key
+  pub holder-at : (key old : ℕ) → Slot n old → decider (tableOf l (w .image)) n key ≡ old → live (tableOf l (w .image)) n old ≡ true
+      → (holder f n key ≡ old) × (live f n old ≡ true)
+  holder-at key old j d a =
+      let x = sym (alike-decider f (tableOf l (w .image)) n same key) ∙ d in
+      let y = sym (same-live l w chains g [] (λ t. f t) none-void old j) ∙ a in
+      (holder-held f n key (ap (live f n) x ∙ y) ∙ x, y)
 
   -- what all three writes share: rest is the reuse chain behind its first slot, which may be taken
   module _ (rest : List ℕ) (e : chains reuse ≡ s ∷ rest) where
@@ -308,19 +316,12 @@ module _ (l : ℕ) (lay : Layout l) (w : World) (chains : Chain → List ℕ) (a
     no-removes : (key kind : ℕ) (value : List ℕ) → isPut (made kind version key value) ≡ true → HeldRemoved (s ∷ []) (new key kind value) (mapOf f n)
     no-removes key kind value p t j q = absurd (true-false (ap isPut (new-is key kind value t j) ∙ p) q)
 
-    live-room : liveCount f n < n
+    pub live-room : liveCount f n < n
     live-room = omega (arith, accepted-room l (w .image) accepted, alike-count f (tableOf l (w .image)) n same)
 
-    held-here : (key : ℕ) (v : List ℕ) → mapOf (tableOf l (w .image)) n key ≡ some v → isHeld (mapOf f n key) ≡ true
+    pub held-here : (key : ℕ) (v : List ℕ) → mapOf (tableOf l (w .image)) n key ≡ some v → isHeld (mapOf f n key) ≡ true
     unfolding isHeld
     held-here key v m = ap isHeld (sym (same-map key) ∙ m)
-
-    holder-is : (key old : ℕ) → Slot n old → decider (tableOf l (w .image)) n key ≡ old → live (tableOf l (w .image)) n old ≡ true
-        → (holder f n key ≡ old) × (live f n old ≡ true)
-    holder-is key old j d a =
-        let x = sym (alike-decider f (tableOf l (w .image)) n same key) ∙ d in
-        let y = sym (same-live l w chains g [] (λ t. f t) none-void old j) ∙ a in
-        (holder-held f n key (ap (live f n) x ∙ y) ∙ x, y)
 
     -- an insert or a replace, by what the key's chain has
     write-ran : (mode : Mode) (key : ℕ) (value : List ℕ) (found : Found) → key < (2 ^ 64) ^ l → AreBytes value → WritePassed l w mode key (length value)
@@ -328,7 +329,7 @@ module _ (l : ℕ) (lay : Layout l) (w : World) (chains : Chain → List ℕ) (a
         → r ≡ writeDone l (w .image) (w .heads) (w .next) (w .state) key value found → (fault : ℕ) → fault ≡ 0 → Ran l w key 1 value fault r
     unfolding writeDone isFound
     write-ran mode key value (At old prev compared) k b p q (sees-held xs ys v parts before j d a m z) r y fault t =
-        let c = holder-is key old j d a in
+        let c = holder-at key old j d a in
         let held = held-here key v m in
         ran-wrote t (replaceHeld (indexOf (w .heads) (w .next) (w .state)) (h key) prev old) (w .state .live) y
         (wrote key 1 value _ _
@@ -375,7 +376,7 @@ module _ (l : ℕ) (lay : Layout l) (w : World) (chains : Chain → List ℕ) (a
         → (r : ChangeResult) → r ≡ removeDone l (w .image) (w .heads) (w .next) (w .state) key found → (fault : ℕ) → fault ≡ 0 → Ran l w key 2 [] fault r
     unfolding removeDone
     remove-ran key (At old prev compared) k p (sees-held xs ys v parts before j d a m z) r y fault t =
-        let c = holder-is key old j d a in
+        let c = holder-at key old j d a in
         let held = held-here key v m in
         let passed = p old prev compared refl in
         ran-wrote t (removeHeld (indexOf (w .heads) (w .next) (w .state)) (h key) prev old) (w .state .live - 1) y

@@ -82,11 +82,11 @@ module _
 
 -- ---- the answer is a refusal exactly where the rules refuse
 
-refused-is : (answer : Answer) → (refusalIn answer ≡ 0 → ⊥) → isRefusal answer ≡ true
+pub refusal-told : (answer : Answer) → (refusalIn answer ≡ 0 → ⊥) → isRefusal answer ≡ true
 unfolding refusalIn isRefusal
-refused-is (gives values) ne = absurd (ne refl)
-refused-is absent ne = absurd (ne refl)
-refused-is (refused number) ne = refl
+refusal-told (gives values) ne = absurd (ne refl)
+refusal-told absent ne = absurd (ne refl)
+refusal-told (refused number) ne = refl
 
 pub plain-given : (slot version : ℕ) (holder : ℕ → List ℕ) (m : PlainMap) (call : Call) → isRefusal (plainAnswer slot version holder m call) ≡ false
 unfolding plainAnswer isRefusal lengthAnswer
@@ -114,4 +114,4 @@ right-refuses l w m call r = go (eqb (dueFault l w m call) 0) refl
   where
     go : (b : Bool) → eqb (dueFault l w m call) 0 ≡ b → isRefusal (called l w call .answer) ≡ not b
     go true e = ap isRefusal (r .answer (eqb-true _ 0 e)) ∙ plain-given _ _ _ m call
-    go false e = refused-is (called l w call .answer) (λ z. eqb-false _ 0 e (sym (r .refusal) ∙ z))
+    go false e = refusal-told (called l w call .answer) (λ z. eqb-false _ 0 e (sym (r .refusal) ∙ z))

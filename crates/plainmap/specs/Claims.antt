@@ -50,6 +50,13 @@ dueAnswer l w m call =
     plainAnswer (w .state .first) (nextVersion (tableOf l (w .image)) (slotsIn (w .image)))
     (holder (tableOf l (w .image)) (slotsIn (w .image))) m call
 
+-- neither the index nor the state changes, and there are no stores
+pub record StaysAs (w : World) (r : Called) : Type 0 where
+  pub stores : r .stores ≡ []
+  pub heads : r .heads ≡ w .heads
+  pub next : r .next ≡ w .next
+  pub state : r .state ≡ w .state
+
 -- the call changes nothing: neither the output, the index nor the state, and it has no stores
 pub record Untouched (w : World) (call : Call) (r : Called) : Type 0 where
   pub out : r .out ≡ outOf call

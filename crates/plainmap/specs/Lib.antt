@@ -4,3 +4,4 @@ pub mod Sound
 pub mod Claims
 pub mod Map
 pub mod Accepted
+pub mod Baskets

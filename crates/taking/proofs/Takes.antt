@@ -2,7 +2,7 @@
 use mathlib.Core.Path.{_≡_, refl, sym, ap, ap₂, _∙_, fun-ext}
 use mathlib.Core.Bool.{Bool, true, false, cond, not, _&&_, true≢false}
 use mathlib.Core.List.{List}
-use Prim.Native.Nat.{ℕ, _+_, _≤_, _<_}
+use Prim.Native.Nat.{ℕ, _+_, _-_, _≤_, _<_}
 use native.Mathlib.Omega.{arith}
 use lib.Dec.{ltb}
 use borrow.Author.Tests.{lt-ltb, ltb-true}
@@ -19,9 +19,10 @@ use Rattle.table.specs.Table.{isRecord}
 use Rattle.table.specs.Taking.{validVersion, highestValid, isRemove, older, mayTake}
 use Rattle.taking.specs.Taking.{takingOf}
 use Rattle.taking.specs.inner.Walk.{takeFault, walkFault}
-use Rattle.taking.specs.inner.Takeable.{slotVersion, takeableIf, takeable}
-use Rattle.taking.proofs.Walks.{walk-fault, still-fine}
+use Rattle.taking.specs.inner.Takeable.{slotVersion, takeableIf, takeable, OpenFirst}
+use Rattle.taking.proofs.Walks.{walk-fault, walk-taken, end-good, still-fine}
 use Rattle.taking.proofs.Contents.{slot-holds, held-version}
+use Rattle.taking.proofs.Tested.{may-low}
 
 -- ---- the highest valid version
 
@@ -59,6 +60,16 @@ module _ (l : ℕ) (image next : List ℕ) (n first : ℕ) where
   walked : walkFault (mayTake (contentsOf l image) n) next n n first ≡ takeFault (takingOf l image next n first 1)
   unfolding takingOf takeFrom
   walked = sym (walk-fault (mayTake (contentsOf l image) n) next n n 0 first)
+
+  -- the first slot may be taken, by a version that is none above the highest
+  pub taken-first : (top : ℕ) → top ≤ greatest (slotVersion (word image)) n → 2 ≤ n → OpenFirst l (word image) next n top first
+      → 0 ≡ takeFault (takingOf l image next n first 1)
+  taken-first top h some o =
+      sym
+      (sym walked
+      ∙ walk-taken (mayTake (contentsOf l image) n) next n n first (omega arith) (o .low) (o .high)
+      (surely (contentsOf l image) n top first (omega (arith, highest-is l (word image) n)) (sym (may-low l (word image) n top false first _ refl (o .put))))
+      ∙ end-good n (n - 1) _ (omega arith) (o .link))
 
   -- a walk among the first slots, by a version that is none above the highest: not refused
   pub taken-ahead : (top few k : ℕ) → top ≤ greatest (slotVersion (word image)) n → few ≤ n

@@ -104,6 +104,15 @@ end-fine n left link low high some =
     say-false (eqb link 0) _ _ (ne-eqb link 0 low) ∙ say-false (ltb n link) _ _ (le-ltb n link high)
     ∙ say-false (eqb left 0) _ _ (ne-eqb left 0 (λ e. omega arith))
 
+-- a link that a chain has
+pub end-good : (n left link : ℕ) → 0 < left → link ≤ n → endFault n left link ≡ 0
+unfolding endFault
+end-good n left link some high = go (eqb link 0) refl
+  where
+    go : (b : Bool) → eqb link 0 ≡ b → endFault n left link ≡ 0
+    go true q = say-true (eqb link 0) _ _ q
+    go false q = end-fine n left link (eqb-false link 0 q) high some
+
 end-more : (n left more link : ℕ) → left ≤ more → endFault n left link ≡ 0 → endFault n more link ≡ 0
 unfolding endFault
 end-more n left more link h e = go (eqb link 0) refl

@@ -76,7 +76,7 @@ fn has_older(image: &[u8], l: usize, n: usize, low: u64, high: u64, version: u64
 }
 
 // Is slot s below this version by its line A, and no remove record? Then it may be taken, valid or not.
-fn is_low(image: &[u8], l: usize, s: usize, top: u64) -> bool
+pub fn is_low(image: &[u8], l: usize, s: usize, top: u64) -> bool
     requires { ⌜ SlotInside (now image) l s ⌝ }
     ensures { λ r. ⌜ r ≡ lowPut l (word (now (image .entry))) top s ⌝ }
 {

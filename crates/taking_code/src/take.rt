@@ -1,5 +1,6 @@
 // The refusal of a call that wants one slot: 11 by the links, 28 where no slot may be taken.
 ghost use mathlib.Core.Path.{_≡_};
+ghost use mathlib.Core.Bool.{true};
 ghost use Prim.Native.Nat.{_+_, _*_, _≤_};
 ghost use lib.ListN.{length};
 ghost use Rattle.words.specs.Word.{word};
@@ -7,8 +8,9 @@ ghost use Rattle.prelude.specs.Range.{greatest};
 ghost use Rattle.layout.specs.Content.{contentsOf};
 ghost use Rattle.taking.specs.Taking.{takingOf};
 ghost use Rattle.taking.specs.inner.Walk.{takeFault, endFault, walkFault};
-ghost use Rattle.taking.specs.inner.Takeable.{slotVersion, takeable, Walkable};
+ghost use Rattle.taking.specs.inner.Takeable.{slotVersion, takeable, OpenFirst, Walkable};
 use crate::slot::highest_valid;
+use crate::slot::is_low;
 use crate::slot::may_take;
 use crate::slot::valid_version;
 
@@ -89,16 +91,48 @@ fn newest_version(image: &[u8], n: usize, newest: u32) -> u64
     valid_version(image, s)
 }
 
-// 11 or 28 by the slots that may be taken, else 0. By the slot that the last call took a few slots tell mostly that there is one; if not, the whole image does.
-pub fn take_fault(image: &[u8], l: usize, next: &[u32], n: usize, first: u32, newest: u32) -> u32
+// May the chain's first slot be taken, below this version by its line A, with a link that a chain has?
+fn is_open(image: &[u8], l: usize, next: &[u32], n: usize, first: u32, known: u64) -> bool
     requires { ⌜ Walkable (now image) (now next) l n ⌝ }
+    ensures { λ r. ⌜ (r ≡ true → OpenFirst l (word (now (image .entry))) (now (next .entry)) n known first) ⌝ }
+{
+    let s = first as usize;
+    if s == 0 {
+        return false;
+    }
+    if n < s {
+        return false;
+    }
+    if n < next[s] as usize {
+        return false;
+    }
+    is_low(image, l, s, known)
+}
+
+// 11 or 28 by the slots of the chain that may be taken, else 0: a few slots below this version tell mostly that there is one; if not, the whole image does.
+fn chain_fault(image: &[u8], l: usize, next: &[u32], n: usize, first: u32, known: u64) -> u32
+    requires { ⌜ Walkable (now image) (now next) l n × (known ≤ greatest (slotVersion (word (now image))) n) ⌝ }
     ensures { λ r. ⌜ r ≡ takeFault (takingOf l (now (image .entry)) (now (next .entry)) n first 1) ⌝ }
 {
-    let known = newest_version(image, n, newest);
     let ahead = walk_fault(image, l, next, n, first, few_of(n), known, false);
     if ahead == 0 {
         return ahead;
     }
     let top = highest_valid(image, n);
     walk_fault(image, l, next, n, first, n, top, true)
+}
+
+// 11 or 28 by the slots that may be taken, else 0, by the slot that the last call took.
+pub fn take_fault(image: &[u8], l: usize, next: &[u32], n: usize, first: u32, newest: u32) -> u32
+    requires { ⌜ Walkable (now image) (now next) l n ⌝ }
+    ensures { λ r. ⌜ r ≡ takeFault (takingOf l (now (image .entry)) (now (next .entry)) n first 1) ⌝ }
+{
+    if newest == 0 {
+        return chain_fault(image, l, next, n, first, 0);
+    }
+    let known = newest_version(image, n, newest);
+    if is_open(image, l, next, n, first, known) {
+        return 0;
+    }
+    chain_fault(image, l, next, n, first, known)
 }

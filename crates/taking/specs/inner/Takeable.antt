@@ -4,7 +4,7 @@ use mathlib.Core.Bool.{Bool, true, cond, not, _&&_}
 use mathlib.Core.List.{List}
 use Prim.Native.Nat.{ℕ, _+_, _*_, _≤_}
 use lib.Dec.{eqb, ltb}
-use lib.ListN.{length}
+use lib.ListN.{length, getD}
 use Rattle.prelude.specs.Range.{anyOf}
 use Rattle.layout.specs.Line.{lineA, versionOf}
 use Rattle.layout.specs.Record.{Layout, kindOf}
@@ -20,6 +20,7 @@ pub record Walkable (image next : List ℕ) (l n : ℕ) : Type 0 where
   pub layout : Layout l
   pub image-size : length image ≡ 128 * (n + 1)
   pub next-size : length next ≡ n + 1
+  pub some : 2 ≤ n
   pub few : n ≤ 65535
 
 -- the version of a valid slot, 0 for any other
@@ -47,3 +48,10 @@ takeable f n top scan s = takeableIf top (cond scan (anyOf (older f s) 1 n) true
 -- by its line A alone, slot s is below `top` and no remove record
 unfoldable pub lowPut : (l : ℕ) → (ℕ → ℕ) → (top s : ℕ) → Bool
 lowPut l m top s = ltb (versionOf (lineA m s 7)) top && not (eqb (kindOf (lineA m s (l + 1))) 2)
+
+-- the chain's first slot is such a one, and its link is one that a chain has
+pub record OpenFirst (l : ℕ) (m : ℕ → ℕ) (next : List ℕ) (n top first : ℕ) : Type 0 where
+  pub low : first ≡ 0 → ⊥
+  pub high : first ≤ n
+  pub link : getD next first 0 ≤ n
+  pub put : lowPut l m top first ≡ true

@@ -11,8 +11,8 @@ write-later-fault-spec =
     tie.close
     (tie.spec
     (λ c κs. search needs)
-    (λ c. search (said, passed))
     (λ c κs. search needs)
+    (λ c. search (said, passed))
     (λ c κs. search needs)
     (λ c. search (said, passed, key-tested))
     (λ c κs. search needs)
