@@ -8,54 +8,54 @@ use Rattle.prelude.proofs.Histories.{throughout}
 use Rattle.face.specs.Set.{World, PlainMap, Layout, slotsIn, slotsOf, formatted, Restart, restarted, recoverFault}
 use Rattle.face.specs.Event.{Event, done, struck, requestOf, stepBy, RestartFits, FitsBy, done-fits, struck-fits}
 use Rattle.face.specs.Laws.{CallLaws, SetLaws}
-use Rattle.face.specs.Room.{RoomRight}
 use Rattle.face.proofs.defs.RoomLaws.{RoomLaws}
 use Rattle.face.proofs.SetLaws.{layout-1, call-laws, set-laws}
 use Rattle.face.proofs.Rooms.{room-laws}
 use Rattle.book.proofs.StepRoom.{step-room, step-event-room}
-use Rattle.cutrule.specs.Request.{Request, a-call, a-step, requestLeaves, requestFault, TypedRequest, worldAfterRequest}
-use Rattle.cutrule.specs.GrownRoom.{InsertsKey, RoomThroughout, GrownRoomIn, GrownRoom}
+use Rattle.cutrule.specs.Request.{Request, a-call, a-basket, a-step, requestLeaves, TypedRequest, worldAfterRequest}
+use Rattle.cutrule.specs.GrownRoom.{RequestRoom, RoomThroughout, GrownRoomIn, GrownRoom}
 use Rattle.cutrule.proofs.CutRule.{InvOf, fits-here, keeps-of}
 
-module _ (l : ℕ) (lay : Layout l) (Inv : World → PlainMap → Type 0) (Room : List ℕ → Type 0) (laws : SetLaws l Inv) (rooms : RoomLaws l Inv Room)
-  where
-    module _ (w : World) (m : PlainMap) (i : Inv w m) (room : Room (w .image)) where
-      -- 28 is due to a request exactly where it inserts a key and one slot is left
-      room-right : (request : Request) → RoomRight l w (InsertsKey l m request) (requestFault l w m request)
-      unfolding requestFault
-      room-right (a-call call) = rooms .room-right w m i room call
-      room-right (a-step step) = step-room l lay w m (rooms .room-right w m i room) step
+module _ (l : ℕ) (lay : Layout l) (Inv : World → PlainMap → Type 0) (Room : List ℕ → Type 0) (laws : SetLaws l Inv)
+    (rooms : RoomLaws l Inv Room) where
+  module _ (w : World) (m : PlainMap) (i : Inv w m) (room : Room (w .image)) where
+    room-right : (request : Request) → RequestRoom l w m request
+    room-right (a-call call) = rooms .room-right w m i room call
+    room-right (a-basket b) = tt
+    room-right (a-step step) = step-room l lay w m (rooms .room-right w m i room) step
 
-      -- an event keeps room
-      keeps-room : (event : Event Request) → FitsBy (TypedRequest l) (slotsIn (w .image)) event → Room (worldAfterRequest l w event .image)
-      unfolding stepBy requestLeaves
-      keeps-room (done (a-call call)) (done-fits t) = rooms .keeps-room w m i room (done call) (done-fits t)
-      keeps-room (done (a-step step)) (done-fits t) = step-event-room l Inv Room laws rooms w m i room (done step) (done-fits t)
-      keeps-room (struck (a-call call) cut) (struck-fits t c) = rooms .keeps-room w m i room (struck call cut) (struck-fits t c)
-      keeps-room (struck (a-step step) cut) (struck-fits t c) = step-event-room l Inv Room laws rooms w m i room (struck step cut) (struck-fits t c)
+    -- an event keeps room
+    keeps-room : (event : Event Request) → FitsBy (TypedRequest l) (slotsIn (w .image)) event → Room (worldAfterRequest l w event .image)
+    unfolding stepBy requestLeaves
+    keeps-room (done (a-call call)) (done-fits t) = rooms .keeps-room w m i room (done call) (done-fits t)
+    keeps-room (done (a-basket b)) (done-fits t) = rooms .keeps-basket-room w m i room (done b) (done-fits t)
+    keeps-room (done (a-step step)) (done-fits t) = step-event-room l Inv Room laws rooms w m i room (done step) (done-fits t)
+    keeps-room (struck (a-call call) cut) (struck-fits t c) = rooms .keeps-room w m i room (struck call cut) (struck-fits t c)
+    keeps-room (struck (a-basket b) cut) (struck-fits t c) = rooms .keeps-basket-room w m i room (struck b cut) (struck-fits t c)
+    keeps-room (struck (a-step step) cut) (struck-fits t c) = step-event-room l Inv Room laws rooms w m i room (struck step cut) (struck-fits t c)
 
-    -- ---- every list
+  -- ---- every list
 
-    pub room-throughout : (n : ℕ) (w : World) (m : PlainMap) (events : List (Event Request)) → InvOf l Inv laws n w m → Room (w .image)
-        → All (FitsBy (TypedRequest l) n) events → RoomThroughout l w m events
-    room-throughout n w m events i room fit =
-        throughout _ _ _ _ (λ v p. InvOf l Inv laws n v p × Room (v .image)) (FitsBy (TypedRequest l) n)
-        (λ v p j. rooms .takeable v p (j .0 .0) (j .1))
-        (λ v p j event f. room-right v p (j .0 .0) (j .1) (requestOf event))
-        (λ v p j event f.
-        (keeps-of l Inv laws n v p (j .0) event f, keeps-room v p (j .0 .0) (j .1) event (fits-here l Inv laws n v p event (j .0) f)))
-        w m events (i, room) fit
+  pub room-throughout : (n : ℕ) (w : World) (m : PlainMap) (events : List (Event Request)) → InvOf l Inv laws n w m → Room (w .image)
+      → All (FitsBy (TypedRequest l) n) events → RoomThroughout l w m events
+  room-throughout n w m events i room fit =
+      throughout _ _ _ _ (λ v p. InvOf l Inv laws n v p × Room (v .image)) (FitsBy (TypedRequest l) n)
+      (λ v p j. rooms .takeable v p (j .0 .0) (j .1))
+      (λ v p j event f. room-right v p (j .0 .0) (j .1) (requestOf event))
+      (λ v p j event f.
+      (keeps-of l Inv laws n v p (j .0) event f, keeps-room v p (j .0 .0) (j .1) event (fits-here l Inv laws n v p event (j .0) f)))
+      w m events (i, room) fit
 
-    -- from a formatted image
-    from-format : CallLaws l → GrownRoomIn l
-    from-format calls len some start restart events fit =
-        let same : slotsIn (formatted l len) ≡ slotsOf len = ap slotsOf (calls .formatted-length len) in
-        let fits = subst (λ (n : ℕ). RestartFits n start) (sym same) restart in
-        let z : recoverFault l (formatted l len) (length (start .heads)) (length (start .next)) ≡ 0
-        = laws .fresh len (start .heads) (start .next) some (restart .size) .0 in
-        room-throughout (slotsOf len) (restarted l (formatted l len) start) _ events
-        (laws .after-recovery (formatted l len) start z fits, calls .restart-slots (formatted l len) start ∙ same)
-        (rooms .restart-room (formatted l len) start z fits (rooms .fresh-room len some)) fit
+  -- from a formatted image
+  from-format : CallLaws l → GrownRoomIn l
+  from-format calls len some start restart events fit =
+      let same : slotsIn (formatted l len) ≡ slotsOf len = ap slotsOf (calls .formatted-length len) in
+      let fits = subst (λ (n : ℕ). RestartFits n start) (sym same) restart in
+      let z : recoverFault l (formatted l len) (length (start .heads)) (length (start .next)) ≡ 0
+      = laws .fresh len (start .heads) (start .next) some (restart .size) .0 in
+      room-throughout (slotsOf len) (restarted l (formatted l len) start) _ events
+      (laws .after-recovery (formatted l len) start z fits, calls .restart-slots (formatted l len) start ∙ same)
+      (rooms .restart-room (formatted l len) start z fits (rooms .fresh-room len some)) fit
 
 -- ROOM ON A GROWN SET in layout l
 pub grown-room-in : (l : ℕ) → Layout l → GrownRoomIn l

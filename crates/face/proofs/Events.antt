@@ -131,7 +131,7 @@ module _ (l : ℕ) (lay : Layout l) (w : World) (m : PlainMap) (g : Agrees l w m
   basket-answers b s =
       subst (λ (x : PlainMap). BasketRight l w x b) (fun-ext (g .map)) (basket-right l lay w (g .chains) (g .accepted) (g .sound) (g .none-void) b s)
 
-  basket-steps : (b : Basket) → TypedBasket l b → Stepped l w (basketUpdates (b .changes)) (basketCalled l w b)
+  pub basket-steps : (b : Basket) → TypedBasket l b → Stepped l w (basketUpdates (b .changes)) (basketCalled l w b)
   basket-steps b s = basket-stepped l lay w (g .chains) (g .accepted) (g .sound) (g .none-void) b s
 
   basket-denied : (b : Basket) → TypedBasket l b → isRefusal (basketCalled l w b .answer) ≡ refuses (basketDue l w m b)

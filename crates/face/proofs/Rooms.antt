@@ -18,17 +18,20 @@ use Rattle.index.specs.Change.{keyFault}
 use Rattle.index.specs.declared.Mode.the-variants.{Insert, Replace}
 use Rattle.recovery.specs.Recover.{recoverFault}
 use Rattle.calls.specs.Change.{insertsOf}
-use Rattle.plainmap.specs.World.{World, Call, write, remove, get, locate, called, finished, restarted}
-use Rattle.plainmap.specs.Plain.{PlainMap, sizeOf, roomRule, ruleFault}
+use Rattle.plainmap.specs.World.{World, Call, write, remove, get, locate, Called, called, restarted}
+use Rattle.plainmap.specs.Plain.{PlainMap, Update, updates, sizeOf, roomRule, ruleFault}
+use Rattle.plainmap.specs.Baskets.{Basket, basketCalled, basketUpdates}
 use Rattle.plainmap.specs.Claims.{Typed, roomOf, dueFault}
 use Rattle.plainmap.specs.Sound.{Agrees}
 use Rattle.plainmap.proofs.AcceptedImages.{accepted-room, recovers-accepted}
 use Rattle.plainmap.proofs.Afters.{after-call}
+use Rattle.plainmap.proofs.CallSteps.{Stepped}
 use Rattle.plainmap.proofs.CallLists.{agrees-stepped}
 use Rattle.plainmap.proofs.Room.{HasRoom, formatted-room, cut-room, done-room, restarted-room, room-takeable}
-use Rattle.face.specs.Event.{Event, done, struck, leaving, step, stepBy, imageCut, RestartFits, Fits, done-fits, struck-fits}
+use Rattle.face.specs.Event.{Cut, Event, done, struck, leaving, step, stepBy, imageCut, RestartFits, FitsBy, Fits, done-fits, struck-fits, TypedBasket, basketStep}
 use Rattle.face.specs.Room.{OneLeft, SomeTakeable, InsertsNew, RoomRight}
 use Rattle.face.proofs.defs.RoomLaws.{RoomLaws}
+use Rattle.face.proofs.Events.{basket-steps}
 
 -- ---- 28 by the plain map
 
@@ -122,17 +125,32 @@ module _ (l : ℕ) (w : World) (m : PlainMap) (some : SomeTakeable l w)
 -- ---- the laws
 
 module _ (l : ℕ) (lay : Layout l) where
-  -- ONE EVENT keeps room
+  -- a request that a cut struck, a single call or a basket, with its result r
+  struck-room : (w : World) (m : PlainMap) → Agrees l w m → HasRoom l (w .image) → (us : List Update) (r : Called) → Stepped l w us r → (cut : Cut)
+      → RestartFits (slotsIn (w .image)) (cut .restart) → HasRoom l (restarted l (imageCut w (leaving r) cut) (cut .restart) .image)
+  unfolding imageCut
+  struck-room w m g room us r stepped cut c =
+      let a = after-call l w us r (g .accepted) (cut .counts) stepped in
+      let f = subst (λ (k : ℕ). RestartFits k (cut .restart)) (sym (a .slot-count)) c in
+      restarted-room l lay _ (a .accepted) (cut .restart) (f .rounds) (f .size) (cut-room l w us r (g .accepted) (g .none-void) room (cut .counts) stepped)
+
+  -- ONE EVENT keeps room, of a single call
   event-room : (w : World) (m : PlainMap) → Agrees l w m → HasRoom l (w .image) → (event : Event Call) → Fits l (slotsIn (w .image)) event
       → HasRoom l (step l w event .image)
-  unfolding stepBy imageCut finished
+  unfolding stepBy
   event-room w m g room (done call) (done-fits s) =
-      done-room l w call (g .accepted) (g .none-void) room (agrees-stepped l lay w m g call s)
+      done-room l w (updates call) (called l w call) (g .accepted) (g .none-void) room (agrees-stepped l lay w m g call s)
   event-room w m g room (struck call cut) (struck-fits s c) =
-      let t = agrees-stepped l lay w m g call s in
-      let a = after-call l w call (g .accepted) (cut .counts) t in
-      let f = subst (λ (k : ℕ). RestartFits k (cut .restart)) (sym (a .slot-count)) c in
-      restarted-room l lay _ (a .accepted) (cut .restart) (f .rounds) (f .size) (cut-room l w call (g .accepted) (g .none-void) room (cut .counts) t)
+      struck-room w m g room (updates call) (called l w call) (agrees-stepped l lay w m g call s) cut c
+
+  -- and of a basket
+  basket-room : (w : World) (m : PlainMap) → Agrees l w m → HasRoom l (w .image) → (event : Event Basket)
+      → FitsBy (TypedBasket l) (slotsIn (w .image)) event → HasRoom l (basketStep l w event .image)
+  unfolding stepBy
+  basket-room w m g room (done b) (done-fits s) =
+      done-room l w (basketUpdates (b .changes)) (basketCalled l w b) (g .accepted) (g .none-void) room (basket-steps l lay w m g b s)
+  basket-room w m g room (struck b cut) (struck-fits s c) =
+      struck-room w m g room (basketUpdates (b .changes)) (basketCalled l w b) (basket-steps l lay w m g b s) cut c
 
   -- THE LAWS OF ROOM
   pub room-laws : RoomLaws l (Agrees l) (HasRoom l)
@@ -142,6 +160,7 @@ module _ (l : ℕ) (lay : Layout l) where
         restart-room = λ image r z fits room.
             restarted-room l lay image (recovers-accepted l image (length (r .heads)) (length (r .next)) z) r (fits .rounds) (fits .size) room;
         keeps-room = event-room;
+        keeps-basket-room = basket-room;
         takeable = λ w m g room. room-takeable l w (g .chains) (g .sound) (g .none-void) room;
         room-right = λ w m g room call.
             call-room l w m (room-takeable l w (g .chains) (g .sound) (g .none-void) room) (accepted-room l (w .image) (g .accepted)) call;

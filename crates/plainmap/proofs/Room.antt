@@ -29,7 +29,8 @@ use Rattle.index.specs.Index.{Index, Chain, reuse}
 use Rattle.calls.specs.Format.{formatted}
 use Rattle.calls.proofs.Formats.{formatted-length, formatted-content}
 use Rattle.images.proofs.defs.Entries.{recordAt}
-use Rattle.plainmap.specs.World.{World, Call, called, finished, worldAfter, openedWorld, Round, afterRound, afterRounds, Restart, restarted}
+use Rattle.plainmap.specs.World.{World, Called, worldAfter, openedWorld, Round, afterRound, afterRounds, Restart, restarted}
+use Rattle.plainmap.specs.Plain.{Update}
 use Rattle.plainmap.specs.Accepted.{Accepted, RightSize}
 use Rattle.plainmap.specs.Sound.{Sound}
 use Rattle.plainmap.proofs.AcceptedImages.{accepted-room}
@@ -60,12 +61,12 @@ formatted-room l len ne b =
 same-room : (l : ℕ) (image image′ : List ℕ) → SameTable l image image′ → HasRoom l image → HasRoom l image′
 same-room l image image′ same room = rw (same .table, same .slots) room
 
-module _ (l : ℕ) (w : World) (call : Call) (accepted : Accepted l (w .image))
+module _ (l : ℕ) (w : World) (us : List Update) (r : Called) (accepted : Accepted l (w .image))
     (none-void : NoneVoid (contentsOf l (w .image)) (numbersOf l (w .image)) (slotsIn (w .image))) (room : HasRoom l (w .image)) where
   abbrev n : ℕ
   n = slotsIn (w .image)
 
-  -- the records of a call, all of them written or what a cut left
+  -- the records of a call, single or a basket, all of them written or what a cut left
   module _ (es : List BasketRecord) (i : Index) (alive newest : ℕ) (wr : WroteRecords l w es i alive newest) (counts : ℕ → ℕ) where
     abbrev image′ : List ℕ
     image′ = struckImage l w es i alive newest accepted wr counts
@@ -92,14 +93,14 @@ module _ (l : ℕ) (w : World) (call : Call) (accepted : Accepted l (w .image))
         (finished-or (wr .basket) st))
 
   -- A CALL keeps room, with its stores all played or what a cut left
-  pub cut-room : (counts : ℕ → ℕ) → Stepped l w call → HasRoom l (cutImage l w call counts)
+  pub cut-room : (counts : ℕ → ℕ) → Stepped l w us r → HasRoom l (cutImage w r counts)
   unfolding standing played
   cut-room counts (stored-none none sound same) = subst (λ (ss : List Store). HasRoom l (played (standing counts ss) (w .image))) (sym none) room
   cut-room counts (stored-records es i alive newest stores world wr step) =
       subst (λ (ss : List Store). HasRoom l (played (standing counts ss) (w .image))) (sym stores) (records-room es i alive newest wr counts)
 
-  pub done-room : Stepped l w call → HasRoom l (finished l w call .image)
-  done-room step = subst (HasRoom l) (all-played l w call accepted) (cut-room (λ k. length (called l w call .stores)) step)
+  pub done-room : Stepped l w us r → HasRoom l (played (r .stores) (w .image))
+  done-room step = subst (HasRoom l) (all-played l w us r accepted) (cut-room (λ k. length (r .stores)) step)
 
 -- A RESTART keeps room
 rounds-room : (l : ℕ) → Layout l → (n : ℕ) (image : List ℕ) → slotsIn image ≡ n → Accepted l image → (rs : List Round)

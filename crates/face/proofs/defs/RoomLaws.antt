@@ -9,7 +9,8 @@ use Rattle.calls.specs.Format.{formatted}
 use Rattle.plainmap.specs.World.{World, Call, Restart, restarted}
 use Rattle.plainmap.specs.Plain.{PlainMap}
 use Rattle.plainmap.specs.Claims.{dueFault}
-use Rattle.face.specs.Event.{Event, step, RestartFits, Fits}
+use Rattle.plainmap.specs.Baskets.{Basket}
+use Rattle.face.specs.Event.{Event, step, RestartFits, FitsBy, Fits, TypedBasket, basketStep}
 use Rattle.face.specs.Room.{SomeTakeable, InsertsNew, RoomRight}
 
 -- of a set in layout l with the invariant Inv: `Room` is kept from a formatted image on, and nothing else is known of it
@@ -22,6 +23,8 @@ pub record RoomLaws (l : ℕ) (Inv : World → PlainMap → Type 0) (Room : List
   -- every event, struck or not, keeps it
   pub keeps-room : (w : World) (m : PlainMap) → Inv w m → Room (w .image) → (event : Event Call) → Fits l (slotsIn (w .image)) event
       → Room (step l w event .image)
+  pub keeps-basket-room : (w : World) (m : PlainMap) → Inv w m → Room (w .image) → (event : Event Basket)
+      → FitsBy (TypedBasket l) (slotsIn (w .image)) event → Room (basketStep l w event .image)
   -- where there is room some spare slot may be taken, and 28 is due only to an insert: a replace and a remove never meet it
   pub takeable : (w : World) (m : PlainMap) → Inv w m → Room (w .image) → SomeTakeable l w
   pub room-right : (w : World) (m : PlainMap) → Inv w m → Room (w .image) → (call : Call) → RoomRight l w (InsertsNew l m call) (dueFault l w m call)
