@@ -7,11 +7,15 @@ use native.Mathlib.Omega.{arith}
 use lib.Dec.{eqb, ltb, leb}
 use lib.ListN.{length, getD}
 use borrow.Author.Tests.{lt-ltb, le-ltb, le-leb, lt-leb, eq-eqb, ne-eqb}
-use Rattle.prelude.proofs.Choice.{pick-true, pick-false, false-left, true-false}
-use Rattle.prelude.specs.Members.{slotNumbers}
+use Rattle.prelude.proofs.Choice.{pick-true, pick-false, false-left, true-false, is-false}
+use Rattle.prelude.specs.Members.{Slot, slotNumbers}
+use Rattle.prelude.proofs.Any.{any-none, any-clear}
 use Rattle.prelude.specs.Range.{anyOf}
 use Rattle.sorting.specs.Sorted.{sorted}
 use Rattle.sorting.proofs.Whole.{whole-sorted}
+use Rattle.sorting.proofs.Order as sorting
+use Rattle.sorting.proofs.Order.{low, high, compared, at-in, rising-sorted}
+use Rattle.sorting.proofs.Positions.{Stands, stands, once-at, rising-at}
 use Rattle.prelude.proofs.Lists.{AllSlots}
 use Rattle.table.specs.Complete.{Numbers, said}
 use Rattle.recovery.specs.inner.Scan.{keyAt}
@@ -19,6 +23,7 @@ use Rattle.recovery.specs.inner.Decide.{entryAt, equalNeighbours, tooMan
 use Rattle.recovery.specs.inner.Judge.{InOrder, Numbered, Comparable, Compared}
 use Rattle.recovery.proofs.Orders.{whole-order, whole-within}
 use Rattle.recovery.proofs.Scans.{highs-all}
+use Rattle.recovery.proofs.Neighbours.{neighbours-are, are-neighbours, run-first, twice-is}
 
 -- what the test of a negation says
 not-true : (b : Bool) → not b ≡ true → b ≡ false
@@ -90,41 +95,104 @@ module _ (key : ℕ → ℕ) (ranks order : List ℕ) (i : ℕ) (behind : Bool) 
 -- ---- compare
 
 module _ (image : List ℕ) (l n : ℕ) (ranks lows highs order₀ by-key₀ spare₀ order : List ℕ)
-    (g : Comparable image l n ranks lows highs order₀ by-key₀ spare₀) (o : order ≡ sorted (λ x. getD ranks x 0) (slotNumbers (length order₀)))
-  where
-    by-rank : order ≡ sorted (λ x. getD ranks x 0) (slotNumbers n)
-    by-rank = o ∙ ap (λ (k : ℕ). sorted (λ x. getD ranks x 0) (slotNumbers k)) (g .order-size)
+    (g : Comparable image l n ranks lows highs order₀ by-key₀ spare₀) (o : order ≡ sorted (λ x. getD ranks x 0) (slotNumbers (length order₀))) where
+  by-rank : order ≡ sorted (λ x. getD ranks x 0) (slotNumbers n)
+  by-rank = o ∙ ap (λ (k : ℕ). sorted (λ x. getD ranks x 0) (slotNumbers k)) (g .order-size)
 
-    ranked : AllSlots n order
-    ranked = whole-order (λ x. getD ranks x 0) n order by-rank
+  ranked : AllSlots n order
+  ranked = whole-order (λ x. getD ranks x 0) n order by-rank
 
-    pub compare-runs : Numbered image l order n × (length ranks ≡ n + 1) × (1 ≤ n)
-    compare-runs = (
-      record { layout = g .layout; image-size = g .image-size; order-size = ranked .size; within = whole-within order n ranked; few = g .few },
-      g .ranks-size,
-      g .some-slots,
-    )
+  pub compare-near : (length order ≡ n) × (1 ≤ n) × (length ranks ≡ n + 1) × Within order n
+  compare-near = (ranked .size, g .some-slots, g .ranks-size, whole-within order n ranked)
 
-    module _ (by-key : List ℕ) (k : by-key ≡ sorted (keyAt lows highs) order) where
-      keyed : AllSlots n by-key
-      keyed = rw k (whole-sorted (keyAt lows highs) n order ranked)
+  pub compare-runs : Numbered image l order n × (length ranks ≡ n + 1) × (1 ≤ n)
+  compare-runs = (
+    record { layout = g .layout; image-size = g .image-size; order-size = ranked .size; within = whole-within order n ranked; few = g .few },
+    g .ranks-size,
+    g .some-slots,
+  )
 
-      pub compare-keys : (length by-key ≡ n) × (length ranks ≡ n + 1) × (length lows ≡ n + 1) × NoneOrAll highs n × Within by-key n × (1 ≤ n)
-      compare-keys =
-          (keyed .size, g .ranks-size, g .lows-size, highs-all l n highs (g .layout) (g .highs-size), whole-within by-key n keyed, g .some-slots)
+  module _ (by-key : List ℕ) (k : by-key ≡ sorted (keyAt lows highs) order) where
+    keyed : AllSlots n by-key
+    keyed = rw k (whole-sorted (keyAt lows highs) n order ranked)
 
-      module _ (num : Numbers) (runs : Bool) (r : runs ≡ anyOf (runFault num ranks order) 0 (n - 1)) where
-        pub compared-runs : runs ≡ true → Compared num ranks lows highs n order by-key true
-        compared-runs t =
-            record {
-              in-order = record { by-rank = by-rank; keyed = k };
-              shared-is = sym (pick-true (anyOf (runFault num ranks order) 0 (n - 1)) true _ (sym r ∙ t));
-            }
+    pub compare-keys : (length by-key ≡ n) × (length ranks ≡ n + 1) × (length lows ≡ n + 1) × NoneOrAll highs n × Within by-key n × (1 ≤ n)
+    compare-keys =
+        (keyed .size, g .ranks-size, g .lows-size, highs-all l n highs (g .layout) (g .highs-size), whole-within by-key n keyed, g .some-slots)
 
-        pub compared-keys : runs ≡ false → (shared : Bool) → shared ≡ anyOf (keyTwice (keyAt lows highs) ranks by-key) 0 (n - 1)
-            → Compared num ranks lows highs n order by-key shared
-        compared-keys t shared e =
-            record {
-              in-order = record { by-rank = by-rank; keyed = k };
-              shared-is = e ∙ sym (pick-false (anyOf (runFault num ranks order) 0 (n - 1)) true _ (sym r ∙ t));
-            }
+    -- where no two neighbours of the order by rank share a version no two slots do
+    module _ (none : anyOf (equalNeighbours ranks order) 0 (n - 1) ≡ false) where
+      none-near : (i : ℕ) → i + 1 < n → equalNeighbours ranks order i ≡ true → ⊥
+      none-near i h t =
+          let z : 0 + i ≡ i = omega arith in
+          true-false t (sym (ap (equalNeighbours ranks order) z) ∙ any-none (equalNeighbours ranks order) 0 (n - 1) none i (omega arith))
+
+      rising : (i j : ℕ) → i < j → j < n → entryAt ranks order i ≤ entryAt ranks order j
+      rising i j u v =
+          rising-at (λ x. getD ranks x 0) order i j (rw by-rank (rising-sorted (λ x. getD ranks x 0) (slotNumbers n))) u (omega (arith, ranked .size))
+
+      later : (i j : ℕ) → i < j → j < n → 2 ≤ entryAt ranks order i → entryAt ranks order i ≡ entryAt ranks order j → ⊥
+      later i j u v b e = none-near i (omega arith) (are-neighbours ranks order i b (omega (arith, e, rising i (i + 1) (omega arith) (omega arith), upto (compared j (i + 1)))))
+        where
+          upto : sorting.Compared j (i + 1) → entryAt ranks order (i + 1) ≤ entryAt ranks order j
+          upto (low a w) = let z : j ≡ i + 1 = omega arith in omega (arith, ap (λ (x : ℕ). entryAt ranks order x) z)
+          upto (high a w) = rising (i + 1) j w v
+
+      none-share : (s t : ℕ) → Slot n s → Slot n t → (s ≡ t → ⊥) → 2 ≤ getD ranks s 0 → getD ranks s 0 ≡ getD ranks t 0 → ⊥
+      none-share s t i j ne b e = go (stands order s (ranked .all s i)) (stands order t (ranked .all t j))
+        where
+          go : Stands order s → Stands order t → ⊥
+          go p q = by (compared (p .spot) (q .spot)) (compared (q .spot) (p .spot))
+            where
+              at : entryAt ranks order (p .spot) ≡ getD ranks s 0
+              at = ap (λ (x : ℕ). getD ranks x 0) (p .here)
+
+              to : entryAt ranks order (q .spot) ≡ getD ranks t 0
+              to = ap (λ (x : ℕ). getD ranks x 0) (q .here)
+
+              by : sorting.Compared (p .spot) (q .spot) → sorting.Compared (q .spot) (p .spot) → ⊥
+              by (low a u) (low c v) = let z : p .spot ≡ q .spot = omega arith in ne (sym (p .here) ∙ ap (λ (x : ℕ). getD order x 0) z ∙ q .here)
+              by (low a u) (high c v) = later (p .spot) (q .spot) v (omega (arith, ranked .size, q .inside)) (omega (arith, at, b)) (at ∙ e ∙ sym to)
+              by (high a u) w = later (q .spot) (p .spot) u (omega (arith, ranked .size, p .inside)) (omega (arith, to, e, b)) (to ∙ sym e ∙ sym at)
+
+      no-twice : (i : ℕ) → i + 1 < n → keyTwice (keyAt lows highs) ranks by-key i ≡ true → ⊥
+      no-twice i h t =
+          let near = neighbours-are ranks by-key i (twice-is (keyAt lows highs) ranks by-key i t .1) in
+          none-share (getD by-key i 0) (getD by-key (i + 1) 0) (slot i (omega arith)) (slot (i + 1) h)
+          (λ q. omega (arith, once-at by-key i (i + 1) (keyed .once) (omega (arith, keyed .size)) (omega (arith, keyed .size)) q)) (near .0) (near .1)
+        where
+          slot : (x : ℕ) → x < n → Slot n (getD by-key x 0)
+          slot x u = keyed .within (getD by-key x 0) (at-in by-key x (omega (arith, keyed .size)))
+
+    pub compared-none : (num : Numbers) (some : Bool) → some ≡ anyOf (equalNeighbours ranks order) 0 (n - 1) → not some ≡ true
+        → Compared num ranks lows highs n order by-key false
+    compared-none num some e t =
+        record {
+          in-order = record { by-rank = by-rank; keyed = k };
+          shared-is =
+              sym
+              (pick-false (anyOf (runFault num ranks order) 0 (n - 1)) true _
+              (any-clear (runFault num ranks order) 0 (n - 1)
+              (λ i h. is-false (runFault num ranks order (0 + i)) (λ x. none-near none (0 + i) (omega arith) (run-first num ranks order (0 + i) x))))
+              ∙ any-clear (keyTwice (keyAt lows highs) ranks by-key) 0 (n - 1)
+              (λ i h. is-false (keyTwice (keyAt lows highs) ranks by-key (0 + i)) (no-twice none (0 + i) (omega arith))));
+        }
+      where
+        none : anyOf (equalNeighbours ranks order) 0 (n - 1) ≡ false
+        none = sym e ∙ not-true some t
+
+    module _ (num : Numbers) (runs : Bool) (r : runs ≡ anyOf (runFault num ranks order) 0 (n - 1)) where
+      pub compared-runs : runs ≡ true → Compared num ranks lows highs n order by-key true
+      compared-runs t =
+          record {
+            in-order = record { by-rank = by-rank; keyed = k };
+            shared-is = sym (pick-true (anyOf (runFault num ranks order) 0 (n - 1)) true _ (sym r ∙ t));
+          }
+
+      pub compared-keys : runs ≡ false → (shared : Bool) → shared ≡ anyOf (keyTwice (keyAt lows highs) ranks by-key) 0 (n - 1)
+          → Compared num ranks lows highs n order by-key shared
+      compared-keys t shared e =
+          record {
+            in-order = record { by-rank = by-rank; keyed = k };
+            shared-is = e ∙ sym (pick-false (anyOf (runFault num ranks order) 0 (n - 1)) true _ (sym r ∙ t));
+          }

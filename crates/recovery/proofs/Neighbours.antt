@@ -46,7 +46,7 @@ said-some number = go (eqb number 0) refl
 
 -- the test of two neighbours as facts
 
-neighbours-are : (ranks order : List ℕ) (i : ℕ) → equalNeighbours ranks order i ≡ true
+pub neighbours-are : (ranks order : List ℕ) (i : ℕ) → equalNeighbours ranks order i ≡ true
     → (2 ≤ entryAt ranks order i) × (entryAt ranks order i ≡ entryAt ranks order (i + 1))
 unfolding equalNeighbours
 neighbours-are ranks order i t = go (ltb (entryAt ranks order i) 2) refl t
@@ -56,7 +56,7 @@ neighbours-are ranks order i t = go (ltb (entryAt ranks order i) 2) refl t
     go true e q = absurd (true-false q refl)
     go false e q = (ltb-false (entryAt ranks order i) 2 e, eqb-true (entryAt ranks order i) (entryAt ranks order (i + 1)) q)
 
-are-neighbours : (ranks order : List ℕ) (i : ℕ) → 2 ≤ entryAt ranks order i → entryAt ranks order i ≡ entryAt ranks order (i + 1)
+pub are-neighbours : (ranks order : List ℕ) (i : ℕ) → 2 ≤ entryAt ranks order i → entryAt ranks order i ≡ entryAt ranks order (i + 1)
     → equalNeighbours ranks order i ≡ true
 unfolding equalNeighbours
 are-neighbours ranks order i h e =
@@ -81,7 +81,7 @@ too-many-is num ranks order i t = (
       (both-right (ltb (i + said (num (getD order i 0))) (length order)) _ t),
 )
 
-run-first : (num : Numbers) (ranks order : List ℕ) (i : ℕ) → runFault num ranks order i ≡ true → equalNeighbours ranks order i ≡ true
+pub run-first : (num : Numbers) (ranks order : List ℕ) (i : ℕ) → runFault num ranks order i ≡ true → equalNeighbours ranks order i ≡ true
 unfolding runFault
 run-first num ranks order i t = both-left (equalNeighbours ranks order i) _ t
 
@@ -92,7 +92,7 @@ run-second num ranks order i e t =
     sym (pick-true (eqb (num (getD order i 0)) (num (getD order (i + 1) 0))) _ _ (eq-eqb (num (getD order i 0)) (num (getD order (i + 1) 0)) e))
     ∙ both-right (equalNeighbours ranks order i) _ t
 
-twice-is : (key : ℕ → ℕ) (ranks order : List ℕ) (i : ℕ) → keyTwice key ranks order i ≡ true
+pub twice-is : (key : ℕ → ℕ) (ranks order : List ℕ) (i : ℕ) → keyTwice key ranks order i ≡ true
     → (followed key order i ≡ true) × (equalNeighbours ranks order i ≡ true)
 unfolding keyTwice
 twice-is key ranks order i t = (both-left (followed key order i) _ t, both-right (followed key order i) _ t)

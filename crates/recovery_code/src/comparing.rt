@@ -47,6 +47,22 @@ fn is_shared(ranks: &[u64], order: &[u32], i: usize) -> bool
     a == entry_at(ranks, order, i + 1)
 }
 
+// Do any two neighbours?
+fn any_shared(ranks: &[u64], order: &[u32], n: usize) -> bool
+    requires { ⌜ (length (now order) ≡ n) × (1 ≤ n) × (length (now ranks) ≡ n + 1) × Within (now order) n ⌝ }
+    ensures { λ r. ⌜ r ≡ anyOf (equalNeighbours (now (ranks .entry)) (now (order .entry))) 0 (n - 1) ⌝ }
+{
+    let end = n - 1;
+    let mut i = 0;
+    while i < end {
+        if is_shared(ranks, order, i) {
+            return true;
+        }
+        i += 1;
+    }
+    false
+}
+
 // From position i on, does its run go on for more slots than the number of the slot says?
 fn is_too_many(image: &[u8], l: usize, ranks: &[u64], order: &[u32], i: usize, n: usize) -> bool
     requires { ⌜ Numbered (now image) l (now order) n × (length (now ranks) ≡ n + 1) × (i < n) ⌝ }
@@ -123,7 +139,7 @@ fn any_key_twice(ranks: &[u64], lows: &[u64], highs: &[u64], order: &[u32], n: u
     false
 }
 
-// The slots in order by rank and by key, and whether 7 is found along these orders.
+// The slots in order by rank and by key, and whether 7 is found along these orders. Where no two slots share a version it is not.
 pub fn compare(
     image: &[u8],
     l: usize,
@@ -140,6 +156,9 @@ pub fn compare(
 {
     order_by_rank(ranks, order, scratch);
     order_by_key(lows, highs, order, by_key, scratch);
+    if !any_shared(ranks, order, n) {
+        return false;
+    }
     if any_run_fault(image, l, ranks, order, n) {
         return true;
     }
