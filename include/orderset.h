@@ -43,8 +43,8 @@
  * Which slot a call takes: the first of the reuse chain that may be taken. No call takes a slot of the highest version
  * among valid slots, nor a record of a remove while an older valid record of its key is in the image. 28 says that no
  * slot may be taken, or that a new key would leave no spare slot. In a set that was formatted and then changed by these
- * calls alone, an insert is refused with 28 only where one slot is spare. An image from elsewhere that recovery accepts
- * may have no slot to take; there replace and remove are refused with 28 too.
+ * calls alone, an insert is refused with 28 only where one slot is spare, and a replace or a remove never is. An image
+ * from elsewhere that recovery accepts may have no slot to take; there they are refused with 28 too.
  *
  * What a call returns: 0 where it is not refused. A refused call leaves everything that it was lent as it was. Format,
  * play, the book's steps and the questions about a line return the number of the refusal (enum orderset_refusal).
