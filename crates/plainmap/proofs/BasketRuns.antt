@@ -318,11 +318,12 @@ module _ (l : ℕ) (lay : Layout l) (w : World) (chains : Chain → List ℕ) (a
       go : Holder f n key → Slot n (holder f n key) × (place (holder f n key) ≡ head (headOf key b)) × (keyIn (f (holder f n key)) ≡ key)
       go (holder-is i a q) =
           let e = same l lay w chains accepted g none-void (holder f n key) i in
-          let k = weight-key key (f (holder f n key)) q in
-          (i,
-          place-live (tableOf l (w .image)) n b (holder f n key) (alike-live f (tableOf l (w .image)) n (same l lay w chains accepted g none-void) (holder f n key) i ∙ a)
-          ∙ ap (λ (x : ℕ). head (headOf x b)) (ap keyIn e ∙ k),
-          k)
+          let k = weight-key key (f (holder f n key)) q in (
+            i,
+            place-live (tableOf l (w .image)) n b (holder f n key) (alike-live f (tableOf l (w .image)) n (same l lay w chains accepted g none-void) (holder f n key) i ∙ a)
+                ∙ ap (λ (x : ℕ). head (headOf x b)) (ap keyIn e ∙ k),
+            k,
+          )
 
   stands-by : (a : Action) (key : ℕ) → actionFault a (isHeld (mapOf f n key)) ≡ 0 → KeyReady f n found (record { action = a; key = key; value = [] })
       → OldStands n place a (headOf key b) (oldIn (found key))
@@ -488,11 +489,12 @@ module _ (l : ℕ) (lay : Layout l) (w : World) (chains : Chain → List ℕ) (a
         all-slots version {P = λ (e : BasketRecord). Fits e} es
         (λ e i q. record { fields = q .0; lawful = q .1; above = omega (arith, above l lay w chains accepted g none-void (e .slot) (basket .slot (e .slot) i), top-is l (word (w .image)) (e .slot)) })
         (records-all {Q = λ (c : KeyChange). TypedChange l c × (sizeFault l (c .action) (length (c .value)) ≡ 0)} {P = λ (e : BasketRecord). Fits e}
-        (λ c s q.
-        (subst (λ (x : ℕ). Fields l (c .key) (kindBy (c .action)) x (valueBy (c .action) (c .value))) (sym number-is)
-        (fields-by l lay (numberFor (length cs)) (number-fits (length cs) (p .few-keys)) (c .action) (c .key) (c .value) (q .0 .key-fits) (q .0 .bytes) (q .1)),
-        subst (λ (x : ℕ). Lawful (kindBy (c .action)) x (valueBy (c .action) (c .value))) (sym number-is)
-        (lawful-by (numberFor (length cs)) (lawful-number (length cs) (p .some-keys) (p .few-keys)) (c .action) (c .value))))
+        (λ c s q. (
+          subst (λ (x : ℕ). Fields l (c .key) (kindBy (c .action)) x (valueBy (c .action) (c .value))) (sym number-is)
+              (fields-by l lay (numberFor (length cs)) (number-fits (length cs) (p .few-keys)) (c .action) (c .key) (c .value) (q .0 .key-fits) (q .0 .bytes) (q .1)),
+          subst (λ (x : ℕ). Lawful (kindBy (c .action)) x (valueBy (c .action) (c .value))) (sym number-is)
+              (lawful-by (numberFor (length cs)) (lawful-number (length cs) (p .some-keys) (p .few-keys)) (c .action) (c .value)),
+        ))
         cs ts (both-all (λ c x y. (x, y)) typed (p .short)))
 
     -- only held keys are removed

@@ -12,15 +12,15 @@ link-requires c κs = (c .before .before .before .before .before .before .before
 
 append-requires : tie.Need-append-requires
 append-requires c κs = (
-      omega (arith, c .before .before .before .before .before .link .kept .1 .0, c .before .before .before .before .before .before .before .before .before .before .before .before .before .before .pre .size, c .before .before .before .before .before .before .before .before .before .before .before .before .before .before .pre .old-in),
-      omega (arith, c .before .before .before .before .before .link .kept .1 .0, c .before .before .before .before .before .before .before .before .before .before .before .before .before .before .pre .size, c .before .before .before .before .before .before .before .before .before .before .before .before .before .before .pre .last-in),
-    )
+  omega (arith, c .before .before .before .before .before .link .kept .1 .0, c .before .before .before .before .before .before .before .before .before .before .before .before .before .before .pre .size, c .before .before .before .before .before .before .before .before .before .before .before .before .before .before .pre .old-in),
+  omega (arith, c .before .before .before .before .before .link .kept .1 .0, c .before .before .before .before .before .before .before .before .before .before .before .before .before .before .pre .size, c .before .before .before .before .before .before .before .before .before .before .before .before .before .before .pre .last-in),
+)
 
 append-requires-2 : tie.Need-append-requires-2
 append-requires-2 c κs = (
-      omega (arith, c .before .before .before .append .kept .0, c .before .before .before .before .before .before .before .before .before .link .kept .1 .0, c .before .before .before .before .before .before .before .before .before .before .before .before .before .before .before .before .before .before .pre .size, c .before .before .before .before .before .before .before .before .before .before .before .before .before .before .before .before .before .before .pre .slot-in),
-      omega (arith, c .before .before .before .append .kept .0, c .before .before .before .before .before .before .before .before .before .link .kept .1 .0, c .before .before .before .before .before .before .before .before .before .before .before .before .before .before .before .before .before .before .pre .size, c .before .before .before .before .before .before .before .before .before .before .before .before .before .before .before .before .before .before .pre .old-in, append-last _ _ _ (c .before .before .before .append .ensures .0)),
-    )
+  omega (arith, c .before .before .before .append .kept .0, c .before .before .before .before .before .before .before .before .before .link .kept .1 .0, c .before .before .before .before .before .before .before .before .before .before .before .before .before .before .before .before .before .before .pre .size, c .before .before .before .before .before .before .before .before .before .before .before .before .before .before .before .before .before .before .pre .slot-in),
+  omega (arith, c .before .before .before .append .kept .0, c .before .before .before .before .before .before .before .before .before .link .kept .1 .0, c .before .before .before .before .before .before .before .before .before .before .before .before .before .before .before .before .before .before .pre .size, c .before .before .before .before .before .before .before .before .before .before .before .before .before .before .before .before .before .before .pre .old-in, append-last _ _ _ (c .before .before .before .append .ensures .0)),
+)
 
 returns : tie.Need-returns
 returns c = remove-linked _ _ _ _ _ _ _ _ _ _ (c .before .before .before .before .before .before .before .before .before .before .before .before .before .before .before .before .slot-before .ensures) _ _ (c .before .before .before .before .before .before .append .ensures .0) (c .before .before .before .before .before .before .append .ensures .1) _ _ (c .before .before .before .before .before .before .before .before .before .before .before .before .link .ensures .0)

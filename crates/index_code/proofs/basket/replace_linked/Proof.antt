@@ -12,9 +12,9 @@ link-requires c κs = (c .before .before .before .before .before .before .before
 
 append-requires : tie.Need-append-requires
 append-requires c κs = (
-      rw (c .before .before .before .before .before .link .kept .1 .0, length-set) (omega (arith, c .before .before .before .before .before .before .before .before .before .before .before .before .before .before .pre .size, c .before .before .before .before .before .before .before .before .before .before .before .before .before .before .pre .old-in)),
-      rw (c .before .before .before .before .before .link .kept .1 .0, length-set) (omega (arith, c .before .before .before .before .before .before .before .before .before .before .before .before .before .before .pre .size, c .before .before .before .before .before .before .before .before .before .before .before .before .before .before .pre .last-in)),
-    )
+  rw (c .before .before .before .before .before .link .kept .1 .0, length-set) (omega (arith, c .before .before .before .before .before .before .before .before .before .before .before .before .before .before .pre .size, c .before .before .before .before .before .before .before .before .before .before .before .before .before .before .pre .old-in)),
+  rw (c .before .before .before .before .before .link .kept .1 .0, length-set) (omega (arith, c .before .before .before .before .before .before .before .before .before .before .before .before .before .before .pre .size, c .before .before .before .before .before .before .before .before .before .before .before .before .before .before .pre .last-in)),
+)
 
 same-length-2 : tie.Need-same-length-2
 same-length-2 c = c .before .before .append .kept .0 ∙ c .before .before .before .before .before .before .before .before .link .kept .1 .0 ∙ simp length-set

@@ -7,11 +7,9 @@ use Rattle.index_code.proofs.basket.take_all.Statement.{statement}
 use Rattle.index_code.proofs.basket.take_all.Tie as tie
 
 abbrev Inv-loop : tie.InvT-loop
-
 Inv-loop next₀ count slots prevs rest₀ j₀ next rest j = Leaving slots prevs count next₀ rest₀ next rest j
 
 abbrev μ-loop : tie.MeasureT-loop
-
 μ-loop next₀ count slots prevs rest₀ j₀ next rest j = count - j
 
 loop-holds : tie.Need-loop-holds Inv-loop μ-loop
