@@ -15,7 +15,8 @@ use Rattle.layout.specs.Record.{limit}
 use Rattle.layout.specs.Content.{Content, made, Table}
 use Rattle.stores.specs.Basket.{BasketRecord, basketSlots}
 use Rattle.table.specs.Table.{keyIn, mapOf, isHeld}
-use Rattle.table.proofs.defs.Write.{isPut, holder}
+use Rattle.table.proofs.defs.Write.{holder}
+use Rattle.table.specs.inner.Class.{isPut}
 use Rattle.table.proofs.defs.Reuse.{appended}
 use Rattle.table.proofs.defs.Basket.{oneIf, insertsIn, removesIn}
 use Rattle.table.proofs.defs.ReuseAfter.{joinsOf}

@@ -78,7 +78,7 @@ module _ (l : ℕ) (image : List ℕ) (n b : ℕ) (ranks lows highs places₁ or
     (twin : Compared (numbersOf l image) ranks lows highs n order₁ by-key₁ shared) (limit-by : limit ≡ judgedRank (numbersOf l image) ranks order₁ n)
     (v : Settled (word image) limit n ranks lows highs places₁ ranks₂ places₂ order by-key opened)
     (done : places ≡ decided (keyAt lows highs) by-key n places₂) (counted : live-count ≡ placedCount places n)
-    (sum : broken ≡ all .broken + opened .count) where
+    (sum : broken ≡ all .classes .broken + opened .count) where
   abbrev raw : Table
   raw = contentsOf l image
 
@@ -136,7 +136,7 @@ module _ (l : ℕ) (image : List ℕ) (n b : ℕ) (ranks lows highs places₁ or
         omega (
           arith,
           sum,
-          s .broken-is,
+          s .classed .broken-is,
           ap (λ (o : Openings). o .count) opened-is,
           openings-length (word image) (filter (isVoid raw num n) (slotNumbers n)),
           count-filter (isVoid raw num n) n,
@@ -221,12 +221,12 @@ module _ (ranks lows highs order by-key : List ℕ) (n : ℕ) (o : InOrder ranks
 -- broken and void slots can be counted together
 pub broken-fits : (l : ℕ) (m : ℕ → ℕ) (n b : ℕ) (ranks lows highs places : List ℕ) (all : Scan) (limit : ℕ) (opened : Openings)
     → Scanned l m n b ranks lows highs places all → opened ≡ openingsOf (openingStores m (filter (λ s. ltb limit (getD ranks s 0)) (slotNumbers n)))
-    → all .broken + opened .count ≤ n + n
+    → all .classes .broken + opened .count ≤ n + n
 unfolding brokenCount openingsOf
 broken-fits l m n b ranks lows highs places all limit opened s e =
     omega (
       arith,
-      s .broken-is,
+      s .classed .broken-is,
       count-most (λ t. isBroken (content l m t)) n,
       ap (λ (o : Openings). o .count) e,
       openings-length m (filter (λ t. ltb limit (getD ranks t 0)) (slotNumbers n)),

@@ -12,7 +12,6 @@ use lib.Dec.{eqb}
 use borrow.Author.Tests.{eq-eqb, ne-eqb}
 use Rattle.words.specs.Word.{word}
 use Rattle.prelude.proofs.Choice.{pick-true, pick-false, split}
-use Rattle.prelude.specs.Answer.{gives}
 use Rattle.layout.specs.Size.{slotsIn}
 use Rattle.layout.specs.Header.{lentFault}
 use Rattle.layout.specs.Record.{Layout}
@@ -28,7 +27,7 @@ use Rattle.layout.proofs.Lents.{lent-sized, lent-heads, lent-slots}
 use Rattle.stores.specs.Store.{Store}
 use Rattle.stores.specs.Opening.{openingStores}
 use Rattle.recovery.specs.Opening.{voidSlots, openingsOf}
-use Rattle.recovery.specs.Recover.{Result, stateValues, slotsFault, slotsNamed, recoverFault, recoverSlot, recoveredIndex, recoveredState, recovered, recoverResult, recoverEnd, refusedResult}
+use Rattle.recovery.specs.Recover.{Result, rebuiltResult, refusedResult, recoverEnd, slotsFault, slotsNamed, recoverFault, recoverSlot, recoveredIndex, recoveredState, recovered, recoverResult}
 use Rattle.recovery.specs.inner.Decide.{livePlace, Within}
 use Rattle.recovery.specs.inner.Judge.{Ready, Roomy, Judgeable, Arranged, Judgement, Left, answerBy}
 use Rattle.recovery.specs.declared.Judged.{Judged}
@@ -86,21 +85,13 @@ module _ (l : ℕ) (image heads next : List ℕ) (n : ℕ) (ready : Ready image 
 
   -- the result of an index with this live count and this next version, and with these stores
   shown : Openings → Index → (live-count version newest : ℕ) → Result
-  shown openings i live-count version newest =
-      record {
-        answer = gives (stateValues (stateOf i live-count version newest));
-        slot = 0;
-        state = stateOf i live-count version newest;
-        openings = openings;
-        heads = i .heads;
-        next = i .next;
-      }
+  shown openings i live-count version newest = rebuiltResult (stateOf i live-count version newest) openings (i .heads) (i .next)
 
   slots-taken : (fault : ℕ) → fault ≡ slotsFault l (word image) n → fault ≡ 0 → (order places heads′ next′ : List ℕ) (live-count top : ℕ) (r : State)
       (openings : Openings) → Arranged (settled (contentsOf l image) (numbersOf l image) n) n (length heads) order places live-count top
       → openings ≡ openingsOf (openingStores (word image) (voidSlots l (word image) n))
       → PartsOf heads′ next′ r (build (placeIn places) (unbuilt (replicate (length heads) 0) (replicate (length next) 0)) order) live-count (top + 1) 0
-      → record { answer = gives (stateValues r); slot = 0; state = r; openings = openings; heads = heads′; next = next′ } ≡ recoverResult l image heads next
+      → rebuiltResult r openings heads′ next′ ≡ recoverResult l image heads next
   unfolding shown recovered recoveredState
   slots-taken fault e z order places heads′ next′ live-count top r openings a o h =
       ap (λ (i : Index). shown openings i (r .live) (r .version) (r .newest)) (h .index ∙ built)

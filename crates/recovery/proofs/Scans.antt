@@ -6,10 +6,10 @@ use mathlib.Core.List.{List}
 use Prim.Native.Nat.{ℕ, zero, suc, _+_, _-_, _*_, _/_, _%_, _^_, _≤_, _<_, max}
 use native.Mathlib.Decide.{ℕ-discrete}
 use native.Mathlib.Omega.{arith}
-use lib.Dec.{eqb}
+use lib.Dec.{eqb, ltb}
 use lib.ListN.{length, getD, set, length-set}
 use lib.Seq.{getD-set-same, getD-set-other}
-use borrow.Author.Tests.{eq-eqb, ne-eqb}
+use borrow.Author.Tests.{eq-eqb, ne-eqb, lt-ltb, le-ltb}
 use Rattle.words.specs.Word.{AreBytes, word}
 use Rattle.words.proofs.Laws.{word-range}
 use Rattle.prelude.proofs.Choice.{pick-true, pick-false}
@@ -20,19 +20,22 @@ use Rattle.layout.specs.Line.{lineA, lineB, lineTop}
 use Rattle.layout.specs.Slot.{paired, verdictOf, lineVerdict, slotVerdict, isValid}
 use Rattle.layout.specs.Record.{Layout, kindOf, keyOf, valueOf}
 use Rattle.layout.specs.inner.Key.{keyWith, highWord}
-use Rattle.layout.specs.Content.{putRecord, removeRecord, made, contentBy, contentOf, content, topOf}
+use Rattle.layout.specs.Content.{Content, broken, empty, putRecord, removeRecord, made, contentBy, contentOf, content, topOf, Table}
 use Rattle.layout.specs.Fault.{markFault, faultOf, recordFault}
 use Rattle.layout.specs.declared.Verdict.{Verdict}
 use Rattle.layout.specs.declared.Verdict.the-variants.{Valid, Empty, Broken}
 use Rattle.layout.proofs.KeyWords.{no-high, key-parts}
-use Rattle.prelude.proofs.Count.{count-most}
-use Rattle.table.specs.Table.{keyIn, isBroken, brokenCount}
+use Rattle.table.specs.Table.{keyIn, brokenCount}
+use Rattle.table.specs.inner.Class.{isPut}
+use Rattle.table.specs.Taking.{isRemove}
 use Rattle.table.proofs.Broken.{rank-broken}
+use Rattle.table.proofs.Classes.{rank-empty, classes-add}
 use Rattle.table.specs.Order.{rankOf}
 use Rattle.index.specs.Index.{headOf}
-use Rattle.recovery.specs.inner.Scan.{putPlace, Scannable, validSummary, Summed, ScanWith, keyAt, Scanned}
+use Rattle.recovery.specs.inner.Scan.{putPlace, Scannable, validSummary, Summed, isRemoveBy, ClassesWith, slotsCounted, ScanWith, keyAt, Classed, Scanned}
 use Rattle.recovery.specs.inner.Decide.{NoneOrAll}
 use Rattle.recovery.specs.declared.Summary.{Summary}
+use Rattle.recovery.specs.declared.Classes.{Classes}
 use Rattle.recovery.specs.declared.Scan.{Scan}
 use Rattle.recovery.proofs.Orders.{no-highs}
 
@@ -249,8 +252,41 @@ keys-next rank g lows highs after k low high l e w h s p q r = by-cases (ℕ-dis
     other : (s ≡ suc k → ⊥) → keyWith (getD (set lows (suc k) low) s 0) (getD after s 0) ≡ g s
     other i = ap₂ (λ (x y : ℕ). keyWith x y) (getD-set-other lows (suc k) s low 0 i) (w .others s i) ∙ h s p (omega arith) r
 
+-- ---- the classes
+
+put-by : (b : ℕ) (c : Content) → ltb 0 (putPlace b c) ≡ isPut c
+unfolding putPlace isPut
+put-by b (broken top) = refl
+put-by b empty = refl
+put-by b (putRecord version key value) = lt-ltb 0 (headOf key b + 1) (omega arith)
+put-by b (removeRecord version key) = refl
+
+remove-by : (b : ℕ) (c : Content) → isRemoveBy (rankOf c) (putPlace b c) ≡ isRemove c
+unfolding isRemoveBy rankOf putPlace isRemove
+remove-by b (broken top) = refl
+remove-by b empty = refl
+remove-by b (putRecord version key value) =
+    pick-false _ _ _ (le-ltb (2 + version) 2 (omega arith)) ∙ ne-eqb (headOf key b + 1) 0 (λ e. omega arith)
+remove-by b (removeRecord version key) = pick-false _ _ _ (le-ltb (2 + version) 2 (omega arith))
+
+classed-next : (f : Table) (k b : ℕ) (classes next : Classes) (rank place : ℕ) → Classed f k classes → rank ≡ rankOf (f (suc k))
+    → place ≡ putPlace b (f (suc k)) → ClassesWith classes rank place next → Classed f (suc k) next
+unfolding brokenCount count
+classed-next f k b classes next rank place g r p j =
+    record {
+      broken-is = j .broken-is ∙ ap₂ more (ap (λ (x : ℕ). eqb x 0) r ∙ rank-broken (f (suc k))) (g .broken-is);
+      empty-is = j .empty-is ∙ ap₂ more (ap (λ (x : ℕ). eqb x 1) r ∙ rank-empty (f (suc k))) (g .empty-is);
+      puts-are = j .puts-are ∙ ap₂ more (ap (ltb 0) p ∙ put-by b (f (suc k))) (g .puts-are);
+      removes-are = j .removes-are ∙ ap₂ more (ap₂ isRemoveBy r p ∙ remove-by b (f (suc k))) (g .removes-are);
+    }
+  where
+    more : Bool → ℕ → ℕ
+    more x y = cond x (suc y) y
+
+-- ---- slot by slot: the scan
+
 scanned-none : (l : ℕ) (m : ℕ → ℕ) (b : ℕ) (ranks lows highs places : List ℕ)
-    → Scanned l m 0 b ranks lows highs places (record { mark = false; fault = 0; slot = 0; broken = 0; top = 0 })
+    → Scanned l m 0 b ranks lows highs places (record { mark = false; fault = 0; slot = 0; classes = record { broken = 0; empty = 0; puts = 0; removes = 0 }; top = 0 })
 unfolding anyOf greatest lowest atLowest say brokenCount count
 scanned-none l m b ranks lows highs places =
     record {
@@ -259,7 +295,7 @@ scanned-none l m b ranks lows highs places =
       marks-are = refl;
       fault-is = refl;
       slot-is = refl;
-      broken-is = refl;
+      classed = record { broken-is = refl; empty-is = refl; puts-are = refl; removes-are = refl };
       top-is = refl;
     }
 
@@ -267,7 +303,7 @@ scanned-next : (l : ℕ) (m : ℕ → ℕ) (k b : ℕ) (ranks lows highs places 
     → Scanned l m k b ranks lows highs places all → suc k < length ranks → suc k < length lows → suc k < length places
     → HighSet highs after (suc k) (slot .high) → Summed l m (suc k) b slot → ScanWith all slot (suc k) next
     → Scanned l m (suc k) b (set ranks (suc k) (slot .rank)) (set lows (suc k) (slot .low)) after (set places (suc k) (slot .place)) next
-unfolding greatest lowest brokenCount count
+unfolding greatest lowest
 scanned-next l m k b ranks lows highs places after all next slot g r y p w here j =
     record {
       listed =
@@ -280,10 +316,7 @@ scanned-next l m k b ranks lows highs places after all next slot g r y p w here 
       marks-are = j .mark-is ∙ ap₂ (λ (u v : Bool). cond u true v) (g .marks-are) (here .mark-is) ∙ with-last;
       fault-is = j .fault-is ∙ ap₂ orElse (g .fault-is) (here .fault-is) ∙ sym (at-lowest-next (recordFault l m) k);
       slot-is = j .slot-is ∙ ap₂ (λ (x y : ℕ). orElse x (say (eqb y 0) 0 (suc k))) (g .slot-is) (here .fault-is);
-      broken-is =
-          j .broken-is
-          ∙ ap₂ (λ (x : Bool) (y : ℕ). cond x (suc y) y)
-          (ap (λ (x : ℕ). eqb x 0) (here .rank-is) ∙ rank-broken (content l m (suc k))) (g .broken-is);
+      classed = classed-next (content l m) k b _ _ _ _ (g .classed) (here .rank-is) (here .place-is) (j .classes-are);
       top-is = j .top-is ∙ ap₂ max (g .top-is) (here .top-is);
     }
   where
@@ -305,7 +338,7 @@ pub record Scanning (l : ℕ) (m : ℕ → ℕ) (n b : ℕ) (ranks lows highs pl
   pub so-far : Scanned l m (s - 1) b ranks lows highs places all
 
 pub scan-start : (image : List ℕ) (l : ℕ) (ranks lows highs places : List ℕ) (n b : ℕ) → Scannable image l ranks lows highs places n b
-    → Scanning l (word image) n b ranks lows highs places (record { mark = false; fault = 0; slot = 0; broken = 0; top = 0 }) 1
+    → Scanning l (word image) n b ranks lows highs places (record { mark = false; fault = 0; slot = 0; classes = record { broken = 0; empty = 0; puts = 0; removes = 0 }; top = 0 }) 1
 scan-start image l ranks lows highs places n b g =
     record {
       low = omega arith;
@@ -337,12 +370,12 @@ scan-next l m n b ranks lows highs places after all next slot (suc k) g h here w
           (omega (arith, g .ranks-size)) (omega (arith, g .lows-size)) (omega (arith, g .places-size)) w here j);
     }
 
--- at most all slots are broken
-pub broken-few : (l : ℕ) (m : ℕ → ℕ) (n b : ℕ) (ranks lows highs places : List ℕ) (all : Scan) (s : ℕ)
-    → Scanning l m n b ranks lows highs places all s → all .broken ≤ n
-unfolding brokenCount
-broken-few l m n b ranks lows highs places all s g =
-    omega (arith, g .low, g .high, g .so-far .broken-is, count-most (λ t. isBroken (content l m t)) (s - 1))
+-- no slot is counted twice
+pub classes-few : (l : ℕ) (m : ℕ → ℕ) (n b : ℕ) (ranks lows highs places : List ℕ) (all : Scan) (s : ℕ)
+    → Scanning l m n b ranks lows highs places all s → slotsCounted (all .classes) ≤ n
+classes-few l m n b ranks lows highs places all s g =
+    let c = g .so-far .classed in
+    omega (arith, g .low, g .high, c .broken-is, c .empty-is, c .puts-are, c .removes-are, classes-add (content l m) (s - 1))
 
 pub scan-end : (l : ℕ) (m : ℕ → ℕ) (n b : ℕ) (ranks lows highs places : List ℕ) (all : Scan) (s : ℕ)
     → Scanning l m n b ranks lows highs places all s → n < s → Scanned l m n b ranks lows highs places all

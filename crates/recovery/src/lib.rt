@@ -33,13 +33,21 @@ pub struct Summary {
     pub fault: u32,
 }
 
-// What all slots together say: a bad mark, the fault of the lowest slot at fault and that slot (0 and 0 for none), how many are broken, and the
-// highest version on a whole line.
+// How many slots are of each class: broken, empty, and of the valid ones puts and removes.
+pub struct Classes {
+    pub broken: u32,
+    pub empty: u32,
+    pub puts: u32,
+    pub removes: u32,
+}
+
+// What all slots together say: a bad mark, the fault of the lowest slot at fault and that slot (0 and 0 for none), how many are of each class, and
+// the highest version on a whole line.
 pub struct Scan {
     pub mark: bool,
     pub fault: u32,
     pub slot: u32,
-    pub broken: u32,
+    pub classes: Classes,
     pub top: u64,
 }
 

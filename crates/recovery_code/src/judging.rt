@@ -79,7 +79,7 @@ pub fn judge(
     );
     decide(lows, highs, by_key, places, n);
     let live = count_placed(places, n);
-    let broken = all.broken + openings.count;
+    let broken = all.classes.broken + openings.count;
     let fault = found_fault(all.mark, all.fault, shared, broken, live, n as u32);
     Judged {
         fault,

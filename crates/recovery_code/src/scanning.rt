@@ -8,7 +8,7 @@ ghost use Rattle.prelude.specs.Refusal.{say, orElse};
 ghost use Rattle.layout.specs.inner.Inside.{SlotInside};
 ghost use Rattle.layout.specs.inner.Key.{keyWith};
 ghost use Rattle.index.specs.Index.{headOf};
-ghost use Rattle.recovery.specs.inner.Scan.{Scannable, validSummary, Summed, ScanWith, Scanned};
+ghost use Rattle.recovery.specs.inner.Scan.{Scannable, validSummary, Summed, isRemoveBy, ClassesWith, slotsCounted, ScanWith, Scanned};
 use index_code::head::head_of;
 use layout::Verdict;
 use layout_code::fields::record_fault;
@@ -18,6 +18,7 @@ use layout_code::fields::slot_low;
 use layout_code::line::greater;
 use layout_code::slot::mark_fault;
 use layout_code::slot::slot_verdict;
+use recovery::Classes;
 use recovery::Scan;
 use recovery::Summary;
 
@@ -100,27 +101,50 @@ fn slot_at_fault(fault: u32, s: u32) -> u32
     s
 }
 
-// The broken slots and one more of this rank, which is 0 for a broken slot alone.
-fn broken_with(broken: u32, rank: u64) -> u32
-    requires { ⌜ broken < 65536 ⌝ }
-    ensures { λ r. ⌜ r ≡ cond (eqb rank 0) (suc broken) broken ⌝ }
+// The count with one more where the test holds.
+fn count_with(count: u32, test: bool) -> u32
+    requires { ⌜ count < 65536 ⌝ }
+    ensures { λ r. ⌜ r ≡ cond test (suc count) count ⌝ }
 {
-    if rank == 0 {
-        return broken + 1;
+    if test {
+        return count + 1;
     }
-    broken
+    count
+}
+
+// Is a slot of this rank and this place a remove?
+fn is_remove(rank: u64, place: u32) -> bool
+    ensures { λ r. ⌜ r ≡ isRemoveBy rank place ⌝ }
+{
+    if rank < 2 {
+        return false;
+    }
+    place == 0
+}
+
+// The classes with one slot more, of this rank and this place.
+fn classes_with(classes: Classes, rank: u64, place: u32) -> Classes
+    requires { ⌜ slotsCounted classes < 65536 ⌝ }
+    ensures { λ r. ⌜ ClassesWith classes rank place r ⌝ }
+{
+    Classes {
+        broken: count_with(classes.broken, rank == 0),
+        empty: count_with(classes.empty, rank == 1),
+        puts: count_with(classes.puts, 0 < place),
+        removes: count_with(classes.removes, is_remove(rank, place)),
+    }
 }
 
 // A scan with slot s joined.
 fn joined(scan: Scan, slot: Summary, s: u32) -> Scan
-    requires { ⌜ scan .broken < 65536 ⌝ }
+    requires { ⌜ slotsCounted (scan .classes) < 65536 ⌝ }
     ensures { λ r. ⌜ ScanWith scan slot s r ⌝ }
 {
     Scan {
         mark: scan.mark || slot.mark,
         fault: first_of(scan.fault, slot.fault),
         slot: first_of(scan.slot, slot_at_fault(slot.fault, s)),
-        broken: broken_with(scan.broken, slot.rank),
+        classes: classes_with(scan.classes, slot.rank, slot.place),
         top: greater(scan.top, slot.top),
     }
 }
@@ -143,7 +167,12 @@ pub fn scan(
         mark: false,
         fault: 0,
         slot: 0,
-        broken: 0,
+        classes: Classes {
+            broken: 0,
+            empty: 0,
+            puts: 0,
+            removes: 0,
+        },
         top: 0,
     };
     let mut s = 1;

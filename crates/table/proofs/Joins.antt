@@ -12,7 +12,8 @@ use Rattle.prelude.proofs.Lists.{in-append, in-left, in-right, once-append}
 use Rattle.table.specs.Table.{keyIn, live, weight}
 use Rattle.table.proofs.defs.Reuse.{joins}
 use Rattle.table.proofs.defs.ReuseAfter.{joinsOf}
-use Rattle.table.proofs.defs.Write.{holder, isPut}
+use Rattle.table.proofs.defs.Write.{holder}
+use Rattle.table.specs.inner.Class.{isPut}
 use Rattle.table.proofs.Appended.{Joined, from-old, from-own, joined, in-old, in-own, once-appended}
 use Rattle.table.proofs.Held.{is-holder, Holder, holder-is}
 use Rattle.table.proofs.OneSlot.{one-key}

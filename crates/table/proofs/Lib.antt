@@ -5,6 +5,7 @@ pub mod Write
 pub mod LiveCount
 pub mod Hidden
 pub mod Broken
+pub mod Classes
 pub mod Appended
 pub mod Reuse
 pub mod Search

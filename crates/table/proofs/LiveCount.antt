@@ -11,7 +11,8 @@ use Rattle.layout.specs.Content.{Content, Table}
 use Rattle.table.specs.Table.{decider, mapOf, live, liveCount, allLive}
 use Rattle.prelude.specs.Range.{count}
 use Rattle.prelude.specs.Members.{Slot}
-use Rattle.table.proofs.defs.Write.{Above, isPut, upd, only, Record, Free}
+use Rattle.table.specs.inner.Class.{isPut}
+use Rattle.table.proofs.defs.Write.{Above, upd, only, Record, Free}
 use Rattle.prelude.proofs.Count.{count-more, count-gap, count-room, count-same, Gap, count-most}
 use Rattle.table.proofs.Held.{Held, held-or, some-none, unheld, held}
 use Rattle.table.proofs.Write.{write-live, write-live-own}

@@ -10,7 +10,8 @@ use borrow.Author.Tests.{eqb-true, eqb-false}
 use Rattle.layout.specs.Content.{Content, putRecord, removeRecord, Table}
 use Rattle.prelude.specs.Members.{In, Slot}
 use Rattle.table.specs.Table.{weight, decider, live}
-use Rattle.table.proofs.defs.Write.{Above, isPut, holder, upd, only, Record, Free}
+use Rattle.table.specs.inner.Class.{isPut}
+use Rattle.table.proofs.defs.Write.{Above, holder, upd, only, Record, Free}
 use Rattle.table.proofs.defs.Reuse.{Spares, joins}
 use Rattle.table.specs.Reuse.{Hides, hides, HiddenFirst, BrokenFirst}
 use Rattle.table.proofs.OneSlot.{one-key, weight-put, weight-counts, upd-other, upd-same}

@@ -9,7 +9,8 @@ use borrow.Author.Tests.{eqb-true, eqb-false, eq-eqb, ne-eqb, ltb-true, ltb-fals
 use Rattle.layout.specs.Content.{Content, broken, putRecord, removeRecord, topOf, Table}
 use Rattle.table.specs.Table.{isRecord, weight, nextVersion, decider, valueIn, valueAt, mapOf, live, liveCount}
 use Rattle.prelude.specs.Members.{Slot}
-use Rattle.table.proofs.defs.Write.{Above, Distinct, isPut, upd, only, Record, Free, Outside, NoRecord}
+use Rattle.table.specs.inner.Class.{isPut}
+use Rattle.table.proofs.defs.Write.{Above, Distinct, upd, only, Record, Free, Outside, NoRecord}
 use Rattle.table.proofs.OneSlot.{weight-put-other, puts, Says, weight-put, weight-remove, upd-other, removes, weight-broken, value-at, upd-same, says, weight-remove-other}
 use Rattle.prelude.proofs.Choice.{true-false}
 use Rattle.prelude.proofs.Most.{greatest-above, greatest-least}

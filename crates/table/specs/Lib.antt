@@ -5,3 +5,4 @@ pub mod Keys
 pub mod Complete
 pub mod Shared
 pub mod Taking
+pub mod inner

@@ -1,12 +1,12 @@
 -- What recovery's scan of the slots keeps: rank, key and place of each slot, and what all slots together say. A key is kept as its low and its high word.
 use mathlib.Core.Path.{_≡_}
-use mathlib.Core.Bool.{Bool, true, cond}
+use mathlib.Core.Bool.{Bool, true, false, cond}
 use mathlib.Core.List.{List}
 use Prim.Native.Nat.{ℕ, suc, _+_, _-_, _*_, _≤_, _<_, max}
-use lib.Dec.{eqb}
+use lib.Dec.{eqb, ltb}
 use lib.ListN.{length, getD}
 use Rattle.prelude.specs.Refusal.{say, orElse}
-use Rattle.prelude.specs.Range.{anyOf, greatest, lowest, atLowest}
+use Rattle.prelude.specs.Range.{anyOf, greatest, lowest, atLowest, count}
 use Rattle.layout.specs.Line.{lineA, lineB}
 use Rattle.layout.specs.Record.{Layout, keyOf, kindOf}
 use Rattle.layout.specs.Content.{Content, broken, empty, putRecord, removeRecord, content, topOf, Table}
@@ -14,8 +14,11 @@ use Rattle.layout.specs.Fault.{markFault, faultOf, recordFault}
 use Rattle.layout.specs.inner.Key.{keyWith, highWord}
 use Rattle.table.specs.Table.{keyIn, brokenCount}
 use Rattle.table.specs.Order.{rankOf}
+use Rattle.table.specs.inner.Class.{isEmpty, isPut}
+use Rattle.table.specs.Taking.{isRemove}
 use Rattle.index.specs.Index.{headOf}
 use Rattle.recovery.specs.declared.Summary.{Summary}
+use Rattle.recovery.specs.declared.Classes.{Classes}
 use Rattle.recovery.specs.declared.Scan.{Scan}
 
 -- a chain as a number: 0 is the reuse chain, h + 1 the chain of head h. A put belongs to its key's head, any other slot to reuse
@@ -61,13 +64,27 @@ pub record Summed (l : ℕ) (m : ℕ → ℕ) (s b : ℕ) (r : Summary) : Type 0
   pub mark-is : r .mark ≡ markFault m s
   pub fault-is : r .fault ≡ recordFault l m s
 
+-- is a slot of this rank and this place a remove: a record without a head's chain?
+unfoldable pub isRemoveBy : (rank place : ℕ) → Bool
+isRemoveBy rank place = cond (ltb rank 2) false (eqb place 0)
+
+-- r counts one slot more, of this rank (0 broken, 1 empty) and this place (that of a put is not 0)
+pub record ClassesWith (classes : Classes) (rank place : ℕ) (r : Classes) : Type 0 where
+  pub broken-is : r .broken ≡ cond (eqb rank 0) (suc (classes .broken)) (classes .broken)
+  pub empty-is : r .empty ≡ cond (eqb rank 1) (suc (classes .empty)) (classes .empty)
+  pub puts-are : r .puts ≡ cond (ltb 0 place) (suc (classes .puts)) (classes .puts)
+  pub removes-are : r .removes ≡ cond (isRemoveBy rank place) (suc (classes .removes)) (classes .removes)
+
+-- the slots of all classes
+abbrev pub slotsCounted : Classes → ℕ
+slotsCounted classes = classes .broken + classes .empty + classes .puts + classes .removes
+
 -- r is a scan with slot s joined, of which `slot` is kept
 pub record ScanWith (scan : Scan) (slot : Summary) (s : ℕ) (r : Scan) : Type 0 where
   pub mark-is : r .mark ≡ cond (scan .mark) true (slot .mark)
   pub fault-is : r .fault ≡ orElse (scan .fault) (slot .fault)
   pub slot-is : r .slot ≡ orElse (scan .slot) (say (eqb (slot .fault) 0) 0 s)
-  -- a broken slot has rank 0
-  pub broken-is : r .broken ≡ cond (eqb (slot .rank) 0) (suc (scan .broken)) (scan .broken)
+  pub classes-are : ClassesWith (scan .classes) (slot .rank) (slot .place) (r .classes)
   pub top-is : r .top ≡ max (scan .top) (slot .top)
 
 -- the key of slot x by its words in two lists: past the end of highs the high word is 0
@@ -80,11 +97,18 @@ pub record Listed (f : Table) (n b : ℕ) (ranks lows highs places : List ℕ) :
   pub key-at : (s : ℕ) → 0 < s → s ≤ n → 2 ≤ rankOf (f s) → keyAt lows highs s ≡ keyIn (f s)
   pub place-at : (s : ℕ) → 0 < s → s ≤ n → getD places s 0 ≡ putPlace b (f s)
 
+-- how many of the slots 1 to n are of each class
+pub record Classed (f : Table) (n : ℕ) (r : Classes) : Type 0 where
+  pub broken-is : r .broken ≡ brokenCount f n
+  pub empty-is : r .empty ≡ count (λ s. isEmpty (f s)) n
+  pub puts-are : r .puts ≡ count (λ s. isPut (f s)) n
+  pub removes-are : r .removes ≡ count (λ s. isRemove (f s)) n
+
 -- what the scan of slots 1 to n leaves and answers
 pub record Scanned (l : ℕ) (m : ℕ → ℕ) (n b : ℕ) (ranks lows highs places : List ℕ) (r : Scan) : Type 0 where
   pub listed : Listed (content l m) n b ranks lows highs places
   pub marks-are : r .mark ≡ anyOf (markFault m) 1 n
   pub fault-is : r .fault ≡ atLowest (recordFault l m) n
   pub slot-is : r .slot ≡ lowest (recordFault l m) n
-  pub broken-is : r .broken ≡ brokenCount (content l m) n
+  pub classed : Classed (content l m) n (r .classes)
   pub top-is : r .top ≡ greatest (λ s. topOf (content l m s)) n

@@ -5,7 +5,8 @@ use Prim.Native.Nat.{ℕ}
 use lib.Dec.{eqb}
 use Rattle.layout.specs.Content.{Table}
 use Rattle.table.specs.Table.{live, keyIn}
-use Rattle.table.proofs.defs.Write.{isPut, holder}
+use Rattle.table.proofs.defs.Write.{holder}
+use Rattle.table.specs.inner.Class.{isPut}
 
 -- a live slot stands in its key's chain, every other slot in reuse
 unfoldable pub ownerIn : {A : Type 0} → Table → (n : ℕ) → (chain : ℕ → A) → (reuse : A) → (t : ℕ) → A

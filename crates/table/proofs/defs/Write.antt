@@ -3,7 +3,7 @@ use mathlib.Core.Path.{_≡_}
 use mathlib.Core.Bool.{Bool, true, false, cond}
 use Prim.Native.Nat.{ℕ, suc, _<_}
 use lib.Dec.{eqb}
-use Rattle.layout.specs.Content.{Content, broken, empty, putRecord, removeRecord, topOf, Table}
+use Rattle.layout.specs.Content.{Content, topOf, Table}
 use Rattle.table.specs.Table.{isRecord, isBroken, weight, decider, live}
 use Rattle.prelude.specs.Members.{Slot}
 
@@ -18,12 +18,6 @@ Distinct f n = (s t : ℕ) → Slot n s → Slot n t → (s ≡ t → ⊥) → i
 -- no two slots hold records of one key and one version
 abbrev pub ApartByKey : Table → (n : ℕ) → Type 0
 ApartByKey f n = (k s t : ℕ) → Slot n s → Slot n t → (s ≡ t → ⊥) → 0 < weight k (f s) → weight k (f s) ≡ weight k (f t) → ⊥
-
-unfoldable pub isPut : Content → Bool
-isPut (broken top) = false
-isPut empty = false
-isPut (putRecord version key value) = true
-isPut (removeRecord version key) = false
 
 -- the live slot of key k, 0 where the key is not held
 unfoldable pub holder : Table → (n k : ℕ) → ℕ

@@ -10,10 +10,10 @@ use Rattle.recovery_code.proofs.scanning.joined.Tie as tie
 returns : tie.Need-returns
 returns c =
     record {
-      mark-is = ⊎-elim (λ w. or-left _ _ _ (w .0 .taken) (w .1)) (λ w. or-right _ _ _ (w .0 .left) (w .1)) (c .before .before .before .before .before .if1 .came);
-      fault-is = c .before .before .before .before .first-of .ensures;
-      slot-is = c .before .before .first-of2 .ensures ∙ ap (orElse _) (c .before .before .before .slot-at-fault .ensures);
-      broken-is = c .before .broken-with .ensures;
+      mark-is = ⊎-elim (λ w. or-left _ _ _ (w .0 .taken) (w .1)) (λ w. or-right _ _ _ (w .0 .left) (w .1)) (c .before .before .before .before .before .before .if1 .came);
+      fault-is = c .before .before .before .before .before .first-of .ensures;
+      slot-is = c .before .before .before .first-of2 .ensures ∙ ap (orElse _) (c .before .before .before .before .slot-at-fault .ensures);
+      classes-are = c .before .classes-with .ensures;
       top-is = c .greater .ensures;
     }
 

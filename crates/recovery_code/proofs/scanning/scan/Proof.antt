@@ -5,7 +5,7 @@ use Prim.Native.Nat.{_+_, _-_}
 use native.Mathlib.Omega.{arith}
 use borrow.Author.Needs.{needs}
 use Rattle.words.specs.Word.{word}
-use Rattle.recovery.proofs.Scans.{high-inside, high-set, high-left, Scanning, scan-start, scan-next, broken-few, scan-end}
+use Rattle.recovery.proofs.Scans.{high-inside, high-set, high-left, Scanning, scan-start, scan-next, classes-few, scan-end}
 use Rattle.recovery_code.proofs.scanning.scan.Statement.{statement}
 use Rattle.recovery_code.proofs.scanning.scan.Tie as tie
 
@@ -27,7 +27,7 @@ cast-joined c = omega (arith, c .before .before .loop-test .taken, c .before .be
 
 joined-requires : tie.Need-joined-requires Inv-loop μ-loop
 joined-requires c κs =
-    omega (arith, broken-few _ _ _ _ _ _ _ _ _ _ (c .before .before .before .loop .inv), c .before .before .before .before .before .before .before .before .before .pre .few)
+    omega (arith, classes-few _ _ _ _ _ _ _ _ _ _ (c .before .before .before .loop .inv), c .before .before .before .before .before .before .before .before .before .pre .few)
 
 loop-again : tie.Need-loop-again Inv-loop μ-loop
 loop-again c =
