@@ -1,17 +1,15 @@
 -- A basket: up to eight keys changed by one call. Document 02, A.7: "A basket names 1 to 8 distinct keys, each to be inserted, replaced or removed."
 use mathlib.Core.Bool.{Bool, true, false, cond, not}
-use mathlib.Core.List.{List, [], _∷_, _++_}
-use Prim.Native.Nat.{ℕ, zero, suc, _+_, _-_, _*_, _^_}
+use mathlib.Core.List.{List, [], _∷_}
+use Prim.Native.Nat.{ℕ, _+_, _-_, _*_}
 use lib.Dec.{eqb, ltb}
-use lib.ListN.{length, getD, take, drop, replicate}
+use lib.ListN.{length, getD}
 use Rattle.words.specs.Word.{word}
 use Rattle.prelude.specs.Refusal.{say, orElse, unlessRefused}
-use Rattle.prelude.specs.Answer.{Answer, gives, absent, refused}
-use Rattle.prelude.specs.Range.{tabulate}
+use Rattle.prelude.specs.Answer.{gives, refused}
 use Rattle.layout.specs.Size.{slotsIn}
 use Rattle.layout.specs.Record.{limit}
 use Rattle.layout.specs.Header.{lentFault}
-use Rattle.stores.specs.Store.{Store}
 use Rattle.stores.specs.Basket.{BasketRecord, basketStores}
 use Rattle.table.specs.Complete.{numberFor}
 use Rattle.index.specs.Index.{Index, indexOf, stateOf, headOf}
@@ -26,10 +24,6 @@ use Rattle.index.specs.declared.Found.{Found}
 use Rattle.index.specs.declared.Found.the-variants.{At, Missing, BadChain}
 use Rattle.taking.specs.Taking.{takingOf}
 use Rattle.calls.specs.Change.{ChangeResult, unchanged, storeFault}
-use Rattle.calls.specs.declared.BasketItem.{BasketItem}
-use Rattle.calls.specs.declared.BasketAnswer.{BasketAnswer}
-use Rattle.calls.specs.declared.BasketOutcome.{BasketOutcome}
-use Rattle.calls.specs.declared.BasketOutcome.the-variants.{Stored, Refused}
 
 -- what a basket asks for one key; the value of a remove does not matter
 pub record KeyChange : Type 0 where
@@ -39,43 +33,11 @@ pub record KeyChange : Type 0 where
 
 -- ---- the basket as it is given
 
--- the high word of an item's key; layout 1 has none, and it is not read there
-unfoldable pub highIn : (l high : ℕ) → ℕ
-highIn l high = cond (eqb l 1) 0 high
-
-unfoldable pub itemKey : (l : ℕ) → BasketItem → ℕ
-itemKey l k = k .low + 2 ^ 64 * highIn l (k .high)
-
--- the item with number i, of the eight from 0 on; no basket has another
-unfoldable pub itemAt : List BasketItem → ℕ → BasketItem
-itemAt items i = getD items i (record { action = Insert; low = 0; high = 0; length = 0 })
-
--- the bytes of its value: item i's start at byte 80 × i
-unfoldable pub valueAt : (values : List ℕ) → (i size : ℕ) → List ℕ
-valueAt values i size = tabulate (λ k. getD values (80 * i + k) 0) 0 size
-
-unfoldable pub changeAt : (l : ℕ) → List BasketItem → (values : List ℕ) → ℕ → KeyChange
-changeAt l items values i =
-    record {
-      action = itemAt items i .action;
-      key = itemKey l (itemAt items i);
-      value = valueAt values i (itemAt items i .length);
-    }
-
--- what n items from item i on ask
-unfoldable pub changesFrom : (l : ℕ) → List BasketItem → (values : List ℕ) → (i n : ℕ) → List KeyChange
-changesFrom l items values i zero = []
-changesFrom l items values i (suc n) = changeAt l items values i ∷ changesFrom l items values (suc i) n
-
--- what a basket of so many keys asks
-unfoldable pub changesOf : (l count : ℕ) → List BasketItem → (values : List ℕ) → List KeyChange
-changesOf l count items values = changesFrom l items values 0 count
-
 -- ---- refusals
 
 -- "26 when the basket has 0 or more than 8 keys, first of all"
-unfoldable pub countFault : (m : ℕ) → ℕ
-countFault m = say (eqb m 0) 26 (say (ltb 8 m) 26 0)
+unfoldable pub keyCountFault : (m : ℕ) → ℕ
+keyCountFault m = say (eqb m 0) 26 (say (ltb 8 m) 26 0)
 
 -- "27 when a key comes twice, next"
 unfoldable pub among : ℕ → List KeyChange → Bool
@@ -93,7 +55,7 @@ listsFault m at words = say (ltb at (16 * m)) 13 (say (ltb words (16 * m)) 13 0)
 -- by what is given, before the image and the index are read
 unfoldable pub givenFault : List KeyChange → (at words : ℕ) → ℕ
 givenFault changes at words =
-    orElse (countFault (length changes)) (say (anyTwice changes) 27 (listsFault (length changes) at words))
+    orElse (keyCountFault (length changes)) (say (anyTwice changes) 27 (listsFault (length changes) at words))
 
 -- "Each later check goes over all keys before the next": the refusal of the first key that has one
 unfoldable pub firstFault : (KeyChange → ℕ) → List KeyChange → ℕ
@@ -101,10 +63,10 @@ firstFault fault [] = 0
 firstFault fault (c ∷ cs) = orElse (fault c) (firstFault fault cs)
 
 -- "10 when the value exceeds 80 bytes"; a remove has no value
-unfoldable pub sizeFault : (l : ℕ) → Action → (size : ℕ) → ℕ
-sizeFault l Insert size = say (ltb (limit l) size) 10 0
-sizeFault l Replace size = say (ltb (limit l) size) 10 0
-sizeFault l Remove size = 0
+unfoldable pub valueFault : (l : ℕ) → Action → (size : ℕ) → ℕ
+valueFault l Insert size = say (ltb (limit l) size) 10 0
+valueFault l Replace size = say (ltb (limit l) size) 10 0
+valueFault l Remove size = 0
 
 -- "20 and 21 being one"; "In a basket, removing an unheld key gives 21"
 unfoldable pub actionFault : Action → (held : Bool) → ℕ
@@ -115,7 +77,7 @@ actionFault Remove held = say (not held) 21 0
 -- 1, 2, 3, 4 and 10
 unfoldable pub basketLentFault : (l : ℕ) → (image : List ℕ) → (heads next : ℕ) → List KeyChange → ℕ
 basketLentFault l image heads next changes =
-    orElse (lentFault l image heads next) (firstFault (λ c. sizeFault l (c .action) (length (c .value))) changes)
+    orElse (lentFault l image heads next) (firstFault (λ c. valueFault l (c .action) (length (c .value))) changes)
 
 -- 11 by the chains of all keys; then 20 or 21. `found` gives what following a key's chain finds
 unfoldable pub keysFault : (found : ℕ → Found) → List KeyChange → ℕ
@@ -134,9 +96,9 @@ removesBy Insert = 0
 removesBy Replace = 0
 removesBy Remove = 1
 
-unfoldable pub total : (Action → ℕ) → List KeyChange → ℕ
-total by [] = 0
-total by (c ∷ cs) = by (c .action) + total by cs
+unfoldable pub sumOver : (Action → ℕ) → List KeyChange → ℕ
+sumOver by [] = 0
+sumOver by (c ∷ cs) = by (c .action) + sumOver by cs
 
 -- the refusals in the order written: 26, 27, 13; 1, 2, 3, 4, 10; 11 (chain); 20 or 21; 11 (reuse), 28, 9
 unfoldable pub basketFault : (l : ℕ) → (image heads next : List ℕ) → State → List KeyChange → (at words : ℕ) → ℕ
@@ -144,8 +106,8 @@ basketFault l image heads next s changes at words =
     orElse (givenFault changes at words)
     (orElse (basketLentFault l image (length heads) (length next) changes)
     (orElse (keysFault (search l image heads next) changes)
-    (storeFault (takingOf l image next (slotsIn image) (s .first) (length changes)) (slotsIn image) s (total insertsBy changes)
-    (total removesBy changes))))
+    (storeFault (takingOf l image next (slotsIn image) (s .first) (length changes)) (slotsIn image) s (sumOver insertsBy changes)
+    (sumOver removesBy changes))))
 
 -- ---- what a basket that is not refused leaves; the slots are given to the keys in order
 
@@ -201,7 +163,7 @@ unfoldable pub basketMade : (l : ℕ) → (image : List ℕ) → State → List 
 basketMade l image s changes ts i =
     record {
       answer = gives (s .version ∷ takenSlots ts);
-      state = stateOf i (s .live + total insertsBy changes - total removesBy changes) (s .version + 1) (getD (takenSlots ts) 0 0);
+      state = stateOf i (s .live + sumOver insertsBy changes - sumOver removesBy changes) (s .version + 1) (getD (takenSlots ts) 0 0);
       stores = basketStores l (word image) (numberFor (length changes)) (s .version) (recordsFor changes ts);
       heads = i .heads;
       next = i .next;
@@ -222,64 +184,3 @@ basketResult l image heads next s changes at words =
     (unchanged (refused (basketFault l image heads next s changes at words)) s heads next)
 
 -- ---- what a call leaves
-
--- the answer, the slots as eight numbers, the state, the two lent lists and the index at exit
-pub record BasketLeft : Type 0 where
-  pub answer : Answer
-  pub slots : List ℕ
-  pub state : State
-  pub at : List ℕ
-  pub words : List ℕ
-  pub heads : List ℕ
-  pub next : List ℕ
-
--- the answer of a call that took these slots
-unfoldable pub basketSays : (slots : List ℕ) → BasketOutcome → Answer
-basketSays slots (Stored version) = gives (version ∷ slots)
-basketSays slots (Refused number) = refused number
-
--- what a call with so many keys and this answer left
-abbrev pub basketEnd : (count : ℕ) → BasketAnswer → (at words heads next : List ℕ) → BasketLeft
-basketEnd count r at words heads next =
-    record {
-      answer = basketSays (take count (r .slots)) (r .outcome);
-      slots = r .slots;
-      state = r .state;
-      at = at;
-      words = words;
-      heads = heads;
-      next = next;
-    }
-
--- the slots of an answer, and zeros after them up to eight
-unfoldable pub eightSlots : Answer → List ℕ
-eightSlots (gives []) = replicate 8 0
-eightSlots (gives (version ∷ slots)) = slots ++ replicate (8 - length slots) 0
-eightSlots absent = replicate 8 0
-eightSlots (refused number) = replicate 8 0
-
--- the word numbers of stores, and their values
-unfoldable pub storeWords : List Store → List ℕ
-storeWords [] = []
-storeWords (s ∷ ss) = s .word ∷ storeWords ss
-
-unfoldable pub storeValues : List Store → List ℕ
-storeValues [] = []
-storeValues (s ∷ ss) = s .value ∷ storeValues ss
-
--- "records past them are kept": numbers at the front of a lent list
-unfoldable pub atFront : (numbers lent : List ℕ) → List ℕ
-atFront numbers lent = numbers ++ drop (length numbers) lent
-
--- what a call with this result leaves, lent these two lists
-unfoldable pub leftInLists : (at words : List ℕ) → ChangeResult → BasketLeft
-leftInLists at words r =
-    record {
-      answer = r .answer;
-      slots = eightSlots (r .answer);
-      state = r .state;
-      at = atFront (storeWords (r .stores)) at;
-      words = atFront (storeValues (r .stores)) words;
-      heads = r .heads;
-      next = r .next;
-    }

@@ -1,6 +1,6 @@
 -- The laws as the set uses them: `place` says where each slot stands, and a call moves the slots that it names. Assumes nothing.
 use mathlib.Core.Path.{_≡_, refl, sym, ap, _∙_, fun-ext, subst}
-use mathlib.Core.Logic.{inl, inr, by-cases}
+use mathlib.Core.Logic.{inl, by-cases}
 use mathlib.Core.List.{List, [], _∷_, _++_}
 use mathlib.Core.Bool.{cond}
 use Prim.Native.Nat.{ℕ, zero, suc, _+_, _<_, _≤_}
@@ -130,10 +130,6 @@ module _ (n b : ℕ) (place : ℕ → Chain) (i : Index) (chains : Chain → Lis
       let d : i .last ≡ endOf f rest = g .formed .ends ∙ ap (endOf 0) e in
       let q = sits-in reuse (endOf f rest) (rw e (end-in f rest)) in
       (omega (arith, q .0), omega (arith, q .1))
-
-  pub sits-second : (f : ℕ) (rest : List ℕ) → chains reuse ≡ f ∷ rest → getD (i .next) (i .first) 0 ≤ n
-  sits-second f [] e = let r = second f [] e in omega (arith, r)
-  sits-second f (y ∷ ys) e = let r = second f (y ∷ ys) e in omega (arith, r .0, sits-in reuse y (rw e (inr (inl refl))) .1)
 
   module _ (place′ : ℕ → Chain) (h prev f : ℕ) (rest : List ℕ) (e : chains reuse ≡ f ∷ rest) where
     first-in : (0 < f) × (f ≤ n) × (place f ≡ reuse)

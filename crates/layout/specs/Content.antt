@@ -5,7 +5,7 @@ use Prim.Native.Nat.{ℕ, _+_}
 use lib.Dec.{eqb}
 use Rattle.layout.specs.Line.{lineA, lineB}
 use Rattle.layout.specs.Slot.{slotTop, lineVerdict}
-use Rattle.layout.specs.Record.{kindOf, numberOf, keyOf, valueOf}
+use Rattle.layout.specs.Record.{kindOf, recordNumber, keyOf, valueOf}
 use Rattle.layout.specs.declared.Verdict.{Verdict}
 use Rattle.layout.specs.declared.Verdict.the-variants.{Valid, Empty, Broken}
 use Rattle.words.specs.Word.{word}
@@ -52,7 +52,7 @@ Table = ℕ → Content
 
 -- the number in the kind word of slot s
 abbrev pub numberIn : (l : ℕ) → (ℕ → ℕ) → ℕ → ℕ
-numberIn l m s = numberOf (lineA m s (l + 1))
+numberIn l m s = recordNumber (lineA m s (l + 1))
 
 -- what the slots of an image hold that is given by its bytes, void records as the others
 abbrev pub contentsOf : (l : ℕ) → (image : List ℕ) → Table

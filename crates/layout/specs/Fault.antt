@@ -7,7 +7,7 @@ use Rattle.prelude.specs.Refusal.{say, orElse}
 use Rattle.prelude.specs.Range.{anyOf}
 use Rattle.layout.specs.Line.{lineA, lineB}
 use Rattle.layout.specs.Slot.{lineVerdict, isValid}
-use Rattle.layout.specs.Record.{kindOf, lengthOf, numberOf, limit, valueByte}
+use Rattle.layout.specs.Record.{kindOf, lengthOf, recordNumber, limit, valueByte}
 
 -- "5 when a mark in slots 1 to N is neither 0 nor 1"
 unfoldable pub markFault : (ℕ → ℕ) → ℕ → Bool
@@ -23,7 +23,7 @@ longest l kind = cond (eqb kind 2) 0 (limit l)
 
 -- 6: "above bit 23 or at a number of 1 or over 8"
 unfoldable pub bitsFault : ℕ → Bool
-bitsFault w = cond (leb (2 ^ 24) w) true (cond (eqb (numberOf w) 1) true (ltb 8 (numberOf w)))
+bitsFault w = cond (leb (2 ^ 24) w) true (cond (eqb (recordNumber w) 1) true (ltb 8 (recordNumber w)))
 
 -- by the kind word: 6, 22, 23
 unfoldable pub wordFault : (l w : ℕ) → ℕ

@@ -38,8 +38,8 @@ abbrev pub lengthOf : ℕ → ℕ
 lengthOf w = w / 256 % 256
 
 -- and the number: the byte above the length, of how many records share the version
-abbrev pub numberOf : ℕ → ℕ
-numberOf w = w / 65536 % 256
+abbrev pub recordNumber : ℕ → ℕ
+recordNumber w = w / 65536 % 256
 
 -- the greatest length of a value: 80 in layout 1
 abbrev pub limit : ℕ → ℕ

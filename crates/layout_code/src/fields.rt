@@ -5,7 +5,7 @@ ghost use lib.Dec.{eqb};
 ghost use lib.ListN.{length};
 ghost use Rattle.words.specs.Word.{word};
 ghost use Rattle.layout.specs.Line.{lineA, lineB};
-ghost use Rattle.layout.specs.Record.{keyOf, kindOf, lengthOf, numberOf, limit};
+ghost use Rattle.layout.specs.Record.{keyOf, kindOf, lengthOf, recordNumber, limit};
 ghost use Rattle.layout.specs.Fault.{bitsFault, kindFault, longest, wordFault, tailFault, faultOf};
 ghost use Rattle.layout.specs.inner.Inside.{SlotInside};
 ghost use Rattle.layout.specs.inner.Key.{keyWith, highWord};
@@ -91,7 +91,7 @@ pub fn slot_length(image: &[u8], l: usize, s: usize) -> usize
 // The number in slot s: of how many records share its version.
 pub fn slot_number(image: &[u8], l: usize, s: usize) -> u64
     requires { ⌜ SlotInside (now image) l s ⌝ }
-    ensures { λ r. ⌜ r ≡ numberOf (lineA (word (now (image .entry))) s (l + 1)) ⌝ }
+    ensures { λ r. ⌜ r ≡ recordNumber (lineA (word (now (image .entry))) s (l + 1)) ⌝ }
 {
     kind_word(image, l, s) / 65536 % 256
 }

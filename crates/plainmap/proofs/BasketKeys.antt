@@ -1,18 +1,14 @@
 -- The keys of a basket: what it writes for each, seen in the table and in the index. Assumes nothing.
 use mathlib.Core.Path.{_≡_, refl, sym, ap, ap₂, _∙_, fun-ext}
 use mathlib.Core.Bool.{Bool, true, false, cond, not, _&&_}
-use mathlib.Core.Option.{Option}
-use mathlib.Core.Logic.{inl, inr}
 use mathlib.Core.List.{List, [], _∷_, _++_}
-use Prim.Native.Nat.{ℕ, zero, suc, _+_, _^_, _≤_, _<_}
+use Prim.Native.Nat.{ℕ, zero, suc, _+_, _<_}
 use native.Mathlib.Omega.{arith}
-use lib.Dec.{eqb, ltb}
+use lib.Dec.{eqb}
 use lib.ListN.{length}
-use Rattle.words.specs.Word.{AreBytes}
 use Rattle.prelude.specs.Refusal.{say}
-use Rattle.prelude.specs.Members.{All, none-left, one-more, In, Once}
-use Rattle.layout.specs.Record.{limit}
-use Rattle.layout.specs.Content.{Content, made, Table}
+use Rattle.prelude.specs.Members.{All, none-left, one-more}
+use Rattle.layout.specs.Content.{made, Table}
 use Rattle.stores.specs.Basket.{BasketRecord, basketSlots}
 use Rattle.table.specs.Table.{keyIn, mapOf, isHeld}
 use Rattle.table.proofs.defs.Write.{holder}
@@ -28,7 +24,7 @@ use Rattle.index.specs.declared.Action.{Action}
 use Rattle.index.specs.declared.Action.the-variants.{Insert, Replace, Remove}
 use Rattle.index.specs.declared.Found.{Found}
 use Rattle.index.proofs.defs.Items.{itemSlots, appendsBy, appendsOf, goesTo, movedOne, movedBy}
-use Rattle.calls.specs.Basket.{KeyChange, actionFault, insertsBy, removesBy, total, kindBy, valueBy, recordsFor, oldIn, itemsFor}
+use Rattle.calls.specs.Basket.{KeyChange, actionFault, insertsBy, removesBy, sumOver, kindBy, valueBy, recordsFor, oldIn, itemsFor}
 use Rattle.images.proofs.defs.Entries.{recordOf}
 use Rattle.images.proofs.Entries.{made-key}
 
@@ -175,8 +171,8 @@ module _ (f : Table) (n : ℕ) (found : ℕ → Found) where
         (joins-alike cs ts rs hs)
 
     pub inserts-alike : (cs : List KeyChange) (ts : List Taken) → length ts ≡ length cs → All (KeyReady f n found) cs → All Has (recordsFor cs ts)
-        → insertsIn (basketSlots (recordsFor cs ts)) new (mapOf f n) ≡ total insertsBy cs
-    unfolding insertsIn total basketSlots recordsFor
+        → insertsIn (basketSlots (recordsFor cs ts)) new (mapOf f n) ≡ sumOver insertsBy cs
+    unfolding insertsIn sumOver basketSlots recordsFor
     inserts-alike [] ts e rs hs = refl
     inserts-alike (c ∷ cs) [] e rs hs = absurd (omega arith)
     inserts-alike (c ∷ cs) (t ∷ ts) e (one-more r rs) (one-more h hs) =
@@ -186,8 +182,8 @@ module _ (f : Table) (n : ℕ) (found : ℕ → Found) where
         (inserts-alike cs ts (omega arith) rs hs)
 
     pub removes-alike : (cs : List KeyChange) (ts : List Taken) → length ts ≡ length cs → All Has (recordsFor cs ts)
-        → removesIn (basketSlots (recordsFor cs ts)) new ≡ total removesBy cs
-    unfolding removesIn total basketSlots recordsFor
+        → removesIn (basketSlots (recordsFor cs ts)) new ≡ sumOver removesBy cs
+    unfolding removesIn sumOver basketSlots recordsFor
     removes-alike [] ts e hs = refl
     removes-alike (c ∷ cs) [] e hs = absurd (omega arith)
     removes-alike (c ∷ cs) (t ∷ ts) e (one-more h hs) =

@@ -3,17 +3,17 @@ use mathlib.Core.Path.{_≡_, refl, sym, ap, ap₂, _∙_, subst}
 use mathlib.Core.Bool.{Bool, true, false, cond, not}
 use mathlib.Core.Option.{Option, some, none}
 use mathlib.Core.Logic.{_⊎_, inl, inr, by-cases}
-use mathlib.Core.List.{List, [], _∷_, _++_}
-use Prim.Native.Nat.{ℕ, zero, suc, _+_, _-_, _≤_, _<_}
+use mathlib.Core.List.{List, [], _∷_}
+use Prim.Native.Nat.{ℕ, zero, suc, _≤_, _<_}
 use native.Mathlib.Decide.{ℕ-discrete}
 use native.Mathlib.Omega.{arith}
 use lib.Dec.{eqb}
-use lib.ListN.{length, getD, length-append}
+use lib.ListN.{length, length-append}
 use Rattle.words.specs.Word.{word}
-use Rattle.prelude.specs.Refusal.{say, orElse, unlessRefused}
+use Rattle.prelude.specs.Refusal.{orElse}
 use borrow.Author.Tests.{eqb-true, eqb-false}
 use Rattle.prelude.specs.Answer.{gives, refused, refusalIn, refuses}
-use Rattle.prelude.specs.Members.{All, none-left, one-more, In, Slot}
+use Rattle.prelude.specs.Members.{All, one-more, In, Slot}
 use Rattle.prelude.proofs.defs.Among.{member}
 use Rattle.prelude.proofs.Among.{member-in, count-member}
 use Rattle.prelude.proofs.Count.{count-fewer}
@@ -23,42 +23,40 @@ use Rattle.layout.specs.Size.{slotsIn}
 use Rattle.layout.specs.Record.{Layout}
 use Rattle.layout.specs.Content.{Content, made, Table, contentsOf, numbersOf}
 use Rattle.stores.specs.Basket.{BasketRecord, basketSlots, basketStores}
-use Rattle.table.specs.Table.{keyIn, valueIn, mapOf, live, liveCount, isHeld}
+use Rattle.table.specs.Table.{keyIn, valueIn, live, liveCount, isHeld}
 use Rattle.table.specs.Complete.{tableOf, numberFor, NoneVoid}
 use Rattle.table.proofs.defs.Write.{holder}
 use Rattle.table.proofs.defs.Basket.{changes, changesInTurn}
 use Rattle.table.proofs.Changes.{changes-in-turn}
 use Rattle.table.proofs.Alike.{alike-count}
 use Rattle.table.proofs.Held.{Holder, holder-is, is-holder}
-use Rattle.index.specs.Index.{Chain, head, headOf, stateOf}
-use Rattle.index.specs.Walk.{search, chainFault}
+use Rattle.index.specs.Index.{Chain, head, headOf}
+use Rattle.index.specs.Walk.{search}
 use Rattle.index.specs.Change.{isFound}
-use Rattle.index.specs.Taking.{Taken, Taking, taken}
-use Rattle.index.specs.Basket.{takenSlots}
+use Rattle.index.specs.Taking.{Taken, Taking}
 use Rattle.index.specs.declared.Action.{Action}
 use Rattle.index.specs.declared.Action.the-variants.{Insert, Replace, Remove}
 use Rattle.index.specs.declared.Found.{Found}
 use Rattle.index.proofs.defs.Items.{oldsBy, oldsOf}
 use Rattle.taking.specs.Taking.{takingOf}
-use Rattle.calls.specs.Change.{ChangeResult, storeFault, unchanged}
-use Rattle.calls.specs.Basket.{KeyChange, anyTwice, countFault, givenFault, firstFault, sizeFault, actionFault, basketLentFault, keysFault, insertsBy, removesBy, total, kindBy, valueBy, basketFault, recordsFor, oldIn, itemsFor, indexAfter, basketMade, basketDone, basketResult}
-use Rattle.images.proofs.defs.Entries.{recordOf, recordAt}
-use Rattle.images.proofs.Entries.{made-key}
+use Rattle.calls.specs.Change.{storeFault, unchanged}
+use Rattle.calls.specs.Basket.{KeyChange, anyTwice, keyCountFault, givenFault, firstFault, valueFault, actionFault, basketLentFault, keysFault, insertsBy, removesBy, sumOver, kindBy, valueBy, basketFault, recordsFor, oldIn, itemsFor, indexAfter, basketMade, basketDone, basketResult}
+use Rattle.images.proofs.defs.Entries.{recordOf}
 use Rattle.plainmap.specs.World.{World, Called, calledChange}
-use Rattle.plainmap.specs.Plain.{PlainMap, Update, giving, dropping, updated, plainNext, plainStep, roomRule}
+use Rattle.plainmap.specs.Plain.{PlainMap, Update, giving, dropping, updated, plainNext, plainStep}
 use Rattle.plainmap.specs.Accepted.{Accepted}
 use Rattle.plainmap.specs.Sound.{Sound}
-use Rattle.plainmap.specs.Claims.{slotsMap, roomOf, StaysAs}
-use Rattle.plainmap.specs.Baskets.{Basket, basketCalled, keyUpdate, basketUpdates, basketRule, basketDue, slotsTaken, basketAnswer, BasketRight, TypedChange}
+use Rattle.plainmap.specs.Claims.{slotsMap}
+use Rattle.plainmap.specs.Baskets.{Basket, basketCalled, keyUpdate, basketUpdates, basketRule, basketDue, slotsTaken, BasketRight, TypedChange}
 use Rattle.plainmap.proofs.Wrote.{SomeSound, some-sound, nextOf}
-use Rattle.plainmap.proofs.Outcomes.{worldWith, same, same-map}
+use Rattle.plainmap.proofs.Outcomes.{worldWith, same}
 use Rattle.prelude.proofs.Lists.{in-append}
 use Rattle.plainmap.proofs.Sees.{Sees, sees-held, sees-absent, sound-sees}
 use Rattle.plainmap.proofs.Refuses.{sound-lent, sound-chain, store-row}
 use Rattle.plainmap.proofs.Rights.{refusal-told}
 use Rattle.plainmap.proofs.CallSteps.{Stepped, stored-none, stored-records}
 use Rattle.plainmap.proofs.BasketKeys.{KeyReady}
-use Rattle.plainmap.proofs.BasketRuns.{basket-passed, BasketPassed, key-ready, first-none, map-all, held-old, old-place, olds-once, taking-is, ts, es, new, many, as-many, once, each, basket, key-of, basket-wrote}
+use Rattle.plainmap.proofs.BasketRuns.{basket-passed, BasketPassed, key-ready, first-none, map-all, held-old, olds-once, taking-is, ts, es, new, many, as-many, once, each, basket, basket-wrote}
 
 -- ---- the plain map's step, key by key
 
@@ -132,8 +130,8 @@ module _ (l : ℕ) (lay : Layout l) (w : World) (chains : Chain → List ℕ) (a
   removed-olds Replace old = omega arith
   removed-olds Remove old = omega arith
 
-  removes-olds : (cs : List KeyChange) → total removesBy cs ≤ length (oldsOf (itemsFor found (length (w .heads)) cs (dummies cs)))
-  unfolding total oldsOf itemsFor dummies
+  removes-olds : (cs : List KeyChange) → sumOver removesBy cs ≤ length (oldsOf (itemsFor found (length (w .heads)) cs (dummies cs)))
+  unfolding sumOver oldsOf itemsFor dummies
   removes-olds [] = omega arith
   removes-olds (c ∷ cs) =
       omega (
@@ -161,7 +159,7 @@ module _ (l : ℕ) (lay : Layout l) (w : World) (chains : Chain → List ℕ) (a
           by (o .0) (o .1) (is-holder f n (c .key) (o .0))
       go ih (inr j) = ih j
 
-  removes-few : (cs : List KeyChange) → anyTwice cs ≡ false → All (KeyReady f n found) cs → total removesBy cs ≤ liveCount (tableOf l (w .image)) n
+  removes-few : (cs : List KeyChange) → anyTwice cs ≡ false → All (KeyReady f n found) cs → sumOver removesBy cs ≤ liveCount (tableOf l (w .image)) n
   unfolding liveCount
   removes-few cs d rs =
       omega (
@@ -199,23 +197,23 @@ module _ (l : ℕ) (lay : Layout l) (w : World) (chains : Chain → List ℕ) (a
       ∙ ap (orElse sizes)
       (row-when asked _ _
       (λ a.
-      store-row l w chains accepted g none-void (length cs) (total insertsBy cs) (total removesBy cs)
+      store-row l w chains accepted g none-void (length cs) (sumOver insertsBy cs) (sumOver removesBy cs)
       (removes-few cs (distinct z) (map-all (λ c q. key-ready l lay w chains accepted g none-void c (ap (actionFault (c .action)) (found-held (c .key)) ∙ q)) (first-none _ cs a))))))
     where
       cs : List KeyChange
       cs = b .changes
 
       sizes : ℕ
-      sizes = firstFault (λ c. sizeFault l (c .action) (length (c .value))) cs
+      sizes = firstFault (λ c. valueFault l (c .action) (length (c .value))) cs
 
       asked : ℕ
       asked = firstFault (λ c. actionFault (c .action) (isHeld (slotsMap l (w .image) (c .key)))) cs
 
       late : ℕ
-      late = storeFault (takingOf l (w .image) (w .next) n (w .state .first) (length cs)) n (w .state) (total insertsBy cs) (total removesBy cs)
+      late = storeFault (takingOf l (w .image) (w .next) n (w .state .first) (length cs)) n (w .state) (sumOver insertsBy cs) (sumOver removesBy cs)
 
       distinct : givenFault cs (b .at) (b .words) ≡ 0 → anyTwice cs ≡ false
-      distinct z = say-zero (anyTwice cs) 27 _ (orElse-zero (countFault (length cs)) _ z .1) (omega arith) .0
+      distinct z = say-zero (anyTwice cs) 27 _ (orElse-zero (keyCountFault (length cs)) _ z .1) (omega arith) .0
 
   -- ---- what it does
 

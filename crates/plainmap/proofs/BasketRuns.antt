@@ -7,10 +7,9 @@ use mathlib.Core.List.{List, [], _∷_, _++_}
 use Prim.Native.Nat.{ℕ, zero, suc, _+_, _-_, _^_, _≤_, _<_}
 use native.Mathlib.Omega.{arith}
 use lib.Dec.{eqb, ltb}
-use lib.ListN.{length, take, getD}
-use borrow.Author.Tests.{eqb-true, eqb-false, eq-eqb, ne-eqb, ltb-false}
+use lib.ListN.{length, getD}
+use borrow.Author.Tests.{eqb-false, eq-eqb, ne-eqb, ltb-false}
 use Rattle.words.specs.Word.{word, AreBytes}
-use Rattle.prelude.specs.Refusal.{say}
 use Rattle.prelude.specs.Filter.{filter}
 use Rattle.prelude.specs.Members.{All, none-left, one-more, In, Once, Slot}
 use Rattle.prelude.proofs.Choice.{pick-true, pick-false, true-false}
@@ -21,7 +20,7 @@ use Rattle.prelude.proofs.Refusals.{say-zero, orElse-zero}
 use Rattle.layout.specs.Size.{slotsIn}
 use Rattle.layout.specs.Record.{limit, Layout}
 use Rattle.layout.specs.Header.{lentFault}
-use Rattle.layout.specs.Content.{Content, made, content, Table, contentsOf, numbersOf}
+use Rattle.layout.specs.Content.{Content, Table, contentsOf, numbersOf}
 use Rattle.layout.proofs.Content.{top-is}
 use Rattle.stores.specs.Basket.{BasketRecord, basketSlots}
 use Rattle.stores.specs.Cut.{Fields, Lawful, a-put, a-remove, LawfulNumber, alone, shared, LawfulRecord}
@@ -41,20 +40,19 @@ use Rattle.table.proofs.LiveAfter.{spare-by, finished-live-count}
 use Rattle.index.specs.Index.{Index, Chain, reuse, head, headOf, indexOf, stateOf}
 use Rattle.index.specs.Walk.{search, chainFault}
 use Rattle.index.specs.Change.{isFound}
-use Rattle.index.specs.Taking.{Taken, Taking, taken, fewFault}
+use Rattle.index.specs.Taking.{Taken, taken, fewFault}
 use Rattle.index.specs.Basket.{takenSlots, basketIndex}
 use Rattle.index.specs.declared.Action.{Action}
 use Rattle.index.specs.declared.Action.the-variants.{Insert, Replace, Remove}
 use Rattle.index.specs.declared.Found.{Found}
-use Rattle.index.specs.declared.Found.the-variants.{At, Missing, BadChain}
+use Rattle.index.specs.declared.Found.the-variants.{At, Missing}
 use Rattle.index.proofs.defs.TakenIn.{takesIn}
 use Rattle.index.proofs.Baskets.{SitsWith, sits-basket}
 use Rattle.index.proofs.defs.Items.{appendsOf, oldsBy, oldsOf, OldStands, Ready}
 use Rattle.recovery.specs.Recover.{placeOf}
 use Rattle.index.proofs.Takings.{sits-taking, takes-slots, few-exact, taken-enough}
 use Rattle.taking.specs.Taking.{takingOf}
-use Rattle.calls.specs.Change.{storeFault}
-use Rattle.calls.specs.Basket.{KeyChange, countFault, among, anyTwice, listsFault, givenFault, firstFault, sizeFault, actionFault, basketLentFault, keysFault, insertsBy, removesBy, total, kindBy, valueBy, basketFault, recordsFor, oldIn, itemsFor}
+use Rattle.calls.specs.Basket.{KeyChange, keyCountFault, among, anyTwice, givenFault, firstFault, valueFault, actionFault, basketLentFault, keysFault, insertsBy, removesBy, sumOver, kindBy, valueBy, basketFault, recordsFor, oldIn, itemsFor}
 use Rattle.images.proofs.defs.Entries.{recordOf, recordAt}
 use Rattle.images.proofs.Entries.{slots-length, EntryAt, entry-at, made-record, made-key}
 use Rattle.plainmap.specs.World.{World}
@@ -66,7 +64,7 @@ use Rattle.plainmap.proofs.Sees.{place-live, Sees, sees-held, sees-abse
 use Rattle.plainmap.proofs.Wrote.{SomeSound, some-sound, nextOf, WroteRecords}
 use Rattle.plainmap.proofs.SoundAfter.{broken, place-after, sound-after}
 use Rattle.plainmap.proofs.Outcomes.{StorePassed, store-passed, head-in, free-spares, same, same-map, above, holder-at}
-use Rattle.plainmap.proofs.BasketKeys.{KeyReady, recordFor, puts, put-by, insert-free, replace-held, remove-held, removed-held, inserts-alike, removes-alike, moves-alike, joins-alike, record-slots, item-slots, records-length, records-all}
+use Rattle.plainmap.proofs.BasketKeys.{KeyReady, recordFor, put-by, insert-free, replace-held, remove-held, removed-held, inserts-alike, removes-alike, moves-alike, joins-alike, record-slots, item-slots, records-length, records-all}
 
 -- ---- what a basket that is not refused has passed
 
@@ -81,18 +79,18 @@ pub record BasketPassed (l : ℕ) (w : World) (cs : List KeyChange) : Type 0 whe
   pub some-keys : 0 < length cs
   pub few-keys : length cs ≤ 8
   pub distinct : anyTwice cs ≡ false
-  pub short : All (λ (c : KeyChange). sizeFault l (c .action) (length (c .value)) ≡ 0) cs
+  pub short : All (λ (c : KeyChange). valueFault l (c .action) (length (c .value)) ≡ 0) cs
   pub asked : All (λ (c : KeyChange). actionFault (c .action) (isFound (search l (w .image) (w .heads) (w .next) (c .key))) ≡ 0) cs
   pub store :
       StorePassed (takingOf l (w .image) (w .next) (slotsIn (w .image)) (w .state .first) (length cs)) (slotsIn (w .image)) (w .state .live)
-      (w .state .version) (total insertsBy cs) (total removesBy cs)
+      (w .state .version) (sumOver insertsBy cs) (sumOver removesBy cs)
 
 pub basket-passed : (l : ℕ) (w : World) (cs : List KeyChange) (at words : ℕ)
     → basketFault l (w .image) (w .heads) (w .next) (w .state) cs at words ≡ 0 → BasketPassed l w cs
-unfolding basketFault givenFault countFault basketLentFault keysFault
+unfolding basketFault givenFault keyCountFault basketLentFault keysFault
 basket-passed l w cs at words z =
     let a = orElse-zero (givenFault cs at words) _ z in
-    let b = orElse-zero (countFault (length cs)) _ (a .0) in
+    let b = orElse-zero (keyCountFault (length cs)) _ (a .0) in
     let c = say-zero (eqb (length cs) 0) 26 _ (b .0) (omega arith) in
     let d = say-zero (ltb 8 (length cs)) 26 _ (c .1) (omega arith) in
     let e = say-zero (anyTwice cs) 27 _ (b .1) (omega arith) in
@@ -106,7 +104,7 @@ basket-passed l w cs at words z =
       distinct = e .0;
       short = first-none _ cs (h .1);
       asked = first-none _ cs (k .1);
-      store = store-passed _ w (slotsIn (w .image)) (total insertsBy cs) (total removesBy cs) (i .1);
+      store = store-passed _ w (slotsIn (w .image)) (sumOver insertsBy cs) (sumOver removesBy cs) (i .1);
     }
   where
     positive : (x : ℕ) → (x ≡ 0 → ⊥) → 0 < x
@@ -220,8 +218,8 @@ number-fits m q = go (eqb m 1)
     go false = omega arith
 
 fields-by : (l : ℕ) → Layout l → (number : ℕ) → number < 256 → (a : Action) (key : ℕ) (value : List ℕ) → key < (2 ^ 64) ^ l → AreBytes value
-    → sizeFault l a (length value) ≡ 0 → Fields l key (kindBy a) number (valueBy a value)
-unfolding kindBy valueBy sizeFault
+    → valueFault l a (length value) ≡ 0 → Fields l key (kindBy a) number (valueBy a value)
+unfolding kindBy valueBy valueFault
 fields-by l lay number h Insert key value k b z =
     record { layout = lay; key-fits = k; kind-fits = omega arith; number-fits = h; size = ltb-false (limit l) (length value) (say-zero _ 10 0 z (omega arith) .0); bytes = b }
 fields-by l lay number h Replace key value k b z =
@@ -489,7 +487,7 @@ module _ (l : ℕ) (lay : Layout l) (w : World) (chains : Chain → List ℕ) (a
     lawful =
         all-slots version {P = λ (e : BasketRecord). Fits e} es
         (λ e i q. record { fields = q .0; lawful = q .1; above = omega (arith, above l lay w chains accepted g none-void (e .slot) (basket .slot (e .slot) i), top-is l (word (w .image)) (e .slot)) })
-        (records-all {Q = λ (c : KeyChange). TypedChange l c × (sizeFault l (c .action) (length (c .value)) ≡ 0)} {P = λ (e : BasketRecord). Fits e}
+        (records-all {Q = λ (c : KeyChange). TypedChange l c × (valueFault l (c .action) (length (c .value)) ≡ 0)} {P = λ (e : BasketRecord). Fits e}
         (λ c s q. (
           subst (λ (x : ℕ). Fields l (c .key) (kindBy (c .action)) x (valueBy (c .action) (c .value))) (sym number-is)
               (fields-by l lay (numberFor (length cs)) (number-fits (length cs) (p .few-keys)) (c .action) (c .key) (c .value) (q .0 .key-fits) (q .0 .bytes) (q .1)),
@@ -524,7 +522,7 @@ module _ (l : ℕ) (lay : Layout l) (w : World) (chains : Chain → List ℕ) (a
     abbrev pub indexIs : Index
     indexIs = basketIndex n (indexOf (w .heads) (w .next) (w .state)) ts (itemsFor found b cs ts)
 
-    pub basket-wrote : WroteRecords l w es indexIs (w .state .live + total insertsBy cs - total removesBy cs) (getD (takenSlots ts) 0 0)
+    pub basket-wrote : WroteRecords l w es indexIs (w .state .live + sumOver insertsBy cs - sumOver removesBy cs) (getD (takenSlots ts) 0 0)
     unfolding reuseAfter leftOf
     basket-wrote =
         record {
@@ -540,7 +538,7 @@ module _ (l : ℕ) (lay : Layout l) (w : World) (chains : Chain → List ℕ) (a
         after : (image′ : List ℕ) → slotsIn image′ ≡ n
             → (st : Struck f (contentsOf l image′) (numbersOf l (w .image)) (numbersOf l image′) n (basketSlots es) new)
             → (z : Finished (contentsOf l image′) (numbersOf l image′) (basketSlots es) new)
-            → SomeSound l (record { image = image′; heads = indexIs .heads; next = indexIs .next; state = stateOf indexIs (w .state .live + total insertsBy cs - total removesBy cs) (w .state .version + 1) (getD (takenSlots ts) 0 0) })
+            → SomeSound l (record { image = image′; heads = indexIs .heads; next = indexIs .next; state = stateOf indexIs (w .state .live + sumOver insertsBy cs - sumOver removesBy cs) (w .state .version + 1) (getD (takenSlots ts) 0 0) })
         after image′ en st z =
             some-sound _
             (sound-after l w chains g (basketSlots es) new none-void image′ en basket st z removes indexIs _ _ (sits .chains) (sits .sits) chain-is idle alive-is)
@@ -563,7 +561,7 @@ module _ (l : ℕ) (lay : Layout l) (w : World) (chains : Chain → List ℕ) (a
             idle : liveCount (contentsOf l image′) n < n
             idle = finished-idle basket st z room
 
-            alive-is : w .state .live + total insertsBy cs - total removesBy cs ≡ liveCount (contentsOf l image′) n
+            alive-is : w .state .live + sumOver insertsBy cs - sumOver removesBy cs ≡ liveCount (contentsOf l image′) n
             alive-is =
                 omega (
                   arith,

@@ -1,10 +1,10 @@
 -- What insert, replace and remove do in a sound world: they are refused, store nothing, or write one record and leave a sound index. Assumes nothing.
 use mathlib.Core.Path.{_≡_, refl, sym, ap, ap₂, _∙_, subst}
-use mathlib.Core.Bool.{Bool, true, false, cond, not, _&&_}
+use mathlib.Core.Bool.{Bool, true, false, not, _&&_}
 use mathlib.Core.Option.{Option, some, none}
-use mathlib.Core.Logic.{_⊎_, inl, inr, by-cases}
+use mathlib.Core.Logic.{inl, inr, by-cases}
 use mathlib.Core.List.{List, [], _∷_}
-use Prim.Native.Nat.{ℕ, zero, suc, _+_, _-_, _%_, _^_, _≤_, _<_}
+use Prim.Native.Nat.{ℕ, _+_, _-_, _%_, _^_, _≤_, _<_}
 use native.Mathlib.Nat.{mod-lt}
 use native.Mathlib.Decide.{ℕ-discrete}
 use native.Mathlib.Omega.{arith}
@@ -15,20 +15,19 @@ use Rattle.words.specs.Word.{word, AreBytes}
 use Rattle.prelude.specs.Refusal.{say}
 use Rattle.prelude.specs.Answer.{absent, refused}
 use Rattle.prelude.specs.Filter.{filter}
-use Rattle.prelude.specs.Members.{All, none-left, one-more, In, Slot}
+use Rattle.prelude.specs.Members.{none-left, one-more, In, Slot}
 use Rattle.prelude.proofs.Choice.{pick-true, true-false}
 use Rattle.prelude.proofs.Lists.{front-length}
 use Rattle.prelude.proofs.Refusals.{say-zero, orElse-zero, taken-leaves, refused-keeps}
 use Rattle.layout.specs.Size.{slotsIn}
-use Rattle.layout.specs.Line.{versionFault}
 use Rattle.layout.specs.Record.{limit, Layout}
 use Rattle.layout.specs.Header.{lentFault}
-use Rattle.layout.specs.Content.{Content, made, content, topOf, Table, contentsOf, numbersOf}
+use Rattle.layout.specs.Content.{Content, made, topOf, Table, contentsOf, numbersOf}
 use Rattle.layout.proofs.Content.{top-is}
 use Rattle.layout.proofs.Lents.{version-fine, index-sized}
 use Rattle.stores.specs.Basket.{BasketRecord, basketSlots}
-use Rattle.stores.specs.Cut.{Fields, Lawful, a-put, a-remove, LawfulNumber, alone, LawfulRecord}
-use Rattle.table.specs.Table.{keyIn, decider, mapOf, live, liveCount, nextVersion, isHeld}
+use Rattle.stores.specs.Cut.{Fields, Lawful, a-put, a-remove, alone}
+use Rattle.table.specs.Table.{keyIn, decider, mapOf, live, liveCount, isHeld}
 use Rattle.table.specs.Complete.{tableOf, numberFor, NoneVoid}
 use Rattle.table.specs.Taking.{mayTake, takenOf}
 use Rattle.table.proofs.defs.Write.{Above, Record, holder}
@@ -36,7 +35,6 @@ use Rattle.table.specs.inner.Class.{isPut}
 use Rattle.table.proofs.defs.Reuse.{Spares}
 use Rattle.table.proofs.defs.Basket.{Basket, HeldRemoved, oneIf, putsIn, heldIn, insertsIn, removesIn}
 use Rattle.table.proofs.defs.Struck.{Struck, Finished}
-use Rattle.table.proofs.Complete.{single-number}
 use Rattle.table.proofs.ReuseOrder.{SingleTaken, takes-none, takes-first, single-first}
 use Rattle.table.proofs.Alike.{alike-decider, alike-map, alike-count, alike-highest-last}
 use Rattle.table.proofs.Accepted.{reuse-basket, taken-broken}
@@ -52,7 +50,6 @@ use Rattle.index.specs.declared.Mode.the-variants.{Insert, Replace}
 use Rattle.index.specs.declared.Found.{Found}
 use Rattle.index.specs.declared.Found.the-variants.{At, Missing}
 use Rattle.index.proofs.Sits.{sits-first}
-use Rattle.index.proofs.defs.TakenIn.{takenIn}
 use Rattle.index.proofs.Takings.{sits-taking, few-exact}
 use Rattle.taking.specs.Taking.{takingOf}
 use Rattle.calls.specs.Change.{ChangeResult, storeFault, changed, unchanged, insertsOf, writeLentFault, writeLaterFault, writeFault, writeDone, writeResult, removeLaterFault, removeFault, removeDone, removeResult}
@@ -133,12 +130,6 @@ remove-passed l w key old prev compared e z =
     store-passed _ w (slotsIn (w .image)) 0 1
     (ap (λ (d : Found). removeLaterFault d (takingOf l (w .image) (w .next) (slotsIn (w .image)) (w .state .first) 1) (slotsIn (w .image)) (w .state)) (sym e)
     ∙ a .1)
-
--- an insert of a held key and a replace of one that is not held are refused
-no-insert : (mode : Mode) → keyFault mode true ≡ 0 → insertsOf mode ≡ 0
-unfolding keyFault insertsOf say
-no-insert Insert e = absurd (omega arith)
-no-insert Replace e = refl
 
 an-insert : (mode : Mode) → keyFault mode false ≡ 0 → insertsOf mode ≡ 1
 unfolding keyFault insertsOf say

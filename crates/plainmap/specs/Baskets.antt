@@ -14,7 +14,7 @@ use Rattle.index.specs.Basket.{takenSlots}
 use Rattle.index.specs.declared.Action.{Action}
 use Rattle.index.specs.declared.Action.the-variants.{Insert, Replace, Remove}
 use Rattle.taking.specs.Taking.{takingOf}
-use Rattle.calls.specs.Basket.{KeyChange, givenFault, firstFault, sizeFault, actionFault, insertsBy, removesBy, total, basketResult}
+use Rattle.calls.specs.Basket.{KeyChange, givenFault, firstFault, valueFault, actionFault, insertsBy, removesBy, sumOver, basketResult}
 use Rattle.plainmap.specs.World.{World, Called, calledChange}
 use Rattle.plainmap.specs.Plain.{PlainMap, Update, giving, dropping, Room, roomRule}
 use Rattle.plainmap.specs.Claims.{roomOf, StaysAs}
@@ -43,9 +43,9 @@ basketUpdates (c ∷ cs) = keyUpdate (c .action) (c .key) (c .value) ∷ basketU
 unfoldable pub basketRule : (l : ℕ) → Room → PlainMap → Basket → ℕ
 basketRule l r m b =
     orElse (givenFault (b .changes) (b .at) (b .words))
-    (orElse (firstFault (λ c. sizeFault l (c .action) (length (c .value))) (b .changes))
+    (orElse (firstFault (λ c. valueFault l (c .action) (length (c .value))) (b .changes))
     (orElse (firstFault (λ c. actionFault (c .action) (isHeld (m (c .key)))) (b .changes))
-    (roomRule r (length (b .changes)) (total insertsBy (b .changes)) (total removesBy (b .changes)))))
+    (roomRule r (length (b .changes)) (sumOver insertsBy (b .changes)) (sumOver removesBy (b .changes)))))
 
 abbrev pub basketDue : (l : ℕ) → World → PlainMap → Basket → ℕ
 basketDue l w m b = basketRule l (roomOf l (w .image)) m b

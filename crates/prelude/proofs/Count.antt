@@ -34,20 +34,6 @@ count-most p (suc n) = go (p (suc n)) (count-most p n)
     go true h = omega arith
     go false h = omega arith
 
--- where one slot fails the test not all pass it
-pub count-room : (p : ℕ → Bool) (n s : ℕ) → Slot n s → p s ≡ false → count p n < n
-unfolding count
-count-room p zero s i e = absurd (omega arith)
-count-room p (suc n) s i e = go (eqb s (suc n)) refl (count-room p n s)
-  where
-    go : (b : Bool) → eqb s (suc n) ≡ b → (Slot n s → p s ≡ false → count p n < n) → step (p (suc n)) (count p n) < suc n
-    go true d ih = rw (sym (ap p (eqb-true s (suc n) d)) ∙ e) (omega (arith, count-most p n))
-    go false d ih = last (p (suc n)) (ih (omega (arith, eqb-false s (suc n) d)) e)
-      where
-        last : (b : Bool) → count p n < n → step b (count p n) < suc n
-        last true h = omega arith
-        last false h = omega arith
-
 -- one slot more passes it
 pub count-more : (p q : ℕ → Bool) (n s : ℕ) → Slot n s → p s ≡ false → q s ≡ true → ((t : ℕ) → Slot n t → (t ≡ s → ⊥) → q t ≡ p t) → count q n ≡ suc (count p n)
 unfolding count

@@ -12,7 +12,7 @@ use borrow.Author.Tests.{eqb-true, eqb-false}
 use Rattle.prelude.specs.Filter.{filter}
 use Rattle.prelude.specs.Members.{In, Once, slotNumbers, Slot, Strict}
 use Rattle.prelude.proofs.defs.Members.{without}
-use Rattle.prelude.proofs.Choice.{pick-false, pick-true, true-false}
+use Rattle.prelude.proofs.Choice.{pick-false, pick-true}
 use Rattle.prelude.proofs.Fills.{length-slots}
 
 pub in-append : (t : ℕ) (l m : List ℕ) → In t (l ++ m) → In t l ⊎ In t m
@@ -201,16 +201,3 @@ unfolding filter
 filter-all p [] h = refl
 filter-all p (x ∷ l) h =
     pick-true (p x) (x ∷ filter p l) (filter p l) (h x (inl refl)) ∙ ap (λ (t : List ℕ). x ∷ t) (filter-all p l (λ t i. h t (inr i)))
-
--- a test after a weaker one
-pub filter-twice : (p q : ℕ → Bool) (l : List ℕ) → ((t : ℕ) → p t ≡ true → q t ≡ true) → filter p (filter q l) ≡ filter p l
-unfolding filter
-filter-twice p q [] h = refl
-filter-twice p q (x ∷ l) h = go (q x) refl (p x) refl (filter-twice p q l h)
-  where
-    go : (a : Bool) → q x ≡ a → (b : Bool) → p x ≡ b → filter p (filter q l) ≡ filter p l
-        → filter p (cond a (x ∷ filter q l) (filter q l)) ≡ cond b (x ∷ filter p l) (filter p l)
-    go true e true d ih = pick-true (p x) (x ∷ filter p (filter q l)) (filter p (filter q l)) d ∙ ap (λ (t : List ℕ). x ∷ t) ih
-    go true e false d ih = pick-false (p x) (x ∷ filter p (filter q l)) (filter p (filter q l)) d ∙ ih
-    go false e true d ih = absurd (true-false (h x d) e)
-    go false e false d ih = ih

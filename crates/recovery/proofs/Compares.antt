@@ -2,7 +2,7 @@
 use mathlib.Core.Path.{_≡_, refl, sym, ap, ap₂, _∙_}
 use mathlib.Core.Bool.{Bool, true, false, cond, not, _&&_}
 use mathlib.Core.List.{List}
-use Prim.Native.Nat.{ℕ, _+_, _-_, _*_, _≤_, _<_}
+use Prim.Native.Nat.{ℕ, _+_, _-_, _≤_, _<_}
 use native.Mathlib.Omega.{arith}
 use lib.Dec.{eqb, ltb, leb}
 use lib.ListN.{length, getD}
@@ -20,7 +20,7 @@ use Rattle.prelude.proofs.Lists.{AllSlots}
 use Rattle.table.specs.Complete.{Numbers, said}
 use Rattle.recovery.specs.inner.Scan.{keyAt}
 use Rattle.recovery.specs.inner.Decide.{entryAt, equalNeighbours, tooMany, runFault, fullRun, followed, keyTwice, Within, NoneOrAll}
-use Rattle.recovery.specs.inner.Judge.{InOrder, Numbered, Comparable, Compared}
+use Rattle.recovery.specs.inner.Judge.{OrderNumbered, Comparable, Compared}
 use Rattle.recovery.proofs.Orders.{whole-order, whole-within}
 use Rattle.recovery.proofs.Scans.{highs-all}
 use Rattle.recovery.proofs.Neighbours.{neighbours-are, are-neighbours, run-first, twice-is}
@@ -105,7 +105,7 @@ module _ (image : List ℕ) (l n : ℕ) (ranks lows highs order₀ by-key₀ spa
   pub compare-near : (length order ≡ n) × (1 ≤ n) × (length ranks ≡ n + 1) × Within order n
   compare-near = (ranked .size, g .some-slots, g .ranks-size, whole-within order n ranked)
 
-  pub compare-runs : Numbered image l order n × (length ranks ≡ n + 1) × (1 ≤ n)
+  pub compare-runs : OrderNumbered image l order n × (length ranks ≡ n + 1) × (1 ≤ n)
   compare-runs = (
     record { layout = g .layout; image-size = g .image-size; order-size = ranked .size; within = whole-within order n ranked; few = g .few },
     g .ranks-size,

@@ -38,7 +38,7 @@ use Rattle.recovery.specs.Opening.{voidSlots, openingsOf}
 use Rattle.recovery.specs.Recover.{settledFault, slotsFault, slotsNamed}
 use Rattle.recovery.specs.inner.Scan.{keyAt, Listed, Scanned}
 use Rattle.recovery.specs.inner.Decide.{judgedRank, decided, placedCount, livePlace, Within, NoneOrAll}
-use Rattle.recovery.specs.inner.Judge.{InOrder, Numbered, Compared, Settled, foundFault, foundSlot, Judgement}
+use Rattle.recovery.specs.inner.Judge.{InOrder, OrderNumbered, Compared, Settled, foundFault, foundSlot, Judgement}
 use Rattle.recovery.specs.declared.Scan.{Scan}
 use Rattle.recovery.specs.declared.Openings.{Openings}
 use Rattle.recovery.proofs.Clear.{slots-clear}
@@ -208,7 +208,7 @@ module _ (ranks lows highs order by-key : List ℕ) (n : ℕ) (o : InOrder ranks
   ranked : AllSlots n order
   ranked = whole-order (λ x. getD ranks x 0) n order (o .by-rank)
 
-  pub judge-numbered : (image : List ℕ) (l : ℕ) → Layout l → length image ≡ 128 * (n + 1) → n ≤ 65535 → Numbered image l order n
+  pub judge-numbered : (image : List ℕ) (l : ℕ) → Layout l → length image ≡ 128 * (n + 1) → n ≤ 65535 → OrderNumbered image l order n
   judge-numbered image l lay size few =
       record { layout = lay; image-size = size; order-size = ranked .size; within = whole-within order n ranked; few = few }
 

@@ -10,9 +10,9 @@ use borrow.Author.Tests.{eq-eqb, eqb-true, eqb-false, ltb-false, ltb-true, lt-lt
 use Rattle.prelude.specs.Range.{anyOf}
 use Rattle.prelude.specs.Members.{Slot, slotNumbers}
 use Rattle.prelude.proofs.Any.{any-none, any-clear, or-none}
-use Rattle.prelude.proofs.Choice.{pick-true, pick-false, true-false, is-false, same-test, both, both-left, both-right}
+use Rattle.prelude.proofs.Choice.{pick-true, pick-false, true-false, is-false, both, both-left, both-right}
 use Rattle.prelude.proofs.Lists.{AllSlots, slots-in}
-use Rattle.layout.specs.Content.{Content, broken, empty, putRecord, removeRecord, topOf, Table}
+use Rattle.layout.specs.Content.{Content, topOf, Table}
 use Rattle.sorting.specs.Sorted.{sorted}
 use Rattle.sorting.proofs.Order.{Compared, low, high, compared, sorted-alike, at-in, rising-sorted}
 use Rattle.sorting.proofs.Positions.{Stands, stands, once-at, rising-at, by-key-at}
@@ -128,10 +128,6 @@ module _ (f : Table) (n : ℕ) (ranks order : List ℕ) (rank-at : (s : ℕ) →
 
   pub run-at : (v : ℕ) → Span (λ t. rankOf (f t)) (2 + v) order (sharers f n v)
   run-at v = sharers-span f n v order by-content
-
-  -- a record at position i of rank 2 + v
-  pub record-at : (i : ℕ) → i < n → 2 ≤ rankOf (f (getD order i 0)) → isRecord (f (getD order i 0)) ≡ true
-  record-at i h l = rank-record (f (getD order i 0)) l
 
   module _ (num : Numbers) where
     -- the test of the runs finds nothing

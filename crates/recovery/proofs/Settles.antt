@@ -3,7 +3,7 @@ use mathlib.Core.Path.{_≡_, refl, sym, ap, ap₂, _∙_}
 use mathlib.Core.Bool.{Bool, true, false, cond}
 use mathlib.Core.Logic.{by-cases}
 use mathlib.Core.List.{List, []}
-use Prim.Native.Nat.{ℕ, zero, suc, _+_, _-_, _*_, _≤_, _<_}
+use Prim.Native.Nat.{ℕ, zero, suc, _+_, _-_, _≤_, _<_}
 use native.Mathlib.Decide.{ℕ-discrete}
 use native.Mathlib.Omega.{arith}
 use lib.Dec.{ltb}
@@ -23,7 +23,7 @@ use Rattle.table.specs.Complete.{Numbers}
 use Rattle.recovery.specs.Opening.{openingsOf}
 use Rattle.recovery.specs.inner.Scan.{keyAt}
 use Rattle.recovery.specs.inner.Decide.{entryAt, fullRun, judgedRank, Cleared}
-use Rattle.recovery.specs.inner.Judge.{InOrder, Numbered, Settleable, Settled, withStore}
+use Rattle.recovery.specs.inner.Judge.{Settleable, Settled, withStore}
 use Rattle.recovery.specs.declared.Openings.{Openings}
 use Rattle.recovery.proofs.Orders.{whole-order, whole-within}
 

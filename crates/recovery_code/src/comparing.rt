@@ -8,7 +8,7 @@ ghost use Rattle.layout.specs.Content.{numberIn};
 ghost use Rattle.table.specs.Complete.{said};
 ghost use Rattle.recovery.specs.inner.Scan.{keyAt};
 ghost use Rattle.recovery.specs.inner.Decide.{equalNeighbours, tooMany, runFault, keyTwice, Within, NoneOrAll};
-ghost use Rattle.recovery.specs.inner.Judge.{Numbered, Comparable, Compared};
+ghost use Rattle.recovery.specs.inner.Judge.{OrderNumbered, Comparable, Compared};
 use crate::ordering::entry_at;
 use crate::ordering::is_followed;
 use crate::ordering::order_by_key;
@@ -28,7 +28,7 @@ pub fn records_said(number: u64) -> usize
 
 // The number of the slot at position i of the order.
 pub fn number_at(image: &[u8], l: usize, order: &[u32], i: usize, n: usize) -> u64
-    requires { ⌜ Numbered (now image) l (now order) n × (i < n) ⌝ }
+    requires { ⌜ OrderNumbered (now image) l (now order) n × (i < n) ⌝ }
     ensures { λ r. ⌜ (r ≡ numberIn l (word (now (image .entry))) (getD (now (order .entry)) i 0)) × (r < 256) ⌝ }
 {
     let x = order[i] as usize;
@@ -65,7 +65,7 @@ fn any_shared(ranks: &[u64], order: &[u32], n: usize) -> bool
 
 // From position i on, does its run go on for more slots than the number of the slot says?
 fn is_too_many(image: &[u8], l: usize, ranks: &[u64], order: &[u32], i: usize, n: usize) -> bool
-    requires { ⌜ Numbered (now image) l (now order) n × (length (now ranks) ≡ n + 1) × (i < n) ⌝ }
+    requires { ⌜ OrderNumbered (now image) l (now order) n × (length (now ranks) ≡ n + 1) × (i < n) ⌝ }
     ensures { λ r. ⌜ r ≡ tooMany (numberIn l (word (now (image .entry)))) (now (ranks .entry)) (now (order .entry)) i ⌝ }
 {
     let end = i + records_said(number_at(image, l, order, i, n));
@@ -77,7 +77,7 @@ fn is_too_many(image: &[u8], l: usize, ranks: &[u64], order: &[u32], i: usize, n
 
 // Do the slots at positions i and i + 1 share a version and differ in their numbers, or are there too many of them?
 fn is_run_fault(image: &[u8], l: usize, ranks: &[u64], order: &[u32], i: usize, n: usize) -> bool
-    requires { ⌜ Numbered (now image) l (now order) n × (length (now ranks) ≡ n + 1) × (i + 1 < n) ⌝ }
+    requires { ⌜ OrderNumbered (now image) l (now order) n × (length (now ranks) ≡ n + 1) × (i + 1 < n) ⌝ }
     ensures { λ r. ⌜ r ≡ runFault (numberIn l (word (now (image .entry)))) (now (ranks .entry)) (now (order .entry)) i ⌝ }
 {
     if !is_shared(ranks, order, i) {
@@ -91,7 +91,7 @@ fn is_run_fault(image: &[u8], l: usize, ranks: &[u64], order: &[u32], i: usize, 
 
 // Do any two neighbours?
 fn any_run_fault(image: &[u8], l: usize, ranks: &[u64], order: &[u32], n: usize) -> bool
-    requires { ⌜ Numbered (now image) l (now order) n × (length (now ranks) ≡ n + 1) × (1 ≤ n) ⌝ }
+    requires { ⌜ OrderNumbered (now image) l (now order) n × (length (now ranks) ≡ n + 1) × (1 ≤ n) ⌝ }
     ensures { λ r. ⌜ r ≡ anyOf (runFault (numberIn l (word (now (image .entry)))) (now (ranks .entry)) (now (order .entry))) 0 (n - 1) ⌝ }
 {
     let end = n - 1;

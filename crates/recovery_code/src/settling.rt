@@ -11,7 +11,7 @@ ghost use Rattle.layout.specs.Content.{numberIn};
 ghost use Rattle.stores.specs.Opening.{openingStores};
 ghost use Rattle.recovery.specs.Opening.{openingsOf};
 ghost use Rattle.recovery.specs.inner.Decide.{fullRun, judgedRank, Cleared};
-ghost use Rattle.recovery.specs.inner.Judge.{Numbered, Settleable, Settled, withStore};
+ghost use Rattle.recovery.specs.inner.Judge.{OrderNumbered, Settleable, Settled, withStore};
 use crate::comparing::number_at;
 use crate::comparing::records_said;
 use crate::ordering::entry_at;
@@ -23,7 +23,7 @@ use words_code::read_word;
 
 // Up to position i, is its run as long as the number of the slot says?
 fn is_full(image: &[u8], l: usize, ranks: &[u64], order: &[u32], i: usize, n: usize) -> bool
-    requires { ⌜ Numbered (now image) l (now order) n × (length (now ranks) ≡ n + 1) × (i < n) ⌝ }
+    requires { ⌜ OrderNumbered (now image) l (now order) n × (length (now ranks) ≡ n + 1) × (i < n) ⌝ }
     ensures { λ r. ⌜ r ≡ fullRun (numberIn l (word (now (image .entry)))) (now (ranks .entry)) (now (order .entry)) i ⌝ }
 {
     let size = records_said(number_at(image, l, order, i, n));
@@ -35,7 +35,7 @@ fn is_full(image: &[u8], l: usize, ranks: &[u64], order: &[u32], i: usize, n: us
 
 // Judging from the end of the order down: the rank of the first slot with a full run, 2 where there is none. Slots above it are void.
 pub fn judged_rank(image: &[u8], l: usize, ranks: &[u64], order: &[u32], n: usize) -> u64
-    requires { ⌜ Numbered (now image) l (now order) n × (length (now ranks) ≡ n + 1) ⌝ }
+    requires { ⌜ OrderNumbered (now image) l (now order) n × (length (now ranks) ≡ n + 1) ⌝ }
     ensures { λ r. ⌜ r ≡ judgedRank (numberIn l (word (now (image .entry)))) (now (ranks .entry)) (now (order .entry)) n ⌝ }
 {
     let mut i = n;

@@ -1,6 +1,6 @@
 -- The fields of a record come back from its two lines, and the record has no fault. Assumes nothing.
 use mathlib.Core.Path.{_≡_, refl, sym, ap, ap₂, _∙_}
-use mathlib.Core.Bool.{true, false, cond, not}
+use mathlib.Core.Bool.{true, false, not}
 use mathlib.Core.Logic.{by-cases}
 use mathlib.Core.List.{List}
 use Prim.Native.Nat.{ℕ, _+_, _-_, _/_, _%_, _^_, _≤_, _<_}
@@ -14,7 +14,7 @@ use Rattle.prelude.proofs.Choice.{pick-true, pick-false}
 use Rattle.words.proofs.Laws.{word-byte}
 use Rattle.layout.specs.Line.{whole, versionOf}
 use Rattle.layout.specs.Slot.{paired}
-use Rattle.layout.specs.Record.{keyOf, keyWord, kindWord, kindOf, lengthOf, numberOf, limit, slotWord, valueWord, valueByte, valueFront, valueOf}
+use Rattle.layout.specs.Record.{keyOf, keyWord, kindWord, kindOf, lengthOf, recordNumber, limit, slotWord, valueWord, valueByte, valueFront, valueOf}
 use Rattle.layout.specs.Content.{made, contentOf}
 use Rattle.layout.specs.Fault.{bitsFault, kindFault, longest, wordFault, tailFault, faultOf}
 use Rattle.prelude.proofs.Any.{any-clear}
@@ -61,8 +61,8 @@ module _ (l stamp key kind number : ℕ) (value : List ℕ) (version : ℕ) (fin
       marked-body stamp version (bodyA l key kind number value) (l + 1) (omega arith) (omega (arith, fine .layout .high))
       ∙ body-kind l key kind number value
 
-  pub number-written : (A : ℕ → ℕ) → A (l + 1) ≡ newA l stamp key kind number value version (l + 1) → numberOf (A (l + 1)) ≡ number
-  number-written A e = ap numberOf (e ∙ new-kind) ∙ omega (arith, fine .kind-fits, fine .number-fits, fine .size)
+  pub number-written : (A : ℕ → ℕ) → A (l + 1) ≡ newA l stamp key kind number value version (l + 1) → recordNumber (A (l + 1)) ≡ number
+  number-written A e = ap recordNumber (e ∙ new-kind) ∙ omega (arith, fine .kind-fits, fine .number-fits, fine .size)
 
 -- ---- two lines that hold a record's words, over lines with stamps stampA and stampB
 module _ (l stampA stampB key kind number : ℕ) (value : List ℕ) (version : ℕ) (fine : Fields l key kind number value) (A B : ℕ → ℕ)
@@ -95,7 +95,7 @@ module _ (l stampA stampB key kind number : ℕ) (value : List ℕ) (version : �
   pub the-length : lengthOf (A (l + 1)) ≡ length value
   the-length = ap lengthOf the-kind-word ∙ omega (arith, fine .kind-fits, fine .size)
 
-  the-number : numberOf (A (l + 1)) ≡ number
+  the-number : recordNumber (A (l + 1)) ≡ number
   the-number = number-written l stampA key kind number value version fine A (onA (l + 1) (omega (arith, fine .layout .high)))
 
   pub the-key : keyOf l A ≡ key
@@ -152,7 +152,7 @@ module _ (l stampA stampB key kind number : ℕ) (value : List ℕ) (version : �
   no-bits n =
       pick-false (leb (2 ^ 24) (A (l + 1))) _ _
       (lt-leb (2 ^ 24) (A (l + 1)) (omega (arith, the-kind-word, fine .size, fine .kind-fits, fine .number-fits)))
-      ∙ pick-false (eqb (numberOf (A (l + 1))) 1) _ _ (ap (λ (x : ℕ). eqb x 1) the-number ∙ ne-eqb number 1 (not-one n))
+      ∙ pick-false (eqb (recordNumber (A (l + 1))) 1) _ _ (ap (λ (x : ℕ). eqb x 1) the-number ∙ ne-eqb number 1 (not-one n))
       ∙ ap (ltb 8) the-number ∙ le-ltb 8 number (few n)
     where
       not-one : LawfulNumber number → number ≡ 1 → ⊥

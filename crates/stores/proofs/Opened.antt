@@ -8,10 +8,10 @@ use native.Mathlib.Decide.{decLt}
 use native.Mathlib.Omega.{arith}
 use borrow.Author.Tests.{ne-eqb}
 use Rattle.prelude.proofs.Choice.{pick-false, split}
-use Rattle.layout.specs.Line.{line, whole, firstWord, lineTop}
+use Rattle.layout.specs.Line.{line, whole, firstWord}
 use Rattle.layout.specs.Slot.{paired, slotTop, lineVerdict, isValid}
-use Rattle.layout.specs.Record.{Layout, numberOf}
-use Rattle.layout.specs.Content.{broken, contentOf, content, topOf, numberIn}
+use Rattle.layout.specs.Record.{Layout, recordNumber}
+use Rattle.layout.specs.Content.{broken, contentOf, content, topOf}
 use Rattle.layout.specs.Fault.{faultOf, recordFault}
 use Rattle.layout.proofs.Content.{top-whole, top-open, a-pair, unpaired, verdict-broken, broken-content, top-content}
 use Rattle.stores.specs.Store.{Store, stored}
@@ -82,10 +82,10 @@ module _ (l : ℕ) (counts m : ℕ → ℕ) (ss : List Store) (s : ℕ) (has : O
       opened h
       (ap (contentOf l (line (afterCut counts ss m) (2 * s))) same-B
       ∙ open-content l (line m (2 * s)) (line (afterCut counts ss m) (2 * s)) (line m (2 * s + 1)) (open-line h) sound)
-      (ap numberOf (same-word h (l + 1) (omega arith) (omega (arith, lay .high)))))
+      (ap recordNumber (same-word h (l + 1) (omega arith) (omega (arith, lay .high)))))
       (λ h.
       let e : counts (2 * s) ≡ 0 = omega arith in
-      shut e (ap₂ (contentOf l) (same-A e) same-B) (ap (λ (A : ℕ → ℕ). numberOf (A (l + 1))) (same-A e)))
+      shut e (ap₂ (contentOf l) (same-A e) same-B) (ap (λ (A : ℕ → ℕ). recordNumber (A (l + 1))) (same-A e)))
 
   pub opened-fault : recordFault l m s ≡ 0 → recordFault l (afterCut counts ss m) s ≡ 0
   unfolding recordFault

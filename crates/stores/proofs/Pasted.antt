@@ -6,7 +6,7 @@ use Prim.Native.Nat.{ℕ, zero, suc, _+_, _-_, _*_, _^_, _≤_, _<_}
 use native.Mathlib.Decide.{decLt}
 use native.Mathlib.Omega.{arith}
 use lib.ListN.{length, getD, set, take, drop, List·getD-append, length-set, length-append, drop-of-length-le}
-use lib.Seq.{length-take-le, take-all, set-append-left, take-set-lt, getD-append-add, sets, sets-eq, paste, paste-zero, paste-suc, take-paste, drop-paste, drop-drop, length-paste-head}
+use lib.Seq.{length-take-le, take-all, set-append-left, take-set-lt, getD-append-add, sets, sets-eq, paste-zero, paste-suc, take-paste, drop-paste, drop-drop, length-paste-head}
 use Rattle.words.specs.Word.{word}
 use Rattle.prelude.specs.Range.{tabulate}
 use Rattle.prelude.proofs.Tabulate.{tabulate-get, tabulate-length}
@@ -14,7 +14,7 @@ use Rattle.layout.specs.Line.{firstWord, lastWord}
 use Rattle.layout.specs.Record.{Layout, kindWord, limit, valuePlace}
 use Rattle.layout.specs.inner.Key.{keyWith}
 use Rattle.layout.specs.inner.Steps.{steps}
-use Rattle.layout.proofs.Places.{InBody, place-in-body}
+use Rattle.layout.proofs.Places.{place-in-body}
 use Rattle.stores.specs.Store.{Store, zipped}
 use Rattle.stores.specs.Play.{wordNumbers, values}
 use Rattle.stores.specs.Written.{marked, bodyA, newA, newB, run, lineStores, recordStores}
@@ -261,13 +261,3 @@ whole-frame l m s key kind number w version a b old at other words ea eb ew e f 
     (no-value l a b key version kind number w words ew (whole-pasted other _ words f (words-length l a b key w 0 [] version) q))
 
 -- ---- stores behind stores
-
-pub numbers-append : (x y : List Store) → wordNumbers (x ++ y) ≡ wordNumbers x ++ wordNumbers y
-unfolding wordNumbers
-numbers-append [] y = refl
-numbers-append (s ∷ x) y = ap (λ (t : List ℕ). s .word ∷ t) (numbers-append x y)
-
-pub values-append : (x y : List Store) → values (x ++ y) ≡ values x ++ values y
-unfolding values
-values-append [] y = refl
-values-append (s ∷ x) y = ap (λ (t : List ℕ). s .value ∷ t) (values-append x y)

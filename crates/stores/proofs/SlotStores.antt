@@ -7,7 +7,7 @@ use Prim.Native.Nat.{ℕ, _+_, _*_, _≤_, _<_}
 use native.Mathlib.Omega.{arith}
 use Rattle.layout.specs.Line.{line}
 use Rattle.layout.specs.Slot.{slotTop, lineVerdict, isValid}
-use Rattle.layout.specs.Record.{numberOf}
+use Rattle.layout.specs.Record.{recordNumber}
 use Rattle.layout.specs.Content.{made, contentOf, content, top, numberIn}
 use Rattle.layout.specs.Fault.{faultOf, recordFault}
 use Rattle.stores.specs.Store.{Store}
@@ -37,7 +37,7 @@ module _ (l : ℕ) (counts m : ℕ → ℕ) (ss : List Store) (t : ℕ) (none : 
   spare-fault = ap₂ (λ (A B : ℕ → ℕ). cond (isValid (lineVerdict A B)) (faultOf l A B) 0) spare-A spare-B
 
   pub spare-number : numberIn l (afterCut counts ss m) t ≡ numberIn l m t
-  spare-number = ap (λ (A : ℕ → ℕ). numberOf (A (l + 1))) spare-A
+  spare-number = ap (λ (A : ℕ → ℕ). recordNumber (A (l + 1))) spare-A
 
 -- ---- any stores that write a record into slot s
 
@@ -73,7 +73,7 @@ module _ (l : ℕ) (counts m : ℕ → ℕ) (ss : List Store) (s key kind number
   carried =
       record {
         cut = carried-content;
-        number-old = λ e. ap (λ (A : ℕ → ℕ). numberOf (A (l + 1))) (line-unmade counts m ss (2 * s) e);
+        number-old = λ e. ap (λ (A : ℕ → ℕ). recordNumber (A (l + 1))) (line-unmade counts m ss (2 * s) e);
         number-new =
             λ h.
             number-written l (line m (2 * s) 7) key kind number value version fine (line (afterCut counts ss m) (2 * s))

@@ -1,11 +1,10 @@
 -- What a cut leaves of a line, of a slot and of an image: the statements of the line law and of the laws on the stores of one record, of several, and of
 -- opening stores.
 use mathlib.Core.Path.{_≡_}
-use mathlib.Core.Bool.{Bool, false, _&&_}
+use mathlib.Core.Bool.{false}
 use mathlib.Core.Logic.{_⊎_}
 use mathlib.Core.List.{List, []}
 use Prim.Native.Nat.{ℕ, _+_, _*_, _/_, _^_, _≤_, _<_}
-use lib.Dec.{eqb}
 use lib.ListN.{length}
 use Rattle.words.specs.Word.{AreBytes}
 use Rattle.prelude.specs.Members.{All, In}
@@ -19,10 +18,6 @@ use Rattle.stores.specs.Basket.{BasketRecord, basketSlots}
 -- the words after a cut that leaves `counts n` stores of line n
 abbrev pub afterCut : (counts : ℕ → ℕ) → List Store → (ℕ → ℕ) → ℕ → ℕ
 afterCut counts ss m = playedWords (standing counts ss) m
-
--- do all eight stores of both lines stand?
-abbrev pub bothStand : (a b : ℕ) → Bool
-bothStand a b = eqb a 8 && eqb b 8
 
 -- what k stores make of a line: `old` before, `new` with all stores, `now` after
 pub data LineCut (old new now : ℕ → ℕ) (k : ℕ) : Type 0 where

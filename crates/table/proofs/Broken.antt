@@ -5,7 +5,7 @@ use mathlib.Core.Logic.{inl, inr, ⊎-elim}
 use mathlib.Core.List.{List, [], _∷_, _++_}
 use Prim.Native.Nat.{ℕ, _≤_, _<_}
 use native.Mathlib.Omega.{arith}
-use lib.Dec.{eqb, ltb}
+use lib.Dec.{eqb}
 use borrow.Author.Tests.{ne-eqb, eqb-true, eqb-false, le-ltb, ltb-false}
 use Rattle.layout.specs.Content.{Content, broken, empty, putRecord, removeRecord, Table}
 use Rattle.prelude.specs.Filter.{filter}
@@ -19,8 +19,7 @@ use Rattle.table.specs.Table.{isRecord, isBroken, brokenCount, brokenLim
 use Rattle.table.specs.Order.{rankOf}
 use Rattle.table.specs.Reuse.{BrokenFirst}
 use Rattle.table.proofs.defs.Write.{upd, BrokenAt}
-use Rattle.table.proofs.defs.Reuse.{Spares}
-use Rattle.table.proofs.OneSlot.{upd-same, upd-other}
+use Rattle.table.proofs.OneSlot.{upd-other}
 
 -- ---- one slot
 
@@ -102,14 +101,6 @@ few-broken f n s c first few = go (isBroken (f s)) refl
     go false b = omega (arith, count-one after n s (λ t i ne. elsewhere t ne ∙ whole b t i (isBroken (f t)) refl))
 
 -- ---- reuse
-
--- where any slot is broken the first of reuse is
-pub head-broken : (f : Table) (n s : ℕ) (l : List ℕ) → Spares f n (s ∷ l) → BrokenFirst f (s ∷ l) → BrokenAt f n s
-head-broken f n s l sp b t i e = go (sp .all t i (broken-idle f n t e))
-  where
-    go : In t (s ∷ l) → isBroken (f s) ≡ true
-    go (inl q) = ap (λ (x : ℕ). isBroken (f x)) (sym q) ∙ e
-    go (inr j) = b .0 t j e
 
 -- slots that are not broken may follow
 pub broken-append : (f : Table) (l m : List ℕ) → BrokenFirst f l → ((t : ℕ) → In t m → isBroken (f t) ≡ false) → BrokenFirst f (l ++ m)

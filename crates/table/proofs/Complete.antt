@@ -14,11 +14,6 @@ use Rattle.prelude.proofs.Most.{greatest-above, greatest-least, first-is, First
 use Rattle.table.specs.Complete.{numberFor, said, hasVersion, sharers, Numbers, complete, highestComplete, versionIfComplete, isVoid, settled}
 use Rattle.table.specs.Table.{isRecord, nextVersion}
 
--- "a single record, or a basket of one, has 0 there"
-pub single-number : numberFor 1 ≡ 0
-unfolding numberFor
-single-number = refl
-
 -- a number says as many as the basket that it is for
 pub said-for : (m : ℕ) → 0 < m → said (numberFor m) ≡ m
 unfolding said numberFor
@@ -124,22 +119,6 @@ module _ (f : Table) (num : Numbers) (n : ℕ) where
       go : (b : Bool) → ltb (highestComplete f num n) (topOf (f s)) ≡ b → topOf (f s) ≤ highestComplete f num n
       go true l = absurd (true-false (void-is s c (ltb-true (highestComplete f num n) (topOf (f s)) l)) e)
       go false l = ltb-false (highestComplete f num n) (topOf (f s)) l
-
-  -- JUDGED IN TURN: a valid slot is void exactly if no version from its own up is complete
-  pub void-in-turn : (s : ℕ) → Slot n s → isVoid f num n s ≡ true → (t : ℕ) → Slot n t → topOf (f s) ≤ topOf (f t) → complete f num n t ≡ false
-  void-in-turn s i e t j l = is-false (complete f num n t) (λ c. omega (arith, void-above s e, highest-complete-above t j c))
-
-  pub in-turn-void : (s : ℕ) → isRecord (f s) ≡ true → 0 < topOf (f s)
-      → ((t : ℕ) → Slot n t → topOf (f s) ≤ topOf (f t) → complete f num n t ≡ false) → isVoid f num n s ≡ true
-  in-turn-void s c p h = go highest-complete-is
-    where
-      go : HighestComplete → isVoid f num n s ≡ true
-      go (none-complete z) = void-is s c (omega arith)
-      go (completed t j e q) = test (ltb (highestComplete f num n) (topOf (f s))) refl
-        where
-          test : (b : Bool) → ltb (highestComplete f num n) (topOf (f s)) ≡ b → isVoid f num n s ≡ true
-          test true l = void-is s c (ltb-true (highestComplete f num n) (topOf (f s)) l)
-          test false l = absurd (true-false e (h t j (omega (arith, ltb-false (highestComplete f num n) (topOf (f s)) l))))
 
   -- the settled table
   pub settled-void : (s : ℕ) → isVoid f num n s ≡ true → settled f num n s ≡ broken (topOf (f s))

@@ -1,13 +1,10 @@
 pub mod Map
-pub mod Distinct
 pub mod Held
 pub mod Write
 pub mod LiveCount
-pub mod Hidden
 pub mod Broken
 pub mod Classes
 pub mod Appended
-pub mod Reuse
 pub mod Search
 pub mod Recovery
 pub mod OneSlot
@@ -29,9 +26,7 @@ pub mod Unfinished
 pub mod Finished
 pub mod StruckAgreed
 pub mod Opened
-pub mod Outcome
 pub mod StruckBroken
-pub mod Single
 pub mod LiveAfter
 pub mod TakeableCount
 pub mod Joins

@@ -13,7 +13,7 @@ use Rattle.prelude.specs.Range.{count}
 use Rattle.prelude.specs.Members.{Slot}
 use Rattle.table.specs.inner.Class.{isPut}
 use Rattle.table.proofs.defs.Write.{Above, upd, only, Record, Free}
-use Rattle.prelude.proofs.Count.{count-more, count-gap, count-room, count-same, Gap, count-most}
+use Rattle.prelude.proofs.Count.{count-more, count-gap, count-same, Gap, count-most}
 use Rattle.table.proofs.Held.{Held, held-or, some-none, unheld, held}
 use Rattle.table.proofs.Write.{write-live, write-live-own}
 
@@ -36,11 +36,6 @@ room-all f n h = ne-eqb (liveCount f n) n (λ e. omega arith)
 pub room-spare : (f : Table) (n : ℕ) → liveCount f n < n → Gap (live f n) n
 unfolding liveCount
 room-spare f n h = count-gap (live f n) n h
-
--- not all slots live while one is spare
-pub room : (f : Table) (n s : ℕ) → Slot n s → live f n s ≡ false → liveCount f n < n
-unfolding liveCount
-room f n s i e = count-room (live f n) n s i e
 
 module _ (f : Table) (n s w k : ℕ) (c : Content) (i : Slot n s) (free : Free f n (only s)) (r : Record c w k) (above : Above f n w) where
   -- at a key that is not held the other slots live as before

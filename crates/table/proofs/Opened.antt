@@ -8,10 +8,10 @@ use Rattle.prelude.specs.Members.{Slot}
 use Rattle.prelude.proofs.Choice.{true-false, same-test}
 use Rattle.prelude.proofs.Count.{count-fewer}
 use Rattle.table.specs.Complete.{Numbers, highestComplete, hasVersion, sharers, said, settled, isVoid, NoneVoid}
-use Rattle.table.specs.Table.{isRecord, nextVersion, keyIn, brokenCount, liveCount}
+use Rattle.table.specs.Table.{isRecord, keyIn, brokenCount, liveCount}
 use Rattle.table.proofs.defs.Shared.{Agreed}
 use Rattle.table.proofs.defs.Struck.{Opened, shut, opened, AcceptedTable}
-use Rattle.table.proofs.Complete.{void-above, version-same, version-record, sharers-same, version-top, highest-complete-is, complete-is, highest-complete-least, complete-record, highest-complete-above, complete-enough, HighestComplete, none-complete, completed, settled-void, void-is, void-record, settled-same, not-void, not-void-below, settled-next}
+use Rattle.table.proofs.Complete.{void-above, version-same, version-record, sharers-same, version-top, highest-complete-is, complete-is, highest-complete-least, complete-record, highest-complete-above, complete-enough, HighestComplete, none-complete, completed, settled-void, void-is, void-record, settled-same, not-void, not-void-below}
 use Rattle.table.proofs.OneSlot.{broken-no-record}
 
 module _ {f f′ : Table} {num num′ : Numbers} {n : ℕ} (o : (t : ℕ) → Opened f f′ num num′ n t) where
@@ -87,10 +87,6 @@ module _ {f f′ : Table} {num num′ : Numbers} {n : ℕ} (o : (t : ℕ) → Op
   pub opened-settled : settled f′ num′ n ≡ settled f num n
   opened-settled = fun-ext opened-settled-at
 
-  -- so a recovery after any of these stores finds the same map, chains, reuse chain, live count, next version and count of broken slots
-  pub opened-next : nextVersion f′ n ≡ nextVersion f n
-  opened-next = sym (settled-next f′ num′ n) ∙ ap (λ (g : Table). nextVersion g n) opened-settled ∙ settled-next f num n
-
   -- 7 is still not due
   pub opened-agreed : Agreed f num n → Agreed f′ num′ n
   opened-agreed a = record {
@@ -126,6 +122,3 @@ module _ {f f′ : Table} {num num′ : Numbers} {n : ℕ} (o : (t : ℕ) → Op
         go true v = not-void f′ num′ n t (λ c. absurd (true-false c (broken-no-record (f′ t) (topOf (f t)) (all t i v))))
         go false v =
             not-void f′ num′ n t (λ c. let e = still t c .0 in omega (arith, ap topOf e, opened-highest-complete, not-void-below f num n t v (sym (ap isRecord e) ∙ c)))
-
-    pub opened-all : (t : ℕ) → Slot n t → f′ t ≡ settled f num n t
-    opened-all t i = sym (settled-same f′ num′ n t (opened-none-void t i)) ∙ opened-settled-at t

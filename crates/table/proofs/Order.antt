@@ -1,74 +1,21 @@
--- Recovery's orders: the broken and void slots first, and ties by slot number. Assumes nothing.
-use mathlib.Core.Path.{_≡_, refl, sym, ap, ap₂, _∙_}
-use mathlib.Core.Bool.{Bool, true, false, cond, not, _&&_}
+-- Recovery's orders, with ties by slot number. Assumes nothing.
+use mathlib.Core.Path.{_≡_, refl, ap}
+use mathlib.Core.Bool.{Bool, true, false, cond, _&&_}
 use mathlib.Core.Logic.{_⊎_, inl, inr}
-use mathlib.Core.List.{List, [], _∷_, _++_}
+use mathlib.Core.List.{List, [], _∷_}
 use Prim.Native.Nat.{ℕ, _≤_, _<_}
 use native.Mathlib.Omega.{arith}
 use lib.Dec.{eqb, leb}
-use borrow.Author.Tests.{eqb-true, leb-true, leb-false}
+use borrow.Author.Tests.{leb-true, leb-false}
 use Rattle.layout.specs.Content.{Table}
 use Rattle.prelude.specs.Filter.{filter}
 use Rattle.prelude.specs.Members.{In, slotNumbers, Strict}
-use Rattle.prelude.proofs.defs.Members.{Rising}
-use Rattle.prelude.proofs.Choice.{is-false, true-false}
-use Rattle.prelude.proofs.Lists.{filter-none, filter-all, filter-twice, strict-slots}
+use Rattle.prelude.proofs.Lists.{strict-slots}
 use Rattle.sorting.specs.Sorted.{sorted, insert}
-use Rattle.sorting.proofs.Order.{filter-sorted, sorted-rising, filter-holds, in-insert, sorted-in, filter-in}
-use Rattle.table.specs.Complete.{Numbers, settled}
+use Rattle.sorting.proofs.Order.{in-insert, sorted-in, filter-in}
 use Rattle.table.specs.Order.{rankOf, reuseOf, ordered, chainOf}
-use Rattle.table.specs.Reuse.{BrokenFirst}
-use Rattle.table.specs.Table.{isBroken, spare, live, keyIn}
-use Rattle.table.proofs.defs.Lex.{Lex}
-use Rattle.table.proofs.Broken.{rank-broken, broken-idle}
-use Rattle.table.proofs.Recovery.{recovery-broken}
-
--- ---- the broken slots first, by slot number
-
--- a list with the broken slots first is these and then the others
-split-first : (f : Table) (l : List ℕ) → BrokenFirst f l → l ≡ filter (λ t. isBroken (f t)) l ++ filter (λ t. not (isBroken (f t))) l
-unfolding filter
-split-first f [] o = refl
-split-first f (x ∷ l) o = go (isBroken (f x)) refl (split-first f l (o .1))
-  where
-    none : isBroken (f x) ≡ false → (t : ℕ) → In t l → isBroken (f t) ≡ false
-    none e t i = is-false (isBroken (f t)) (λ d. true-false (o .0 t i d) e)
-
-    go : (b : Bool) → isBroken (f x) ≡ b → l ≡ filter (λ t. isBroken (f t)) l ++ filter (λ t. not (isBroken (f t))) l
-        → x ∷ l ≡ cond b (x ∷ filter (λ t. isBroken (f t)) l) (filter (λ t. isBroken (f t)) l) ++ cond (not b) (x ∷ filter (λ t. not (isBroken (f t))) l) (filter (λ t. not (isBroken (f t))) l)
-    go true e ih = ap (λ (t : List ℕ). x ∷ t) ih
-    go false e ih =
-        ap₂ (λ (a c : List ℕ). a ++ (x ∷ c)) (sym (filter-none (λ t. isBroken (f t)) l (none e)))
-        (sym (filter-all (λ t. not (isBroken (f t))) l (λ t i. ap not (none e t i))))
-
--- broken slots have one rank
-level : (f : Table) (l : List ℕ) → ((t : ℕ) → In t l → isBroken (f t) ≡ true) → Rising (λ t. rankOf (f t)) l
-level f [] h = tt
-level f (x ∷ l) h = ((λ y i. omega (arith, eqb-true (rankOf (f x)) 0 (rank-broken (f x) ∙ h x (inl refl)))), level f l (λ t i. h t (inr i)))
-
-module _ (f : Table) (n : ℕ) where
-  broken-spare : (t : ℕ) → isBroken (f t) ≡ true → spare f n t ≡ true
-  unfolding spare
-  broken-spare t e = ap not (broken-idle f n t e)
-
-  broken-filter : filter (λ t. isBroken (f t)) (reuseOf f n) ≡ filter (λ t. isBroken (f t)) (slotNumbers n)
-  unfolding reuseOf ordered
-  broken-filter =
-      filter-sorted (λ t. rankOf (f t)) (λ t. isBroken (f t)) (filter (spare f n) (slotNumbers n))
-      ∙ ap (λ (l : List ℕ). sorted (λ t. rankOf (f t)) l) (filter-twice (λ t. isBroken (f t)) (spare f n) (slotNumbers n) broken-spare)
-      ∙ sorted-rising (λ t. rankOf (f t)) (filter (λ t. isBroken (f t)) (slotNumbers n)) (level f (filter (λ t. isBroken (f t)) (slotNumbers n))
-      (λ t i. filter-holds (λ s. isBroken (f s)) t (slotNumbers n) i))
-
-  -- RECOVERY'S REUSE CHAIN: the broken slots by slot number, then the others
-  pub reuse-order : reuseOf f n ≡ filter (λ t. isBroken (f t)) (slotNumbers n) ++ filter (λ t. not (isBroken (f t))) (reuseOf f n)
-  reuse-order = split-first f (reuseOf f n) (recovery-broken f n) ∙ ap (λ (l : List ℕ). l ++ filter (λ t. not (isBroken (f t))) (reuseOf f n)) broken-filter
-
--- "A void slot stands with the broken ones, in the reuse chain": of the settled table these are the broken and the void ones together
-pub void-order : (f : Table) (num : Numbers) (n : ℕ)
-    → reuseOf (settled f num n) n ≡ filter (λ t. isBroken (settled f num n t)) (slotNumbers n) ++ filter (λ t. not (isBroken (settled f num n t))) (reuseOf (settled f num n) n)
-void-order f num n = reuse-order (settled f num n) n
-
--- ---- "Recovery settles ties in a head's chain by slot number too"
+use Rattle.table.specs.Table.{spare, live, keyIn}
+use Rattle.table.specs.Lex.{Lex}
 
 lex-le : (g : ℕ → ℕ) (x y : ℕ) → (g x < g y) ⊎ ((g x ≡ g y) × (x < y)) → g x ≤ g y
 lex-le g x y (inl l) = omega arith

@@ -1,28 +1,24 @@
 -- Recovery's reuse and chains. Assumes nothing.
 use mathlib.Core.Path.{_≡_, refl, ap}
 use mathlib.Core.Bool.{Bool, not, _&&_}
-use mathlib.Core.Logic.{inl, inr}
-use mathlib.Core.List.{List, [], _∷_}
 use Prim.Native.Nat.{ℕ, suc, _<_}
 use native.Mathlib.Omega.{arith}
 use lib.Dec.{eqb}
 use borrow.Author.Tests.{eqb-true, eq-eqb, not-true}
 use Rattle.layout.specs.Content.{Content, Table}
 use Rattle.prelude.specs.Filter.{filter}
-use Rattle.prelude.specs.Members.{In, Once, slotNumbers, Slot}
+use Rattle.prelude.specs.Members.{In, slotNumbers}
 use Rattle.prelude.proofs.defs.Members.{Rising}
 use Rattle.sorting.proofs.Order.{sorted-in, in-sorted, rising-sorted, filter-in, in-filter, filter-holds, once-sorted, once-filter}
 use Rattle.table.specs.Table.{keyIn, weight, live, spare}
 use Rattle.table.specs.Order.{rankOf, ordered, chainOf, reuseOf}
-use Rattle.table.proofs.defs.Write.{ApartByKey}
 use Rattle.table.proofs.defs.Reuse.{Spares}
-use Rattle.table.specs.Reuse.{Hides, hides, HiddenFirst, BrokenFirst}
+use Rattle.table.specs.Reuse.{BrokenFirst}
 use Rattle.table.proofs.Broken.{rising-broken}
 use Rattle.table.proofs.defs.Chains.{Chains}
 use Rattle.table.proofs.OneSlot.{puts, Says, weight-put, weight-remove, removes, says}
 use Rattle.prelude.proofs.Choice.{both-left, both-right, both}
-use Rattle.prelude.proofs.Lists.{once-slots, in-at, in-slots, slots-in}
-use Rattle.table.proofs.Map.{decider-newest}
+use Rattle.prelude.proofs.Lists.{once-slots, in-slots, slots-in}
 
 -- recovery's reuse holds the spare slots
 pub recovery-spares : (f : Table) (n : ℕ) → Spares f n (reuseOf f n)
@@ -45,25 +41,10 @@ rank-weight k c p = go (says k c p)
     go (puts w v e) = omega (arith, ap rankOf e, ap (weight k) e, weight-put w k v)
     go (removes w e) = omega (arith, ap rankOf e, ap (weight k) e, weight-remove w k)
 
--- a list of slots, each once, in rising order of version, is hidden-first
-pub rising-hidden : (f : Table) (n : ℕ) (l : List ℕ) → ApartByKey f n → ((t : ℕ) → In t l → Slot n t) → Once l → Rising (λ t. rankOf (f t)) l → HiddenFirst f n l
-rising-hidden f n [] d i o r = tt
-rising-hidden f n (x ∷ l) d i o r = (first, rising-hidden f n l d (λ t j. i t (inr j)) (o .1) (r .1))
-  where
-    first : (t : ℕ) → In t l → Hides f n x t → ⊥
-    first t j (hides w k e b p) =
-        let less = decider-newest f n k x t d (i x (inl refl)) (i t (inr j)) b (λ q. o .0 (in-at t x l q j)) in
-        omega (arith, r .0 t j, rank-weight k (f t) p, rank-weight k (f x) (omega arith))
-
 -- recovery's reuse never falls in rank: broken slots, empty slots, then by version
 pub recovery-rising : (f : Table) (n : ℕ) → Rising (λ t. rankOf (f t)) (reuseOf f n)
 unfolding reuseOf ordered
 recovery-rising f n = rising-sorted (λ t. rankOf (f t)) (filter (spare f n) (slotNumbers n))
-
--- recovery's reuse has the hidden records first
-pub recovery-hidden : (f : Table) (n : ℕ) → ApartByKey f n → HiddenFirst f n (reuseOf f n)
-recovery-hidden f n d =
-    rising-hidden f n (reuseOf f n) d (λ t i. recovery-spares f n .slot t i) (recovery-spares f n .once) (recovery-rising f n)
 
 -- and the broken slots
 pub recovery-broken : (f : Table) (n : ℕ) → BrokenFirst f (reuseOf f n)

@@ -8,4 +8,3 @@ pub mod Struck
 pub mod ReuseAfter
 pub mod Owners
 pub mod Room
-pub mod Lex

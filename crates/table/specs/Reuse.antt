@@ -1,22 +1,13 @@
--- The reuse chain as a list: a record stands before the remove that hides it. Document 01, "Traps": "Queueing a remove record before the record it hides: the withdrawn order returns."
+-- The reuse chain as a list: an older record stands before a remove of its key. Document 01, "Traps": "Queueing a remove record before the record it hides: the withdrawn order returns."
 -- Broken slots stand before all others. Document 02, A.6: "A broken slot is always reused first".
 use mathlib.Core.Path.{_≡_}
 use mathlib.Core.Bool.{true}
 use mathlib.Core.List.{List, [], _∷_}
-use Prim.Native.Nat.{ℕ, _<_}
-use Rattle.layout.specs.Content.{removeRecord, topOf, Table}
+use Prim.Native.Nat.{ℕ}
+use Rattle.layout.specs.Content.{topOf, Table}
 use Rattle.prelude.specs.Members.{In}
-use Rattle.table.specs.Table.{isRecord, isBroken, weight, decider}
+use Rattle.table.specs.Table.{isRecord, isBroken}
 use Rattle.table.specs.Taking.{highestValid, isRemove, older}
-
--- slot x is a remove that decides its key, and slot t holds a record of that key
-pub data Hides (f : Table) (n x t : ℕ) : Type 0 where
-  hides : (w k : ℕ) → f x ≡ removeRecord w k → decider f n k ≡ x → 0 < weight k (f t) → Hides f n x t
-
--- no slot stands after a deciding remove that hides its record
-abbrev pub HiddenFirst : Table → (n : ℕ) → List ℕ → Type 0
-HiddenFirst f n [] = Unit
-HiddenFirst f n (x ∷ l) = ((t : ℕ) → In t l → Hides f n x t → ⊥) × HiddenFirst f n l
 
 -- where a slot is broken, so is every one before it: the broken slots are the first ones
 abbrev pub BrokenFirst : Table → List ℕ → Type 0

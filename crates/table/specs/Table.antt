@@ -1,10 +1,10 @@
 -- The table of an image, f : what each of the slots 1 to n holds. Document 01, "Which record counts" and "How a call writes".
-use mathlib.Core.Bool.{Bool, true, false, cond, not, _&&_}
+use mathlib.Core.Bool.{Bool, true, false, cond, not}
 use mathlib.Core.Option.{Option, some, none}
 use mathlib.Core.List.{List, [], _∷_}
-use Prim.Native.Nat.{ℕ, zero, suc, _-_}
+use Prim.Native.Nat.{ℕ, zero, suc}
 use lib.Dec.{eqb, ltb}
-use Rattle.prelude.specs.Range.{anyOf, greatest, topmost, count}
+use Rattle.prelude.specs.Range.{greatest, topmost, count}
 use Rattle.layout.specs.Content.{Content, broken, empty, putRecord, removeRecord, topOf, Table}
 
 -- does the slot's record count: is the slot valid?
@@ -81,10 +81,6 @@ spare f n s = not (live f n s)
 -- how many of the slots 1 to n are live
 unfoldable pub liveCount : Table → (n : ℕ) → ℕ
 liveCount f n = count (live f n) n
-
--- "7 when two valid slots share a version"
-unfoldable pub sharedVersion : Table → (n : ℕ) → Bool
-sharedVersion f n = anyOf (λ s. anyOf (λ t. isRecord (f s) && (isRecord (f t) && eqb (topOf (f s)) (topOf (f t)))) 1 (s - 1)) 1 n
 
 -- how many of the slots 1 to n are broken
 unfoldable pub brokenCount : Table → (n : ℕ) → ℕ

@@ -53,7 +53,7 @@ pub record Judgeable (image : List ℕ) (l : ℕ) (ranks lows highs places order
   pub heads-high : b ≤ 65536
 
 -- the image has n slots, and the order has n positions of them
-pub record Numbered (image : List ℕ) (l : ℕ) (order : List ℕ) (n : ℕ) : Type 0 where
+pub record OrderNumbered (image : List ℕ) (l : ℕ) (order : List ℕ) (n : ℕ) : Type 0 where
   pub layout : Layout l
   pub image-size : length image ≡ 128 * (n + 1)
   pub order-size : length order ≡ n

@@ -11,10 +11,6 @@ use Rattle.prelude.specs.Members.{Slot}
 abbrev pub Above : Table → (n w : ℕ) → Type 0
 Above f n w = (t : ℕ) → Slot n t → topOf (f t) < w
 
--- no two slots that count share a version
-abbrev pub Distinct : Table → (n : ℕ) → Type 0
-Distinct f n = (s t : ℕ) → Slot n s → Slot n t → (s ≡ t → ⊥) → isRecord (f s) ≡ true → isRecord (f t) ≡ true → topOf (f s) ≡ topOf (f t) → ⊥
-
 -- no two slots hold records of one key and one version
 abbrev pub ApartByKey : Table → (n : ℕ) → Type 0
 ApartByKey f n = (k s t : ℕ) → Slot n s → Slot n t → (s ≡ t → ⊥) → 0 < weight k (f s) → weight k (f s) ≡ weight k (f t) → ⊥
