@@ -4,15 +4,20 @@ use mathlib.Core.Bool.{Bool, true, false, cond, _&&_}
 use Prim.Native.Nat.{ℕ, suc, _≤_, _<_}
 use native.Mathlib.Omega.{arith}
 use lib.Dec.{eqb, ltb}
-use borrow.Author.Tests.{eqb-true, ne-eqb, eq-eqb, le-leb, leb-true, lt-ltb, ltb-true, ltb-false}
+use borrow.Author.Tests.{eqb-true, ne-eqb, eq-eqb, leb-true, le-leb, ltb-true, lt-ltb, ltb-false}
 use Rattle.layout.specs.Content.{Table, topOf, Content, broken}
 use Rattle.prelude.specs.Members.{Slot}
 use Rattle.prelude.specs.Range.{topmost}
 use Rattle.prelude.proofs.Choice.{pick-false, both, both-left, both-right, pick-true, is-false, true-false}
 use Rattle.prelude.proofs.Count.{count-same}
 use Rattle.prelude.proofs.Most.{greatest-above, greatest-least, first-is, First, nowhere, there, greatest-same}
-use Rattle.table.specs.Complete.{said, numberFor, hasVersion, sharers, Numbers, complete, highestComplete, versionIfComplete, isVoid, settled}
+use Rattle.table.specs.Complete.{numberFor, said, hasVersion, sharers, Numbers, complete, highestComplete, versionIfComplete, isVoid, settled}
 use Rattle.table.specs.Table.{isRecord, nextVersion}
+
+-- "a single record, or a basket of one, has 0 there"
+pub single-number : numberFor 1 ≡ 0
+unfolding numberFor
+single-number = refl
 
 -- a number says as many as the basket that it is for
 pub said-for : (m : ℕ) → 0 < m → said (numberFor m) ≡ m
@@ -47,17 +52,17 @@ unfolding sharers
 sharers-same f f′ n v h = count-same (hasVersion f′ v) (hasVersion f v) n h
 
 module _ (f : Table) (num : Numbers) (n : ℕ) where
-  pub complete-is : (s : ℕ) → isRecord (f s) ≡ true → said (num s) ≤ sharers f n (topOf (f s)) → complete f num n s ≡ true
+  pub complete-enough : (s : ℕ) → complete f num n s ≡ true → said (num s) ≤ sharers f n (topOf (f s))
   unfolding complete
-  complete-is s c l = both (isRecord (f s)) _ c (le-leb (said (num s)) (sharers f n (topOf (f s))) l)
+  complete-enough s e = leb-true (said (num s)) (sharers f n (topOf (f s))) (both-right (isRecord (f s)) _ e)
 
   pub complete-record : (s : ℕ) → complete f num n s ≡ true → isRecord (f s) ≡ true
   unfolding complete
   complete-record s e = both-left (isRecord (f s)) _ e
 
-  pub complete-enough : (s : ℕ) → complete f num n s ≡ true → said (num s) ≤ sharers f n (topOf (f s))
+  pub complete-is : (s : ℕ) → isRecord (f s) ≡ true → said (num s) ≤ sharers f n (topOf (f s)) → complete f num n s ≡ true
   unfolding complete
-  complete-enough s e = leb-true (said (num s)) (sharers f n (topOf (f s))) (both-right (isRecord (f s)) _ e)
+  complete-is s c l = both (isRecord (f s)) _ c (le-leb (said (num s)) (sharers f n (topOf (f s))) l)
 
   -- every complete version is at most the highest one
   pub highest-complete-above : (s : ℕ) → Slot n s → complete f num n s ≡ true → topOf (f s) ≤ highestComplete f num n
@@ -98,17 +103,17 @@ module _ (f : Table) (num : Numbers) (n : ℕ) where
           at s i p h false e = absurd (omega (arith, pick-false (complete f num n s) (topOf (f s)) 0 e))
 
   -- the void slots
-  pub void-is : (s : ℕ) → isRecord (f s) ≡ true → highestComplete f num n < topOf (f s) → isVoid f num n s ≡ true
+  pub void-above : (s : ℕ) → isVoid f num n s ≡ true → highestComplete f num n < topOf (f s)
   unfolding isVoid
-  void-is s c l = both (isRecord (f s)) _ c (lt-ltb (highestComplete f num n) (topOf (f s)) l)
+  void-above s e = ltb-true (highestComplete f num n) (topOf (f s)) (both-right (isRecord (f s)) _ e)
 
   pub void-record : (s : ℕ) → isVoid f num n s ≡ true → isRecord (f s) ≡ true
   unfolding isVoid
   void-record s e = both-left (isRecord (f s)) _ e
 
-  pub void-above : (s : ℕ) → isVoid f num n s ≡ true → highestComplete f num n < topOf (f s)
+  pub void-is : (s : ℕ) → isRecord (f s) ≡ true → highestComplete f num n < topOf (f s) → isVoid f num n s ≡ true
   unfolding isVoid
-  void-above s e = ltb-true (highestComplete f num n) (topOf (f s)) (both-right (isRecord (f s)) _ e)
+  void-is s c l = both (isRecord (f s)) _ c (lt-ltb (highestComplete f num n) (topOf (f s)) l)
 
   pub not-void : (s : ℕ) → (isRecord (f s) ≡ true → topOf (f s) ≤ highestComplete f num n) → isVoid f num n s ≡ false
   not-void s h = is-false (isVoid f num n s) (λ e. omega (arith, void-above s e, h (void-record s e)))

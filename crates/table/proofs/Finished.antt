@@ -17,6 +17,7 @@ use Rattle.prelude.proofs.Lists.{some-element}
 use Rattle.prelude.proofs.Most.{greatest-above, greatest-least}
 use Rattle.table.specs.Complete.{Numbers, numberFor, hasVersion, sharers, complete, said, highestComplete, NoneVoid, settled}
 use Rattle.table.specs.Table.{isRecord, keyIn, weight, decider, mapOf, valueIn, live, nextVersion}
+use Rattle.table.specs.Taking.{highestValid}
 use Rattle.table.proofs.defs.Basket.{Basket, changes}
 use Rattle.table.proofs.defs.Struck.{Struck, Finished, Unfinished, SlotAfter, kept, unfinished, lost, done}
 use Rattle.table.proofs.defs.Write.{Outside, Free, isPut}
@@ -26,6 +27,7 @@ use Rattle.table.proofs.Map.{newest, set-new, map-kept, live-put, live-
 use Rattle.table.proofs.OneSlot.{says, Says, puts, removes, weight-put}
 use Rattle.table.proofs.Same.{same-map}
 use Rattle.table.proofs.Struck.{new-is, new-version, version-most, not-taken, taken-free}
+use Rattle.table.proofs.Taking.{highest-valid-above, highest-valid-least}
 
 module _ {f f′ : Table} {num num′ : Numbers} {n w : ℕ} {taken : List ℕ} {new : Table}
     (b : Basket f num n w taken new) (st : Struck f f′ num num′ n taken new) where
@@ -59,7 +61,7 @@ module _ {f f′ : Table} {num num′ : Numbers} {n w : ℕ} {taken : List ℕ} 
   unfolding sharers
   finished-sharers = count-same (hasVersion f′ w) (member taken) n finished-version ∙ count-member taken n (b .once) (b .slot)
 
-  new-top : (t : ℕ) → In t taken → topOf (f′ t) ≡ w
+  pub new-top : (t : ℕ) → In t taken → topOf (f′ t) ≡ w
   new-top t j = ap topOf (z t j .0) ∙ b .records t j .tops
 
   -- THE BASKET IS COMPLETE
@@ -78,7 +80,7 @@ module _ {f f′ : Table} {num num′ : Numbers} {n w : ℕ} {taken : List ℕ} 
         highest-complete-least f′ num′ n w (λ t i c. version-most b st t i (complete-record f′ num′ n t c)),
       )
 
-  -- NOTHING IS VOID
+  -- NO SLOT IS VOID
   pub finished-none-void : NoneVoid f′ num′ n
   finished-none-void t i = not-void f′ num′ n t (λ c. omega (arith, finished-highest-complete, version-most b st t i c))
 
@@ -158,3 +160,14 @@ module _ {f f′ : Table} {num num′ : Numbers} {n w : ℕ} {taken : List ℕ} 
       most : (t : ℕ) → Slot n t → (x : Bool) → member taken t ≡ x → topOf (f′ t) ≤ w
       most t i true e = omega (arith, new-top t (member-in taken t e))
       most t i false e = omega (arith, ap topOf (all-outside t i e), b .above t i)
+
+  -- the highest valid version is the basket's
+  pub finished-highest-valid : highestValid f′ n ≡ w
+  finished-highest-valid =
+      let s = some-element taken (b .some) in
+      omega (
+        arith,
+        highest-valid-above f′ n (s .0) (b .slot (s .0) (s .1)) (ap isRecord (z (s .0) (s .1) .0) ∙ b .records (s .0) (s .1) .counted),
+        new-top (s .0) (s .1),
+        highest-valid-least f′ n w (version-most b st),
+      )

@@ -7,8 +7,9 @@ use Prim.Native.Nat.{ℕ, _<_}
 use native.Mathlib.Omega.{arith}
 use Rattle.layout.specs.Content.{Table}
 use Rattle.prelude.specs.Members.{Slot}
+use Rattle.prelude.proofs.Choice.{true-false}
 use Rattle.prelude.proofs.Most.{First, nowhere, there}
-use Rattle.table.specs.Table.{decider, live, mapOf, valueAt, valueIn, weight}
+use Rattle.table.specs.Table.{decider, live, mapOf, valueAt, valueIn, weight, isHeld}
 use Rattle.table.proofs.defs.Write.{holder}
 use Rattle.table.proofs.Map.{decider-is, is-live, lives, live-remove, decider-weight, live-is, Live}
 use Rattle.table.proofs.OneSlot.{Says, puts, value-at, removes, says, one-key, weight-put}
@@ -79,3 +80,12 @@ live-holder f n k t i e p = go (live-is f n t e)
     go (lives u c v q d) =
         let z : decider f n k ≡ t = ap (decider f n) (sym (one-key c k (f t) (omega (arith, ap (weight c) q, weight-put u c v)) p)) ∙ d in
         holder-held f n k (ap (live f n) z ∙ e) ∙ z
+
+-- a key that the map holds has a holder
+pub held-holder : (f : Table) (n k : ℕ) → isHeld (mapOf f n k) ≡ true → 0 < holder f n k
+unfolding isHeld
+held-holder f n k e = go (held-or f n k)
+  where
+    go : Held f n k → 0 < holder f n k
+    go (held v i l m) = omega (arith, holder-held f n k l)
+    go (unheld a m) = absurd (true-false e (ap isHeld m))

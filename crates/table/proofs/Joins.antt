@@ -17,10 +17,10 @@ use Rattle.table.proofs.Appended.{Joined, from-old, from-own, joined, i
 use Rattle.table.proofs.Held.{is-holder, Holder, holder-is}
 use Rattle.table.proofs.OneSlot.{one-key}
 
--- slot t is appended for the record of slot s
+-- why slot t is appended: it is the old slot of a key, or a remove went there
 pub data From (f : Table) (n : ℕ) (l : List ℕ) (new : Table) (t : ℕ) : Type 0 where
   old : (s : ℕ) → In s l → 0 < holder f n (keyIn (new s)) → t ≡ holder f n (keyIn (new s)) → From f n l new t
-  own : In t l → isPut (new t) ≡ false → From f n l new t
+  own-slot : In t l → isPut (new t) ≡ false → From f n l new t
 
 pub joins-from : (f : Table) (n : ℕ) (l : List ℕ) (new : Table) (t : ℕ) → In t (joinsOf f n l new) → From f n l new t
 unfolding joinsOf
@@ -29,11 +29,11 @@ joins-from f n (x ∷ l) new t i = go (in-append t (joins f n x (keyIn (new x)) 
   where
     wider : From f n l new t → From f n (x ∷ l) new t
     wider (old s j p e) = old s (inr j) p e
-    wider (own j p) = own (inr j) p
+    wider (own-slot j p) = own-slot (inr j) p
 
     here : Joined (holder f n (keyIn (new x))) (isPut (new x)) x t → From f n (x ∷ l) new t
     here (from-old p e) = old x (inl refl) p e
-    here (from-own p e) = own (inl e) (ap (λ (y : ℕ). isPut (new y)) e ∙ p)
+    here (from-own p e) = own-slot (inl e) (ap (λ (y : ℕ). isPut (new y)) e ∙ p)
 
     go : In t (joins f n x (keyIn (new x)) (new x)) ⊎ In t (joinsOf f n l new) → (In t (joinsOf f n l new) → From f n l new t) → From f n (x ∷ l) new t
     go (inl j) ih = here (joined (holder f n (keyIn (new x))) (isPut (new x)) x t j)
@@ -42,7 +42,7 @@ joins-from f n (x ∷ l) new t i = go (in-append t (joins f n x (keyIn (new x)) 
 pub from-joins : (f : Table) (n : ℕ) (l : List ℕ) (new : Table) (t : ℕ) → From f n l new t → In t (joinsOf f n l new)
 unfolding joinsOf
 from-joins f n [] new t (old s j p e) = absurd j
-from-joins f n [] new t (own j p) = absurd j
+from-joins f n [] new t (own-slot j p) = absurd j
 from-joins f n (x ∷ l) new t (old s (inl q) p e) =
     in-left t (joins f n x (keyIn (new x)) (new x)) (joinsOf f n l new)
     (at e q (in-old (holder f n (keyIn (new s))) (isPut (new s)) s p))
@@ -50,12 +50,12 @@ from-joins f n (x ∷ l) new t (old s (inl q) p e) =
     at : t ≡ holder f n (keyIn (new s)) → s ≡ x → In (holder f n (keyIn (new s))) (joins f n s (keyIn (new s)) (new s)) → In t (joins f n x (keyIn (new x)) (new x))
     at d z a = rw (d, ← z) a
 from-joins f n (x ∷ l) new t (old s (inr j) p e) = in-right t (joins f n x (keyIn (new x)) (new x)) (joinsOf f n l new) (from-joins f n l new t (old s j p e))
-from-joins f n (x ∷ l) new t (own (inl q) p) =
+from-joins f n (x ∷ l) new t (own-slot (inl q) p) =
     in-left t (joins f n x (keyIn (new x)) (new x)) (joinsOf f n l new) (at q (in-own (holder f n (keyIn (new t))) (isPut (new t)) t p))
   where
     at : t ≡ x → In t (joins f n t (keyIn (new t)) (new t)) → In t (joins f n x (keyIn (new x)) (new x))
     at z a = rw (← z) a
-from-joins f n (x ∷ l) new t (own (inr j) p) = in-right t (joins f n x (keyIn (new x)) (new x)) (joinsOf f n l new) (from-joins f n l new t (own j p))
+from-joins f n (x ∷ l) new t (own-slot (inr j) p) = in-right t (joins f n x (keyIn (new x)) (new x)) (joinsOf f n l new) (from-joins f n l new t (own-slot j p))
 
 -- the slots of l are spare and no two of their keys are one: nothing is appended twice
 module _ (f : Table) (n : ℕ) (new : Table) where
@@ -88,6 +88,6 @@ module _ (f : Table) (n : ℕ) (new : Table) where
 
       cross : (t : ℕ) → Joined (holder f n (keyIn (new x))) (isPut (new x)) x t → From f n l new t → ⊥
       cross t (from-old p e) (old s j q d) = o .0 (rw (sym (k s x (inr j) (inl refl) (one-holder s x q (sym d ∙ e)))) j)
-      cross t (from-old p e) (own j q) = true-false (holder-live x t p (sym e)) (h t (inr j))
+      cross t (from-old p e) (own-slot j q) = true-false (holder-live x t p (sym e)) (h t (inr j))
       cross t (from-own p e) (old s j q d) = true-false (holder-live s x q (sym d ∙ e)) (h x (inl refl))
-      cross t (from-own p e) (own j q) = o .0 (rw (sym e) j)
+      cross t (from-own p e) (own-slot j q) = o .0 (rw (sym e) j)

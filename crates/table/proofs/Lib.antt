@@ -34,3 +34,8 @@ pub mod LiveAfter
 pub mod TakeableCount
 pub mod Joins
 pub mod ReuseAfter
+pub mod OrderAfter
+pub mod Owners
+pub mod Room
+pub mod Formatted
+pub mod Accepted

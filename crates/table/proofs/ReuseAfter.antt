@@ -24,7 +24,7 @@ use Rattle.table.proofs.defs.Write.{holder}
 use Rattle.table.proofs.Broken.{broken-append, broken-carry, broken-filter, record-whole}
 use Rattle.table.proofs.Finished.{finished-over, finished-kept, finished-own}
 use Rattle.table.proofs.Held.{is-holder, Holder, holder-is, live-holder}
-use Rattle.table.proofs.Joins.{old, From, own, joins-from, once-joins, holder-live, from-joins}
+use Rattle.table.proofs.Joins.{old, From, own-slot, joins-from, once-joins, holder-live, from-joins}
 use Rattle.table.proofs.LiveAfter.{overwritten-or, Overwriting, written-by, written-by-none}
 use Rattle.table.proofs.OneSlot.{weight-counts}
 use Rattle.table.proofs.Struck.{not-taken}
@@ -60,14 +60,14 @@ module _ {f f′ : Table} {num num′ : Numbers} {n w : ℕ} {taken : List ℕ} 
       go (written-by-none h) = finished-kept b st z t i out h ∙ e
 
   from-slot : (t : ℕ) → From f n taken new t → Slot n t
-  from-slot t (own j p) = b .slot t j
+  from-slot t (own-slot j p) = b .slot t j
   from-slot t (old s j p e) = go (is-holder f n (keyIn (new s)) p)
     where
       go : Holder f n (keyIn (new s)) → Slot n t
       go (holder-is i a x) = rw e i
 
   from-idle : (t : ℕ) → From f n taken new t → live f′ n t ≡ false
-  from-idle t (own j p) = finished-own b st z t j ∙ p
+  from-idle t (own-slot j p) = finished-own b st z t j ∙ p
   from-idle t (old s j p e) = ap (live f′ n) e ∙ go (is-holder f n (keyIn (new s)) p)
     where
       go : Holder f n (keyIn (new s)) → live f′ n (holder f n (keyIn (new s))) ≡ false
@@ -75,7 +75,7 @@ module _ {f f′ : Table} {num num′ : Numbers} {n w : ℕ} {taken : List ℕ} 
 
   -- what is appended has a record
   from-record : (t : ℕ) → From f n taken new t → isRecord (f′ t) ≡ true
-  from-record t (own j p) = ap isRecord (z t j .0) ∙ b .records t j .counted
+  from-record t (own-slot j p) = ap isRecord (z t j .0) ∙ b .records t j .counted
   from-record t (old s j p e) = ap (λ (x : ℕ). isRecord (f′ x)) e ∙ go (is-holder f n (keyIn (new s)) p)
     where
       go : Holder f n (keyIn (new s)) → isRecord (f′ (holder f n (keyIn (new s)))) ≡ true
@@ -95,14 +95,14 @@ module _ {f f′ : Table} {num num′ : Numbers} {n w : ℕ} {taken : List ℕ} 
   }
     where
       cross : (t : ℕ) → In t (leftOf taken reuse) → From f n taken new t → ⊥
-      cross t i (own j p) = left-out t i j
+      cross t i (own-slot j p) = left-out t i j
       cross t i (old s j p e) = true-false (holder-live f n new s t p (sym e)) (sp .idle t (left-in t i))
 
       listed : (t : ℕ) → Slot n t → live f′ n t ≡ false → (x : Bool) → member taken t ≡ x → (y : Bool) → live f n t ≡ y → Overwriting f new taken t
           → In t (leftOf taken reuse ++ joinsOf f n taken new)
       listed t i e true m y l o =
           let j = member-in taken t m in
-          in-right t (leftOf taken reuse) (joinsOf f n taken new) (from-joins f n taken new t (own j (sym (finished-own b st z t j) ∙ e)))
+          in-right t (leftOf taken reuse) (joinsOf f n taken new) (from-joins f n taken new t (own-slot j (sym (finished-own b st z t j) ∙ e)))
       listed t i e false m false l o = in-left t (leftOf taken reuse) (joinsOf f n taken new) (in-left-of t (sp .all t i l) m)
       listed t i e false m true l (written-by s j p) =
           let h = live-holder f n (keyIn (new s)) t i l p in

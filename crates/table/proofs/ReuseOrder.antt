@@ -1,8 +1,8 @@
 -- The order of the reuse chain in which a single call takes its first slot or none. Assumes nothing.
-use mathlib.Core.Path.{_≡_, refl, ap, _∙_}
+use mathlib.Core.Path.{_≡_, refl, sym, ap, _∙_}
 use mathlib.Core.Bool.{Bool, true, false, cond}
-use mathlib.Core.Logic.{inl, inr}
-use mathlib.Core.List.{List, [], _∷_}
+use mathlib.Core.Logic.{inl, inr, ⊎-elim}
+use mathlib.Core.List.{List, [], _∷_, _++_}
 use Prim.Native.Nat.{ℕ}
 use native.Mathlib.Omega.{arith}
 use lib.ListN.{take}
@@ -11,7 +11,8 @@ use Rattle.prelude.specs.Filter.{filter}
 use Rattle.prelude.specs.Members.{In, Slot}
 use Rattle.prelude.proofs.defs.Members.{Rising}
 use Rattle.prelude.proofs.Choice.{true-false}
-use Rattle.prelude.proofs.Lists.{filter-none}
+use Rattle.prelude.proofs.Lists.{in-append, filter-none}
+use Rattle.sorting.proofs.Order.{filter-in}
 use Rattle.table.specs.Order.{rankOf, reuseOf}
 use Rattle.table.specs.Reuse.{OlderFirst, HighestLast}
 use Rattle.table.specs.Table.{isRecord}
@@ -19,7 +20,7 @@ use Rattle.table.specs.Taking.{isRemove, older, highestValid, takenOf, m
 use Rattle.table.proofs.defs.Reuse.{Spares}
 use Rattle.table.proofs.Ranks.{record-rank, low-rank}
 use Rattle.table.proofs.Recovery.{recovery-rising, recovery-spares}
-use Rattle.table.proofs.Taking.{older-record, older-below, highest-valid-above, highest-barred, barred, Barred, of-highest, has-older, older-idle}
+use Rattle.table.proofs.Taking.{older-record, older-below, highest-valid-above, older-same, highest-barred, barred, Barred, of-highest, has-older, older-idle}
 
 -- ---- recovery's reuse chain
 
@@ -61,6 +62,34 @@ rising-highest-last f n (x ∷ l) s r = λ e top t i. go e top t i (isRecord (f 
 
 pub recovery-highest-last : (f : Table) (n : ℕ) → HighestLast f n (reuseOf f n)
 recovery-highest-last f n = rising-highest-last f n (reuseOf f n) (λ t i. recovery-spares f n .slot t i) (recovery-rising f n)
+
+-- ---- older records first, in lists put together
+
+pub older-append : (f : Table) (l m : List ℕ) → OlderFirst f l → OlderFirst f m
+    → ((x t : ℕ) → In x l → In t m → isRemove (f x) ≡ true → older f x t ≡ true → ⊥) → OlderFirst f (l ++ m)
+older-append f [] m a c h = c
+older-append f (x ∷ l) m a c h = (
+  (λ t i e o. ⊎-elim (λ p. a .0 t p e o) (λ q. h x t (inl refl) q e o) (in-append t l m i)),
+  older-append f l m (a .1) c (λ y t i j. h y t (inr i) j),
+)
+
+-- a part of the list
+pub older-filter : (f : Table) (p : ℕ → Bool) (l : List ℕ) → OlderFirst f l → OlderFirst f (filter p l)
+unfolding filter
+older-filter f p [] a = tt
+older-filter f p (x ∷ l) a = go (p x) (older-filter f p l (a .1))
+  where
+    go : (c : Bool) → OlderFirst f (filter p l) → OlderFirst f (cond c (x ∷ filter p l) (filter p l))
+    go true ih = ((λ t i e o. a .0 t (filter-in p t l i) e o), ih)
+    go false ih = ih
+
+-- a table that is the same at these slots
+pub older-carry : (f f′ : Table) (l : List ℕ) → ((x : ℕ) → In x l → f′ x ≡ f x) → OlderFirst f l → OlderFirst f′ l
+older-carry f f′ [] h a = tt
+older-carry f f′ (x ∷ l) h a = (
+  (λ t i e o. a .0 t i (sym (ap isRemove (h x (inl refl))) ∙ e) (sym (older-same f f′ x t (h x (inl refl)) (h t (inr i))) ∙ o)),
+  older-carry f f′ l (λ t i. h t (inr i)) (a .1),
+)
 
 -- ---- a single call
 

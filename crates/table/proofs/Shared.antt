@@ -16,7 +16,6 @@ use Rattle.table.specs.Table.{isRecord, keyIn}
 use Rattle.table.proofs.defs.Shared.{Agreed}
 use Rattle.table.proofs.defs.Write.{ApartByKey}
 use Rattle.table.proofs.Complete.{has-version, version-record, version-top}
-use Rattle.table.proofs.Map.{same}
 use Rattle.table.proofs.OneSlot.{weight-counts, weight-version, weight-key}
 
 module _ (f : Table) (num : Numbers) (n : ℕ) where

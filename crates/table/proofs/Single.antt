@@ -11,23 +11,19 @@ use Rattle.layout.specs.Content.{Table, Content}
 use Rattle.prelude.specs.Members.{Slot, In}
 use Rattle.prelude.proofs.Choice.{is-false, true-false}
 use Rattle.prelude.proofs.Count.{count-less}
-use Rattle.table.specs.Complete.{numberFor, Numbers, NoneVoid, sharers, hasVersion, isVoid}
+use Rattle.table.specs.Complete.{Numbers, NoneVoid, numberFor, sharers, hasVersion, isVoid}
 use Rattle.table.specs.Table.{live}
 use Rattle.table.specs.Taking.{mayTake}
 use Rattle.table.proofs.defs.Basket.{Basket}
 use Rattle.table.proofs.defs.Shared.{Agreed}
 use Rattle.table.proofs.defs.Struck.{SlotAfter, Struck, Unfinished, Finished}
 use Rattle.table.proofs.defs.Write.{Free, only, Above, Record}
+use Rattle.table.proofs.Complete.{single-number}
 use Rattle.table.proofs.Finished.{finished-or, finished-none-void}
 use Rattle.table.proofs.OneSlot.{weight-key}
 use Rattle.table.proofs.Shared.{agreed-apart}
 use Rattle.table.proofs.Taking.{may-free}
 use Rattle.table.proofs.Unfinished.{sharers-less, unfinished-void}
-
--- "a single record, or a basket of one, has 0 there"
-single-number : numberFor 1 ≡ 0
-unfolding numberFor
-single-number = refl
 
 -- a spare slot that may be taken may be lost
 pub single-free : (f : Table) (num : Numbers) (n s : ℕ) → Agreed f num n → Slot n s → live f n s ≡ false → mayTake f n s ≡ true → Free f n (only s)

@@ -17,7 +17,7 @@ use Rattle.table.specs.Table.{isRecord}
 use Rattle.table.proofs.defs.Basket.{Basket}
 use Rattle.table.proofs.defs.Struck.{Struck, SlotAfter, kept, lost, done}
 use Rattle.table.proofs.defs.Write.{Free}
-use Rattle.table.proofs.Complete.{has-version, version-top, version-record, not-void-below, version-same, highest-complete-is, HighestComplete, none-complete, completed}
+use Rattle.table.proofs.Complete.{has-version, version-top, version-record, highest-complete-is, HighestComplete, none-complete, completed, not-void-below, version-same}
 use Rattle.table.proofs.OneSlot.{broken-no-record}
 use Rattle.table.proofs.Shared.{agreed-apart}
 use Rattle.table.proofs.Taking.{may-free, may-higher, higher, Higher}
@@ -98,6 +98,13 @@ module _ {f f′ : Table} {num num′ : Numbers} {n w : ℕ} {taken : List ℕ} 
   sharers-most =
       omega (arith, count-fewer (member taken) (hasVersion f′ w) n (λ t i e. in-member taken t (new-is t i e .0)), count-member taken n (b .once) (b .slot))
 
+  pub highest-below : highestComplete f num n < w
+  highest-below = go (highest-complete-is f num n)
+    where
+      go : HighestComplete f num n → highestComplete f num n < w
+      go (none-complete z) = omega (arith, w-some)
+      go (completed s i e q) = omega (arith, b .above s i)
+
   -- the slots of the highest complete version before the call are not taken
   pub highest-kept : (t : ℕ) → Slot n t → isRecord (f t) ≡ true → topOf (f t) ≡ highestComplete f num n → In t taken → ⊥
   highest-kept t i c e j = go (may-higher f n t (b .may t j) c)
@@ -109,23 +116,16 @@ module _ {f f′ : Table} {num num′ : Numbers} {n w : ℕ} {taken : List ℕ} 
   not-taken t i h = (st .outside t i h, st .numbers t i h)
 
   -- they still have it, and no others do
-  pub highest-has-version : highestComplete f num n < w → (t : ℕ) → Slot n t → hasVersion f′ (highestComplete f num n) t ≡ hasVersion f (highestComplete f num n) t
-  highest-has-version l t i = same-test _ _ forth back
+  pub highest-has-version : (t : ℕ) → Slot n t → hasVersion f′ (highestComplete f num n) t ≡ hasVersion f (highestComplete f num n) t
+  highest-has-version t i = same-test _ _ forth back
     where
       forth : hasVersion f′ (highestComplete f num n) t ≡ true → hasVersion f (highestComplete f num n) t ≡ true
       forth e =
           let c = version-record f′ (highestComplete f num n) t e in
-          let a : hasVersion f′ w t ≡ false = is-false (hasVersion f′ w t) (λ d. omega (arith, version-top f′ w t d, version-top f′ (highestComplete f num n) t e)) in
+          let a : hasVersion f′ w t ≡ false = is-false (hasVersion f′ w t) (λ d. omega (arith, version-top f′ w t d, version-top f′ (highestComplete f num n) t e, highest-below)) in
           sym (version-same f f′ (highestComplete f num n) t (old-same t i a c .0)) ∙ e
 
       back : hasVersion f (highestComplete f num n) t ≡ true → hasVersion f′ (highestComplete f num n) t ≡ true
       back e =
           version-same f f′ (highestComplete f num n) t
           (not-taken t i (highest-kept t i (version-record f (highestComplete f num n) t e) (version-top f (highestComplete f num n) t e)) .0) ∙ e
-
-  pub highest-below : highestComplete f num n < w
-  highest-below = go (highest-complete-is f num n)
-    where
-      go : HighestComplete f num n → highestComplete f num n < w
-      go (none-complete z) = omega (arith, w-some)
-      go (completed s i e q) = omega (arith, b .above s i)

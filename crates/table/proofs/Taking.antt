@@ -1,21 +1,21 @@
 -- The slots that may be taken: their loss changes no key. Assumes nothing.
-use mathlib.Core.Path.{_≡_, refl, sym, ap, _∙_}
+use mathlib.Core.Path.{_≡_, refl, sym, ap, ap₂, _∙_}
 use mathlib.Core.Bool.{Bool, true, false, not, _&&_}
 use Prim.Native.Nat.{ℕ, suc, _≤_, _<_}
 use native.Mathlib.Omega.{arith}
 use lib.Dec.{eqb, ltb}
-use borrow.Author.Tests.{eqb-true, ltb-true, eq-eqb, lt-ltb, ltb-false, not-true}
-use Rattle.layout.specs.Content.{Table, topOf, removeRecord}
+use borrow.Author.Tests.{eqb-true, ltb-true, eq-eqb, lt-ltb, not-true, ltb-false}
+use Rattle.layout.specs.Content.{Table, topOf, Content, removeRecord}
 use Rattle.prelude.specs.Members.{Slot}
 use Rattle.prelude.specs.Range.{topmost, anyOf}
-use Rattle.prelude.proofs.Any.{passing, Passing, passes, none-passes, any-clear-slot, any-none-slot}
-use Rattle.prelude.proofs.Choice.{both-left, both, both-right, pick-true, pick-false, is-false, true-false, false-left, false-right}
-use Rattle.prelude.proofs.Most.{greatest-above, first-is, First, nowhere, greatest-least, there}
-use Rattle.table.specs.Table.{isRecord, keyIn, live, weight, decider, spare}
-use Rattle.table.specs.Taking.{older, highestValid, validVersion, isRemove, mayTake}
+use Rattle.prelude.proofs.Any.{any-none-slot, passing, Passing, passes, none-passes, any-clear-slot}
+use Rattle.prelude.proofs.Choice.{both, both-left, both-right, pick-true, pick-false, is-false, true-false, false-left, false-right}
+use Rattle.prelude.proofs.Most.{greatest-above, greatest-least, first-is, First, nowhere, there}
+use Rattle.table.specs.Table.{isRecord, keyIn, weight, live, decider, spare}
+use Rattle.table.specs.Taking.{older, highestValid, validVersion, mayTake, isRemove}
 use Rattle.table.proofs.defs.Write.{ApartByKey, Free}
 use Rattle.table.proofs.Map.{live-is, Decided, Live, lives, decider-is, decider-weight, is-live, decider-newest}
-use Rattle.table.proofs.OneSlot.{record-weight, one-key, weight-put, weight-counts, weight-key, weight-version, zero-or, says, Says, puts, removes}
+use Rattle.table.proofs.OneSlot.{weight-counts, weight-key, weight-version, record-weight, one-key, weight-put, zero-or, says, Says, puts, removes}
 
 module _ (f : Table) where
   -- slot t has an older valid record of the key of slot s
@@ -38,10 +38,24 @@ module _ (f : Table) where
   is-older s t r k l =
       both (isRecord (f t)) _ r (both (eqb (keyIn (f t)) (keyIn (f s))) _ (eq-eqb (keyIn (f t)) (keyIn (f s)) k) (lt-ltb (topOf (f t)) (topOf (f s)) l))
 
+-- by the contents of the two slots alone
+pub older-same : (f f′ : Table) (s t : ℕ) → f′ s ≡ f s → f′ t ≡ f t → older f′ s t ≡ older f s t
+unfolding older
+older-same f f′ s t e d =
+    ap₂ (λ (c o : Content). isRecord o && (eqb (keyIn o) (keyIn c) && ltb (topOf o) (topOf c))) e d
+
 module _ (f : Table) (n : ℕ) where
   pub highest-valid-above : (t : ℕ) → Slot n t → isRecord (f t) ≡ true → topOf (f t) ≤ highestValid f n
   unfolding highestValid validVersion
   highest-valid-above t i c = omega (arith, greatest-above (λ s. validVersion (f s)) n t i, pick-true (isRecord (f t)) (topOf (f t)) 0 c)
+
+  pub highest-valid-least : (m : ℕ) → ((t : ℕ) → Slot n t → isRecord (f t) ≡ true → topOf (f t) ≤ m) → highestValid f n ≤ m
+  unfolding highestValid validVersion
+  highest-valid-least m h = greatest-least (λ s. validVersion (f s)) n m (λ t i. go t i (isRecord (f t)) refl)
+    where
+      go : (t : ℕ) → Slot n t → (b : Bool) → isRecord (f t) ≡ b → validVersion (f t) ≤ m
+      go t i true e = omega (arith, pick-true (isRecord (f t)) (topOf (f t)) 0 e, h t i e)
+      go t i false e = omega (arith, pick-false (isRecord (f t)) (topOf (f t)) 0 e)
 
   -- some valid slot is above version v
   pub data Higher (v : ℕ) : Type 0 where
@@ -60,6 +74,36 @@ module _ (f : Table) (n : ℕ) where
       go (there i p h b) =
           at (topmost (λ s. validVersion (f s)) n) i (omega (arith, greatest-least (λ s. validVersion (f s)) n _ h)) (isRecord (f (topmost (λ s. validVersion (f s)) n))) refl
 
+  module _ (s : ℕ) (may : mayTake f n s ≡ true) where
+    tests : isRecord (f s) ≡ true → ltb (topOf (f s)) (highestValid f n) && not (isRemove (f s) && anyOf (older f s) 1 n) ≡ true
+    unfolding mayTake
+    tests c = sym (pick-true (isRecord (f s)) _ _ c) ∙ may
+
+    -- a valid slot that may be taken is not "of the highest valid version"
+    pub may-higher : isRecord (f s) ≡ true → Higher (topOf (f s))
+    may-higher c = below-highest (topOf (f s)) (ltb-true (topOf (f s)) (highestValid f n) (both-left _ _ (tests c)))
+
+    -- nor is it a remove record while an older valid record of its key remains
+    pub may-newest : (w k : ℕ) → f s ≡ removeRecord w k → (t : ℕ) → Slot n t → 0 < weight k (f t) → weight k (f s) ≤ weight k (f t)
+    unfolding isRecord isRemove
+    may-newest w k e t i p = go (ltb (weight k (f t)) (weight k (f s))) refl
+      where
+        none-older : anyOf (older f s) 1 n ≡ false
+        none-older =
+            is-false (anyOf (older f s) 1 n) (λ a. true-false (both (isRemove (f s)) (anyOf (older f s) 1 n) (ap isRemove e) a)
+            (not-true (isRemove (f s) && anyOf (older f s) 1 n) (both-right (ltb (topOf (f s)) (highestValid f n)) _ (tests (ap isRecord e)))))
+
+        old : weight k (f t) < weight k (f s) → older f s t ≡ true
+        old l =
+            is-older f s t (weight-counts k (f t) p) (weight-key k (f t) p ∙ sym (weight-key k (f s) (omega arith)))
+            (omega (arith, weight-version k (f t) p, weight-version k (f s) (omega arith)))
+
+        go : (b : Bool) → ltb (weight k (f t)) (weight k (f s)) ≡ b → weight k (f s) ≤ weight k (f t)
+        go false l = ltb-false (weight k (f t)) (weight k (f s)) l
+        go true l =
+            absurd (true-false (old (ltb-true (weight k (f t)) (weight k (f s)) l)) (any-none-slot (older f s) n none-older t i))
+
+module _ (f : Table) (n : ℕ) where
   -- an older record of a key is not live
   pub older-idle : (s t : ℕ) → Slot n s → isRecord (f s) ≡ true → older f s t ≡ true → live f n t ≡ false
   older-idle s t i p o = is-false (live f n t) (λ a. go (live-is f n t a))
@@ -97,39 +141,10 @@ module _ (f : Table) (n : ℕ) where
       go : (x : Bool) → isRecord (f s) ≡ x → (y : Bool) → ltb (topOf (f s)) (highestValid f n) ≡ y → (z : Bool) → isRemove (f s) ≡ z
           → Passing (older f s) n → Barred s
       go false r y l z m a = absurd (true-false (pick-false (isRecord (f s)) (ltb (topOf (f s)) (highestValid f n) && not hides) true r) e)
-      go true r false l z m a = of-highest r (omega (arith, ltb-false (topOf (f s)) (highestValid f n) l, highest-valid-above s i r))
+      go true r false l z m a = of-highest r (omega (arith, ltb-false (topOf (f s)) (highestValid f n) l, highest-valid-above f n s i r))
       go true r true l false m a = may r l (false-left (isRemove (f s)) _ m)
       go true r true l true m (passes t j o) = has-older r m t j o
       go true r true l true m (none-passes h) = may r l (false-right (isRemove (f s)) _ (any-clear-slot (older f s) n h))
-
-  module _ (s : ℕ) (may : mayTake f n s ≡ true) where
-    tests : isRecord (f s) ≡ true → ltb (topOf (f s)) (highestValid f n) && not (isRemove (f s) && anyOf (older f s) 1 n) ≡ true
-    unfolding mayTake
-    tests c = sym (pick-true (isRecord (f s)) _ _ c) ∙ may
-
-    -- a valid slot that may be taken is not "of the highest valid version"
-    pub may-higher : isRecord (f s) ≡ true → Higher (topOf (f s))
-    may-higher c = below-highest (topOf (f s)) (ltb-true (topOf (f s)) (highestValid f n) (both-left _ _ (tests c)))
-
-    -- nor is it a remove record while an older valid record of its key remains
-    pub may-newest : (w k : ℕ) → f s ≡ removeRecord w k → (t : ℕ) → Slot n t → 0 < weight k (f t) → weight k (f s) ≤ weight k (f t)
-    unfolding isRecord isRemove
-    may-newest w k e t i p = go (ltb (weight k (f t)) (weight k (f s))) refl
-      where
-        none-older : anyOf (older f s) 1 n ≡ false
-        none-older =
-            is-false (anyOf (older f s) 1 n) (λ a. true-false (both (isRemove (f s)) (anyOf (older f s) 1 n) (ap isRemove e) a)
-            (not-true (isRemove (f s) && anyOf (older f s) 1 n) (both-right (ltb (topOf (f s)) (highestValid f n)) _ (tests (ap isRecord e)))))
-
-        old : weight k (f t) < weight k (f s) → older f s t ≡ true
-        old l =
-            is-older f s t (weight-counts k (f t) p) (weight-key k (f t) p ∙ sym (weight-key k (f s) (omega arith)))
-            (omega (arith, weight-version k (f t) p, weight-version k (f s) (omega arith)))
-
-        go : (b : Bool) → ltb (weight k (f t)) (weight k (f s)) ≡ b → weight k (f s) ≤ weight k (f t)
-        go false l = ltb-false (weight k (f t)) (weight k (f s)) l
-        go true l =
-            absurd (true-false (old (ltb-true (weight k (f t)) (weight k (f s)) l)) (any-none-slot (older f s) n none-older t i))
 
 -- a slot of the highest valid version may not be taken
 pub highest-barred : (f : Table) (n s : ℕ) → isRecord (f s) ≡ true → topOf (f s) ≡ highestValid f n → mayTake f n s ≡ false

@@ -10,8 +10,8 @@ use Rattle.layout.specs.Content.{Table, topOf}
 use Rattle.prelude.specs.Members.{Slot, In}
 use Rattle.prelude.specs.Range.{count}
 use Rattle.prelude.proofs.defs.Among.{member}
-use Rattle.prelude.proofs.Among.{in-member, count-member}
-use Rattle.prelude.proofs.Choice.{is-false, true-false, same-test, both-left, both, both-right}
+use Rattle.prelude.proofs.Among.{in-member, count-member, not-member}
+use Rattle.prelude.proofs.Choice.{is-false, true-false, same-test, both, both-left, both-right}
 use Rattle.prelude.proofs.Count.{count-less}
 use Rattle.table.specs.Complete.{Numbers, sharers, hasVersion, complete, said, highestComplete, isVoid, settled}
 use Rattle.table.specs.Table.{isRecord, mapOf, live, liveCount}
@@ -73,7 +73,7 @@ module _ {f f′ : Table} {num num′ : Numbers} {n w : ℕ} {taken : List ℕ} 
           go (completed s i e q) =
               let c = complete-record f num n s e in
               let k = not-taken b st s i (highest-kept b st s i c q) in
-              let same = sharers-same f f′ n (highestComplete f num n) (highest-has-version b st (highest-below b st)) in
+              let same = sharers-same f f′ n (highestComplete f num n) (highest-has-version b st) in
               omega (
                 arith,
                 ap topOf (k .0),
@@ -126,14 +126,18 @@ module _ {f f′ : Table} {num num′ : Numbers} {n w : ℕ} {taken : List ℕ} 
   unfinished-outside t i h =
       settled-same f′ num′ n t (unfinished-void t i ∙ is-false (hasVersion f′ w t) (λ e. h (new-is b st t i e .0))) ∙ not-taken b st t i h .0
 
-  lost-outside : Outside f (settled f′ num′ n) n lostSlots
-  unfolding lostSlots
-  lost-outside t i e = go (member taken t) refl (isRecord (settled f′ num′ n t)) refl
+  -- a slot that it has not lost is as before
+  pub unfinished-same : (t : ℕ) → Slot n t → member taken t && not (isRecord (settled f′ num′ n t)) ≡ false → settled f′ num′ n t ≡ f t
+  unfinished-same t i e = go (member taken t) refl (isRecord (settled f′ num′ n t)) refl
     where
       go : (x : Bool) → member taken t ≡ x → (y : Bool) → isRecord (settled f′ num′ n t) ≡ y → settled f′ num′ n t ≡ f t
-      go false p y q = unfinished-outside t i (λ j. true-false (in-member taken t j) p)
+      go false p y q = unfinished-outside t i (not-member taken t p)
       go true p true q = record-kept t i q
       go true p false q = absurd (true-false (both (member taken t) _ p (ap not q)) e)
+
+  lost-outside : Outside f (settled f′ num′ n) n lostSlots
+  unfolding lostSlots
+  lost-outside t i e = unfinished-same t i e
 
   lost-no-record : (t : ℕ) → lostSlots t ≡ true → isRecord (settled f′ num′ n t) ≡ false
   unfolding lostSlots
