@@ -1,29 +1,28 @@
 -- A table of empty slots, such as format leaves: what recovery reads of it. Assumes nothing.
 use mathlib.Core.Path.{_≡_, ap, _∙_}
-use mathlib.Core.Bool.{Bool, true, false, cond, not, _&&_}
+use mathlib.Core.Bool.{Bool, true, false, not, _&&_}
 use mathlib.Core.List.{List, []}
-use Prim.Native.Nat.{ℕ, _-_, _≤_}
+use Prim.Native.Nat.{ℕ, _≤_}
 use native.Mathlib.Omega.{arith}
-use lib.Dec.{eqb, ltb}
+use lib.Dec.{eqb}
 use Rattle.prelude.specs.Refusal.{say}
-use Rattle.prelude.specs.Range.{anyOf}
 use Rattle.layout.specs.Content.{empty, topOf, Table}
 use Rattle.prelude.proofs.Refusals.{say-false}
-use Rattle.prelude.proofs.Any.{any-clear-slot}
-use Rattle.prelude.proofs.Choice.{true-false, false-left}
 use Rattle.sorting.specs.Sorted.{sorted}
 use Rattle.prelude.specs.Members.{slotNumbers, Slot}
 use Rattle.sorting.proofs.Order.{sorted-rising}
 use Rattle.sorting.proofs.Counts.{flat}
-use Rattle.table.specs.Table.{isRecord, isBroken, keyIn, nextVersion, decidingPut, live, spare, liveCount, allLive}
-use Rattle.table.specs.Complete.{Numbers, said, sharers, settled}
-use Rattle.table.specs.Shared.{clashes, sharersFault}
+use Rattle.table.specs.Table.{keyIn, nextVersion, decidingPut, live, spare, liveCount, allLive}
+use Rattle.table.specs.Complete.{Numbers, settled}
+use Rattle.table.specs.Shared.{sharersFault}
 use Rattle.table.specs.Order.{rankOf, ordered, chainOf, reuseOf}
 use Rattle.prelude.proofs.Lists.{slots-in, filter-all, filter-none}
 use Rattle.prelude.proofs.Count.{count-none}
 use Rattle.table.proofs.LiveCount.{room-all}
-use Rattle.table.proofs.Broken.{few-many, none-broken}
-use Rattle.table.proofs.Complete.{not-void, settled-same}
+use Rattle.table.proofs.Broken.{few-many}
+use Rattle.table.proofs.Shared.{agreed-fault}
+use Rattle.table.proofs.Formatted.{format-none-void, format-accepted}
+use Rattle.table.proofs.Complete.{settled-same}
 use Rattle.prelude.proofs.Most.{greatest-least}
 use Rattle.recovery.specs.Recover.{settledFault}
 use Rattle.recovery.proofs.defs.Fresh.{Fresh}
@@ -71,32 +70,18 @@ module _ (f : Table) (n : ℕ) (blank : (s : ℕ) → Slot n s → f s ≡ empty
   unwritten-room : 1 ≤ n → allLive f n ≡ false
   unwritten-room some = room-all f n (omega (arith, unwritten-count))
 
-  unwritten-whole : (s : ℕ) → Slot n s → isBroken (f s) ≡ false
-  unfolding isBroken
-  unwritten-whole s i = ap isBroken (blank s i)
-
 -- the table of the contents of such slots; whatever the numbers are, no slot is void
 module _ (f : Table) (num : Numbers) (n : ℕ) (blank : (s : ℕ) → Slot n s → f s ≡ empty) where
-  no-record : (s : ℕ) → Slot n s → isRecord (f s) ≡ false
-  unfolding isRecord
-  no-record s i = ap isRecord (blank s i)
-
   settled-blank : (s : ℕ) → Slot n s → settled f num n s ≡ empty
-  settled-blank s i = settled-same f num n s (not-void f num n s (λ c. absurd (true-false c (no-record s i)))) ∙ blank s i
-
-  unwritten-sharers : sharersFault f num n ≡ false
-  unfolding sharersFault
-  unwritten-sharers =
-      any-clear-slot (λ s. isRecord (f s) && cond (ltb (said (num s)) (sharers f n (topOf (f s)))) true (anyOf (clashes f num s) 1 (s - 1))) n
-      (λ t i. false-left (isRecord (f t)) _ (no-record t i))
+  settled-blank s i = settled-same f num n s (format-none-void f num n blank s i) ∙ blank s i
 
   -- neither 7, 25 nor 8
   pub unwritten-fine : 1 ≤ n → say (sharersFault f num n) 7 (settledFault (settled f num n) n) ≡ 0
   unfolding settledFault
   unwritten-fine some =
-      say-false _ 7 _ unwritten-sharers
-      ∙ say-false _ 25 _ (few-many (settled f num n) n (none-broken (settled f num n) n (unwritten-whole (settled f num n) n settled-blank)))
-      ∙ say-false _ 8 _ (unwritten-room (settled f num n) n settled-blank some)
+      let a = format-accepted f num n blank some in
+      say-false _ 7 _ (agreed-fault f num n (a .agreed)) ∙ say-false _ 25 _ (few-many (settled f num n) n (a .few))
+      ∙ say-false _ 8 _ (room-all (settled f num n) n (a .idle))
 
   -- THE FORMATTED TABLE
   pub formatted-recovery : 1 ≤ n → Fresh (settled f num n) n
