@@ -71,10 +71,11 @@ module _ (l : ℕ) (Inv : World → PlainMap → Type 0) (laws : SetLaws l Inv) 
       w m events (i, refl) fit
 
   from-recovery : CallLaws l → CutRuleIn l
-  from-recovery calls image start z restart events fit =
-      (laws .along image start z restart,
-      all-right (restarted l image start) _ events (laws .after-recovery image start z restart)
-      (subst (λ (n : ℕ). All (FitsBy (TypedRequest l) n) events) (sym (calls .restart-slots image start)) fit))
+  from-recovery calls image start z restart events fit = (
+    laws .along image start z restart,
+    all-right (restarted l image start) _ events (laws .after-recovery image start z restart)
+        (subst (λ (n : ℕ). All (FitsBy (TypedRequest l) n) events) (sym (calls .restart-slots image start)) fit),
+  )
 
 -- THE CUT RULE in layout l
 pub cut-rule-in : (l : ℕ) → Layout l → CutRuleIn l
