@@ -19,9 +19,11 @@ pub fn keep_openings(
 )
     ensures { λ _. ⌜ openingsFrom (now (count .exit)) (now (at .exit)) (now (value .exit)) ≡ openings ⌝ }
 {
+    let words = openings.at;
+    let values = openings.value;
     *count = [openings.count];
-    *at = openings.at;
-    *value = openings.value;
+    *at = words;
+    *value = values;
 }
 
 // The index of the image is rebuilt; the answer is the state beside it, with the opening stores, which are to be made by the caller. Returned is 0, or
@@ -41,11 +43,12 @@ pub extern "C" fn orderset_recover(
 {
     let answer = recover(image, heads, next);
     let recovered = answer.recovered;
+    let openings = answer.openings;
     match recovered {
         Recovered::Refused { number, slot } => refused_with(number, slot),
         Recovered::Rebuilt(after) => {
             keep_state(after, state, version);
-            keep_openings(answer.openings, count, at, value);
+            keep_openings(openings, count, at, value);
             0
         }
     }

@@ -6,4 +6,4 @@ use Rattle.orderset_c.proofs.state.state_from.Tie as tie
 
 pub state-from-spec : {M : Type 1} → statement M
 unfolding stateFrom
-state-from-spec = tie.close (tie.spec (λ c. search needs) (λ c. search needs) (λ c. search needs) (λ c. search needs) (λ c. search needs))
+state-from-spec = tie.close (tie.spec (λ c. search needs) (λ c. search needs) (λ c. search needs) (λ c. search needs) (λ c. search needs) (λ c. search needs))
