@@ -14,6 +14,7 @@ use Rattle.layout.proofs.Lents.{index-sized}
 use Rattle.prelude.specs.Members.{Slot}
 use Rattle.stores.specs.Store.{Store, played, standing}
 use Rattle.stores.specs.Play.{wordNumbers, playFault, playing, halfCounts}
+use Rattle.stores.proofs.Bytes.{played-length}
 use Rattle.recovery.specs.Recover.{recoverFault}
 use Rattle.calls.specs.Format.{formatted}
 use Rattle.calls.proofs.Formats.{formatted-length}
@@ -27,7 +28,7 @@ use Rattle.plainmap.proofs.Afters.{after-list}
 use Rattle.plainmap.proofs.CallLists.{agrees-right, agrees-reads, agrees-with, agrees-stepped, opened-agrees, restarted-agrees, formatted-empty, formatted-fine}
 use Rattle.plainmap.proofs.Playing.{record-passes, record-cut, playing-none}
 use Rattle.face.specs.Laws.{Lengths, CallLaws, SetLaws}
-use Rattle.face.proofs.Images.{accepted-gives, state-answered}
+use Rattle.face.proofs.Images.{accepted-gives, state-answered, few-openings}
 use Rattle.face.proofs.Events.{gives-along, event-agrees, event-along, event-slots}
 use Rattle.face.proofs.Stored.{few-given, hands-out, OneStored, none-stored, one-stored, stored-one, some-stores}
 use Rattle.face.proofs.Heads.{called-heads, recovered-heads}
@@ -93,16 +94,22 @@ module _ (l : ℕ) (lay : Layout l) where
               record-cut l (w .image) (word (w .image)) (w .state .first) key kind 0 value (w .state .version) a b
               (accepted-slots l (w .image) (g .accepted)) (room (w .state .first) i) p q _ e
 
+  none-played : (image : List ℕ) → played [] image ≡ image
+  unfolding played
+  none-played image = refl
+
   -- WHAT HOLDS OF THE CALLS whatever the set
   pub call-laws : CallLaws l
   call-laws =
       record {
         answers-state = state-answered l;
+        few-openings = few-openings l;
         few-values = few-given l;
         hands-out = λ w call writes given e lent. hands-out l w lent call writes given e;
         call-heads = called-heads l;
         recovery-heads = recovered-heads l;
-        plays-nothing = playing-none;
+        plays-length = played-length;
+        plays-nothing = none-played;
         slots-of = sized;
         formatted-length = formatted-length l;
       }

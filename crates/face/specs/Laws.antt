@@ -4,7 +4,7 @@ use mathlib.Core.Option.{none}
 use mathlib.Core.List.{List, []}
 use Prim.Native.Nat.{ℕ, _+_, _*_, _≤_}
 use lib.ListN.{length}
-use Rattle.prelude.specs.Answer.{gives}
+use Rattle.prelude.specs.Answer.{gives, refusalIn}
 use Rattle.layout.specs.Size.{slotsOf, slotsIn}
 use Rattle.layout.specs.Header.{indexFault}
 use Rattle.stores.specs.Play.{playEnd, wordNumbers, values, playFault, playListResult, playing, halfCounts}
@@ -34,8 +34,10 @@ pub record Lengths (w : World) : Type 0 where
 -- what holds of the calls in layout l whatever the set
 pub record CallLaws (l : ℕ) : Type 0 where
   -- an accepted recovery answers the state that it leaves
-  pub answers-state : (image heads next : List ℕ) → recoverFault l image (length heads) (length next) ≡ 0
+  pub answers-state : (image heads next : List ℕ) → refusalIn (recoverResult l image heads next .answer) ≡ 0
       → recoverResult l image heads next .answer ≡ gives (stateValues (recoverResult l image heads next .state))
+  -- no recovery has more than eight opening stores
+  pub few-openings : (image heads next : List ℕ) → recoverResult l image heads next .openings .count ≤ 8
   -- a call answers at most two values
   pub few-values : (w : World) (call : Call) (given : List ℕ) → called l w call .answer ≡ gives given → length given ≤ 2
   -- a call that writes and answers a slot hands out stores, which take the place of those lent to it
@@ -44,8 +46,9 @@ pub record CallLaws (l : ℕ) : Type 0 where
   -- a call and recovery leave as many heads as they were lent
   pub call-heads : (w : World) (call : Call) → length (called l w call .heads) ≡ length (w .heads)
   pub recovery-heads : (image heads next : List ℕ) → length (recoveredWorld l image heads next .heads) ≡ length heads
-  -- no stores change no byte
-  pub plays-nothing : (image : List ℕ) (a b : ℕ) → playing image [] a b ≡ image
+  -- stores keep an image's length, and no stores change no byte
+  pub plays-length : (ss : List Store) (image : List ℕ) → length (played ss image) ≡ length image
+  pub plays-nothing : (image : List ℕ) → played [] image ≡ image
   -- the number of slots by an image's length; format keeps that length
   pub slots-of : (n : ℕ) → 2 ≤ n → n ≤ 65535 → slotsOf (128 * (n + 1)) ≡ n
   pub formatted-length : (len : ℕ) → length (formatted l len) ≡ len

@@ -10,9 +10,9 @@ use Rattle.prelude.proofs.Refusals.{say-zero, orElse-zero, taken-leaves}
 use Rattle.prelude.specs.Answer.{Answer, gives, absent, refused}
 use Rattle.face.specs.Laws.{write-writes, remove-writes}
 use Rattle.face.proofs.SetLaws.{layout-1, call-laws}
-use Rattle.face.specs.Set.{Store, Mode, World, write, remove, called, calledChange, handedOut, leftIn, ChangeResult, writeResult, removeResult, zipped, wordNumbers, values, Played, playEnd, playResult, playing}
+use Rattle.face.specs.Set.{Store, Mode, World, write, remove, called, calledChange, handedOut, leftIn, ChangeResult, writeResult, removeResult, zipped, wordNumbers, values, Played, playEnd, playResult, playListResult, playing}
 use Rattle.text.specs.Output.{Printed}
-use Rattle.session.specs.Step.{leaves, slotsFor, sizeFault, lineFault, changedAs, changeStep, lineStep, followedBy, frontStep, stepResult}
+use Rattle.session.specs.Step.{leaves, playedAll, slotsFor, sizeFault, lineFault, changedAs, changeStep, lineStep, followedBy, frontStep, stepResult}
 use Rattle.text.specs.declared.Line.{Line}
 use Rattle.session.specs.declared.Session.{Session}
 
@@ -34,6 +34,14 @@ unfolding playing
 played-on image at value words numbers a b k after e =
     let p = parts-zipped at value (words ∙ sym numbers) in
     ap (λ (r : Played). r .bytes) (e ∙ ap₂ (λ (ws vs : List ℕ). playResult image ws vs a b) (sym (p .0)) (sym (p .1)))
+
+-- and so are all stores of a list
+pub list-played-on : (image at value : List ℕ) → length at ≡ length value → (k : ℕ) (after : List ℕ)
+    → playEnd k after ≡ playListResult image at value → after ≡ playedAll image (zipped at value)
+unfolding playedAll
+list-played-on image at value same k after e =
+    let p = parts-zipped at value same in
+    ap (λ (r : Played). r .bytes) (e ∙ ap₂ (playListResult image) (sym (p .0)) (sym (p .1)))
 
 -- a step by what a call left in the stores lent to it: they are looked at only where it handed stores out
 pub left-step : (s : Session) (image : List ℕ) (lent : List Store) (c : ChangeResult)
