@@ -16,21 +16,20 @@ use Rattle.prelude.specs.Filter.{filter}
 use Rattle.layout.specs.Record.{Layout}
 use Rattle.layout.specs.Line.{lineA, lineB, whole, versionOf, lineTop}
 use Rattle.layout.specs.Slot.{slotTop}
-use Rattle.layout.specs.Content.{top, topOf, Table, contentsOf, numbersOf}
+use Rattle.layout.specs.Content.{content, top, topOf, Table, contentsOf, numbersOf}
 use Rattle.layout.specs.Fault.{markFault, recordFault}
 use Rattle.prelude.proofs.Refusals.{say-true}
 use Rattle.layout.proofs.Content.{top-is}
-use Rattle.sorting.specs.Sorted.{sorted}
 use Rattle.prelude.specs.Members.{slotNumbers}
 use Rattle.sorting.proofs.Order.{sorted-alike}
-use Rattle.table.specs.Table.{brokenCount, brokenLimit, liveCount, nextVersion, manyBroken, allLive}
+use Rattle.table.specs.Table.{isBroken, brokenCount, brokenLimit, liveCount, nextVersion, manyBroken, allLive}
 use Rattle.table.specs.Complete.{Numbers, highestComplete, isVoid, settled}
 use Rattle.table.specs.Shared.{sharersFault}
 use Rattle.table.specs.Order.{rankOf, ordered}
 use Rattle.table.proofs.defs.Shared.{Agreed}
 use Rattle.table.proofs.Shared.{fault-agreed}
 use Rattle.table.proofs.Complete.{settled-next}
-use Rattle.prelude.proofs.Count.{count-filter}
+use Rattle.prelude.proofs.Count.{count-filter, count-most}
 use Rattle.prelude.proofs.Lists.{slots-in, AllSlots}
 use Rattle.sorting.proofs.Whole.{whole-sorted}
 use Rattle.prelude.proofs.Most.{greatest-least}
@@ -39,7 +38,7 @@ use Rattle.recovery.specs.Opening.{voidSlots, openingsOf}
 use Rattle.recovery.specs.Recover.{settledFault, slotsFault, slotsNamed}
 use Rattle.recovery.specs.inner.Scan.{keyAt, Listed, Scanned}
 use Rattle.recovery.specs.inner.Decide.{judgedRank, decided, placedCount, livePlace, Within, NoneOrAll}
-use Rattle.recovery.specs.inner.Judge.{Compared, Settled, foundFault, foundSlot, Judgement}
+use Rattle.recovery.specs.inner.Judge.{InOrder, Numbered, Compared, Settled, foundFault, foundSlot, Judgement}
 use Rattle.recovery.specs.declared.Scan.{Scan}
 use Rattle.recovery.specs.declared.Openings.{Openings}
 use Rattle.recovery.proofs.Clear.{slots-clear}
@@ -205,22 +204,32 @@ module _ (l : ℕ) (image : List ℕ) (n b : ℕ) (ranks lows highs places₁ or
 
 -- ---- what the functions that judge calls ask for
 
-module _ (order₀ order ranks₀ ranks : List ℕ) (n : ℕ) (e : order ≡ sorted (λ x. getD ranks x 0) (slotNumbers (length order₀)))
-    (size : length order₀ ≡ n) where
-  pub in-rank : order ≡ sorted (λ x. getD ranks x 0) (slotNumbers n)
-  in-rank = rw size at e
+module _ (ranks lows highs order by-key : List ℕ) (n : ℕ) (o : InOrder ranks lows highs n order by-key) where
+  ranked : AllSlots n order
+  ranked = whole-order (λ x. getD ranks x 0) n order (o .by-rank)
 
-  all-slots : AllSlots n order
-  all-slots = whole-order (λ x. getD ranks x 0) n order in-rank
+  pub judge-numbered : (image : List ℕ) (l : ℕ) → Layout l → length image ≡ 128 * (n + 1) → n ≤ 65535 → Numbered image l order n
+  judge-numbered image l lay size few =
+      record { layout = lay; image-size = size; order-size = ranked .size; within = whole-within order n ranked; few = few }
 
-  pub neighbours-ready : 1 ≤ n → length ranks ≡ length ranks₀ → length ranks₀ ≡ n + 1
-      → (length order ≡ n) × (1 ≤ n) × (length ranks ≡ n + 1) × Within order n
-  neighbours-ready some p q = (all-slots .size, some, p ∙ q, whole-within order n all-slots)
-
-  pub decide-ready : (l : ℕ) (lows₀ lows highs₀ highs places₀ places by-key : List ℕ) → by-key ≡ sorted (keyAt lows highs) order → n ≤ 65535
-      → length lows ≡ length lows₀ → length lows₀ ≡ n + 1 → Layout l → length highs ≡ length highs₀ → length highs₀ ≡ (l - 1) * (n + 1)
-      → length places ≡ length places₀ → length places₀ ≡ n + 1
+  pub decide-ready : (l : ℕ) (places : List ℕ) → n ≤ 65535 → length lows ≡ n + 1 → Layout l → length highs ≡ (l - 1) * (n + 1) → length places ≡ n + 1
       → (length by-key ≡ n) × (n ≤ 65535) × (length lows ≡ n + 1) × NoneOrAll highs n × (length places ≡ n + 1) × Within by-key n
-  decide-ready l lows₀ lows highs₀ highs places₀ places by-key k few p q lay u v r t =
-      let w : AllSlots n by-key = rw k (whole-sorted (keyAt lows highs) n order all-slots) in
-      (w .size, few, p ∙ q, highs-all l n highs lay (u ∙ v), r ∙ t, whole-within by-key n w)
+  decide-ready l places few p lay q r =
+      let w : AllSlots n by-key = rw (o .keyed) (whole-sorted (keyAt lows highs) n order ranked) in
+      (w .size, few, p, highs-all l n highs lay q, r, whole-within by-key n w)
+
+-- broken and void slots can be counted together
+pub broken-fits : (l : ℕ) (m : ℕ → ℕ) (n b : ℕ) (ranks lows highs places : List ℕ) (all : Scan) (limit : ℕ) (opened : Openings)
+    → Scanned l m n b ranks lows highs places all → opened ≡ openingsOf (openingStores m (filter (λ s. ltb limit (getD ranks s 0)) (slotNumbers n)))
+    → all .broken + opened .count ≤ n + n
+unfolding brokenCount openingsOf
+broken-fits l m n b ranks lows highs places all limit opened s e =
+    omega (
+      arith,
+      s .broken-is,
+      count-most (λ t. isBroken (content l m t)) n,
+      ap (λ (o : Openings). o .count) e,
+      openings-length m (filter (λ t. ltb limit (getD ranks t 0)) (slotNumbers n)),
+      count-filter (λ t. ltb limit (getD ranks t 0)) n,
+      count-most (λ t. ltb limit (getD ranks t 0)) n,
+    )

@@ -75,12 +75,11 @@ is-too-many num ranks order i h e =
 too-many-is : (num : Numbers) (ranks order : List ℕ) (i : ℕ) → tooMany num ranks order i ≡ true
     → (i + said (num (getD order i 0)) < length order) × (entryAt ranks order (i + said (num (getD order i 0))) ≡ entryAt ranks order i)
 unfolding tooMany
-too-many-is num ranks order i t =
-    (
-      ltb-true (i + said (num (getD order i 0))) (length order) (both-left (ltb (i + said (num (getD order i 0))) (length order)) _ t),
-      eqb-true (entryAt ranks order (i + said (num (getD order i 0)))) (entryAt ranks order i)
+too-many-is num ranks order i t = (
+  ltb-true (i + said (num (getD order i 0))) (length order) (both-left (ltb (i + said (num (getD order i 0))) (length order)) _ t),
+  eqb-true (entryAt ranks order (i + said (num (getD order i 0)))) (entryAt ranks order i)
       (both-right (ltb (i + said (num (getD order i 0))) (length order)) _ t),
-    )
+)
 
 run-first : (num : Numbers) (ranks order : List ℕ) (i : ℕ) → runFault num ranks order i ≡ true → equalNeighbours ranks order i ≡ true
 unfolding runFault

@@ -2,7 +2,7 @@
 use mathlib.Core.Path.{_≡_, refl, sym, ap, ap₂, _∙_}
 use mathlib.Core.Bool.{Bool, true, false, cond}
 use mathlib.Core.List.{List, [], _∷_, _++_, append-nil}
-use Prim.Native.Nat.{ℕ, zero, suc, _+_, _-_, _≤_, _<_}
+use Prim.Native.Nat.{ℕ, zero, suc, _+_, _*_, _≤_, _<_}
 use native.Mathlib.Omega.{arith}
 use lib.ListN.{length, getD, set, take, length-append}
 use lib.Seq.{getD-append-seam, set-out}
@@ -13,6 +13,7 @@ use Rattle.prelude.proofs.Choice.{pick-true, pick-false}
 use Rattle.prelude.proofs.Lists.{filter-append}
 use Rattle.prelude.proofs.Tabulate.{tabulate-length, tabulate-list, set-tabulate}
 use Rattle.sorting.proofs.Order.{Compared, low, high, compared}
+use Rattle.layout.specs.Line.{firstWord}
 use Rattle.stores.specs.Store.{Store, zipped}
 use Rattle.stores.specs.Play.{wordNumbers, values}
 use Rattle.stores.specs.Opening.{openingStore, openingStores}
@@ -123,6 +124,12 @@ openings-append : (m : ℕ → ℕ) (xs : List ℕ) (x : ℕ) → openingStores 
 unfolding openingStores
 openings-append m [] x = refl
 openings-append m (y ∷ xs) x = ap (λ (t : List Store). openingStore m y ∷ t) (openings-append m xs x)
+
+-- the store of slot s by its mark; the stamp of its line A is word 16 s + 7 of the image
+pub opening-store : (m : ℕ → ℕ) (s mark stamp : ℕ) → mark ≡ firstWord stamp → stamp ≡ m (16 * s + 7) → record { word = 16 * s; value = mark } ≡ openingStore m s
+unfolding openingStore
+opening-store m s mark stamp p q =
+    ap (λ (v : ℕ). record { word = 16 * s; value = v }) (p ∙ ap (λ (x : ℕ). firstWord x) (q ∙ ap m (omega arith)))
 
 -- o has the stores of the slots below s that pass the test
 pub record Opening (m : ℕ → ℕ) (p : ℕ → Bool) (n : ℕ) (o : Openings) (s : ℕ) : Type 0 where

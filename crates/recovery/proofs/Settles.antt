@@ -170,66 +170,66 @@ with-store-past o s p q =
 
 -- ---- settle
 
-module _ (m : ℕ → ℕ) (limit n : ℕ) (image ranks lows highs places order by-key spare : List ℕ)
-    (g : Settleable image n ranks lows highs places order by-key spare) where
+module _ (n : ℕ) (image ranks lows highs places order by-key spare : List ℕ) (g : Settleable image n ranks lows highs places order by-key spare) where
   all-slots : AllSlots n order
   all-slots = whole-order (λ x. getD ranks x 0) n order (g .in-order .by-rank)
-
-  -- where the last slot of the order is not above the limit none is
-  none-above : entryAt ranks order (n - 1) ≤ limit → (s : ℕ) → Slot n s → getD ranks s 0 ≤ limit
-  none-above h s i = go (stands order s (all-slots .all s i))
-    where
-      rising : (i j : ℕ) → i < j → j < n → entryAt ranks order i ≤ entryAt ranks order j
-      rising i j u v =
-          rising-at (λ x. getD ranks x 0) order i j (rw (g .in-order .by-rank) (rising-sorted (λ x. getD ranks x 0) (slotNumbers n))) u
-          (omega (arith, all-slots .size))
-
-      go : Stands order s → getD ranks s 0 ≤ limit
-      go p = by (compared (n - 1) (p .spot))
-        where
-          at : getD ranks s 0 ≡ entryAt ranks order (p .spot)
-          at = sym (ap (λ (x : ℕ). getD ranks x 0) (p .here))
-
-          by : Compared (n - 1) (p .spot) → getD ranks s 0 ≤ limit
-          by (low a u) =
-              let z : p .spot ≡ n - 1 = omega (arith, p .inside, all-slots .size) in
-              omega (arith, at, h, ap (λ (x : ℕ). entryAt ranks order x) z)
-          by (high a u) = omega (arith, at, h, rising (p .spot) (n - 1) u (omega (arith, g .some-slots)))
-
-  pub settled-none : (last : ℕ) → last ≡ entryAt ranks order (n - 1) → last ≤ limit → (o : Openings) → o ≡ openingsOf []
-      → Settled m limit n ranks lows highs places ranks places order by-key o
-  unfolding openingStores
-  settled-none last e h o d =
-      record {
-        cleared =
-            record {
-              ranks-size = refl;
-              places-size = refl;
-              rank-at = λ s p q. sym (pick-false (ltb limit (getD ranks s 0)) 0 (getD ranks s 0) (below s (p, q)));
-              place-at = λ s p q. sym (pick-false (ltb limit (getD ranks s 0)) 0 (getD places s 0) (below s (p, q)));
-            };
-        in-order = g .in-order;
-        opened-is =
-            d ∙ ap (λ (t : List ℕ). openingsOf (openingStores m t))
-            (sym (filter-none (λ s. ltb limit (getD ranks s 0)) (slotNumbers n) (λ t i. below t (slots-in n t i))));
-      }
-    where
-      below : (s : ℕ) → Slot n s → ltb limit (getD ranks s 0) ≡ false
-      below s i = le-ltb limit (getD ranks s 0) (none-above (omega (arith, e)) s i)
 
   pub settle-last : (n - 1 < length order) × (getD order (n - 1) 0 < length ranks)
   settle-last =
       let inside : n - 1 < length order = omega (arith, all-slots .size, g .some-slots) in
       (inside, omega (arith, g .ranks-size, whole-within order n all-slots (n - 1) inside .1))
 
-  -- the orders are made again
-  pub settled-again : (ranks′ places′ order′ by-key′ : List ℕ) (o : Openings)
-      → o ≡ openingsOf (openingStores m (filter (λ s. ltb limit (getD ranks s 0)) (slotNumbers n)))
-      → Cleared limit n ranks places ranks′ places′ → order′ ≡ sorted (λ x. getD ranks′ x 0) (slotNumbers (length order))
-      → by-key′ ≡ sorted (keyAt lows highs) order′ → Settled m limit n ranks lows highs places ranks′ places′ order′ by-key′ o
-  settled-again ranks′ places′ order′ by-key′ o d c e k =
-      record {
-        cleared = c;
-        in-order = record { by-rank = e ∙ ap (λ (x : ℕ). sorted (λ y. getD ranks′ y 0) (slotNumbers x)) (all-slots .size); keyed = k };
-        opened-is = d;
-      }
+  module _ (m : ℕ → ℕ) (limit : ℕ) where
+    -- where the last slot of the order is not above the limit none is
+    none-above : entryAt ranks order (n - 1) ≤ limit → (s : ℕ) → Slot n s → getD ranks s 0 ≤ limit
+    none-above h s i = go (stands order s (all-slots .all s i))
+      where
+        rising : (i j : ℕ) → i < j → j < n → entryAt ranks order i ≤ entryAt ranks order j
+        rising i j u v =
+            rising-at (λ x. getD ranks x 0) order i j (rw (g .in-order .by-rank) (rising-sorted (λ x. getD ranks x 0) (slotNumbers n))) u
+            (omega (arith, all-slots .size))
+
+        go : Stands order s → getD ranks s 0 ≤ limit
+        go p = by (compared (n - 1) (p .spot))
+          where
+            at : getD ranks s 0 ≡ entryAt ranks order (p .spot)
+            at = sym (ap (λ (x : ℕ). getD ranks x 0) (p .here))
+
+            by : Compared (n - 1) (p .spot) → getD ranks s 0 ≤ limit
+            by (low a u) =
+                let z : p .spot ≡ n - 1 = omega (arith, p .inside, all-slots .size) in
+                omega (arith, at, h, ap (λ (x : ℕ). entryAt ranks order x) z)
+            by (high a u) = omega (arith, at, h, rising (p .spot) (n - 1) u (omega (arith, g .some-slots)))
+
+    pub settled-none : (last : ℕ) → last ≡ entryAt ranks order (n - 1) → last ≤ limit → (o : Openings) → o ≡ openingsOf []
+        → Settled m limit n ranks lows highs places ranks places order by-key o
+    unfolding openingStores
+    settled-none last e h o d =
+        record {
+          cleared =
+              record {
+                ranks-size = refl;
+                places-size = refl;
+                rank-at = λ s p q. sym (pick-false (ltb limit (getD ranks s 0)) 0 (getD ranks s 0) (below s (p, q)));
+                place-at = λ s p q. sym (pick-false (ltb limit (getD ranks s 0)) 0 (getD places s 0) (below s (p, q)));
+              };
+          in-order = g .in-order;
+          opened-is =
+              d ∙ ap (λ (t : List ℕ). openingsOf (openingStores m t))
+              (sym (filter-none (λ s. ltb limit (getD ranks s 0)) (slotNumbers n) (λ t i. below t (slots-in n t i))));
+        }
+      where
+        below : (s : ℕ) → Slot n s → ltb limit (getD ranks s 0) ≡ false
+        below s i = le-ltb limit (getD ranks s 0) (none-above (omega (arith, e)) s i)
+
+    -- the orders are made again
+    pub settled-again : (ranks′ places′ order′ by-key′ : List ℕ) (o : Openings)
+        → o ≡ openingsOf (openingStores m (filter (λ s. ltb limit (getD ranks s 0)) (slotNumbers n)))
+        → Cleared limit n ranks places ranks′ places′ → order′ ≡ sorted (λ x. getD ranks′ x 0) (slotNumbers (length order))
+        → by-key′ ≡ sorted (keyAt lows highs) order′ → Settled m limit n ranks lows highs places ranks′ places′ order′ by-key′ o
+    settled-again ranks′ places′ order′ by-key′ o d c e k =
+        record {
+          cleared = c;
+          in-order = record { by-rank = e ∙ ap (λ (x : ℕ). sorted (λ y. getD ranks′ y 0) (slotNumbers x)) (all-slots .size); keyed = k };
+          opened-is = d;
+        }

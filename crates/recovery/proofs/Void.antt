@@ -36,12 +36,11 @@ use Rattle.recovery.proofs.Neighbours.{rank-record, said-some, whole, s
 full-is : (num : Numbers) (ranks order : List ℕ) (i : ℕ) → fullRun num ranks order i ≡ true
     → (said (num (getD order i 0)) ≤ i + 1) × (entryAt ranks order (i + 1 - said (num (getD order i 0))) ≡ entryAt ranks order i)
 unfolding fullRun
-full-is num ranks order i t =
-    (
-      leb-true (said (num (getD order i 0))) (i + 1) (both-left (leb (said (num (getD order i 0))) (i + 1)) _ t),
-      eqb-true (entryAt ranks order (i + 1 - said (num (getD order i 0)))) (entryAt ranks order i)
+full-is num ranks order i t = (
+  leb-true (said (num (getD order i 0))) (i + 1) (both-left (leb (said (num (getD order i 0))) (i + 1)) _ t),
+  eqb-true (entryAt ranks order (i + 1 - said (num (getD order i 0)))) (entryAt ranks order i)
       (both-right (leb (said (num (getD order i 0))) (i + 1)) _ t),
-    )
+)
 
 is-full : (num : Numbers) (ranks order : List ℕ) (i : ℕ) → said (num (getD order i 0)) ≤ i + 1
     → entryAt ranks order (i + 1 - said (num (getD order i 0))) ≡ entryAt ranks order i → fullRun num ranks order i ≡ true

@@ -18,7 +18,7 @@ use layout_code::fields::slot_number;
 // How many records a number says.
 pub fn records_said(number: u64) -> usize
     requires { ⌜ number < 256 ⌝ }
-    ensures { λ r. ⌜ r ≡ said number ⌝ }
+    ensures { λ r. ⌜ (r ≡ said number) × (1 ≤ r) × (r < 256) ⌝ }
 {
     if number == 0 {
         return 1;

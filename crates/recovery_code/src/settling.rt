@@ -76,11 +76,7 @@ fn with_store(opened: Openings, word: u32, mark: u64) -> Openings
         at[i] = word;
         value[i] = mark;
     }
-    Openings {
-        count,
-        at,
-        value,
-    }
+    Openings { count, at, value }
 }
 
 // The stores that open the slots of a rank above the limit, by slot.

@@ -78,6 +78,8 @@ pub record Settleable (image : List ℕ) (n : ℕ) (ranks lows highs places orde
   pub image-size : length image ≡ 128 * (n + 1)
   pub ranks-size : length ranks ≡ n + 1
   pub places-size : length places ≡ n + 1
+  pub order-size : length order ≡ n
+  pub by-key-size : length by-key ≡ n
   pub scratch-size : length scratch ≡ n
   pub some-slots : 1 ≤ n
   pub few : n ≤ 65535

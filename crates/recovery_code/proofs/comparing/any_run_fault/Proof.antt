@@ -1,46 +1,32 @@
+-- `recovery_code::comparing::any_run_fault` meets its contract. Assumes nothing.
+use mathlib.Core.Path.{sym, _∙_}
+use Prim.Native.Nat.{_-_}
+use native.Mathlib.Omega.{arith}
+use borrow.Author.Needs.{needs}
+use Rattle.words.specs.Word.{word}
+use Rattle.layout.specs.Content.{numberIn}
+use Rattle.prelude.proofs.Any.{Going, any-start, any-hit, any-next, any-end, any-whole}
+use Rattle.recovery.specs.inner.Decide.{runFault}
 use Rattle.recovery_code.proofs.comparing.any_run_fault.Statement.{statement}
 use Rattle.recovery_code.proofs.comparing.any_run_fault.Tie as tie
-use Rattle.recovery_code.proofs.comparing.any_run_fault.Reads as reads
-use Rattle.recovery_code.proofs.comparing.any_run_fault.Lts as lts
-use Rattle.recovery_code.proofs.comparing.is_run_fault.Reads as is-run-fault-reads
 
 abbrev Inv-loop : tie.InvT-loop
-Inv-loop image l ranks order n end i₀ i = ?
+Inv-loop image l ranks order n end i₀ i = Going (runFault (numberIn l (word image)) ranks order) end 0 i
 
 abbrev μ-loop : tie.MeasureT-loop
-μ-loop image l ranks order n end i₀ i = ?
+μ-loop image l ranks order n end i₀ i = end - i
 
--- src/comparing.rt:81:15
-sub-end : tie.Need-sub-end Inv-loop μ-loop
-sub-end c = ?
-
--- src/comparing.rt:83:5
-loop-holds : tie.Need-loop-holds Inv-loop μ-loop
-loop-holds c = ?
-
--- src/comparing.rt:84:12
 is-run-fault-requires : tie.Need-is-run-fault-requires Inv-loop μ-loop
-is-run-fault-requires c κs = ?
+is-run-fault-requires c κs = (c .before .before .before .before .before .pre .0, c .before .before .before .before .before .pre .1, omega (arith, c .loop-test .taken))
 
--- src/comparing.rt:85:13
 returns : tie.Need-returns Inv-loop μ-loop
-returns c = ?
+returns c = any-hit _ _ _ _ (c .before .before .before .loop .inv) (c .before .before .loop-test .taken) (sym (c .before .is-run-fault .ensures) ∙ c .if1 .taken) ∙ any-whole _ _
 
--- src/comparing.rt:87:9
-add-i : tie.Need-add-i Inv-loop μ-loop
-add-i c = ?
-
--- src/comparing.rt:83:5
-loop-less : tie.Need-loop-less Inv-loop μ-loop
-loop-less c = ?
-
--- src/comparing.rt:83:5
 loop-again : tie.Need-loop-again Inv-loop μ-loop
-loop-again c = ?
+loop-again c = any-next _ _ _ _ (c .before .before .before .loop .inv) (c .before .before .loop-test .taken) (sym (c .before .is-run-fault .ensures) ∙ c .if1 .left)
 
--- src/comparing.rt:77:1
 returns-2 : tie.Need-returns-2 Inv-loop μ-loop
-returns-2 c = ?
+returns-2 c = any-end _ _ _ _ (c .before .loop .inv) (c .loop-test .left) ∙ any-whole _ _
 
 pub any-run-fault-spec : {M : Type 1} → statement M
 any-run-fault-spec =
@@ -48,11 +34,10 @@ any-run-fault-spec =
     (tie.spec
     Inv-loop
     μ-loop
-    sub-end
-    loop-holds
+    (λ c. search needs)
+    (λ c. any-start _ _ _ (omega arith))
     is-run-fault-requires
     returns
-    add-i
-    loop-less
+    (λ c. search needs) (λ c. search needs)
     loop-again
     returns-2)

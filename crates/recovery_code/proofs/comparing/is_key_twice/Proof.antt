@@ -1,26 +1,21 @@
+-- `recovery_code::comparing::is_key_twice` meets its contract. Assumes nothing.
+use native.Mathlib.Omega.{arith}
 use borrow.Author.Needs.{needs}
+use Rattle.recovery.proofs.Orders.{within-at}
+use Rattle.recovery.proofs.Compares.{twice-apart, twice-test}
 use Rattle.recovery_code.proofs.comparing.is_key_twice.Statement.{statement}
 use Rattle.recovery_code.proofs.comparing.is_key_twice.Tie as tie
-use Rattle.recovery_code.proofs.comparing.is_key_twice.Reads as reads
-use Rattle.recovery_code.proofs.comparing.is_key_twice.Lts as lts
-use Rattle.recovery_code.proofs.comparing.is_shared.Reads as is-shared-reads
-use Rattle.recovery_code.proofs.ordering.is_followed.Reads as is-followed-reads
 
--- src/comparing.rt:104:9
-is-followed-requires : tie.Need-is-followed-requires
-is-followed-requires c κs = search needs
-
--- src/comparing.rt:105:9
 returns : tie.Need-returns
-returns c = ?
+returns c = twice-apart _ _ _ _ _ (c .before .is-followed .ensures) (c .if1 .taken)
 
--- src/comparing.rt:107:5
 is-shared-requires : tie.Need-is-shared-requires
-is-shared-requires c κs = ?
+is-shared-requires c κs =
+    let inside = within-at (c .before .before .before .before .before .before .args .order .now) _ _ (c .before .before .before .before .before .before .pre .4) (c .before .before .before .before .before .before .pre .1) in
+    (omega (arith, c .before .before .before .before .before .before .pre .0, c .before .before .before .before .before .before .pre .5), inside _ (omega (arith, c .before .before .before .before .before .before .pre .0, c .before .before .before .before .before .before .pre .5)), inside _ (omega (arith, c .before .before .before .before .before .before .pre .0, c .before .before .before .before .before .before .pre .5)))
 
--- src/comparing.rt:93:1
 returns-2 : tie.Need-returns-2
-returns-2 c = ?
+returns-2 c = twice-test _ _ _ _ _ (c .before .before .is-followed .ensures) (c .before .if1 .left) _ (c .is-shared .ensures)
 
 pub is-key-twice-spec : {M : Type 1} → statement M
-is-key-twice-spec = tie.close (tie.spec is-followed-requires returns is-shared-requires returns-2)
+is-key-twice-spec = tie.close (tie.spec (λ c κs. search needs) returns is-shared-requires returns-2)

@@ -1,43 +1,29 @@
+-- `recovery_code::comparing::is_run_fault` meets its contract. Assumes nothing.
+use native.Mathlib.Omega.{arith}
 use borrow.Author.Needs.{needs}
+use Rattle.recovery.proofs.Orders.{within-at}
+use Rattle.recovery.proofs.Compares.{run-apart, run-differs, run-test}
 use Rattle.recovery_code.proofs.comparing.is_run_fault.Statement.{statement}
 use Rattle.recovery_code.proofs.comparing.is_run_fault.Tie as tie
-use Rattle.recovery_code.proofs.comparing.is_run_fault.Reads as reads
-use Rattle.recovery_code.proofs.comparing.is_run_fault.Lts as lts
-use Rattle.recovery_code.proofs.comparing.is_shared.Reads as is-shared-reads
-use Rattle.recovery_code.proofs.comparing.is_too_many.Reads as is-too-many-reads
-use Rattle.recovery_code.proofs.comparing.number_at.Reads as number-at-reads
 
--- src/comparing.rt:67:9
 is-shared-requires : tie.Need-is-shared-requires
-is-shared-requires c κs = ?
+is-shared-requires c κs =
+    let inside = within-at (c .before .before .before .args .order .now) _ _ (c .before .before .before .pre .0 .within) (c .before .before .before .pre .1) in (
+      omega (arith, c .before .before .before .pre .0 .order-size, c .before .before .before .pre .2),
+      inside _ (omega (arith, c .before .before .before .pre .0 .order-size, c .before .before .before .pre .2)),
+      inside _ (omega (arith, c .before .before .before .pre .0 .order-size, c .before .before .before .pre .2)),
+    )
 
--- src/comparing.rt:68:9
 returns : tie.Need-returns
-returns c = ?
+returns c = run-apart _ _ _ _ _ (c .before .is-shared .ensures) (c .if1 .taken)
 
--- src/comparing.rt:70:8
-number-at-requires : tie.Need-number-at-requires
-number-at-requires c κs = search needs
-
--- src/comparing.rt:70:71
-add-number-at : tie.Need-add-number-at
-add-number-at c = search needs
-
--- src/comparing.rt:70:44
-number-at-requires-2 : tie.Need-number-at-requires-2
-number-at-requires-2 c κs = search needs
-
--- src/comparing.rt:71:9
 returns-2 : tie.Need-returns-2
-returns-2 c = ?
+returns-2 c = run-differs _ _ _ _ _ (c .before .before .before .before .is-shared .ensures) (c .before .before .before .if1 .left) _ _ (c .before .before .number-at .ensures .0) (c .before .number-at2 .ensures .0) (c .if2 .taken)
 
--- src/comparing.rt:73:5
-is-too-many-requires : tie.Need-is-too-many-requires
-is-too-many-requires c κs = search needs
-
--- src/comparing.rt:63:1
 returns-3 : tie.Need-returns-3
-returns-3 c = ?
+returns-3 c =
+    run-test _ _ _ _ _ (c .before .before .before .before .before .is-shared .ensures) (c .before .before .before .before .if1 .left) _ _ (c .before .before .before .number-at .ensures .0) (c .before .before .number-at2 .ensures .0) (omega (arith, c .before .if2 .left)) _
+    (c .is-too-many .ensures)
 
 pub is-run-fault-spec : {M : Type 1} → statement M
 is-run-fault-spec =
@@ -45,9 +31,7 @@ is-run-fault-spec =
     (tie.spec
     is-shared-requires
     returns
-    number-at-requires
-    add-number-at
-    number-at-requires-2
+    (λ c κs. search needs) (λ c. search needs) (λ c κs. search needs)
     returns-2
-    is-too-many-requires
+    (λ c κs. search needs)
     returns-3)

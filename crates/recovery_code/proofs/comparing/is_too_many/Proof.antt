@@ -1,48 +1,36 @@
+-- `recovery_code::comparing::is_too_many` meets its contract. Assumes nothing.
+use mathlib.Core.Path.{ap, _∙_}
+use native.Mathlib.Omega.{arith}
 use borrow.Author.Needs.{needs}
+use Rattle.table.specs.Complete.{said}
+use Rattle.recovery.proofs.Orders.{within-at}
+use Rattle.recovery.proofs.Compares.{too-many-past, too-many-test}
 use Rattle.recovery_code.proofs.comparing.is_too_many.Statement.{statement}
 use Rattle.recovery_code.proofs.comparing.is_too_many.Tie as tie
-use Rattle.recovery_code.proofs.comparing.is_too_many.Reads as reads
-use Rattle.recovery_code.proofs.comparing.is_too_many.Lts as lts
-use Rattle.recovery_code.proofs.comparing.number_at.Reads as number-at-reads
-use Rattle.recovery_code.proofs.comparing.records_said.Reads as records-said-reads
-use Rattle.recovery_code.proofs.ordering.entry_at.Reads as entry-at-reads
 
--- src/comparing.rt:55:32
-number-at-requires : tie.Need-number-at-requires
-number-at-requires c κs = search needs
-
--- src/comparing.rt:55:19
-records-said-requires : tie.Need-records-said-requires
-records-said-requires c κs = search needs
-
--- src/comparing.rt:55:15
 add-end : tie.Need-add-end
-add-end c = ?
+add-end c = omega (arith, c .before .before .before .before .before .pre .0 .few, c .before .before .before .before .before .pre .2, c .records-said .ensures .2)
 
--- src/comparing.rt:57:9
 returns : tie.Need-returns
-returns c = ?
+returns c =
+    too-many-past _ _ _ _ _ (c .before .records-said .ensures .0 ∙ ap said (c .before .before .number-at .ensures .0)) (omega (arith, c .before .before .before .before .before .before .pre .0 .order-size, c .if1 .taken))
 
--- src/comparing.rt:59:5
 entry-at-requires : tie.Need-entry-at-requires
-entry-at-requires c κs = ?
+entry-at-requires c κs =
+    let inside = within-at (c .before .before .before .before .before .before .args .order .now) _ _ (c .before .before .before .before .before .before .pre .0 .within) (c .before .before .before .before .before .before .pre .1) in
+    (omega (arith, c .before .before .before .before .before .before .pre .0 .order-size, c .if1 .left), inside _ (omega (arith, c .before .before .before .before .before .before .pre .0 .order-size, c .if1 .left)))
 
--- src/comparing.rt:59:36
 entry-at-requires-2 : tie.Need-entry-at-requires-2
-entry-at-requires-2 c κs = ?
+entry-at-requires-2 c κs =
+    let inside = within-at (c .before .before .before .before .before .before .before .args .order .now) _ _ (c .before .before .before .before .before .before .before .pre .0 .within) (c .before .before .before .before .before .before .before .pre .1) in
+    (omega (arith, c .before .before .before .before .before .before .before .pre .0 .order-size, c .before .before .before .before .before .before .before .pre .2), inside _ (omega (arith, c .before .before .before .before .before .before .before .pre .0 .order-size, c .before .before .before .before .before .before .before .pre .2)))
 
--- src/comparing.rt:51:1
 returns-2 : tie.Need-returns-2
-returns-2 c = ?
+returns-2 c =
+    too-many-test _ _ _ _ _ (c .before .before .before .records-said .ensures .0 ∙ ap said (c .before .before .before .before .number-at .ensures .0)) _ _ (omega (arith, c .before .before .before .before .before .before .before .before .pre .0 .order-size, c .before .before .if1 .left))
+    (c .before .entry-at .ensures) (c .entry-at2 .ensures)
 
 pub is-too-many-spec : {M : Type 1} → statement M
 is-too-many-spec =
     tie.close
-    (tie.spec
-    number-at-requires
-    records-said-requires
-    add-end
-    returns
-    entry-at-requires
-    entry-at-requires-2
-    returns-2)
+    (tie.spec (λ c κs. search needs) (λ c κs. search needs) add-end returns entry-at-requires entry-at-requires-2 returns-2)

@@ -1,29 +1,21 @@
+-- `recovery_code::comparing::number_at` meets its contract. Assumes nothing.
+use native.Mathlib.Omega.{arith}
 use borrow.Author.Needs.{needs}
 use Rattle.recovery_code.proofs.comparing.number_at.Statement.{statement}
 use Rattle.recovery_code.proofs.comparing.number_at.Tie as tie
-use Rattle.recovery_code.proofs.comparing.number_at.Reads as reads
-use Rattle.recovery_code.proofs.comparing.number_at.Lts as lts
-use Rattle.layout_code.proofs.fields.slot_number.Reads as slot-number-reads
 
--- src/comparing.rt:34:13
-mul-x : tie.Need-mul-x
-mul-x c = search needs
-
--- src/comparing.rt:34:13
-shared-slice-read-x : tie.Need-shared-slice-read-x
-shared-slice-read-x c = search needs
-
--- src/comparing.rt:34:13
 cast-x : tie.Need-cast-x
-cast-x c = ?
+cast-x c = omega (arith, c .shared-slice-known3 .given (c .before .before .before .args .i))
 
--- src/comparing.rt:35:5
 slot-number-requires : tie.Need-slot-number-requires
-slot-number-requires c κs = ?
+slot-number-requires c κs =
+    record {
+      layout = c .before .before .before .pre .0 .layout;
+      room = omega (arith, c .before .before .before .pre .0 .image-size, c .before .before .before .pre .0 .within (c .before .before .before .args .i) (omega (arith, c .before .before .before .pre .0 .order-size, c .before .before .before .pre .1)));
+    }
 
--- src/comparing.rt:30:1
 returns : tie.Need-returns
-returns c = search needs
+returns c = (c .slot-number .ensures, omega (arith, c .slot-number .ensures))
 
 pub number-at-spec : {M : Type 1} → statement M
-number-at-spec = tie.close (tie.spec mul-x shared-slice-read-x cast-x slot-number-requires returns)
+number-at-spec = tie.close (tie.spec (λ c. search needs) (λ c. search needs) cast-x slot-number-requires returns)

@@ -1,65 +1,43 @@
+-- `recovery_code::settling::clear_above` meets its contract. Assumes nothing.
+use mathlib.Core.Logic.{⊎-elim}
+use mathlib.Core.Path.{refl}
+use Prim.Native.Nat.{_+_, _-_}
+use native.Mathlib.Omega.{arith}
+use borrow.Author.Needs.{needs}
+use Rattle.recovery.proofs.Settles.{Clearing, clearing-start, clearing-void, clearing-kept, clearing-end}
 use Rattle.recovery_code.proofs.settling.clear_above.Statement.{statement}
 use Rattle.recovery_code.proofs.settling.clear_above.Tie as tie
-use Rattle.recovery_code.proofs.settling.clear_above.Reads as reads
-use Rattle.recovery_code.proofs.settling.clear_above.Lts as lts
 
 abbrev Inv-loop : tie.InvT-loop
-Inv-loop ranks₀ places₀ n limit s₀ ranks places s = ?
+Inv-loop ranks₀ places₀ n limit s₀ ranks places s = Clearing limit n ranks₀ places₀ ranks places s
 
 abbrev μ-loop : tie.MeasureT-loop
-μ-loop ranks₀ places₀ n limit s₀ ranks places s = ?
+μ-loop ranks₀ places₀ n limit s₀ ranks places s = n + 1 - s
 
--- src/settling.rt:105:5
-loop-holds : tie.Need-loop-holds Inv-loop μ-loop
-loop-holds c = ?
-
--- src/settling.rt:106:20
-mul-if1 : tie.Need-mul-if1 Inv-loop μ-loop
-mul-if1 c = ?
-
--- src/settling.rt:106:20
 slice-read-if1 : tie.Need-slice-read-if1 Inv-loop μ-loop
-slice-read-if1 c = ?
+slice-read-if1 c = omega (arith, c .before .before .loop .inv .ranks-size, c .before .loop-test .taken, c .before .before .before .pre .0)
 
--- src/settling.rt:107:13
-mul-ranks : tie.Need-mul-ranks Inv-loop μ-loop
-mul-ranks c = ?
-
--- src/settling.rt:107:13
 slice-write-ranks : tie.Need-slice-write-ranks Inv-loop μ-loop
-slice-write-ranks c = ?
+slice-write-ranks c = omega (arith, c .before .before .before .loop .inv .ranks-size, c .before .before .loop-test .taken, c .before .before .before .before .pre .0)
 
--- src/settling.rt:108:13
-mul-places : tie.Need-mul-places Inv-loop μ-loop
-mul-places c = ?
-
--- src/settling.rt:108:13
 slice-write-places : tie.Need-slice-write-places Inv-loop μ-loop
-slice-write-places c = ?
+slice-write-places c = omega (arith, c .before .before .before .loop .inv .places-size, c .before .before .loop-test .taken, c .before .before .before .before .pre .1)
 
--- src/settling.rt:110:9
-add-s : tie.Need-add-s Inv-loop μ-loop
-add-s c = ?
-
--- src/settling.rt:105:5
-loop-less : tie.Need-loop-less Inv-loop μ-loop
-loop-less c = ?
-
--- src/settling.rt:105:5
 loop-again : tie.Need-loop-again Inv-loop μ-loop
-loop-again c = ?
+loop-again c =
+    ⊎-elim
+    (λ w. clearing-void _ _ _ _ _ _ _ (c .before .before .before .loop .inv) (c .before .before .loop-test .taken) (c .before .before .before .before .pre .0) (c .before .before .before .before .pre .1) _ refl _ _ (w .0 .taken) (w .1) (w .2))
+    (λ w. clearing-kept _ _ _ _ _ _ _ (c .before .before .before .loop .inv) (c .before .before .loop-test .taken) (c .before .before .before .before .pre .0) (c .before .before .before .before .pre .1) _ refl _ _ (w .0 .left) (w .1) (w .2))
+    (c .if1 .came)
 
--- src/settling.rt:100:1
 same-length : tie.Need-same-length Inv-loop μ-loop
-same-length c = ?
+same-length c = c .before .loop .inv .ranks-size
 
--- src/settling.rt:100:1
 same-length-2 : tie.Need-same-length-2 Inv-loop μ-loop
-same-length-2 c = ?
+same-length-2 c = c .before .loop .inv .places-size
 
--- src/settling.rt:100:1
 returns : tie.Need-returns Inv-loop μ-loop
-returns c = ?
+returns c = clearing-end _ _ _ _ _ _ _ (c .before .loop .inv) (c .loop-test .left)
 
 pub clear-above-spec : {M : Type 1} → statement M
 clear-above-spec =
@@ -67,15 +45,15 @@ clear-above-spec =
     (tie.spec
     Inv-loop
     μ-loop
-    loop-holds
-    mul-if1
+    (λ c. clearing-start _ _ _ _)
+    (λ c. search needs)
     slice-read-if1
-    mul-ranks
+    (λ c. search needs)
     slice-write-ranks
-    mul-places
+    (λ c. search needs)
     slice-write-places
-    add-s
-    loop-less
+    (λ c. search needs)
+    (λ c. omega arith)
     loop-again
     same-length
     same-length-2
