@@ -57,11 +57,12 @@ module _ (l : ℕ) (image heads next : List ℕ) (fault : ℕ) (e : recoverFault
   result-taken z = sym (recovery-taken l image heads next (e ∙ z))
 
 -- 1 to 4
-pub lent-refused : (l : ℕ) (image heads next : List ℕ) (fault : ℕ) → fault ≡ lentFault l image (length heads) (length next) → (fault ≡ 0 → ⊥)
-    → refusedResult fault 0 (openingsOf []) heads next ≡ recoverResult l image heads next
+pub lent-refused : (l : ℕ) (image heads next : List ℕ) (fault : ℕ) (none : Openings) → fault ≡ lentFault l image (length heads) (length next)
+    → (fault ≡ 0 → ⊥) → none ≡ openingsOf [] → refusedResult fault 0 none heads next ≡ recoverResult l image heads next
 unfolding recoverFault recoverSlot
-lent-refused l image heads next fault e ne =
-    result-refused l image heads next fault (orElse-first _ _ (λ z. ne (e ∙ z)) ∙ sym e) 0
+lent-refused l image heads next fault none e ne o =
+    ap (λ (x : Openings). refusedResult fault 0 x heads next) o
+    ∙ result-refused l image heads next fault (orElse-first _ _ (λ z. ne (e ∙ z)) ∙ sym e) 0
     (refused-keeps (slotsNamed l (word image) (slotsIn image)) 0 _ (λ z. ne (e ∙ z))) ne
 
 zero-or-not : (k : ℕ) → (k ≡ 0) ⊎ (k ≡ 0 → ⊥)
