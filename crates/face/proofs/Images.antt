@@ -1,5 +1,5 @@
 -- What recovery gives of an accepted image. Assumes nothing.
-use mathlib.Core.Path.{_≡_, sym, ap, _∙_, subst, fun-ext}
+use mathlib.Core.Path.{_≡_, refl, sym, ap, _∙_, subst, fun-ext}
 use mathlib.Core.Logic.{by-cases}
 use mathlib.Core.List.{List, []}
 use Prim.Native.Nat.{ℕ, _≤_}
@@ -16,7 +16,10 @@ use Rattle.table.specs.Complete.{tableOf}
 use Rattle.table.proofs.defs.Keys.{keysTo}
 use Rattle.table.proofs.KeyCount.{map-keys, live-keys}
 use Rattle.recovery.specs.Opening.{voidSlots, openingsOf, storesIn}
-use Rattle.recovery.specs.Recover.{Result, stateValues, recoverFault, recoverSlot, recovered, refusedResult, recoverResult}
+use Rattle.recovery.specs.Recover.{Result, stateValues, recoverFault, recoverSlot, recovered, refusedResult, recoverResult, recoverEnd}
+use Rattle.recovery.specs.declared.Openings.{Openings}
+use Rattle.recovery.specs.declared.Recovered.{Recovered}
+use Rattle.recovery.specs.declared.Recovered.the-variants.{Rebuilt, Refused}
 use Rattle.recovery.proofs.Clear.{slots-clear}
 use Rattle.recovery.proofs.Lent.{recovery-taken, same-recovery}
 use Rattle.recovery.proofs.OpeningStores.{openings-length}
@@ -85,8 +88,7 @@ module _ (l : ℕ) (image heads next : List ℕ) where
           let t = recovery-taken l image heads next z in
           ap (λ (r : Result). r .answer) t ∙ ap (λ (r : Result). gives (stateValues (r .state))) (sym t)
 
-  -- AT MOST EIGHT OPENING STORES
-  pub few-openings : recoverResult l image heads next .openings .count ≤ 8
+  few-openings : recoverResult l image heads next .openings .count ≤ 8
   unfolding recovered openingsOf recoverFault
   few-openings = by-cases (ℕ-discrete fault 0) taken (λ nz. omega (arith, ap (λ (r : Result). r .openings .count) (recovery-refused nz)))
     where
@@ -98,3 +100,14 @@ module _ (l : ℕ) (image heads next : List ℕ) where
             openings-length (word image) (voidSlots l (word image) (slotsIn image)),
             few-void l (word image) (slotsIn image) (slots-clear l (word image) (slotsIn image) (orElse-zero (lentFault l image (length heads) (length next)) _ z .1) .few-broken),
           )
+
+  end-openings : (r : Recovered) (o : Openings) (heads′ next′ : List ℕ) → recoverEnd r o heads′ next′ .openings ≡ o
+  unfolding recoverEnd
+  end-openings (Rebuilt s) o heads′ next′ = refl
+  end-openings (Refused number slot) o heads′ next′ = refl
+
+  -- AT MOST EIGHT OPENING STORES in what a call of recover gave back
+  pub few-openings-left : (r : Recovered) (o : Openings) (heads′ next′ : List ℕ) → recoverEnd r o heads′ next′ ≡ recoverResult l image heads next
+      → o .count ≤ 8
+  few-openings-left r o heads′ next′ e =
+      omega (arith, few-openings, ap (λ (x : Openings). x .count) (sym (end-openings r o heads′ next′) ∙ ap (λ (x : Result). x .openings) e))

@@ -28,7 +28,7 @@ use Rattle.plainmap.proofs.Afters.{after-list}
 use Rattle.plainmap.proofs.CallLists.{agrees-right, agrees-reads, agrees-with, agrees-stepped, opened-agrees, restarted-agrees, formatted-empty, formatted-fine}
 use Rattle.plainmap.proofs.Playing.{record-passes, record-cut, playing-none}
 use Rattle.face.specs.Laws.{Lengths, CallLaws, SetLaws}
-use Rattle.face.proofs.Images.{accepted-gives, state-answered, few-openings}
+use Rattle.face.proofs.Images.{accepted-gives, state-answered}
 use Rattle.face.proofs.Events.{gives-along, event-agrees, event-along, event-slots}
 use Rattle.face.proofs.Stored.{few-given, hands-out, OneStored, none-stored, one-stored, stored-one, some-stores}
 use Rattle.face.proofs.Heads.{called-heads, recovered-heads}
@@ -103,7 +103,6 @@ module _ (l : ℕ) (lay : Layout l) where
   call-laws =
       record {
         answers-state = state-answered l;
-        few-openings = few-openings l;
         few-values = few-given l;
         hands-out = λ w call writes given e lent. hands-out l w lent call writes given e;
         call-heads = called-heads l;

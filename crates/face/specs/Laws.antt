@@ -36,8 +36,6 @@ pub record CallLaws (l : ℕ) : Type 0 where
   -- an accepted recovery answers the state that it leaves
   pub answers-state : (image heads next : List ℕ) → refusalIn (recoverResult l image heads next .answer) ≡ 0
       → recoverResult l image heads next .answer ≡ gives (stateValues (recoverResult l image heads next .state))
-  -- no recovery has more than eight opening stores
-  pub few-openings : (image heads next : List ℕ) → recoverResult l image heads next .openings .count ≤ 8
   -- a call answers at most two values
   pub few-values : (w : World) (call : Call) (given : List ℕ) → called l w call .answer ≡ gives given → length given ≤ 2
   -- a call that writes and answers a slot hands out stores, which take the place of those lent to it

@@ -17,5 +17,7 @@ pub use image_code::play::play_list;
 pub use index::Mode;
 pub use index::State;
 pub use recover_code::recover;
+pub use recovery::Openings;
+pub use recovery::RecoverAnswer;
 pub use recovery::Recovered;
 pub use stores::Stores;
