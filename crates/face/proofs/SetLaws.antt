@@ -14,6 +14,7 @@ use Rattle.layout.proofs.Lents.{index-sized}
 use Rattle.prelude.specs.Members.{Slot}
 use Rattle.stores.specs.Store.{Store, played, standing}
 use Rattle.stores.specs.Play.{wordNumbers, playFault, playing, halfCounts}
+use Rattle.stores.proofs.Bytes.{played-length}
 use Rattle.recovery.specs.Recover.{recoverFault}
 use Rattle.calls.specs.Format.{formatted}
 use Rattle.calls.proofs.Formats.{formatted-length}
@@ -92,6 +93,10 @@ module _ (l : ℕ) (lay : Layout l) where
               record-cut l (w .image) (word (w .image)) (w .state .first) key kind 0 value (w .state .version) a b
               (accepted-slots l (w .image) (g .accepted)) (room (w .state .first) i) p q _ e
 
+  none-played : (image : List ℕ) → played [] image ≡ image
+  unfolding played
+  none-played image = refl
+
   -- WHAT HOLDS OF THE CALLS whatever the set
   pub call-laws : CallLaws l
   call-laws =
@@ -102,7 +107,8 @@ module _ (l : ℕ) (lay : Layout l) where
         call-heads = called-heads l;
         recovery-heads = recovered-heads l;
         restart-slots = restarted-slots l;
-        plays-nothing = playing-none;
+        plays-length = played-length;
+        plays-nothing = none-played;
         slots-of = sized;
         formatted-length = formatted-length l;
       }

@@ -4,7 +4,7 @@ use mathlib.Core.Option.{none}
 use mathlib.Core.List.{List, []}
 use Prim.Native.Nat.{ℕ, _+_, _*_, _≤_}
 use lib.ListN.{length}
-use Rattle.prelude.specs.Answer.{gives}
+use Rattle.prelude.specs.Answer.{gives, refusalIn}
 use Rattle.layout.specs.Size.{slotsOf, slotsIn}
 use Rattle.layout.specs.Header.{indexFault}
 use Rattle.stores.specs.Play.{playEnd, wordNumbers, values, playFault, playListResult, playing, halfCounts}
@@ -35,7 +35,7 @@ pub record Lengths (w : World) : Type 0 where
 -- what holds of the calls in layout l whatever the set
 pub record CallLaws (l : ℕ) : Type 0 where
   -- an accepted recovery answers the state that it leaves
-  pub answers-state : (image heads next : List ℕ) → recoverFault l image (length heads) (length next) ≡ 0
+  pub answers-state : (image heads next : List ℕ) → refusalIn (recoverResult l image heads next .answer) ≡ 0
       → recoverResult l image heads next .answer ≡ gives (stateValues (recoverResult l image heads next .state))
   -- a call answers at most two values
   pub few-values : (w : World) (call : Call) (given : List ℕ) → called l w call .answer ≡ gives given → length given ≤ 2
@@ -47,8 +47,9 @@ pub record CallLaws (l : ℕ) : Type 0 where
   pub recovery-heads : (image heads next : List ℕ) → length (recoveredWorld l image heads next .heads) ≡ length heads
   -- a restart keeps the number of slots
   pub restart-slots : (image : List ℕ) (r : Restart) → slotsIn (restarted l image r .image) ≡ slotsIn image
-  -- no stores change no byte
-  pub plays-nothing : (image : List ℕ) (a b : ℕ) → playing image [] a b ≡ image
+  -- stores keep an image's length, and no stores change no byte
+  pub plays-length : (ss : List Store) (image : List ℕ) → length (played ss image) ≡ length image
+  pub plays-nothing : (image : List ℕ) → played [] image ≡ image
   -- the number of slots by an image's length; format keeps that length
   pub slots-of : (n : ℕ) → 2 ≤ n → n ≤ 65535 → slotsOf (128 * (n + 1)) ≡ n
   pub formatted-length : (len : ℕ) → length (formatted l len) ≡ len

@@ -9,15 +9,14 @@ use Rattle.words.specs.Word.{AreBytes}
 use Rattle.words.proofs.Laws.{setWord-bytes}
 use Rattle.prelude.specs.Answer.{Answer, gives, absent, refused}
 use Rattle.prelude.proofs.Fills.{zeros}
-use Rattle.face.proofs.defs.CutImage.{cutImage}
 use Rattle.face.proofs.SetLaws.{layout-1, call-laws}
-use Rattle.face.specs.Set.{recoverFault, indexFault, State, Store, ChangeResult, World, Mode, Insert, Replace, Call, write, remove, get, Called, writeResult, locateResult, isHeld, calledChange, calledGet, called, playing, finished, worldAfter, recoveredWorld, slotsIn, PlainMap, Typed, write-typed, remove-typed, Untouched}
-use Rattle.face.specs.Event.{Cut, done, struck, step, Fits, stepBy, imageCut}
+use Rattle.face.specs.Set.{indexFault, RightSize, slotsOf, State, Store, Played, played, standing, halfCounts, ChangeResult, World, Mode, Insert, Replace, Call, write, remove, get, Called, writeResult, locateResult, isHeld, calledChange, calledGet, called, playing, finished, openedWorld, restarted, afterRounds, slotsIn, PlainMap, Typed, write-typed, remove-typed, Untouched}
+use Rattle.face.specs.Event.{Cut, done, struck, leaving, step, Fits, stepBy, imageCut}
 use Rattle.face.proofs.Stored.{refusal-still}
 use Rattle.face.proofs.Located.{located}
 use Rattle.face.specs.Laws.{Writes, write-writes, remove-writes, SetLaws}
 use Rattle.text.specs.Output.{Printed, ok}
-use Rattle.session.specs.Step.{StepResult, leaves, recoverStep, storedWith, changedAs, changeStep, wordBytes, modeBy, writeStep, gotBy, wordFound, lineStep}
+use Rattle.session.specs.Step.{StepResult, leaves, playedAll, recoverStep, storedWith, changedAs, changeStep, wordBytes, modeBy, writeStep, gotBy, wordFound, lineStep}
 use Rattle.text.specs.declared.Line.the-variants.{Write, Remove, Get}
 use Rattle.session.specs.declared.Waiting.{Waiting}
 use Rattle.session.specs.declared.Waiting.the-variants.{Nothing, Counts}
@@ -49,7 +48,7 @@ module _ (Inv : World → PlainMap → Type 0) (laws : SetLaws 1 Inv) where
 
   -- the set after a call whose stores, all of them, are these
   abbrev after : (image : List ℕ) → List Store → (heads next : List ℕ) → State → World
-  after image ss heads next state = record { image = playing image ss 8 8; heads = heads; next = next; state = state }
+  after image ss heads next state = record { image = played ss image; heads = heads; next = next; state = state }
 
   idle-event : (w : World) (waiting : Waiting) (call : Call) → called 1 w call .stores ≡ [] → eventIn w waiting call ≡ done call
   unfolding eventIn struckWith
@@ -57,7 +56,7 @@ module _ (Inv : World → PlainMap → Type 0) (laws : SetLaws 1 Inv) where
   idle-event w (Counts a b) call e = ap (struckWith call a b (called 1 w call .heads) (called 1 w call .next)) e
 
   idle-step : (w : World) (waiting : Waiting) (call : Call) → Still w (called 1 w call) → w ≡ step 1 w (eventIn w waiting call)
-  unfolding stepBy finished
+  unfolding stepBy
   idle-step w waiting call u =
       sym
       (ap (step 1 w) (idle-event w waiting call (u .stores))
@@ -65,7 +64,7 @@ module _ (Inv : World → PlainMap → Type 0) (laws : SetLaws 1 Inv) where
       ∙ ap (λ (h : List ℕ). after (w .image) [] h (called 1 w call .next) (called 1 w call .state)) (u .heads)
       ∙ ap (λ (x : List ℕ). after (w .image) [] (w .heads) x (called 1 w call .state)) (u .next)
       ∙ ap (λ (s : State). after (w .image) [] (w .heads) (w .next) s) (u .state)
-      ∙ ap (λ (t : List ℕ). record { image = t; heads = w .heads; next = w .next; state = w .state }) (call-laws 1 layout-1 .plays-nothing (w .image) 8 8))
+      ∙ ap (λ (t : List ℕ). record { image = t; heads = w .heads; next = w .next; state = w .state }) (call-laws 1 layout-1 .plays-nothing (w .image)))
 
   -- ---- a call that stores
 
@@ -82,17 +81,23 @@ module _ (Inv : World → PlainMap → Type 0) (laws : SetLaws 1 Inv) where
     stores = store ∷ rest
 
     abbrev cutBy : (a b : ℕ) → Cut
-    cutBy a b = record { a = a; b = b; heads = heads; next = next }
+    cutBy a b = record { counts = halfCounts stores a b; restart = record { rounds = []; heads = heads; next = next } }
+
+    abbrev cutImage : (a b : ℕ) → List ℕ
+    cutImage a b = imageCut w (leaving (called 1 w call)) (cutBy a b)
 
     prints : ok given ≡ printedFor call (called 1 w call .answer) (called 1 w call .out)
     unfolding changePrints
     prints = sym (says (called 1 w call .answer) (called 1 w call .out) ∙ ap (λ (c : Called). changePrints (c .answer)) d)
 
     -- all stores are played
-    all-played : leftBy (leaves (ok given) (record { n = n; state = state; waiting = Nothing }) (playing (w .image) stores 8 8) heads next) ≡
+    all-played : leftBy (leaves (ok given) (record { n = n; state = state; waiting = Nothing }) (playedAll (w .image) stores) heads next) ≡
         finished 1 w call
-    unfolding finished
-    all-played = sym (ap (λ (c : Called). after (w .image) (c .stores) (c .heads) (c .next) (c .state)) d)
+    unfolding playedAll finished
+    all-played =
+        sym (ap (λ (c : Called). record { image = playedAll (w .image) (c .stores); heads = c .heads; next = c .next; state = c .state }) d)
+        ∙ ap (λ (x : List ℕ). record { image = x; heads = called 1 w call .heads; next = called 1 w call .next; state = called 1 w call .state })
+        (ap (λ (x : Played). x .bytes) (laws .plays-list w m i call typed))
 
     module _ (a b : ℕ) (p : a ≤ 8) (q : b ≤ 8) where
       struck-event : eventIn w (Counts a b) call ≡ struck call (cutBy a b)
@@ -100,23 +105,27 @@ module _ (Inv : World → PlainMap → Type 0) (laws : SetLaws 1 Inv) where
       struck-event = ap (λ (c : Called). struckWith call a b (c .heads) (c .next) (c .stores)) d
 
       struck-fits : Fits 1 (slotsIn (w .image)) (struck call (cutBy a b))
-      struck-fits = subst (Fits 1 (slotsIn (w .image))) struck-event (event-fits Inv laws w call m i typed (Counts a b) (few-wait p q))
+      struck-fits = subst (Fits 1 (slotsIn (w .image))) struck-event (event-fits Inv laws w call m i typed (Counts a b))
 
-      struck-accepted : recoverFault 1 (cutImage 1 w call (cutBy a b)) (length heads) (length next) ≡ 0
-      unfolding stepBy recoveredWorld worldAfter
-      struck-accepted =
-          let kept = laws .keeps w m i (struck call (cutBy a b)) struck-fits in
-          laws .accepts (step 1 w (struck call (cutBy a b))) _ kept heads next
-          (ap (λ (k : ℕ). indexFault k (length heads) (length next)) (laws .keeps-slots w m i (struck call (cutBy a b)) struck-fits)
-          ∙ ap (λ (c : Called). indexFault (slotsIn (w .image)) (length (c .heads)) (length (c .next))) (sym d) ∙ left-size Inv laws w call m i typed)
+      struck-size : RightSize (cutImage a b) heads next
+      unfolding imageCut
+      struck-size =
+          ap (λ (k : ℕ). indexFault (slotsOf k) (length heads) (length next)) (call-laws 1 layout-1 .plays-length _ (w .image))
+          ∙ ap (λ (c : Called). indexFault (slotsIn (w .image)) (length (c .heads)) (length (c .next))) (sym d) ∙ left-size Inv laws w call m i typed
+
+      -- the counted stores, by play
+      struck-image : playing (w .image) stores a b ≡ cutImage a b
+      unfolding imageCut
+      struck-image =
+          ap (λ (c : Called). playing (w .image) (c .stores) a b) (sym d) ∙ laws .plays-cut w m i call typed a b p q
+          ∙ ap (λ (c : Called). played (standing (halfCounts (c .stores) a b) (called 1 w call .stores)) (w .image)) d
 
       -- A STRUCK CALL: its counted stores are played, and recovery accepts
       recovers : recoverStep (ok given) n (playing (w .image) stores a b) heads next ≡
-          goesOn (ok given) n (recoveredWorld 1 (cutImage 1 w call (cutBy a b)) heads next)
-      unfolding imageCut
+          goesOn (ok given) n (openedWorld 1 (cutImage a b) heads next)
       recovers =
-          ap (λ (c : Called). recoverStep (ok given) n (playing (w .image) (c .stores) a b) heads next) (sym d)
-          ∙ recover-step Inv laws (ok given) n (cutImage 1 w call (cutBy a b)) heads next struck-accepted
+          ap (λ (x : List ℕ). recoverStep (ok given) n x heads next) struck-image
+          ∙ recover-step (ok given) n (cutImage a b) heads next _ (laws .keeps-along w m i call (cutBy a b) struck-fits) struck-size
 
     -- the call takes a waiting cut
     taken : (waiting : Waiting) → waitsOn waiting (called 1 w call .stores) ≡ Nothing
@@ -131,7 +140,7 @@ module _ (Inv : World → PlainMap → Type 0) (laws : SetLaws 1 Inv) where
     }
 
     stored : (waiting : Waiting) → FewWait waiting → Carried n waiting w call (storedWith n given state stores (w .image) heads next waiting)
-    unfolding storedWith eventIn stepBy recoveredWorld worldAfter finished
+    unfolding storedWith eventIn stepBy restarted afterRounds finished
     stored Nothing none-waits = carried Nothing _ all-played
     stored (Counts a b) (few-wait p q) =
         subst (Carried n (Counts a b) w call) (sym (recovers a b p q))

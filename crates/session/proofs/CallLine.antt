@@ -42,7 +42,7 @@ module _ (Inv : World → PlainMap → Type 0) (laws : SetLaws 1 Inv) (r : StepR
   right = laws .answers w m (k .set) call fine
 
   fits : Fits 1 (slotsIn (w .image)) event
-  fits = event-fits Inv laws w call m (k .set) fine (r .session .waiting) (k .waits)
+  fits = event-fits Inv laws w call m (k .set) fine (r .session .waiting)
 
   after : Inv (step 1 w event) map
   after = laws .keeps w m (k .set) event fits

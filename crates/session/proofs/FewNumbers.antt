@@ -41,7 +41,7 @@ recovered-few p n image heads next state (refused number) few = tt
 made-few : (n : ℕ) (s : Session) (image heads next : List ℕ) (answer : Answer) → Few answer
     → FewNumbers (madeAs n s image heads next answer .answer)
 unfolding madeAs recoverStep recoveredBy
-made-few n s image heads next (gives values) few = recovered-few _ n image _ _ _ _ few
+made-few n s image heads next (gives values) few = recovered-few _ n _ _ _ _ _ few
 made-few n s image heads next absent few = tt
 made-few n s image heads next (refused number) few = tt
 

@@ -8,12 +8,14 @@ use native.Mathlib.Omega.{arith}
 use lib.ListN.{length}
 use borrow.Author.Tests.{le-ltb, eq-eqb, ne-eqb}
 use Rattle.prelude.specs.Answer.{Answer, gives}
+use Rattle.prelude.specs.Members.{none-left}
 use Rattle.prelude.proofs.Refusals.{say-false, taken-leaves}
 use Rattle.face.proofs.SetLaws.{layout-1, call-laws}
-use Rattle.face.specs.Set.{World, PlainMap, recoverFault, recoverResult, worldAfter, recoveredWorld, FormatResult, formatFault, formatted, formatResult, indexFault, slotsOf, slotsIn}
+use Rattle.face.specs.Set.{World, PlainMap, slotsMap, RightSize, Played, recoverFault, recoverResult, worldAfter, openedWorld, FormatResult, formatFault, formatted, formatResult, indexFault, slotsOf, slotsIn}
+use Rattle.face.specs.Recovers.{Recovers}
 use Rattle.face.specs.Laws.{SetLaws}
 use Rattle.text.specs.Output.{Printed, ok}
-use Rattle.session.specs.Step.{StepResult, leaves, recoveredAs, recoveredBy, recoverStep, madeAs, madeBy, makeStep}
+use Rattle.session.specs.Step.{StepResult, leaves, playedAll, recoveredAs, recoveredBy, recoverStep, madeAs, madeBy, makeStep}
 use Rattle.session.specs.declared.Waiting.the-variants.{Nothing}
 use Rattle.session.specs.declared.Session.{Session}
 
@@ -25,17 +27,23 @@ goesOn p n w = leaves p (record { n = n; state = w .state; waiting = Nothing }) 
 abbrev leftBytes : (n : ℕ) → List ℕ → FormatResult
 leftBytes n bytes = record { answer = gives (n ∷ []); bytes = bytes }
 
-module _ (Inv : World → PlainMap → Type 0) (laws : SetLaws 1 Inv) where
-  -- RECOVERY OF AN ACCEPTED IMAGE in a session is the recovery of the cut rule
-  pub recover-step : (p : Printed) (n : ℕ) (image heads next : List ℕ) → recoverFault 1 image (length heads) (length next) ≡ 0
-      → recoverStep p n image heads next ≡ goesOn p n (recoveredWorld 1 image heads next)
-  unfolding recoverStep recoveredBy recoveredAs recoveredWorld worldAfter
-  recover-step p n image heads next z =
-      ap
-      (λ (answer : Answer).
-      recoveredAs p n image (recoverResult 1 image heads next .heads) (recoverResult 1 image heads next .next) (recoverResult 1 image heads next .state) answer)
-      (call-laws 1 layout-1 .answers-state image heads next z)
+-- RECOVERY in a session, its opening stores played, is the recovery of the cut rule
+pub recover-step : (p : Printed) (n : ℕ) (image heads next : List ℕ) (m : PlainMap) → Recovers 1 image m → RightSize image heads next
+    → recoverStep p n image heads next ≡ goesOn p n (openedWorld 1 image heads next)
+unfolding recoverStep recoveredBy recoveredAs playedAll openedWorld worldAfter
+recover-step p n image heads next m gives-map size =
+    ap
+    (λ (x : List ℕ).
+    recoveredAs p n x (recoverResult 1 image heads next .heads) (recoverResult 1 image heads next .next) (recoverResult 1 image heads next .state)
+    (recoverResult 1 image heads next .answer))
+    (ap (λ (x : Played). x .bytes) (gives-map .opens heads next size))
+    ∙ ap
+    (λ (answer : Answer).
+    recoveredAs p n (openedWorld 1 image heads next .image) (recoverResult 1 image heads next .heads) (recoverResult 1 image heads next .next)
+    (recoverResult 1 image heads next .state) answer)
+    (call-laws 1 layout-1 .answers-state image heads next (gives-map .accepts heads next size))
 
+module _ (Inv : World → PlainMap → Type 0) (laws : SetLaws 1 Inv) where
   -- A NEW SET, on an image and an index of its size
   module _ (n : ℕ) (low : 2 ≤ n) (high : n ≤ 511) (s : Session) (image heads next : List ℕ)
       (i : length image ≡ 128 * (n + 1)) (h : length heads ≡ 1) (x : length next ≡ n + 1) where
@@ -58,14 +66,23 @@ module _ (Inv : World → PlainMap → Type 0) (laws : SetLaws 1 Inv) where
         ∙ say-false _ _ _ (ap not (eq-eqb (length next) (slotsIn image + 1) (omega (arith, slots-here))))
 
     new-set : (recoverFault 1 (formatted 1 (length image)) (length heads) (length next) ≡ 0)
-        × Inv (recoveredWorld 1 (formatted 1 (length image)) heads next) (λ k. none)
+        × Inv (openedWorld 1 (formatted 1 (length image)) heads next) (λ k. none)
     new-set = laws .fresh (length image) heads next some-slots index-fits
 
-    pub new-step : makeStep n s image heads next ≡ goesOn (ok (n ∷ [])) n (recoveredWorld 1 (formatted 1 (length image)) heads next)
+    new-size : RightSize (formatted 1 (length image)) heads next
+    new-size =
+        ap (λ (k : ℕ). indexFault (slotsOf k) (length heads) (length next)) (call-laws 1 layout-1 .formatted-length (length image)) ∙ index-fits
+
+    new-recovers : Recovers 1 (formatted 1 (length image)) (slotsMap 1 (formatted 1 (length image)))
+    new-recovers =
+        laws .along (formatted 1 (length image)) (record { rounds = []; heads = heads; next = next }) (new-set .0)
+        (record { rounds = none-left; size = new-size })
+
+    pub new-step : makeStep n s image heads next ≡ goesOn (ok (n ∷ [])) n (openedWorld 1 (formatted 1 (length image)) heads next)
     unfolding makeStep madeBy madeAs
     new-step =
         ap (madeBy n s heads next) formats
-        ∙ recover-step (ok (n ∷ [])) n (formatted 1 (length image)) heads next (new-set .0)
+        ∙ recover-step (ok (n ∷ [])) n (formatted 1 (length image)) heads next _ new-recovers new-size
 
-    pub new-keeps : Inv (recoveredWorld 1 (formatted 1 (length image)) heads next) (λ k. none)
+    pub new-keeps : Inv (openedWorld 1 (formatted 1 (length image)) heads next) (λ k. none)
     new-keeps = new-set .1

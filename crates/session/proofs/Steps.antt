@@ -5,14 +5,15 @@ use Prim.Native.Nat.{ℕ, _+_, _*_, _^_, _≤_, _<_}
 use native.Mathlib.Nat.{suc-inj}
 use native.Mathlib.Omega.{arith}
 use lib.ListN.{length, take, drop}
+use lib.Seq.{length-take-le}
 use borrow.Author.Tests.{ltb-false}
 use Rattle.prelude.proofs.Refusals.{say-zero, orElse-zero, taken-leaves}
 use Rattle.prelude.specs.Answer.{Answer, gives, absent, refused}
 use Rattle.face.specs.Laws.{write-writes, remove-writes}
 use Rattle.face.proofs.SetLaws.{layout-1, call-laws}
-use Rattle.face.specs.Set.{Store, Mode, World, write, remove, called, calledChange, handedOut, leftIn, ChangeResult, writeResult, removeResult, zipped, wordNumbers, values, Played, playEnd, playResult, playing}
+use Rattle.face.specs.Set.{Store, Openings, storesIn, Mode, World, write, remove, called, calledChange, handedOut, leftIn, ChangeResult, writeResult, removeResult, zipped, wordNumbers, values, Played, playEnd, playResult, playListResult, playing}
 use Rattle.text.specs.Output.{Printed}
-use Rattle.session.specs.Step.{leaves, slotsFor, sizeFault, lineFault, changedAs, changeStep, lineStep, followedBy, frontStep, stepResult}
+use Rattle.session.specs.Step.{leaves, playedAll, slotsFor, sizeFault, lineFault, changedAs, changeStep, lineStep, followedBy, frontStep, stepResult}
 use Rattle.text.specs.declared.Line.{Line}
 use Rattle.session.specs.declared.Session.{Session}
 
@@ -34,6 +35,22 @@ unfolding playing
 played-on image at value words numbers a b k after e =
     let p = parts-zipped at value (words ∙ sym numbers) in
     ap (λ (r : Played). r .bytes) (e ∙ ap₂ (λ (ws vs : List ℕ). playResult image ws vs a b) (sym (p .0)) (sym (p .1)))
+
+-- and so are all stores of a list
+pub list-played-on : (image at value : List ℕ) (n : ℕ) → length at ≡ n → length value ≡ n → (k : ℕ) (after : List ℕ)
+    → playEnd k after ≡ playListResult image at value → after ≡ playedAll image (zipped at value)
+unfolding playedAll
+list-played-on image at value n words numbers k after e =
+    let p = parts-zipped at value (words ∙ sym numbers) in
+    ap (λ (r : Played). r .bytes) (e ∙ ap₂ (playListResult image) (sym (p .0)) (sym (p .1)))
+
+-- among them the opening stores of a recovery, of which there are at most eight
+pub openings-played-on : (image : List ℕ) (o : Openings) → length (o .at) ≡ 8 → length (o .value) ≡ 8 → o .count ≤ 8 → (k : ℕ) (after : List ℕ)
+    → playEnd k after ≡ playListResult image (take (o .count) (o .at)) (take (o .count) (o .value)) → after ≡ playedAll image (storesIn o)
+unfolding storesIn
+openings-played-on image o words numbers few k after e =
+    list-played-on image (take (o .count) (o .at)) (take (o .count) (o .value)) (o .count) (length-take-le (o .count) (o .at) (omega arith))
+    (length-take-le (o .count) (o .value) (omega arith)) k after e
 
 -- a step by what a call left in the stores lent to it: they are looked at only where it handed stores out
 pub left-step : (s : Session) (image : List ℕ) (lent : List Store) (c : ChangeResult)

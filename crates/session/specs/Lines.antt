@@ -6,7 +6,7 @@ use Prim.Native.Nat.{ℕ, _+_, _*_}
 use lib.ListN.{take, replicate}
 use Rattle.words.specs.Word.{word}
 use Rattle.prelude.specs.Answer.{Answer, gives, absent, refused}
-use Rattle.face.specs.Set.{Store, World, Mode, Insert, Replace, Call, write, remove, get, locate, called, PlainMap, isHeld}
+use Rattle.face.specs.Set.{Store, World, Mode, Insert, Replace, Call, write, remove, get, locate, called, PlainMap, isHeld, halfCounts}
 use Rattle.face.specs.Event.{Event, done, struck}
 use Rattle.text.specs.Output.{Printed, ok, notHeld, no}
 use Rattle.session.specs.Step.{StepResult, wordBytes, gotAs}
@@ -45,10 +45,11 @@ callIn m Bad = none
 
 -- ---- the event that a call is
 
--- the counts strike a call that has stores; recovery is lent the index that the call left
+-- the counts strike a call that has stores; recovery is lent the index that the call left, and no cut comes among its opening stores
 unfoldable pub struckWith : Call → (a b : ℕ) → (heads next : List ℕ) → List Store → Event Call
 struckWith call a b heads next [] = done call
-struckWith call a b heads next (s ∷ ss) = struck call (record { a = a; b = b; heads = heads; next = next })
+struckWith call a b heads next (s ∷ ss) =
+    struck call (record { counts = halfCounts (s ∷ ss) a b; restart = record { rounds = []; heads = heads; next = next } })
 
 -- "the next accepted p, or r that stores, plays only A and B stores, and recovery runs"
 unfoldable pub eventIn : World → Waiting → Call → Event Call

@@ -5,7 +5,7 @@ use mathlib.Core.List.{List, [], _∷_}
 use Prim.Native.Nat.{ℕ, _+_, _*_, _^_, _≤_, _<_}
 use lib.ListN.{length, take}
 use Rattle.prelude.specs.Refusal.{unlessRefused}
-use Rattle.face.specs.Set.{formatted, World, Call, called, recoveredWorld, PlainMap, plainOut, dueFault, dueAnswer, Right, Reads}
+use Rattle.face.specs.Set.{formatted, World, Call, called, openedWorld, PlainMap, plainOut, dueFault, dueAnswer, Right, Reads}
 use Rattle.face.specs.Event.{step, mapAfterEvent}
 use Rattle.text.specs.Output.{Printed, ok, cut, no}
 use Rattle.session.specs.Step.{StepResult, leaves, noSet, sizeFault, lineFault}
@@ -82,7 +82,7 @@ pub record Leaves (r : StepResult) (line : Line) (p : Printed) (s : Session) (w 
 
 -- the set of a new n
 abbrev pub newWorld : StepResult → (n : ℕ) → World
-newWorld r n = recoveredWorld 1 (formatted 1 (128 * (n + 1))) (take 1 (r .heads)) (take (n + 1) (r .next))
+newWorld r n = openedWorld 1 (formatted 1 (128 * (n + 1))) (take 1 (r .heads)) (take (n + 1) (r .next))
 
 -- and the set after a call
 abbrev pub worldAfterCall : StepResult → Call → World

@@ -6,7 +6,7 @@ use lib.ListN.{length, take, drop, replicate}
 use Rattle.words.specs.Word.{word, setWord}
 use Rattle.prelude.specs.Refusal.{say, orElse, unlessRefused}
 use Rattle.prelude.specs.Answer.{Answer, gives, absent, refused}
-use Rattle.face.specs.Set.{Store, values, State, Result, noState, recoverResult, FormatResult, formatResult, Mode, Insert, Replace, ChangeResult, writeResult, removeResult, GetResult, getResult, locateResult, playing}
+use Rattle.face.specs.Set.{Store, wordNumbers, values, State, Result, noState, storesIn, recoverResult, FormatResult, formatResult, Mode, Insert, Replace, ChangeResult, writeResult, removeResult, GetResult, getResult, locateResult, playing, playListResult}
 use Rattle.text.specs.Output.{Printed, ok, found, cut, notHeld, no}
 use Rattle.text.specs.declared.Line.{Line}
 use Rattle.text.specs.declared.Line.the-variants.{New, Write, Remove, Get, Cut, Bad}
@@ -74,6 +74,12 @@ unfoldable pub lineFault : Line → Session → (image heads next : ℕ) → ℕ
 lineFault line s image heads next =
     orElse (formFault line) (orElse (sizeFault (slotsFor line s) image heads next) (cutFault line))
 
+-- ---- play of a list
+
+-- the image that it leaves
+unfoldable pub playedAll : (image : List ℕ) → List Store → List ℕ
+playedAll image stores = playListResult image (wordNumbers stores) (values stores) .bytes
+
 -- ---- recovery, after which the session goes on; no cut waits any more
 
 -- p is what the line prints. Where recovery refuses an image there is no set any more (it answers no absent)
@@ -83,9 +89,10 @@ recoveredAs p n image heads next state (gives values) =
 recoveredAs p n image heads next state absent = leaves notHeld noSet image heads next
 recoveredAs p n image heads next state (refused number) = leaves (no number) noSet image heads next
 
--- by recovery's result on this image
+-- by recovery's result on this image. Document 02, A.7: its opening stores "are played and fenced before any other call"
 unfoldable pub recoveredBy : (p : Printed) → (n : ℕ) → (image : List ℕ) → Result → StepResult
-recoveredBy p n image r = recoveredAs p n image (r .heads) (r .next) (r .state) (r .answer)
+recoveredBy p n image r =
+    recoveredAs p n (playedAll image (storesIn (r .openings))) (r .heads) (r .next) (r .state) (r .answer)
 
 -- recovery of this image, with this index lent to it
 unfoldable pub recoverStep : (p : Printed) → (n : ℕ) → (image heads next : List ℕ) → StepResult
@@ -112,7 +119,7 @@ makeStep n s image heads next = madeBy n s heads next (formatResult 1 image)
 -- "`ok slot version`". A waiting cut: "the next accepted p, or r that stores, plays only A and B stores, and recovery runs"
 unfoldable pub storedWith : (n : ℕ) → (values : List ℕ) → State → List Store → (image heads next : List ℕ) → Waiting → StepResult
 storedWith n values state stores image heads next Nothing =
-    leaves (ok values) (record { n = n; state = state; waiting = Nothing }) (playing image stores 8 8) heads next
+    leaves (ok values) (record { n = n; state = state; waiting = Nothing }) (playedAll image stores) heads next
 storedWith n values state stores image heads next (Counts a b) =
     recoverStep (ok values) n (playing image stores a b) heads next
 

@@ -1,15 +1,17 @@
 // The calls of the set as a session makes them: a new set, insert and replace, remove, get, and recovery after a cut.
 ghost use mathlib.Core.Path.{_≡_};
 ghost use mathlib.Core.List.{[], _∷_};
-ghost use Rattle.face.specs.Set.{zipped, leftIn, changeEnd, writeResult, removeResult, getResult, locateResult};
+ghost use Prim.Native.Nat.{_≤_};
+ghost use Rattle.face.specs.Set.{zipped, storesIn, leftIn, changeEnd, writeResult, removeResult, getResult, locateResult};
 ghost use Rattle.text.specs.inner.Output.{replySays};
 ghost use Rattle.session.specs.inner.Step.{stepEnd};
-ghost use Rattle.session.specs.Step.{recoverStep, makeStep, storedWith, changeStep, wordBytes, modeBy, writeStep, gotBy, wordFound};
+ghost use Rattle.session.specs.Step.{playedAll, recoverStep, makeStep, storedWith, changeStep, wordBytes, modeBy, writeStep, gotBy, wordFound};
 use crate::start::start;
 use orderset::Change;
 use orderset::Formatted;
 use orderset::Got;
 use orderset::Located;
+use orderset::Openings;
 use orderset::Outcome;
 use orderset::Recovered;
 use orderset::State;
@@ -19,6 +21,7 @@ use orderset::get;
 use orderset::insert;
 use orderset::locate;
 use orderset::play;
+use orderset::play_list;
 use orderset::recover;
 use orderset::remove;
 use orderset::replace;
@@ -29,11 +32,25 @@ use text::Reply;
 use words_code::padded_word;
 use words_code::write_word;
 
-// Recovery, after which the session goes on with this answer.
-fn recovered(reply: Reply, n: u64, image: &[u8], heads: &mut [u32], next: &mut [u32]) -> Stepped
-    ensures { λ r. ⌜ stepEnd r (now (image .entry)) (now (heads .exit)) (now (next .exit)) ≡ recoverStep (replySays reply) n (now (image .entry)) (now (heads .entry)) (now (next .entry)) ⌝ }
+// The opening stores of a recovery are made.
+fn open_slots(image: &mut [u8], openings: Openings)
+    requires { ⌜ openings .count ≤ 8 ⌝ }
+    ensures { λ _. ⌜ now (image .exit) ≡ playedAll (now (image .entry)) (storesIn openings) ⌝ }
 {
-    let index = recover(image, heads, next);
+    let count = openings.count as usize;
+    let at = openings.at;
+    let value = openings.value;
+    play_list(image, &at[..count], &value[..count]);
+}
+
+// Recovery and its opening stores, after which the session goes on with this answer.
+fn recovered(reply: Reply, n: u64, image: &mut [u8], heads: &mut [u32], next: &mut [u32]) -> Stepped
+    ensures { λ r. ⌜ stepEnd r (now (image .exit)) (now (heads .exit)) (now (next .exit)) ≡ recoverStep (replySays reply) n (now (image .entry)) (now (heads .entry)) (now (next .entry)) ⌝ }
+{
+    let answer = recover(image, heads, next);
+    let openings = answer.openings;
+    open_slots(image, openings);
+    let index = answer.recovered;
     match index {
         Recovered::Rebuilt(state) => Stepped {
             reply,
@@ -86,7 +103,9 @@ fn carry_out(
     let waiting = session.waiting;
     match waiting {
         Waiting::Nothing => {
-            play(image, stores, 8, 8);
+            let at = stores.at;
+            let value = stores.value;
+            play_list(image, &at, &value);
             let state = change.state;
             Stepped {
                 reply: Reply::Stored { slot, version },

@@ -15,6 +15,7 @@ pub fn start() -> Session
             first: 0,
             last: 0,
             live: 0,
+            newest: 0,
             version: 0,
         },
         waiting: Waiting::Nothing,

@@ -1,27 +1,27 @@
 -- `session_code::lines::carry_out` meets its contract. Assumes nothing.
 use Rattle.text.specs.inner.Output.{replySays}
 use Rattle.session.specs.Step.{storedWith}
-use Rattle.session.proofs.Steps.{played-on}
+use Rattle.session.proofs.Steps.{played-on, list-played-on}
 use borrow.Author.Needs.{needs}
 use Rattle.session_code.proofs.lines.carry_out.Statement.{statement}
 use Rattle.session_code.proofs.lines.carry_out.Tie as tie
 
 returns : tie.Need-returns
 unfolding storedWith replySays
-returns c = rw (c .before .before .before .before .before .enum-told .given .1, ← (played-on _ _ _ (search (needs, c .before .before .before .before .before .before .before .before .before .before .good .1 .1 .1 .0)) (search (needs, c .before .before .before .before .before .before .before .before .before .before .good .1 .1 .1 .0)) _ _ _ _ (c .before .before .before .play .ensures)))
+returns c = rw (c .before .before .before .before .before .before .before .before .before .enum-told .given .1, ← (list-played-on _ (c .before .before .before .before .before .before .before .before .before .before .before .before .before .before .args .stores .at) (c .before .before .before .before .before .before .before .before .before .before .before .before .before .before .args .stores .value) 16 (search (needs, c .before .before .before .before .before .before .before .before .before .before .before .before .before .before .good .1 .1 .1 .0)) (search (needs, c .before .before .before .before .before .before .before .before .before .before .before .before .before .before .good .1 .1 .1 .0)) _ _ (c .before .before .before .play-list .ensures)))
 
 returns-2 : tie.Need-returns-2
 unfolding storedWith replySays
 returns-2 c =
-    rw (c .before .before .before .before .before .before .before .before .before .before .before .before .before .waiting .given .1, ← (played-on _ _ _ (search (needs, c .before .before .before .before .before .before .before .before .before .before .before .before .before .before .before .before .before .before .good .1 .1 .1 .0)) (search (needs, c .before .before .before .before .before .before .before .before .before .before .before .before .before .before .before .before .before .before .good .1 .1 .1 .0)) _ _ _ _ (c .before .before .before .before .before .before .before .before .before .before .play2 .ensures)))
-    (c .before .before .before .before .recovered .ensures)
+    rw (c .before .before .before .before .before .before .before .before .before .before .before .before .before .before .before .waiting .given .1, ← (played-on _ _ _ (search (needs, c .before .before .before .before .before .before .before .before .before .before .before .before .before .before .before .before .before .before .before .before .good .1 .1 .1 .0)) (search (needs, c .before .before .before .before .before .before .before .before .before .before .before .before .before .before .before .before .before .before .before .before .good .1 .1 .1 .0)) _ _ _ _ (c .before .before .before .before .before .before .before .before .before .before .before .before .play .ensures)))
+    (c .before .before .before .before .before .before .recovered .ensures)
 
 pub carry-out-spec : {M : Type 1} → statement M
 carry-out-spec =
     tie.close
     (tie.spec
-    (λ c. search needs) (λ c κs. search needs) (λ c. search needs) (λ c κs. search needs) (λ c κs. search needs)
-    (λ c. search needs)
+    (λ c. search needs) (λ c. search needs) (λ c. search needs) (λ c κs. search needs) (λ c. search needs)
+    (λ c κs. search needs) (λ c κs. search needs) (λ c. search needs)
     returns
     (λ c. search needs) (λ c. search needs) (λ c. search needs)
     returns-2)

@@ -6,13 +6,20 @@ use borrow.Author.Needs.{needs}
 use Rattle.session_code.proofs.lines.make.Statement.{statement}
 use Rattle.session_code.proofs.lines.make.Tie as tie
 
-pub make-spec : {M : Type 1} → statement M
+returns : tie.Need-returns
 unfolding makeStep madeBy madeAs formatSays replySays
+returns c = search (needs, ← (c .before .before .before .before .before .before .before .before .before .before .before .before .before .before .before .format .ensures), c .before .before .before .before .before .before .before .before .before .before .before .formatted .given .1)
+
+returns-2 : tie.Need-returns-2
+unfolding makeStep madeBy madeAs formatSays replySays
+returns-2 c = search (needs, ← (c .before .before .before .before .before .format .ensures), c .before .formatted2 .given .1)
+
+pub make-spec : {M : Type 1} → statement M
 make-spec =
     tie.close
     (tie.spec
     (λ c κs. search needs) (λ c. search needs) (λ c. search needs) (λ c κs. search needs) (λ c. search needs)
     (λ c. search needs) (λ c. search needs) (λ c. search needs)
-    (λ c. search (needs, ← (c .before .before .before .before .before .before .before .before .before .before .before .before .before .format .ensures), c .before .before .before .before .before .before .before .before .before .formatted .given .1))
+    returns
     (λ c. search needs)
-    (λ c. search (needs, ← (c .before .before .before .before .before .format .ensures), c .before .formatted2 .given .1)))
+    returns-2)

@@ -1,18 +1,31 @@
 -- `session_code::lines::recovered` meets its contract. Assumes nothing.
 use Rattle.face.specs.Set.{recoverEnd}
+use Rattle.face.proofs.Images.{few-openings-left}
 use Rattle.text.specs.inner.Output.{replySays}
 use Rattle.session.specs.Step.{recoverStep, recoveredBy, recoveredAs}
 use borrow.Author.Needs.{needs}
 use Rattle.session_code.proofs.lines.recovered.Statement.{statement}
 use Rattle.session_code.proofs.lines.recovered.Tie as tie
 
-pub recovered-spec : {M : Type 1} → statement M
+open-slots-requires : tie.Need-open-slots-requires
+open-slots-requires c κs = few-openings-left 1 _ _ _ _ _ _ _ (c .before .before .before .before .before .before .recover .ensures)
+
+returns : tie.Need-returns
 unfolding recoverStep recoveredBy recoveredAs recoverEnd replySays
+returns c = rw (← (c .before .before .before .before .before .before .before .before .before .before .before .before .recover .ensures), c .before .index .given .1, c .before .before .before .before .before .open-slots .ensures)
+
+returns-2 : tie.Need-returns-2
+unfolding recoverStep recoveredBy recoveredAs recoverEnd replySays
+returns-2 c = rw (← (c .before .before .before .before .before .before .before .before .before .before .before .before .before .recover .ensures), c .before .before .index2 .given .1, c .before .before .before .before .before .before .open-slots .ensures, c .start .ensures)
+
+pub recovered-spec : {M : Type 1} → statement M
 recovered-spec =
     tie.close
     (tie.spec
-    (λ c κs. search needs) (λ c. search needs) (λ c. search needs) (λ c κs. search needs) (λ c. search needs)
-    (λ c. search needs)
-    (λ c. rw (← (c .before .before .before .before .before .before .before .recover .ensures), c .before .index .given .1))
-    (λ c. search needs) (λ c. search needs)
-    (λ c. rw (← (c .before .before .before .before .before .before .before .before .recover .ensures), c .before .before .index2 .given .1, c .start .ensures)))
+    (λ c κs. search needs)
+    open-slots-requires
+    (λ c. search needs) (λ c. search needs) (λ c κs. search needs)
+    (λ c. search needs) (λ c. search needs) (λ c. search needs)
+    returns
+    (λ c. search needs) (λ c. search needs) (λ c. search needs)
+    returns-2)
