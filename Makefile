@@ -38,9 +38,9 @@ $(OUT):
 TESTS := persist guard storm lock kills heads watch differential
 $(OUT)/persist: tests/persist.c tests/chance.c
 $(OUT)/guard $(OUT)/differential: $(OUT)/%: tests/%.c tests/images.c tests/model.c tests/chance.c
-$(OUT)/storm: tests/storm.c tests/chance.c
-$(OUT)/lock $(OUT)/kills $(OUT)/heads: $(OUT)/%: tests/%.c tests/child.c tests/chance.c
-$(OUT)/watch: tests/watch.c tests/model.c tests/child.c tests/chance.c
+$(OUT)/storm: tests/storm.c tests/model.c tests/chance.c
+$(OUT)/lock $(OUT)/heads: $(OUT)/%: tests/%.c tests/child.c tests/chance.c
+$(OUT)/kills $(OUT)/watch: $(OUT)/%: tests/%.c tests/model.c tests/child.c tests/chance.c
 
 $(TESTS:%=$(OUT)/%): $(wildcard tests/*.h) $(HEADERS) $(ARCHIVE) | $(OUT)
 	$(C) -Itests $(filter %.c,$^) $(ARCHIVE) -o $@

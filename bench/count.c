@@ -16,6 +16,8 @@ static uint8_t *image, bytes[80], out[80];
 static size_t length, heads_length, next_length, size;
 static uint32_t *heads, *next, state[ORDERSET_STATE], at[ORDERSET_STORES];
 static uint64_t version[1], value[ORDERSET_STORES], answer[ORDERSET_CHANGE_ANSWER];
+static uint32_t voids[1], open_at[ORDERSET_OPENINGS];
+static uint64_t open_value[ORDERSET_OPENINGS];
 static enum orderset_flush flush;
 
 static inline int hand_inserts(uint64_t key) {
@@ -56,7 +58,7 @@ MEASURED int count_set_get(uint64_t key) {
     return orderset_get(image, length, heads, heads_length, next, next_length, key, out, sizeof out, answer) || answer[0] == ORDERSET_ABSENT;
 }
 MEASURED int count_set_recover(void) {
-    return orderset_recover(image, length, heads, heads_length, next, next_length, state, version) != 0;
+    return orderset_recover(image, length, heads, heads_length, next, next_length, state, version, voids, open_at, open_value) != 0;
 }
 MEASURED int count_set_remove(uint64_t key) {
     if (orderset_remove(image, length, heads, heads_length, next, next_length, state, version, key, at, value, answer) || answer[0] == ORDERSET_ABSENT)
@@ -114,7 +116,8 @@ int main(int count, char **word) {
                              .next = calloc(next_length, 4), .next_length = next_length};
     flush = ORDERSET_CLFLUSH; /* the flush that valgrind knows; each flush is one instruction */
     bad |= hand_format(hand.image, length) || hand_recover(&hand);
-    bad |= orderset_format(image, length, answer) || orderset_recover(image, length, heads, heads_length, next, next_length, state, version);
+    bad |= orderset_format(image, length, answer)
+           || orderset_recover(image, length, heads, heads_length, next, next_length, state, version, voids, open_at, open_value);
     uint64_t *key = malloc(sizeof *key * held);
     for (uint32_t i = 0; i < held; i++) {
         key[i] = chance();

@@ -11,10 +11,14 @@ static uint8_t *image;
 static size_t length, heads_length, next_length;
 static uint32_t *heads, *next, state[ORDERSET_STATE], at[ORDERSET_STORES];
 static uint64_t version[1], value[ORDERSET_STORES], answer[ORDERSET_CHANGE_ANSWER];
+static uint32_t voids[1], open_at[ORDERSET_OPENINGS];
+static uint64_t open_value[ORDERSET_OPENINGS];
 static enum orderset_flush flush;
 
+/* no slot is void: no basket was struck */
 static int e_recover(void) {
-    return (int)orderset_recover(image, length, heads, heads_length, next, next_length, state, version);
+    return (int)orderset_recover(image, length, heads, heads_length, next, next_length, state, version, voids, open_at, open_value)
+           || voids[0];
 }
 
 static int e_open(const struct config *c) {

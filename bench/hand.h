@@ -1,5 +1,5 @@
-/* hand.h: (a), the same method written by hand in C: document 01's layout, index, refusals and recovery, with insert, replace and the slots compared as
- * document 02 has them, for the speed that a C programmer gets. */
+/* hand.h: (a), the same method written by hand in C: document 01's layout, index, refusals and recovery, with insert, replace, the slots compared, void
+ * slots and the slots that may be taken as document 02 has them, for the speed that a C programmer gets. */
 #ifndef HAND_H
 #define HAND_H
 
@@ -13,8 +13,10 @@ struct hand_set {
     size_t heads_length;
     uint32_t *next;
     size_t next_length;
-    uint32_t first, last, live;
+    uint32_t first, last, live, newest;
     uint64_t version;
+    uint32_t voids, open_at[8]; /* the stores that recovery hands out */
+    uint64_t open_value[8];
 };
 
 struct hand_stores {

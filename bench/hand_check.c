@@ -7,13 +7,14 @@
 #include "orderset.h"
 
 static struct hand_set lend(const uint8_t *image, size_t length, const uint32_t *heads, size_t heads_length, const uint32_t *next, size_t next_length) {
-    return (struct hand_set){(uint64_t *)image, length, (uint32_t *)heads, heads_length, (uint32_t *)next, next_length, 0, 0, 0, 0};
+    return (struct hand_set){(uint64_t *)image, length, (uint32_t *)heads, heads_length, (uint32_t *)next, next_length, 0, 0, 0, 0, 0, 0, {0}, {0}};
 }
 
 static void read_state(struct hand_set *s, const uint32_t *state, const uint64_t *version) {
     s->first = state[ORDERSET_FIRST];
     s->last = state[ORDERSET_LAST];
     s->live = state[ORDERSET_LIVE];
+    s->newest = state[ORDERSET_NEWEST];
     s->version = version[0];
 }
 
@@ -21,6 +22,7 @@ static void write_state(const struct hand_set *s, uint32_t *state, uint64_t *ver
     state[ORDERSET_FIRST] = s->first;
     state[ORDERSET_LAST] = s->last;
     state[ORDERSET_LIVE] = s->live;
+    state[ORDERSET_NEWEST] = s->newest;
     version[0] = s->version;
 }
 
@@ -52,12 +54,17 @@ uint32_t orderset_format(uint8_t *image, size_t length, uint64_t answer[ORDERSET
 }
 
 uint64_t orderset_recover(const uint8_t *image, size_t length, uint32_t *heads, size_t heads_length, uint32_t *next, size_t next_length,
-                          uint32_t state[ORDERSET_STATE], uint64_t version[1]) {
+                          uint32_t state[ORDERSET_STATE], uint64_t version[1], uint32_t count[1], uint32_t at[ORDERSET_OPENINGS],
+                          uint64_t value[ORDERSET_OPENINGS]) {
     struct hand_set s = lend(image, length, heads, heads_length, next, next_length);
     uint64_t code = hand_recover(&s);
-    if (!code)
-        write_state(&s, state, version);
-    return code;
+    if (code)
+        return code;
+    write_state(&s, state, version);
+    count[0] = s.voids;
+    memcpy(at, s.open_at, sizeof s.open_at);
+    memcpy(value, s.open_value, sizeof s.open_value);
+    return 0;
 }
 
 uint64_t orderset_insert(const uint8_t *image, size_t length, uint32_t *heads, size_t heads_length, uint32_t *next, size_t next_length,

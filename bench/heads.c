@@ -43,7 +43,10 @@ static uint32_t largest_prime(uint32_t up_to) {
 }
 
 static void recover(uint32_t b) {
-    must(orderset_recover(image, ORDERSET_IMAGE_BYTES(n), heads, b, next, n + 1, state, version) == 0, "recover");
+    uint32_t voids[1], open_at[ORDERSET_OPENINGS];
+    uint64_t open_value[ORDERSET_OPENINGS];
+    must(orderset_recover(image, ORDERSET_IMAGE_BYTES(n), heads, b, next, n + 1, state, version, voids, open_at, open_value) == 0 && voids[0] == 0,
+         "recover");
 }
 
 /* Keys that are multiples of step, or random ones where it is 0, each with an order; replaces leave them in random slots. */

@@ -52,6 +52,8 @@ struct set {
     size_t heads_length, next_length; /* heads_length 0 before recovery: as many as suit the slots */
     uint32_t state[ORDERSET_STATE];
     uint64_t version[1];
+    uint32_t voids[1], open_at[ORDERSET_OPENINGS]; /* what recovery hands out */
+    uint64_t open_value[ORDERSET_OPENINGS];
     int flushes; /* the mapping is non-volatile memory */
     enum orderset_flush flush;
 };
@@ -83,13 +85,13 @@ static const char *const refusals[] = {
     "the header is not the one for this length",
     "heads has 0 or more than 65,536 numbers, or next has not N + 1",
     "a mark is neither 0 nor 1",
-    "its kind word has bits above the length byte",
-    "two valid slots have one version",
+    "its kind word has bits above bit 23, or its number of records is 1 or over 8",
+    "of valid slots with one version the numbers of records differ, there are more than that number, or two have one key",
     "no slot is spare",
     "the next version is 2^63 or more",
     "the value exceeds 80 bytes",
     "the key's chain or the reuse chain is not one of this image, or the live count is zero where an order is removed",
-    "the key is new and only one slot is spare",
+    NULL,
     "the output is shorter than the value",
     "a count exceeds 8",
     "the stores are not those of two lines of the image",
@@ -102,7 +104,11 @@ static const char *const refusals[] = {
     "its kind is neither put nor remove",
     "its length is over 80, or it is a remove with a length",
     "a value byte past its length is not zero",
-    "more than one slot is broken; no power cut leaves that: look at the memory, and whether all was made durable",
+    "more than eight slots are broken or void; no power cut leaves that: look at the memory, and whether all was made "
+    "durable",
+    NULL,
+    NULL,
+    "no slot may be taken, or the key is new and only one slot is spare",
 };
 
 static const char *words_of(uint32_t number) {
@@ -243,7 +249,22 @@ static uint64_t recover(struct set *s) {
     if (!s->heads || !s->next)
         fail("memory");
     return orderset_recover(s->image, s->length, s->heads, s->heads_length, s->next, s->next_length, s->state,
-                            s->version);
+                            s->version, s->voids, s->open_at, s->open_value);
+}
+
+/* What is left of a basket that a cut struck is opened, before any other call. A reader does so in its copy. */
+static void open_voids(const struct set *s, const char *path, int writing) {
+    const uint32_t count = s->voids[0];
+    if (!writing) {
+        uint32_t number = orderset_play_list(s->image, s->length, s->open_at, count, s->open_value, count);
+        if (number)
+            stop(FAILED, "%s: play says no %" PRIu32 ": %s", path, number, words_of(number));
+        return;
+    }
+    if (s->flushes ? orderset_persist_list(s->image, s->length, s->open_at, s->open_value, count, s->flush)
+                   : orderset_persist_list_file(s->image, s->length, s->open_at, s->open_value, count))
+        stop(FAILED, "%s: %s; void slots could not be opened, and no order was changed. The next start does so again",
+             path, strerror(errno));
 }
 
 /* Answers what recovery returned: its refusal with the slot that it names, or 0. */
@@ -272,6 +293,7 @@ static void start(struct set *s, const char *path, int writing) {
         stop(FAILED, "%s: recovery says no %" PRIu32 " of slot %" PRIu32 ": %s", path, number, slot, words_of(number));
     if (number)
         stop(FAILED, "%s: recovery says no %" PRIu32 ": %s", path, number, words_of(number));
+    open_voids(s, path, writing);
     printf("recovered %" PRIu32 " held keys; next version %" PRIu64 "; %s\n", s->state[ORDERSET_LIVE], s->version[0],
            !writing ? "reading only" : s->flushes ? "flush and fence" : "msync (fallback)");
     answered();

@@ -1,16 +1,21 @@
 /* The archive against the model of document 01 and of the order book, call by call: every return code, answer, count of
  * slots compared, state, store, index number, output and image byte is compared, and after a cut the recovered set is
  * compared with a plain map. The answers about single lines are compared too: of random and damaged lines, and of every
- * line of the images in histories; and what they say will be stored first and last with what each call hands out. There the counts are those of a chain for each head: the held keys of a head have the
- * counts from 1 to their number, each once, and any other key of that head has their number. In histories that are book
- * steps only, total ordered is total filled plus total withdrawn plus what is open. Ends with status 1 at the first
- * difference and prints the case.
+ * line of the images in histories; and what they say will be stored first and last with what each call hands out. There
+ * the counts are those of a chain for each head: the held keys of a head have the counts from 1 to their number, each
+ * once, and any other key of that head has their number. In histories that are book steps only, total ordered is total
+ * filled plus total withdrawn plus what is open. The archive has no call for a basket: in the other histories the test
+ * makes the model's stores of one, all of them or as a cut leaves them, and recovery must give all of the basket or
+ * nothing of it, also after cuts among the stores that open void slots. With an index that is not the image's own only
+ * refusals are compared where the reuse chain's first slot may not be taken. Ends with status 1 at the first difference
+ * and prints the case.
  *
  *     differential [SEED [CALLS]]
  *     differential SEED CALLS damaged    recovers damaged images alone, one a call
  */
 #define _GNU_SOURCE
 #include <inttypes.h>
+#include <limits.h>
 #include <stdarg.h>
 #include <stdio.h>
 #include <stdlib.h>
@@ -57,6 +62,9 @@ struct set {
     struct m_index model;
     uint32_t *at;
     uint64_t *value;
+    uint32_t *count, *open_at; /* what recovery hands out */
+    uint64_t *open_value;
+    int own;        /* the index is the image's own */
     uint64_t since; /* calls since everything was compared */
 };
 
@@ -69,6 +77,7 @@ static const char *const name[WHICH] = {"format",    "recover",    "insert",    
                                         "play_list", "line_whole", "line_version", "line_first", "line_last"};
 
 enum { DONE = 0, ABSENT = 100, ALREADY = 101, ANSWERS };  /* answers that are no refusal */
+static uint64_t baskets, half_baskets, openings; /* whole, struck by a cut, stores that open void slots */
 static uint64_t calls, strikes, queries, met[WHICH][ANSWERS]; /* queries: of lines; met: by the answer */
 static uint64_t compared, longest, far_met[WHICH][ANSWERS]; /* slots: of the last call, the most; with 2 or more */
 static uint32_t named; /* the slot that the last recovery named */
@@ -83,9 +92,9 @@ static void show_case(void) {
     printf("%s: N %u, length %zu, B %zu, next %zu, key %" PRIu64 ", size, room or quantity %zu, counts %zu %zu\n",
            name[call], now->n, now->length, now->model.heads_length, now->model.next_length, call_key, call_size,
            call_a, call_b);
-    printf("state: archive %u %u %u %" PRIu64 ", model %u %u %u %" PRIu64 "\n", now->state[0], now->state[1],
-           now->state[2], now->version[0], now->model.state.first, now->model.state.last, now->model.state.live,
-           now->model.state.version);
+    printf("state: archive %u %u %u %u %" PRIu64 ", model %u %u %u %u %" PRIu64 "\n", now->state[0], now->state[1],
+           now->state[2], now->state[3], now->version[0], now->model.state.first, now->model.state.last,
+           now->model.state.live, now->model.state.newest, now->model.state.version);
     if (now->length > 128 * 8)
         return;
     for (size_t i = 0; i < now->length / 8; i++)
@@ -162,8 +171,9 @@ static void compare_all(struct set *s) {
     same_bytes("heads", s->heads, s->model.heads, 4 * s->model.heads_length);
     same_bytes("next", s->next, s->model.next, 4 * s->model.next_length);
     if (!guarded(s->image, s->length) || !guarded(s->heads, 4 * s->model.heads_length)
-        || !guarded(s->next, 4 * s->model.next_length) || !guarded(s->state, 12) || !guarded(s->version, 8)
-        || !guarded(s->at, 64) || !guarded(s->value, 128))
+        || !guarded(s->next, 4 * s->model.next_length) || !guarded(s->state, 4 * ORDERSET_STATE) || !guarded(s->version, 8)
+        || !guarded(s->at, 64) || !guarded(s->value, 128) || !guarded(s->count, 4)
+        || !guarded(s->open_at, 4 * ORDERSET_OPENINGS) || !guarded(s->open_value, 8 * ORDERSET_OPENINGS))
         differ("outside the lent memory");
 }
 
@@ -172,6 +182,7 @@ static void compare(struct set *s) {
     same_number("the first slot", s->state[ORDERSET_FIRST], s->model.state.first);
     same_number("the last slot", s->state[ORDERSET_LAST], s->model.state.last);
     same_number("the live count", s->state[ORDERSET_LIVE], s->model.state.live);
+    same_number("the newest slot", s->state[ORDERSET_NEWEST], s->model.state.newest);
     same_number("the next version", s->version[0], s->model.state.version);
     if ((s->n <= SMALL && s->model.heads_length <= 4 * SMALL) || ++s->since >= 500)
         compare_all(s);
@@ -189,13 +200,16 @@ static struct set *open_set(size_t length, size_t heads, size_t next) {
     s->version = lend(8);
     s->at = lend(4 * ORDERSET_STORES);
     s->value = lend(8 * ORDERSET_STORES);
-    s->model = (struct m_index){lend(4 * heads), heads, lend(4 * next), next, {0, 0, 0, 0}};
+    s->count = lend(4);
+    s->open_at = lend(4 * ORDERSET_OPENINGS);
+    s->open_value = lend(8 * ORDERSET_OPENINGS);
+    s->model = (struct m_index){lend(4 * heads), heads, lend(4 * next), next, {0, 0, 0, 0, 0}};
     return s;
 }
 
 static void close_set(struct set *s) {
-    void *lent[] = {s->image,   s->model_image, s->heads, s->next,        s->state,
-                    s->version, s->at,          s->value, s->model.heads, s->model.next};
+    void *lent[] = {s->image,   s->model_image, s->heads, s->next,        s->state,      s->version,   s->at,
+                    s->value,   s->count,       s->open_at, s->open_value, s->model.heads, s->model.next};
     for (size_t i = 0; i < sizeof lent / sizeof *lent; i++)
         give_back(lent[i]);
     free(s);
@@ -209,7 +223,17 @@ static void lend_same(struct set *s) {
     s->state[ORDERSET_FIRST] = s->model.state.first;
     s->state[ORDERSET_LAST] = s->model.state.last;
     s->state[ORDERSET_LIVE] = s->model.state.live;
+    s->state[ORDERSET_NEWEST] = s->model.state.newest;
     s->version[0] = s->model.state.version;
+    s->own = 0;
+}
+
+/* The index that the model has becomes what the archive left. */
+static void take_over(struct set *s) {
+    memcpy(s->model.heads, s->heads, 4 * s->model.heads_length);
+    memcpy(s->model.next, s->next, 4 * s->model.next_length);
+    s->model.state = (struct m_state){s->state[ORDERSET_FIRST], s->state[ORDERSET_LAST], s->state[ORDERSET_LIVE],
+                                      s->state[ORDERSET_NEWEST], s->version[0]};
 }
 
 /* ---- what is asked of a line, on both sides */
@@ -289,17 +313,38 @@ static int try_format(struct set *s) {
     return refusal;
 }
 
+/* The opening stores one by one, and zeros past them; of a refused recovery what was lent. */
+static void compare_openings(const struct set *s, const struct m_recovered *recovered, uint32_t count_lent,
+                             const uint32_t *at_lent, const uint64_t *value_lent) {
+    same_number("the count of opening stores", s->count[0], recovered->refusal ? count_lent : recovered->count);
+    for (uint32_t i = 0; i < ORDERSET_OPENINGS; i++) {
+        const struct m_store *store = &recovered->opening[i]; /* zero past the count */
+        same_number("an opening store's word", s->open_at[i], recovered->refusal ? at_lent[i] : store->at);
+        same_number("an opening store's value", s->open_value[i], recovered->refusal ? value_lent[i] : store->value);
+    }
+    openings += recovered->count;
+}
+
 static int try_recover(struct set *s) {
+    uint32_t count_lent = (uint32_t)chance(), at_lent[ORDERSET_OPENINGS];
+    uint64_t value_lent[ORDERSET_OPENINGS];
+    fill(at_lent, sizeof at_lent);
+    fill(value_lent, sizeof value_lent);
+    s->count[0] = count_lent;
+    memcpy(s->open_at, at_lent, sizeof at_lent);
+    memcpy(s->open_value, value_lent, sizeof value_lent);
     begin(s, RECOVER, 0, 0, 0, 0);
     uint64_t code = orderset_recover(s->image, s->length, s->heads, s->model.heads_length, s->next,
-                                     s->model.next_length, s->state, s->version);
+                                     s->model.next_length, s->state, s->version, s->count, s->open_at, s->open_value);
     struct m_recovered recovered = m_recover(s->model_image, s->length, &s->model);
     named = ORDERSET_FAULT_SLOT(code);
     same_code(ORDERSET_REFUSAL(code), recovered.refusal, DONE);
     same_number("the slot named", named, recovered.slot);
+    compare_openings(s, &recovered, count_lent, at_lent, value_lent);
     compare(s);
     if (s->n > SMALL)
         compare_all(s);
+    s->own = !recovered.refusal && !recovered.count;
     return recovered.refusal;
 }
 
@@ -363,11 +408,24 @@ static unsigned compare_answer(uint64_t code, const uint64_t *answer, const uint
     return answered;
 }
 
+/* With an index that is not the image's own only the refusal is fixed. The model goes on with what the archive left. */
+static unsigned compare_free(struct set *s, uint64_t code, const uint64_t *answer, const struct m_change *c) {
+    const int reports = call == INSERT || call == REPLACE || call == REMOVE;
+    if (s->own)
+        differ("in the slot taken: with the image's own index it is not the reuse chain's first");
+    same_number("the answer's kind", answer[0], ORDERSET_GIVEN);
+    take_over(s);
+    return reports ? same_report(code, 0, DONE, answer[ORDERSET_COMPARED], c->compared)
+                   : same_code(ORDERSET_REFUSAL(code), 0, DONE);
+}
+
 /* What it left. Returns the answer: DONE if there are stores. */
 static unsigned compare_change(struct set *s, uint64_t code, const uint64_t *answer, const uint64_t *answer_lent,
                                const uint32_t *at_lent, const uint64_t *value_lent, struct m_change c) {
     uint32_t at[ORDERSET_STORES];
     uint64_t value[ORDERSET_STORES];
+    if (c.free && code == 0)
+        return compare_free(s, code, answer, &c);
     unsigned answered = compare_answer(code, answer, answer_lent, &c);
     for (size_t i = 0; i < ORDERSET_STORES; i++) {
         at[i] = answered == DONE ? c.store[i].at : at_lent[i];
@@ -455,6 +513,23 @@ static int try_play(struct set *s, size_t a, size_t b) {
     return refusal;
 }
 
+/* Makes the stores that open the void slots: all of them, or those whose bits are set. */
+static void open_voids(struct set *s, unsigned which) {
+    uint32_t at[ORDERSET_OPENINGS], count = 0, all = s->count[0];
+    uint64_t value[ORDERSET_OPENINGS];
+    for (uint32_t i = 0; i < all; i++)
+        if (which >> i & 1) {
+            at[count] = s->open_at[i];
+            value[count++] = s->open_value[i];
+        }
+    begin(s, PLAY_LIST, 0, 0, count, all);
+    uint32_t code = orderset_play_list(s->image, s->length, at, count, value, count);
+    same_code(code, m_play_list(s->model_image, s->length, at, count, value, count), DONE);
+    same_number("the opening stores' play", code, 0);
+    compare(s);
+    s->own = count == all;
+}
+
 static void try_play_list(struct set *s, const uint32_t *at, size_t places, const uint64_t *value, size_t values) {
     begin(s, PLAY_LIST, 0, 0, places, values);
     uint32_t code = orderset_play_list(s->image, s->length, at, places, value, values);
@@ -472,6 +547,7 @@ struct plain {
     uint8_t (*bytes)[ORDERSET_VALUE_MAX];
     int16_t *size; /* -1: absent */
     uint32_t held;
+    int grown;                       /* from a formatted image, by single calls */
     int book_only;                   /* nothing but book steps since it was empty */
     total ordered, filled, withdrawn; /* by the accepted steps that no cut made absent */
 };
@@ -645,7 +721,7 @@ static unsigned plain_answer(const struct set *s, const struct plain *p, const s
     if (answer)
         return answer;
     if (e->holds && size < 0 && p->held + 1 >= s->n)
-        return ORDERSET_FULL;
+        return ORDERSET_NO_ROOM;
     return s->version[0] >> 63 ? ORDERSET_NO_VERSION : DONE;
 }
 
@@ -659,6 +735,36 @@ static uint32_t heads_after_cut(uint32_t n) {
 static void lend_garbage(struct set *s) {
     garbage_index(&s->model, s->n);
     lend_same(s);
+}
+
+/* The set with another index, of another size, and garbage in it. */
+static struct set *other_index(struct set *s, size_t heads) {
+    struct set *t = open_set(s->length, heads, s->model.next_length);
+    memcpy(t->model_image, s->model_image, s->length);
+    lend_garbage(t);
+    close_set(s);
+    return t;
+}
+
+/* Recovery after a cut, perhaps again after a cut among the stores that open void slots: each time it gives the map.
+ * Then all those stores are made. */
+static struct set *recover_again(struct set *s, const struct plain *p) {
+    s = other_index(s, heads_after_cut(s->n));
+    same_number("recovery after a cut", (uint64_t)try_recover(s), 0);
+    same_map(s, p);
+    while (s->count[0] && below(2)) {
+        open_voids(s, (unsigned)below(1u << s->count[0]));
+        s = other_index(s, heads_after_cut(s->n));
+        same_number("recovery after a cut among the opening stores", (uint64_t)try_recover(s), 0);
+        same_map(s, p);
+    }
+    open_voids(s, UINT_MAX);
+    if (below(4) == 0) {
+        same_number("recovery after the opening stores", (uint64_t)try_recover(s), 0);
+        same_number("its opening stores", s->count[0], 0);
+        same_map(s, p);
+    }
+    return s;
 }
 
 /* A copy of the set as it stands is struck with every pair of counts: recovered with another index and other heads, it
@@ -688,6 +794,7 @@ static struct plain *copy_plain(const struct plain *p) {
     memcpy(q->bytes, p->bytes, p->keys * sizeof *p->bytes);
     memcpy(q->size, p->size, p->keys * sizeof *p->size);
     q->held = p->held;
+    q->grown = p->grown;
     q->book_only = p->book_only;
     q->ordered = p->ordered;
     q->filled = p->filled;
@@ -713,15 +820,59 @@ static struct set *finish(struct set *s, struct plain *p, const struct effect *e
     same_number("play", (uint64_t)try_play(s, a, b), 0);
     if (a == 8 && b == 8)
         plain_take(p, e);
-    if (!cut)
+    return cut ? recover_again(s, p) : s;
+}
+
+/* ---- baskets: their stores are the model's */
+
+/* Distinct keys of the plain map, each to be inserted, replaced or removed, and what that does. */
+static uint32_t any_basket(const struct plain *p, struct m_record *record, struct effect *e) {
+    uint32_t count = 0, wanted = 2 + (uint32_t)below(7), first = (uint32_t)below(p->keys);
+    for (uint32_t k = 0; k < p->keys && count < wanted; k++) {
+        const uint32_t i = (first + k) % p->keys;
+        const int removes = p->size[i] >= 0 && below(2);
+        if (below(3) == 0)
+            continue;
+        e[count] = (struct effect){.i = i, .holds = !removes, .size = removes ? 0 : below(ORDERSET_VALUE_MAX + 1)};
+        fill(e[count].bytes, e[count].size);
+        record[count] = (struct m_record){removes ? 2 : 1, p->key[i], e[count].bytes, e[count].size};
+        count++;
+    }
+    return count;
+}
+
+/* Makes the stores of a basket: all, or so many on each line as a cut leaves. Answers whether all were made. */
+static int make_basket(struct set *s, const struct m_store *store, uint32_t count) {
+    const uint64_t cut = below(4); /* 0: none; 1: mostly whole lines; else: any number on each line */
+    int whole = 1;
+    for (uint32_t i = 0; i < count; i++) {
+        size_t a = cut > 1 || (cut == 1 && below(count) == 0) ? below(9) : 8,
+               b = cut > 1 || (cut == 1 && below(count) == 0) ? below(9) : 8;
+        for (size_t k = 0; k < ORDERSET_STORES; k++) {
+            s->at[k] = store[ORDERSET_STORES * i + k].at;
+            s->value[k] = store[ORDERSET_STORES * i + k].value;
+        }
+        same_number("play", (uint64_t)try_play(s, a, b), 0);
+        whole &= a == 8 && b == 8;
+    }
+    return whole;
+}
+
+/* A basket and recovery after it: all of it is there, or nothing. */
+static struct set *basket(struct set *s, struct plain *p) {
+    struct m_record record[8];
+    struct effect e[8];
+    struct m_store store[8 * ORDERSET_STORES];
+    uint32_t count = any_basket(p, record, e);
+    if (count < 2 || m_basket_stores(s->model_image, s->length, &s->model, record, count, store))
         return s;
-    struct set *t = open_set(s->length, heads_after_cut(s->n), s->model.next_length);
-    memcpy(t->model_image, s->model_image, s->length);
-    lend_garbage(t);
-    close_set(s);
-    same_number("recovery after a cut", (uint64_t)try_recover(t), 0);
-    same_map(t, p);
-    return t;
+    p->grown = 0;
+    int whole = make_basket(s, store, count);
+    for (uint32_t i = 0; whole && i < count; i++)
+        plain_take(p, &e[i]);
+    baskets += (uint64_t)whole;
+    half_baskets += (uint64_t)!whole;
+    return recover_again(s, p);
 }
 
 /* A quantity: of what is open, or around it, or any. */
@@ -750,6 +901,8 @@ static struct set *step(struct set *s, struct plain *p, unsigned cuts) {
     struct effect e = {.i = (uint32_t)below(p->keys)};
     struct request r = {(p->book_only ? book : any)[below(16)], p->key[e.i], 0, e.bytes, any_size()};
     const int size = p->size[e.i];
+    if (!p->book_only && cuts && below(cuts) == 0)
+        return basket(s, p);
     if (r.which == GET) {
         size_t room = below(3) ? ORDERSET_VALUE_MAX : below(ORDERSET_VALUE_MAX + 1);
         unsigned want = size < 0 ? ABSENT : room < (size_t)size ? 13 : 200u + (unsigned)size;
@@ -770,8 +923,10 @@ static struct set *step(struct set *s, struct plain *p, unsigned cuts) {
         r.size = ORDERSET_ORDER_BYTES;
         order_bytes(e.bytes);
     }
-    unsigned want = plain_answer(s, p, &r, &e);
-    same_number("the answer by the plain map", try_change(s, &r), want);
+    unsigned want = plain_answer(s, p, &r, &e), got = try_change(s, &r);
+    if (got == ORDERSET_NO_ROOM && !p->grown && (want == DONE || want == ORDERSET_NO_VERSION))
+        want = got;
+    same_number("the answer by the plain map", got, want);
     if ((r.which == INSERT || r.which == REPLACE || r.which == REMOVE) && want != ORDERSET_VALUE_TOO_LONG)
         few_compared(s, p, e.i);
     return want == DONE ? finish(s, p, &e, cuts) : s;
@@ -783,14 +938,20 @@ static void break_slot(uint8_t *image, uint32_t slot, int line) {
     m_set_word(image, first, 1 - m_word(image, first + 7) % 2);
 }
 
-/* An accepted image whose map is empty: for each key the last record is a remove, and one slot is broken. */
+/* An accepted image whose map is empty: for each key the last record is a remove, one slot is broken, and perhaps some
+ * of a basket's records stand above all others. */
 static void emptied_image(uint8_t *image, uint32_t n, const struct plain *p) {
+    const uint32_t half = n / 2, void_slots = (uint32_t)(below(2) * below(half < 8 ? half : 8));
     for (uint32_t i = 1; i < n; i += 2) {
         uint64_t key = p->key[below(p->keys)];
         set_record(image, i, 1, key, i, ORDERSET_ORDER_BYTES);
         set_record(image, i + 1, 2, key, i + 1, 0);
     }
-    break_slot(image, 1 + 2 * (uint32_t)below(n / 2), (int)below(2));
+    for (uint32_t i = 0; i < void_slots; i++) {
+        set_record(image, 1 + 2 * i, 1 + (unsigned)below(2), p->key[0] + i, n + 1, 0);
+        set_number(image, 1 + 2 * i, void_slots + 1);
+    }
+    break_slot(image, 1 + 2 * (void_slots + (uint32_t)below(half - void_slots)), (int)below(2));
 }
 
 /* An empty set and a long row of calls. */
@@ -802,12 +963,14 @@ static void history(uint32_t n, size_t heads, uint32_t keys, unsigned steps, uns
     lend_garbage(s);
     now = s;
     same_number("format", (uint64_t)try_format(s), 0);
-    if (below(2)) {
+    p->grown = (int)below(2);
+    if (!p->grown) {
         emptied_image(s->model_image, n, p);
         lend_same(s);
     }
     same_number("recovery of an empty set", (uint64_t)try_recover(s), 0);
     same_map(s, p);
+    open_voids(s, UINT_MAX);
     for (unsigned k = 0; k < steps; k++) {
         s = step(s, p, cuts);
         if (n <= SMALL && below(8) == 0)
@@ -819,6 +982,12 @@ static void history(uint32_t n, size_t heads, uint32_t keys, unsigned steps, uns
     same_map(s, p);
     close_plain(p);
     close_set(s);
+}
+
+/* All stores of a call, or some, or none: then the index is no longer the image's own. */
+static void play_some(struct set *s) {
+    size_t a = below(4) ? 8 : below(10), b = below(4) ? 8 : below(10);
+    s->own &= below(4) && !try_play(s, a, b) && a == 8 && b == 8;
 }
 
 /* Calls on whatever stands there, with whatever index. */
@@ -835,8 +1004,8 @@ static void any_calls(struct set *s, uint64_t keys, unsigned count) {
             try_get(s, key, out, below(sizeof out + 1));
         else if (r.which == LOCATE)
             try_locate(s, key);
-        else if (try_change(s, &r) == DONE && below(2))
-            try_play(s, below(10), below(10));
+        else if (try_change(s, &r) == DONE)
+            play_some(s);
     }
 }
 
@@ -850,8 +1019,11 @@ static void images(void) {
     while (faults--)
         damage(s->model_image, n);
     lend_garbage(s);
-    try_recover(s);
+    if (!try_recover(s) && below(8))
+        open_voids(s, below(8) ? UINT_MAX : (unsigned)below(256));
     any_calls(s, keys, 8);
+    if (s->own)
+        same_number("recovery after the calls", (uint64_t)try_recover(s), 0);
     close_set(s);
 }
 
@@ -962,7 +1134,8 @@ enum fault {
     ALL_LIVE, ABOVE_N, ROUND, FULL, LAST_VERSION, NO_FIRST, NO_LAST, FIRST_NEXT, NO_LIVE, LONG_RECORD, OUT_OF_ORDER,
     OUTSIDE, ONE_LINE, TWO_LENGTHS, OTHER_STATE, ALL_FILLED, OTHER_SIZE, LARGE_ORDER, ALL_SLOTS, ALL_BUT_ONE, LONG_LAST,
     BAD_BITS, BAD_TAIL, REMOVE_LENGTH, BITS_AND_KIND, KIND_AND_LENGTH, LENGTH_AND_TAIL, TAIL_THEN_BITS, ONE_BROKEN,
-    TWO_BROKEN, SAME_AND_BROKEN, FAULTS
+    TWO_BROKEN, SAME_AND_BROKEN, NONE_TO_TAKE, KEPT_REMOVE, LATER_LINK, ROUND_REUSE, NONE_AND_VERSION, FULL_AND_VERSION,
+    NONE_AND_NO_LIVE, LIVE_N, LIVE_ABOVE, FAULTS
 };
 
 /* the slot that recovery names */
@@ -1009,7 +1182,7 @@ static const struct directed {
     {IN_RECOVER, 24, TAIL_THEN_BITS, 0, 0},
     {IN_RECOVER, 7, SAME_VERSION, 0, 0},
     {IN_RECOVER, DONE, ONE_BROKEN, 0, 0},
-    {IN_RECOVER, 25, TWO_BROKEN, 0, 0},
+    {IN_RECOVER, DONE, TWO_BROKEN, 0, 0},
     {IN_RECOVER, 7, SAME_AND_BROKEN, 0, 0},
     {IN_RECOVER, 8, ALL_LIVE, 0, 0},
     {IN_CHANGE | IN_GET | IN_LOCATE, DONE, SOUND, 7, 33},
@@ -1037,8 +1210,26 @@ static const struct directed {
     {IN_REPLACE, 21, NO_FIRST, 10, 5},
     {IN_REPLACE, 21, NO_LAST, 9, 5},
     {IN_REPLACE, 21, FIRST_NEXT, 9, 5},
-    {IN_INSERT, 12, FULL, 9, 5},
+    {IN_INSERT, 28, FULL, 9, 5},
     {IN_REPLACE, DONE, FULL, 7, 5},
+    {IN_REPLACE, 28, LIVE_N, 7, 5},
+    {IN_REMOVE, DONE, LIVE_N, 7, 0},
+    {IN_CHANGE, 28, LIVE_ABOVE, 7, 5},
+    {IN_INSERT, 28, NONE_TO_TAKE, 10, 5},
+    {IN_CHANGE, 28, NONE_TO_TAKE, 7, 5},
+    {IN_INSERT, 28, KEPT_REMOVE, 10, 5},
+    {IN_CHANGE, 28, KEPT_REMOVE, 7, 5},
+    {IN_INSERT, 11, LATER_LINK, 10, 5},
+    {IN_CHANGE, 11, LATER_LINK, 7, 5},
+    {IN_INSERT, 11, ROUND_REUSE, 10, 5},
+    {IN_CHANGE, 11, ROUND_REUSE, 7, 5},
+    {IN_INSERT, 28, NONE_AND_VERSION, 10, 5},
+    {IN_CHANGE, 28, NONE_AND_VERSION, 7, 5},
+    {IN_INSERT, 28, FULL_AND_VERSION, 10, 5},
+    {IN_REMOVE, 11, NONE_AND_NO_LIVE, 7, 0},
+    {IN_REMOVE, ABSENT, NONE_TO_TAKE, 10, 0},
+    {IN_INSERT, 20, NONE_TO_TAKE, 7, 5},
+    {IN_REPLACE, 21, NONE_TO_TAKE, 10, 5},
     {IN_INSERT, 9, LAST_VERSION, 10, 5},
     {IN_CHANGE, 9, LAST_VERSION, 7, 5},
     {IN_REMOVE, ABSENT, LAST_VERSION, 10, 0},
@@ -1068,7 +1259,8 @@ static const struct directed {
     {IN_WRITE, 10, SOUND, 11, 81},
     {IN_INSERT, 20, SOUND, 11, 5},
     {IN_REPLACE, 21, SOUND, 14, 5},
-    {IN_INSERT, 12, FULL, 14, 5},
+    {IN_INSERT, 28, FULL, 14, 5},
+    {IN_CHANGE, 28, NONE_TO_TAKE, 11, 5},
     {IN_INSERT, 9, LAST_VERSION, 14, 5},
     {IN_CHANGE, 9, LAST_VERSION, 11, 5},
     {IN_INSERT, 11, NO_FIRST, 14, 5},
@@ -1095,7 +1287,15 @@ static const struct directed {
     {IN_NEW, 19, FULL, 10, 0},
     {IN_NEW, 19, LAST_VERSION, 10, 0},
     {IN_NEW, 19, NO_FIRST, 10, 0},
-    {IN_NEW, 12, FULL, 9, 1},
+    {IN_NEW, 28, FULL, 9, 1},
+    {IN_NEW, 28, NONE_TO_TAKE, 10, 1},
+    {IN_NEW, 11, LATER_LINK, 10, 1},
+    {IN_NEW, 28, NONE_AND_VERSION, 10, 1},
+    {IN_STEP, 28, NONE_TO_TAKE, 11, 59},
+    {IN_STEP, 28, KEPT_REMOVE, 11, 60},
+    {IN_STEP, 11, LATER_LINK, 11, 59},
+    {IN_STEP, 28, NONE_AND_VERSION, 11, 60},
+    {IN_ACKNOWLEDGE, ALREADY, NONE_TO_TAKE, 12, 0},
     {IN_NEW, 9, LAST_VERSION, 10, 1},
     {IN_NEW, 11, NO_FIRST, 10, 1},
     {IN_NEW, 11, NO_LAST, 10, 1},
@@ -1161,10 +1361,29 @@ static void set_tail(uint8_t *image) {
     image[128 + (below(2) ? 24 + 20 + below(12) : 72 + below(48))] = (uint8_t)(1 + below(255));
 }
 
+/* bits above bit 23, or a number of 1 or over 8 */
+static uint64_t bad_bits(void) {
+    return below(2) ? 1ull << (24 + below(40)) : (below(4) ? 9 + below(247) : 1) << 16;
+}
+
+/* The reuse chain has slots 5 and 6. Two remove records of one basket there, above all others: neither may be taken. */
+static void none_to_take(uint8_t *image) {
+    for (uint32_t slot = 5; slot <= 6; slot++)
+        set_record(image, slot, 2, 4 + slot, 5, 0), set_number(image, slot, 2);
+}
+
+/* It has slot 5 alone: a remove record of key 8, which slot 2 has an older record of; and slot 6 is above it. */
+static void kept_remove(struct set *s) {
+    set_record(s->model_image, 5, 2, 8, 5, 0);
+    set_record(s->model_image, 6, 1, 13, 6, 5);
+    s->model.next[5] = 0;
+    s->model.state.last = 5;
+}
+
 static void plant(struct set *s, enum fault fault) {
     struct m_index *index = &s->model;
     uint8_t *image = s->model_image;
-    const uint64_t bits = 1ull << (16 + below(48));
+    const uint64_t bits = bad_bits();
     switch (fault) {
     case UNFORMATTED: m_set_word(image, 0, 0); break;
     case BAD_HEADER: m_set_word(image, 1 + below(7), 2); break;
@@ -1200,6 +1419,15 @@ static void plant(struct set *s, enum fault fault) {
     case ONE_BROKEN: break_slot(image, 1 + (uint32_t)below(6), (int)below(2)); break;
     case TWO_BROKEN: break_slot(image, 1 + (uint32_t)below(3), (int)below(2)), break_slot(image, 4, 0); break;
     case SAME_AND_BROKEN: set_record(image, 5, 1, 9, 2, 5), break_slot(image, 3, 0), break_slot(image, 6, 1); break;
+    case NONE_TO_TAKE: none_to_take(image); break;
+    case KEPT_REMOVE: kept_remove(s); break;
+    case LATER_LINK: none_to_take(image), index->next[6] = 7 + (uint32_t)below(1000); break;
+    case ROUND_REUSE: none_to_take(image), index->next[6] = 5; break;
+    case NONE_AND_VERSION: none_to_take(image), index->state.version = 1ull << 63; break;
+    case FULL_AND_VERSION: index->state.live = 5, index->state.version = 1ull << 63; break;
+    case NONE_AND_NO_LIVE: none_to_take(image), index->state.live = 0; break;
+    case LIVE_N: index->state.live = 6; break;
+    case LIVE_ABOVE: index->state.live = 7 + (uint32_t)below(UINT32_MAX - 6u); break;
     case TAIL_THEN_BITS: set_tail(image), set_kind_word(image, 3, 81, bits); break;
     default: break;
     }
@@ -1311,9 +1539,100 @@ static void directed_lines(void) {
     close_set(s);
 }
 
+/* ---- directed cases of recovery: records that share versions, broken and void slots, in a set of 12 slots */
+
+struct group {
+    uint64_t version;
+    uint32_t number, records;
+};
+
+/* The records take the slots from 1 on, each a put of a key of its own, and broken slots follow; voids: opening stores. */
+static const struct group_case {
+    struct group group[3];
+    uint32_t broken, answer, voids, live;
+} group_cases[] = {
+    {{{5, 8, 8}}, 0, DONE, 0, 8},
+    {{{5, 8, 8}, {6, 0, 1}}, 3, DONE, 0, 9},
+    {{{5, 2, 2}, {6, 3, 3}, {7, 0, 1}}, 0, DONE, 0, 6},
+    {{{5, 2, 1}}, 0, DONE, 1, 0},
+    {{{5, 8, 7}}, 0, DONE, 7, 0},
+    {{{5, 8, 7}}, 1, DONE, 7, 0},
+    {{{5, 8, 7}}, 2, 25, 0, 0},
+    {{{5, 0, 1}}, 8, DONE, 0, 1},
+    {{{5, 0, 1}}, 9, 25, 0, 0},
+    {{{6, 5, 4}, {5, 6, 4}}, 0, DONE, 8, 0},
+    {{{6, 5, 4}, {5, 6, 5}}, 0, 25, 0, 0},
+    {{{6, 5, 4}, {5, 6, 4}, {4, 7, 1}}, 0, 25, 0, 0},
+    {{{6, 3, 2}, {5, 0, 1}, {4, 2, 1}}, 0, DONE, 2, 2},
+    {{{6, 3, 2}, {5, 4, 4}, {4, 2, 1}}, 0, DONE, 2, 5},
+    {{{6, 3, 2}, {7, 0, 1}}, 0, DONE, 0, 3},
+    {{{7, 3, 2}, {6, 2, 1}, {5, 4, 3}}, 2, DONE, 6, 0},
+    {{{INT64_MAX, 3, 2}}, 0, DONE, 2, 0},
+    {{{5, 2, 3}}, 0, 7, 0, 0},
+    {{{5, 0, 2}}, 0, 7, 0, 0},
+    {{{5, 8, 9}}, 0, 7, 0, 0},
+    {{{5, 2, 1}, {5, 3, 1}}, 0, 7, 0, 0},
+    {{{5, 0, 1}, {5, 2, 1}}, 0, 7, 0, 0},
+    {{{5, 2, 1}, {5, 3, 2}, {6, 0, 1}}, 0, 7, 0, 0},
+    {{{5, 0, 2}}, 9, 7, 0, 0},
+    {{{5, 8, 8}, {6, 4, 4}}, 0, 8, 0, 0},
+    {{{5, 8, 8}, {4, 4, 3}, {6, 2, 1}}, 0, DONE, 1, 11},
+    {{{5, 1, 1}}, 0, 6, 0, 0},
+    {{{5, 9, 1}}, 9, 6, 0, 0},
+};
+
+static void set_groups(uint8_t *image, const struct group_case *c) {
+    uint32_t slot = 1;
+    for (size_t g = 0; g < 3; g++)
+        for (uint32_t k = 0; k < c->group[g].records; k++, slot++) {
+            set_record(image, slot, 1, 100 + slot, c->group[g].version, below(81));
+            set_number(image, slot, c->group[g].number);
+        }
+    for (uint32_t k = 0; k < c->broken; k++)
+        break_slot(image, slot + k, (int)below(2));
+}
+
+static void directed_group(const struct group_case *c) {
+    struct set *s = open_set(ORDERSET_IMAGE_BYTES(12), 5, 13);
+    lend_garbage(s);
+    m_format(s->model_image, s->length);
+    set_groups(s->model_image, c);
+    lend_same(s);
+    now = s;
+    same_number("a directed case of recovery", (uint64_t)try_recover(s), c->answer);
+    if (c->answer == DONE) {
+        same_number("a directed case's opening stores", s->count[0], c->voids);
+        same_number("a directed case's live count", s->state[ORDERSET_LIVE], c->live);
+    }
+    close_set(s);
+}
+
+/* A basket that has a key twice: in any two of its records. */
+static void directed_twice(uint32_t number) {
+    struct set *s = open_set(ORDERSET_IMAGE_BYTES(12), 5, 13);
+    const struct group_case c = {{{5, number, number}}, 0, 7, 0, 0};
+    uint32_t i = 1 + (uint32_t)below(number), j = 1 + (i + (uint32_t)below(number - 1)) % number;
+    lend_garbage(s);
+    m_format(s->model_image, s->length);
+    set_groups(s->model_image, &c);
+    m_set_word(s->model_image, 16 * (size_t)i + 1, m_word(s->model_image, 16 * (size_t)j + 1));
+    lend_same(s);
+    now = s;
+    same_number("recovery of a basket with a key twice", (uint64_t)try_recover(s), 7);
+    close_set(s);
+}
+
+static void directed_groups(void) {
+    for (size_t i = 0; i < sizeof group_cases / sizeof *group_cases; i++)
+        directed_group(&group_cases[i]);
+    for (uint32_t number = 2; number <= 8; number++)
+        directed_twice(number);
+}
+
 static void all_directed(void) {
     phase = "directed cases";
     directed_lines();
+    directed_groups();
     for (size_t i = 0; i < sizeof cases / sizeof *cases; i++)
         for (unsigned which = 0; which < WHICH; which++)
             if (cases[i].calls >> which & 1)
@@ -1334,15 +1653,15 @@ static uint64_t least_met(uint64_t times[WHICH][ANSWERS], const char *const rule
 static const char *const answers[WHICH] = {
     [FORMAT] = "0 1",
     [RECOVER] = "0 1 2 3 4 5 6 7 8 22 23 24 25",
-    [INSERT] = "0 1 2 3 4 9 10 11 12 20",
-    [REPLACE] = "0 1 2 3 4 9 10 11 21",
-    [REMOVE] = "0 100 1 2 3 4 9 11",
+    [INSERT] = "0 1 2 3 4 9 10 11 20 28",
+    [REPLACE] = "0 1 2 3 4 9 10 11 21 28",
+    [REMOVE] = "0 100 1 2 3 4 9 11 28",
     [GET] = "0 100 1 2 3 4 11 13 23",
     [LOCATE] = "0 100 1 2 3 4 11",
-    [NEW] = "0 1 2 3 4 9 11 12 17 19",
-    [ACKNOWLEDGE] = "0 101 1 2 3 4 9 11 18",
-    [FILL] = "0 1 2 3 4 9 11 18 19",
-    [WITHDRAW] = "0 1 2 3 4 9 11 18",
+    [NEW] = "0 1 2 3 4 9 11 17 19 28",
+    [ACKNOWLEDGE] = "0 101 1 2 3 4 9 11 18 28",
+    [FILL] = "0 1 2 3 4 9 11 18 19 28",
+    [WITHDRAW] = "0 1 2 3 4 9 11 18 28",
     [PLAY] = "0 1 14 15",
     [PLAY_LIST] = "0 15",
     [LINE_WHOLE] = "0 33",
@@ -1353,7 +1672,7 @@ static const char *const answers[WHICH] = {
 
 /* those that come with the slots compared */
 static const char *const far_answers[WHICH] = {
-    [INSERT] = "0 9 11 12 20", [REPLACE] = "0 9 11 21", [REMOVE] = "0 100 9 11",
+    [INSERT] = "0 9 11 20 28", [REPLACE] = "0 9 11 21 28", [REMOVE] = "0 100 9 11 28",
     [GET] = "0 100 13 23",     [LOCATE] = "0 100",
 };
 
@@ -1399,8 +1718,9 @@ int main(int count, char **word) {
     least = least_met(met, answers);
     far_least = least_met(far_met, far_answers);
     printf("%" PRIu64 " calls, %" PRIu64 " of them struck with all 81 pairs of counts, %" PRIu64
-           " questions about lines, each answer of the rules at least %" PRIu64
-           " times, %" PRIu64 " with 2 or more slots compared, up to %" PRIu64 ": no difference (%.0f s)\n",
-           calls, strikes, queries, least, far_least, longest, seconds());
-    return least == 0 || far_least == 0;
+           " questions about lines, %" PRIu64 " baskets and %" PRIu64 " that a cut struck, %" PRIu64
+           " opening stores, each answer of the rules at least %" PRIu64 " times, %" PRIu64
+           " with 2 or more slots compared, up to %" PRIu64 ": no difference (%.0f s)\n",
+           calls, strikes, queries, baskets, half_baskets, openings, least, far_least, longest, seconds());
+    return least == 0 || far_least == 0 || baskets == 0 || half_baskets == 0 || openings == 0;
 }

@@ -29,12 +29,13 @@ static const char *const name[WHICH] = {"format",      "recover",      "insert",
                                         "acknowledge", "fill",         "withdraw",   "get",      "locate", "play",
                                         "play_list",   "line_whole",   "line_version", "line_first", "line_last"};
 
-static uint64_t calls, already, answers[WHICH][2]; /* [0] not refused, [1] refused; already: second acknowledges */
+static uint64_t calls, already, opened; /* second acknowledges, stores that open void slots */
+static uint64_t answers[WHICH][2];      /* [0] not refused, [1] refused */
 static enum which call;
 
 /* ---- pieces of memory */
 
-enum what { IMAGE, HEADS, NEXT, STATE, VERSION, BYTES, OUTPUT, AT, VALUE, ANSWER, PIECES };
+enum what { IMAGE, HEADS, NEXT, STATE, VERSION, BYTES, OUTPUT, AT, VALUE, ANSWER, COUNT, OPEN_AT, OPEN_VALUE, PIECES };
 
 static struct piece {
     const char *name;
@@ -53,6 +54,9 @@ static struct piece {
     {"at", PAGE, NULL, NULL, NULL, 0, 0},
     {"value", PAGE, NULL, NULL, NULL, 0, 0},
     {"answer", PAGE, NULL, NULL, NULL, 0, 0},
+    {"count", PAGE, NULL, NULL, NULL, 0, 0},
+    {"the opening stores' words", PAGE, NULL, NULL, NULL, 0, 0},
+    {"the opening stores' values", PAGE, NULL, NULL, NULL, 0, 0},
 };
 
 static void __attribute__((format(printf, 1, 2))) show(const char *what, ...) {
@@ -178,12 +182,34 @@ static void call_format(void) {
     end(orderset_format(w(IMAGE), piece[IMAGE].length, w(ANSWER)), writable);
 }
 
+/* The stores that recovery hands out open line A of a slot each, by rising slot; those past them are zero. */
+static void openings_are_sound(void) {
+    const uint32_t *at = w(OPEN_AT), count = *(uint32_t *)w(COUNT);
+    const uint64_t *value = w(OPEN_VALUE);
+    for (uint32_t i = 0; i < ORDERSET_OPENINGS; i++)
+        if (i < count ? at[i] % 16 || at[i] == 0 || at[i] >= piece[IMAGE].length / 8 || (i && at[i] <= at[i - 1])
+                            || value[i] > 1
+                      : at[i] || value[i]) {
+            show("opening store %" PRIu32 " of %" PRIu32 ": word %" PRIu32 ", value %" PRIu64, i, count, at[i],
+                 value[i]);
+            exit(1);
+        }
+}
+
 static void call_recover(void) {
-    static const enum what writable[] = {HEADS, NEXT, STATE, VERSION, PIECES};
+    static const enum what writable[] = {HEADS, NEXT, STATE, VERSION, COUNT, OPEN_AT, OPEN_VALUE, PIECES};
     begin(RECOVER, writable);
-    end(orderset_recover(r(IMAGE), piece[IMAGE].length, w(HEADS), heads_length, w(NEXT), next_length, w(STATE),
-                         w(VERSION)),
-        writable);
+    if (end(orderset_recover(r(IMAGE), piece[IMAGE].length, w(HEADS), heads_length, w(NEXT), next_length, w(STATE),
+                             w(VERSION), w(COUNT), w(OPEN_AT), w(OPEN_VALUE)),
+            writable))
+        return;
+    openings_are_sound();
+    opened += *(uint32_t *)w(COUNT);
+    if (below(8) && orderset_play_list(w(IMAGE), piece[IMAGE].length, r(OPEN_AT), *(uint32_t *)w(COUNT), r(OPEN_VALUE),
+                                       *(uint32_t *)w(COUNT))) {
+        show("the opening stores are not played");
+        exit(1);
+    }
 }
 
 static void call_play(size_t a, size_t b) {
@@ -294,9 +320,10 @@ static size_t any_length(uint32_t n) {
 }
 
 static void any_index(void) {
-    struct m_index index = {w(HEADS), heads_length, w(NEXT), next_length, {0, 0, 0, 0}};
+    struct m_index index = {w(HEADS), heads_length, w(NEXT), next_length, {0, 0, 0, 0, 0}};
     garbage_index(&index, slots);
-    memcpy(w(STATE), &index.state, 12);
+    memcpy(w(STATE), (const uint32_t[]){index.state.first, index.state.last, index.state.live, index.state.newest},
+           4 * ORDERSET_STATE);
     memcpy(w(VERSION), &index.state.version, 8);
 }
 
@@ -312,7 +339,7 @@ static uint64_t make_set(void) {
     next_length = n + 1 - (below(60) == 0) + (below(60) == 0);
     place(HEADS, 4 * heads_length);
     place(NEXT, 4 * next_length);
-    place(STATE, 12);
+    place(STATE, 4 * ORDERSET_STATE);
     place(VERSION, 8);
     if (slots == 0 || below(12) == 0)
         fill(w(IMAGE), piece[IMAGE].length);
@@ -359,6 +386,9 @@ static void lend_for_one_call(void) {
     place(AT, 4 * ORDERSET_STORES);
     place(VALUE, 8 * ORDERSET_STORES);
     place(ANSWER, 8 * answer_length());
+    place(COUNT, 4);
+    place(OPEN_AT, 4 * ORDERSET_OPENINGS);
+    place(OPEN_VALUE, 8 * ORDERSET_OPENINGS);
     place(BYTES, any_size());
     if (call >= LINE_WHOLE)
         place_line();
@@ -368,6 +398,9 @@ static void lend_for_one_call(void) {
     fill(w(ANSWER), piece[ANSWER].length);
     fill(w(BYTES), piece[BYTES].length);
     fill(w(OUTPUT), piece[OUTPUT].length);
+    fill(w(COUNT), piece[COUNT].length);
+    fill(w(OPEN_AT), piece[OPEN_AT].length);
+    fill(w(OPEN_VALUE), piece[OPEN_VALUE].length);
 }
 
 static void any_call(uint64_t keys) {
@@ -396,7 +429,7 @@ static int all_met(void) {
     for (int i = 0; i < WHICH; i++)
         if (answers[i][0] == 0 || answers[i][1] == 0)
             return 0;
-    return already > 0;
+    return already > 0 && opened > 0;
 }
 
 int main(int count, char **word) {
@@ -405,16 +438,19 @@ int main(int count, char **word) {
     make_pieces();
     while (calls < wanted) {
         uint64_t keys = make_set();
-        if (below(4))
+        if (below(4)) {
+            lend_for_one_call();
             call_recover();
+        }
         for (int k = 0; k < 16; k++)
             any_call(keys);
     }
     for (int i = 0; i < WHICH; i++)
         refused += answers[i][1];
-    printf("%" PRIu64 " calls, %" PRIu64 " of them refused: no fault, nothing changed that may not be (%.0f s)\n",
-           calls, refused, seconds());
+    printf("%" PRIu64 " calls, %" PRIu64 " of them refused, %" PRIu64
+           " opening stores: no fault, nothing changed that may not be (%.0f s)\n",
+           calls, refused, opened, seconds());
     if (!all_met())
-        printf("a function was always refused, or never, or no order was acknowledged twice\n");
+        printf("a function was always refused, or never, or no order was acknowledged twice, or no slot was void\n");
     return !all_met();
 }

@@ -1,7 +1,7 @@
 // The headers in C++: an image is made durable, a value is inserted, made durable, found, replaced, found, removed and
 // not found; an insert of a held key, a replace of one that is not held and a value that is too long are refused and
 // store nothing; the slots compared are read from answers and from refusals; an order is sent, acknowledged,
-// acknowledged again and filled. Before the stores of a call are made, and after that, its lines are asked about.
+// acknowledged again and filled; a record of a basket that a cut left is opened. Before the stores of a call are made, and after that, its lines are asked about.
 #include <cstdio>
 #include <cstring>
 #include <vector>
@@ -14,17 +14,33 @@ namespace {
 const uint32_t slots = 4;
 alignas(64) uint8_t image[ORDERSET_IMAGE_BYTES(slots)];
 std::vector<uint32_t> heads(3), next(ORDERSET_NEXT_LENGTH(slots));
-uint32_t state[ORDERSET_STATE], at[ORDERSET_STORES];
+uint32_t state[ORDERSET_STATE], at[ORDERSET_STORES], count[1], open_at[ORDERSET_OPENINGS];
+uint64_t open_value[ORDERSET_OPENINGS];
 uint64_t version[1], value[ORDERSET_STORES], answer[ORDERSET_CHANGE_ANSWER], found[ORDERSET_ANSWER];
 uint8_t out[ORDERSET_VALUE_MAX];
 const enum orderset_flush best = orderset_best_flush();
 
+// The stores that recovery hands out are made durable before any other call.
+bool recover(uint32_t voids) {
+    return orderset_recover(image, sizeof image, heads.data(), heads.size(), next.data(), next.size(), state, version,
+                            count, open_at, open_value)
+               == ORDERSET_OK
+           && count[0] == voids
+           && orderset_persist_list(image, sizeof image, open_at, open_value, count[0], best) == 0;
+}
+
 bool start() {
     return orderset_format(image, sizeof image, found) == ORDERSET_OK && found[ORDERSET_SLOTS] == slots
-           && orderset_aligned(image) && orderset_persist_image(image, sizeof image, best) == 0
-           && orderset_recover(image, sizeof image, heads.data(), heads.size(), next.data(), next.size(), state,
-                               version)
-                  == ORDERSET_OK;
+           && orderset_aligned(image) && orderset_persist_image(image, sizeof image, best) == 0 && recover(0);
+}
+
+// Key 20 was to be inserted by a basket of two, of which one record stands, in slot 1: nothing of it is held.
+bool opens_void() {
+    const uint64_t line_a[] = {0, 20, 1 + (2 << 16), 0, 0, 0, 0, 2}, line_b[] = {0, 0, 0, 0, 0, 0, 0, 2};
+    std::memcpy(image + ORDERSET_SLOT_BYTES, line_a, sizeof line_a);
+    std::memcpy(image + ORDERSET_SLOT_BYTES + ORDERSET_LINE_BYTES, line_b, sizeof line_b);
+    return recover(1) && open_at[0] == 16 && open_value[0] == 1 && state[ORDERSET_LIVE] == 0 && recover(0)
+           && state[ORDERSET_LIVE] == 0;
 }
 
 // The stores are made only where the call was accepted and handed some out.
@@ -136,7 +152,7 @@ bool keeps_book(uint64_t key) {
 }
 
 int main() {
-    const bool good = start() && made_durable(insert(7, "buy", 3)) && finds(7, "buy") && refused_stores_nothing("buy")
+    const bool good = start() && opens_void() && start() && made_durable(insert(7, "buy", 3)) && finds(7, "buy") && refused_stores_nothing("buy")
                       && replace(7, "sell", 4) == ORDERSET_OK && lines_foretell() && made_durable(ORDERSET_OK)
                       && lines_tell() && finds(7, "sell") && refused_stores_nothing("sell")
                       && counts_slots() && made_durable(drop(7)) && finds(7, nullptr) && drop(7) == ORDERSET_OK

@@ -58,13 +58,17 @@ static uint64_t key_of(uint64_t kind, uint64_t step, uint64_t i) {
 }
 
 static void make_image(uint64_t step) {
-    uint64_t kind = below(3);
+    uint32_t voids[1], open_at[ORDERSET_OPENINGS];
+    uint64_t kind = below(3), open_value[ORDERSET_OPENINGS];
     n = (uint32_t)spread(ORDERSET_SLOTS_MIN, MAX_N);
     length = ORDERSET_IMAGE_BYTES(n);
     count = 0;
     fill(bytes, sizeof bytes);
     expect(orderset_format(image, length, answer) == ORDERSET_OK, "format");
-    expect(orderset_recover(image, length, heads, OWN_HEADS, next, n + 1, state, version) == ORDERSET_OK, "recover");
+    expect(orderset_recover(image, length, heads, OWN_HEADS, next, n + 1, state, version, voids, open_at, open_value)
+                   == ORDERSET_OK
+               && voids[0] == 0,
+           "recover");
     for (uint64_t i = below(8) ? below(n) : n - 1; i > 0; i--)
         insert(key_of(kind, step, i));
     for (uint64_t i = below(2) * below(n); count && i > 0; i--)

@@ -32,6 +32,10 @@ void order_bytes(uint8_t bytes[24]) {
     m_set_word(bytes, 2, filled);
 }
 
+void set_number(uint8_t *image, uint32_t slot, unsigned number) {
+    image[128 * (size_t)slot + 18] = (uint8_t)number;
+}
+
 uint64_t any_key(uint64_t keys) {
     return below(keys) * (below(2) ? 1 : 65536);
 }
@@ -49,9 +53,40 @@ static uint32_t *any_order(uint32_t n) {
     return rank;
 }
 
+/* The slot with the highest version among those that are not in a basket, 0 if there is none. */
+static uint32_t newest_single(const uint8_t *image, uint32_t n, const uint8_t *in_basket) {
+    uint32_t newest = 0;
+    uint64_t highest = 0;
+    for (uint32_t i = 1; i <= n; i++) {
+        uint64_t stamp = m_word(image, 16 * (size_t)i + 7);
+        if (!in_basket[i] && stamp / 2 > highest)
+            highest = stamp / 2, newest = i;
+    }
+    return newest;
+}
+
+/* A basket in some slots, whole or with records missing, with the version of one of them: mostly the highest that no basket has. Mostly its keys differ. */
+static void add_basket(uint8_t *image, uint32_t n, uint64_t keys, uint8_t *in_basket) {
+    uint32_t number = 2 + (uint32_t)below(7), count = below(2) ? number : 1 + (uint32_t)below(number),
+             slot = below(4) ? newest_single(image, n, in_basket) : 1 + (uint32_t)below(n);
+    uint64_t key = any_key(keys), version = m_word(image, 16 * (size_t)slot + 7) / 2;
+    for (uint32_t tries = 0; slot && version && count > 0 && tries < 40; tries++) {
+        if (!in_basket[slot]) {
+            set_record(image, slot, below(3) ? 1 : 2, key, version, 0);
+            if (image[128 * (size_t)slot + 16] == 1)
+                set_record(image, slot, 1, key, version, below(81));
+            set_number(image, slot, number);
+            in_basket[slot] = 1;
+            key += below(40) > 0;
+            count--;
+        }
+        slot = 1 + (uint32_t)below(n);
+    }
+}
+
 void any_image(uint8_t *image, uint32_t n, uint64_t keys) {
     uint64_t gap = below(2) ? 1 : 1 + below((1ull << 62) / (n + 1)), spares = below(4);
-    uint32_t breaks = below(8) ? 1 : n; /* how many slots may be broken: mostly one, as a cut leaves it */
+    uint32_t breaks = below(8) ? (uint32_t)below(9) : n; /* how many slots may be broken: mostly as a cut leaves them */
     uint64_t base = below(4) ? gap * below(3) : (1ull << 63) - 1 - gap * n - below(3);
     uint32_t *rank = any_order(n);
     m_format(image, 128 * (n + 1ul));
@@ -73,12 +108,18 @@ void any_image(uint8_t *image, uint32_t n, uint64_t keys) {
             breaks--, m_set_word(slot, below(2) ? 7 : 15, 2 * below(gap * n) + below(2));
     }
     free(rank);
+    uint8_t *in_basket = calloc(n + 1ul, 1);
+    if (!in_basket)
+        abort();
+    for (uint64_t k = below(2) * below(4); k > 0; k--)
+        add_basket(image, n, keys, in_basket);
+    free(in_basket);
 }
 
 void damage(uint8_t *image, uint32_t n) {
     uint32_t i = 1 + (uint32_t)below(n), j = 1 + (uint32_t)below(n);
     uint8_t *slot = image + 128 * (size_t)i, *other = image + 128 * (size_t)j;
-    switch (below(10)) {
+    switch (below(12)) {
     case 0: m_set_word(image, below(8), below(3)); break;
     case 1: m_set_word(slot, below(2) * 8, below(2) ? 2 : chance()); break;
     case 2: m_set_word(slot, 2, below(4) + 256 * below(84) + (below(4) ? 0 : 1ull << (16 + below(48)))); break;
@@ -92,6 +133,8 @@ void damage(uint8_t *image, uint32_t n) {
         memcpy(slot + 56, other + 56, 8), memcpy(slot + 120, other + 120, 8), memcpy(slot, other, 8),
             memcpy(slot + 64, other + 64, 8);
         break;
+    case 10: set_number(image, i, (unsigned)below(below(2) ? 10 : 256)); break;
+    case 11: set_number(image, i, other[18]); break;
     }
 }
 
@@ -112,6 +155,7 @@ void garbage_index(struct m_index *index, uint32_t n) {
     index->state.first = any_link(slots, 8);
     index->state.last = any_link(slots, 8);
     index->state.live = any_link(slots, 8);
+    index->state.newest = any_link(slots, 8);
     index->state.version = below(2) ? 1 + below(1000) : versions[below(sizeof versions / sizeof *versions)];
 }
 

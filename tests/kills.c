@@ -2,7 +2,8 @@
  * commands left it, the command that was under way is there wholly or not at all, and nothing else is. Twice: with the
  * gateway as it is, on the disk of this machine; and with the gateway on the simulated disk of disk.c, where syncs fail
  * and power cuts strike too. A cut leaves in the file what was synced, and of what was not each line keeps some number
- * of its words, counted from the first.
+ * of its words, counted from the first. Between two runs the test writes some stores of a basket to the file, as a cut
+ * leaves them: nothing of it may ever be there.
  *
  *     kills GATEWAY GATEWAY_ON_DISK FILE [SEED]
  */
@@ -16,13 +17,15 @@
 
 #include "chance.h"
 #include "child.h"
+#include "model.h"
 #include "orderset.h"
 
-enum { KILLS = 200, STRIKES = 400, SLOTS = 12, KEYS = 15, BATCH = 40, TEXT = 80, PATH = 1024 };
+enum { KILLS = 200, STRIKES = 400, SLOTS = 12, KEYS = 15, BATCH = 40, TEXT = 80, PATH = 1024, BASKET = 4 };
 
 static const char *gateway, *file;
 static char shadow[PATH], log_file[PATH];
 static uint64_t stored, cuts, kills, failures, unanswered, in_start; /* stored: changes that were answered */
+static uint64_t baskets;                                             /* that a cut struck */
 static int failing; /* the syncs of this run will fail */
 
 /* ---- the orders by what was answered, and the commands of one run */
@@ -66,7 +69,7 @@ static int carry_out(const struct command *c, struct order *o) {
         if (c->quantity == 0 || (c->kind == FILL && c->quantity > open))
             return 19;
     if (c->kind == NEW && held() + 1 >= SLOTS)
-        return 12;
+        return 28;
     if (c->kind == NEW)
         *o = (struct order){ORDERSET_SENT, c->quantity, 0};
     else if (c->kind == ACKNOWLEDGE)
@@ -242,6 +245,41 @@ static void write_all(const char *path, const uint64_t *words, size_t length) {
     close(out);
 }
 
+/* Some stores on each line of a basket's records, and not all. */
+static void make_some(uint64_t *words, const struct m_store *store, uint32_t count) {
+    const uint64_t open = below(2 * count); /* this line has not all its stores */
+    for (uint64_t line = 0; line < 2 * count; line++) {
+        uint64_t made = line == open ? below(8) : below(2) ? 8 : below(9);
+        for (uint64_t i = 8 * line; i < 8 * line + made; i++)
+            words[store[i].at] = store[i].value;
+    }
+}
+
+/* What a cut leaves of a basket of orders, where the image has no void slot and there is room for it. */
+static void half_basket(uint64_t *words, size_t length) {
+    uint32_t heads[1], next[SLOTS + 1], count = 2 + (uint32_t)below(BASKET - 1), first = (uint32_t)below(KEYS);
+    struct m_index index = {heads, 1, next, SLOTS + 1, {0, 0, 0, 0, 0}};
+    struct m_record record[BASKET];
+    struct m_store store[16 * BASKET];
+    uint8_t order[ORDERSET_ORDER_BYTES] = {ORDERSET_SENT, [8] = 200, [16] = 100};
+    const uint8_t *image = (const uint8_t *)words;
+    struct m_recovered recovered = m_recover(image, length, &index);
+    expect(recovered.refusal == 0, "recovery takes the file; refusal %d", recovered.refusal);
+    for (uint32_t i = 0; i < count; i++)
+        record[i] = (struct m_record){1, number_of((int)((first + i) % KEYS)), order, sizeof order};
+    if (recovered.count || m_basket_stores(image, length, &index, record, count, store))
+        return;
+    make_some(words, store, count);
+    baskets++;
+}
+
+static void half_basket_in_file(void) {
+    static uint64_t seen[16 * (SLOTS + 1)];
+    read_all(file, seen, sizeof seen);
+    half_basket(seen, sizeof seen);
+    write_all(file, seen, sizeof seen);
+}
+
 /* The disk writes some of what it had not written yet; and in a power cut the rest is gone. */
 static void disk_writes(int cut) {
     static uint64_t seen[16 * (SLOTS + 1)], durable[16 * (SLOTS + 1)];
@@ -249,6 +287,8 @@ static void disk_writes(int cut) {
     read_all(shadow, durable, sizeof durable);
     for (size_t line = 0; line < sizeof seen / 64; line++)
         memcpy(durable + 8 * line, seen + 8 * line, 8 * below(9));
+    if (cut && below(2))
+        half_basket(durable, sizeof durable);
     write_all(shadow, durable, sizeof durable);
     if (cut)
         write_all(file, durable, sizeof durable);
@@ -307,12 +347,16 @@ int main(int count, char **word) {
     gateway = word[1];
     file = word[3];
     make();
-    for (int i = 0; i < KILLS; i++)
+    for (int i = 0; i < KILLS; i++) {
         run_and_kill();
+        if (below(2))
+            half_basket_in_file();
+    }
     expect(finish() == 0, "the last run ends with status 0");
     on_simulated_disk(word[2]);
     printf("%" PRIu64 " kills, %" PRIu64 " cuts and %" PRIu64 " failed syncs, %" PRIu64 " in a start and %" PRIu64
-           " before a command was answered, %" PRIu64 " changes answered: nothing lost (%.0f s)\n",
-           kills, cuts, failures, in_start, unanswered, stored, seconds());
-    return 0;
+           " before a command was answered, %" PRIu64 " baskets that a cut struck, %" PRIu64
+           " changes answered: nothing lost (%.0f s)\n",
+           kills, cuts, failures, in_start, unanswered, baskets, stored, seconds());
+    return baskets == 0;
 }

@@ -1,4 +1,4 @@
-/* The order set of document 01 as document 02 changes it (A.2, A.4, A.5, A.6, A.12), and its order book (A.1), as a plain
+/* The order set of document 01 as document 02 changes it (A.2, A.4 to A.7, A.12), and its order book (A.1), as a plain
  * program. The quotations are their sentences. */
 #include "model.h"
 
@@ -9,10 +9,9 @@
 
 /* "A word is 8 bytes, low byte first" */
 uint64_t m_word(const uint8_t *image, size_t i) {
-    uint64_t w = 0;
-    for (int k = 7; k >= 0; k--)
-        w = w << 8 | image[8 * i + (size_t)k];
-    return w;
+    const uint8_t *b = image + 8 * i;
+    return (uint64_t)b[0] | (uint64_t)b[1] << 8 | (uint64_t)b[2] << 16 | (uint64_t)b[3] << 24 | (uint64_t)b[4] << 32
+           | (uint64_t)b[5] << 40 | (uint64_t)b[6] << 48 | (uint64_t)b[7] << 56;
 }
 
 void m_set_word(uint8_t *image, size_t i, uint64_t value) {
@@ -26,7 +25,8 @@ uint32_t m_slots(size_t length) {
     return length % 128 == 0 && parts >= 3 && parts <= 65536 ? (uint32_t)parts - 1 : 0;
 }
 
-enum kind { BROKEN, EMPTY, PUT, REMOVE, ILL }; /* ILL: valid, with another kind */
+enum kind { BROKEN, EMPTY, PUT, REMOVE, ILL, VOID }; /* ILL: valid, with another kind; VOID: by the other records */
+enum { GROUP = 8 };                                  /* records of a basket, at the most */
 
 /* What a reader of the image sees in one slot. */
 struct slot {
@@ -34,19 +34,20 @@ struct slot {
     int bad_mark;
     int fault; /* of the record of a valid slot: 6, 22, 23 or 24, else 0 */
     uint64_t key, version, highest; /* highest: the highest version on a whole line of it, 0 if none is whole */
+    uint32_t number;                /* "bits 16 to 23 of the kind word hold their number" */
 };
 
 static uint8_t value_byte(const uint8_t *slot, size_t i) {
     return i < 32 ? slot[24 + i] : slot[72 + (i - 32)];
 }
 
-/* "6 keeps only bits above the length byte", "22 when the kind is neither 1 nor 2, 23 when the length is wrong for the kind or over 80, and 24 when a byte past
+/* "Fault 6 now begins above bit 23 or at a number of 1 or over 8", "22 when the kind is neither 1 nor 2, 23 when the length is wrong for the kind or over 80, and 24 when a byte past
  * the length is nonzero; within a slot they follow 6 in that order" */
 static int record_fault(const uint8_t *slot) {
     uint64_t word = m_word(slot, 2);
     unsigned kind = word & 0xff;
-    size_t size = word >> 8 & 0xff;
-    if (word >> 16)
+    size_t size = word >> 8 & 0xff, number = word >> 16 & 0xff;
+    if (word >> 24 || number == 1 || number > GROUP)
         return 6;
     if (kind != 1 && kind != 2)
         return 22;
@@ -81,6 +82,7 @@ static struct slot look(const uint8_t *image, uint32_t s) {
         return seen;
     }
     unsigned kind = m_word(slot, 2) & 0xff;
+    seen.number = m_word(slot, 2) >> 16 & 0xff;
     seen.kind = kind == 1 ? PUT : kind == 2 ? REMOVE : ILL;
     seen.fault = record_fault(slot);
     return seen;
@@ -118,9 +120,11 @@ struct entry {
     uint32_t slot;
 };
 
+/* "should versions tie, by slot number" */
 static int by_version(const void *x, const void *y) {
     const struct entry *a = x, *b = y;
-    return (a->version > b->version) - (a->version < b->version);
+    return a->version != b->version ? (a->version > b->version) - (a->version < b->version)
+                                    : (a->slot > b->slot) - (a->slot < b->slot);
 }
 
 static int by_key(const void *x, const void *y) {
@@ -158,12 +162,12 @@ static uint32_t mark_live(const struct slot *slot, const struct entry *valid, ui
 }
 
 /* "Recovery orders each head's chain by rising version. It orders the reuse chain: broken slots, then empty slots, each by slot number, then the rest by
- * rising version" */
+ * rising version"; "A void slot stands with the broken ones, in the reuse chain" */
 static void build(const struct slot *slot, uint32_t n, const struct entry *valid, uint32_t count, const uint8_t *live, struct m_index *index) {
     struct chain *chain = calloc(index->heads_length, sizeof *chain), reuse = {0, 0};
     index->next[0] = 0;
     for (uint32_t s = 1; s <= n; s++)
-        if (slot[s].kind == BROKEN)
+        if (slot[s].kind == BROKEN || slot[s].kind == VOID)
             join(&reuse, index->next, s);
     for (uint32_t s = 1; s <= n; s++)
         if (slot[s].kind == EMPTY)
@@ -178,11 +182,42 @@ static void build(const struct slot *slot, uint32_t n, const struct entry *valid
 }
 
 static struct m_recovered no(int refusal, uint32_t slot) {
-    return (struct m_recovered){refusal, slot};
+    return (struct m_recovered){.refusal = refusal, .slot = slot};
+}
+
+/* how many records a number says: "0 meaning one" */
+static uint32_t said(uint32_t number) {
+    return number ? number : 1;
+}
+
+/* "Fault 7 is now for sharers of a version whose numbers differ, that are more than their number (0 meaning one), or with a key twice" */
+static int sharers_at_fault(const struct slot *slot, const struct entry *valid, uint32_t count) {
+    for (uint32_t i = 0; i < count; i++)
+        for (uint32_t j = i + 1; j < count && valid[j].version == valid[i].version; j++)
+            if (slot[valid[j].slot].number != slot[valid[i].slot].number || j - i + 1 > said(slot[valid[i].slot].number)
+                || valid[j].key == valid[i].key)
+                return 1;
+    return 0;
+}
+
+/* "The highest version among valid slots is judged by its number: with fewer valid records than it says, all of them are void and the next version down is
+ * judged in turn". Returns how many valid slots are left. */
+static uint32_t judge(struct slot *slot, const struct entry *valid, uint32_t count) {
+    while (count > 0) {
+        uint32_t from = count - 1;
+        while (from > 0 && valid[from - 1].version == valid[count - 1].version)
+            from--;
+        if (count - from >= said(slot[valid[from].slot].number))
+            break;
+        for (uint32_t i = from; i < count; i++)
+            slot[valid[i].slot].kind = VOID;
+        count = from;
+    }
+    return count;
 }
 
 /* "Recovery shall name the lowest slot at fault and what in it" */
-static struct m_recovered recover_slots(const struct slot *slot, uint32_t n, struct entry *valid, uint8_t *live, struct m_index *index) {
+static struct m_recovered recover_slots(struct slot *slot, uint32_t n, struct entry *valid, uint8_t *live, struct m_index *index) {
     uint32_t count = 0;
     uint32_t broken = 0;
     uint64_t highest = 0;
@@ -199,18 +234,28 @@ static struct m_recovered recover_slots(const struct slot *slot, uint32_t n, str
             valid[count++] = (struct entry){slot[s].key, slot[s].version, s};
     }
     qsort(valid, count, sizeof *valid, by_version);
-    for (uint32_t i = 1; i < count; i++)
-        if (valid[i].version == valid[i - 1].version)
-            return no(7, 0);
-    if (broken > 1) /* "25 when more than one slot is broken, after 7 and before 8" */
+    if (sharers_at_fault(slot, valid, count))
+        return no(7, 0);
+    uint32_t left = judge(slot, valid, count), voids = count - left;
+    count = left;
+    if (broken + voids > GROUP) /* "A void slot stands with the broken ones .. in A.6's limit, now eight together" */
         return no(25, 0);
     uint32_t found = mark_live(slot, valid, count, live);
     if (found == n)
         return no(8, 0);
     build(slot, n, valid, count, live, index);
     index->state.live = found;
+    index->state.newest = 0;
     index->state.version = highest + 1;
     return no(0, 0);
+}
+
+/* "one store for each void record, by slot, turning line A's mark against its close bit" */
+static void open_voids(const uint8_t *image, const struct slot *slot, uint32_t n, struct m_recovered *recovered) {
+    for (uint32_t s = 1; s <= n; s++)
+        if (slot[s].kind == VOID)
+            recovered->opening[recovered->count++]
+                = (struct m_store){16 * s, 1 - (m_word(image, 16 * (size_t)s + 7) & 1)};
 }
 
 struct m_recovered m_recover(const uint8_t *image, size_t length, struct m_index *index) {
@@ -224,6 +269,8 @@ struct m_recovered m_recover(const uint8_t *image, size_t length, struct m_index
     for (uint32_t s = 1; s <= n; s++)
         slot[s] = look(image, s);
     recovered = recover_slots(slot, n, valid, live, index);
+    if (!recovered.refusal)
+        open_voids(image, slot, n, &recovered);
     free(slot);
     free(valid);
     free(live);
@@ -255,10 +302,66 @@ static struct walk follow(const uint8_t *image, uint32_t n, const struct m_index
     return (struct walk){.before = before, .compared = passed};
 }
 
-/* "11 when the reuse chain's first or last slot is zero or above N, or the first's next is above N" */
-static int reuse_is_bad(const struct m_index *index, uint32_t n) {
-    uint32_t first = index->state.first, last = index->state.last;
-    return first == 0 || first > n || last == 0 || last > n || index->next[first] > n;
+/* ---- the slots that may be taken */
+
+/* The version of a valid slot, 0 of any other. */
+static uint64_t valid_version(const uint8_t *image, uint32_t s) {
+    const uint8_t *slot = image + 128 * (size_t)s;
+    uint64_t a = m_word(slot, 7), b = m_word(slot, 15);
+    return m_word(slot, 0) == (a & 1) && m_word(slot, 8) == (b & 1) && a >> 1 == b >> 1 ? a >> 1 : 0;
+}
+
+/* "No call, single ones included, takes a slot of the highest valid version, or a remove record while an older valid record of its key remains in the image the
+ * call is given" */
+int m_may_take(const uint8_t *image, uint32_t n, uint32_t s) {
+    const uint64_t version = valid_version(image, s), key = m_word(image, 16 * (size_t)s + 1);
+    uint32_t t = 1;
+    if (version == 0)
+        return 1;
+    while (t <= n && valid_version(image, t) <= version)
+        t++;
+    if (t > n)
+        return 0;
+    if (image[128 * (size_t)s + 16] != 2)
+        return 1;
+    for (t = 1; t <= n; t++)
+        if (m_word(image, 16 * (size_t)t + 1) == key && valid_version(image, t) && valid_version(image, t) < version)
+            return 0;
+    return 1;
+}
+
+/* "it takes the first others in the reuse chain": `wanted` of them. "11 .. covers a link above N met from the chain's first through the last slot taken, that slot's
+ * own included, or a nonzero one after N slots; a slot met twice counts twice"; "28 when too few slots may be taken" */
+static int follow_reuse(const uint8_t *image, uint32_t n, const struct m_index *index, uint32_t wanted, uint32_t *taken) {
+    uint32_t at = index->state.first;
+    for (uint32_t met = 1, found = 0;; met++) {
+        uint32_t after = index->next[at];
+        if (m_may_take(image, n, at))
+            taken[found++] = at;
+        if (after > n || (met == n && after))
+            return 11;
+        if (found == wanted)
+            return 0;
+        if (after == 0)
+            return 28;
+        at = after;
+    }
+}
+
+/* "11 when the reuse chain's first or last slot is zero or above N"; "11 (reuse, or fewer live than are removed) now stands whole before 28"; "28 when too few
+ * slots may be taken or, by the live count, no spare slot would be left .. before 9" */
+static int refuse_slots(const uint8_t *image, uint32_t n, const struct m_index *index, uint32_t inserts, uint32_t removes, uint32_t wanted, uint32_t *taken) {
+    const struct m_state *s = &index->state;
+    if (s->first == 0 || s->first > n || s->last == 0 || s->last > n)
+        return 11;
+    if (s->live < removes)
+        return 11;
+    int refusal = follow_reuse(image, n, index, wanted, taken);
+    if (refusal)
+        return refusal;
+    if ((uint64_t)s->live + inserts - removes >= n)
+        return 28;
+    return s->version >> 63 ? 9 : 0;
 }
 
 /* ---- "The index is written in this order" */
@@ -290,27 +393,59 @@ static void link_after(struct m_index *index, uint64_t key, uint32_t before, uin
 /* ---- "How a call writes" */
 
 /* "Let c be the close bit now in that line. The first store makes the mark 1 − c; the last makes the stamp version × 2 + (1 − c)" */
-static void write_record(const uint8_t *image, struct m_change *c, uint64_t key, unsigned kind, const uint8_t *bytes, size_t size) {
+static void write_record(const uint8_t *image, uint32_t slot, uint64_t version, const struct m_record *r, uint64_t number, struct m_store store[16]) {
     uint8_t padded[80] = {0};
-    memcpy(padded, bytes, size);
+    memcpy(padded, r->bytes, r->size);
     for (uint32_t i = 0; i < 16; i++) {
-        uint64_t open = 1 - (m_word(image, 16 * (size_t)c->slot + (i < 8 ? 7 : 15)) & 1), v;
+        uint64_t open = 1 - (m_word(image, 16 * (size_t)slot + (i < 8 ? 7 : 15)) & 1), v;
         if (i % 8 == 0)
             v = open;
         else if (i % 8 == 7)
-            v = c->version * 2 + open;
+            v = version * 2 + open;
         else if (i == 1)
-            v = key;
+            v = r->key;
         else if (i == 2)
-            v = kind + 256 * (uint64_t)size;
+            v = r->kind + 256 * (uint64_t)r->size + 65536 * number;
         else
             v = m_word(padded, i < 8 ? i - 3 : i - 5);
-        c->store[i] = (struct m_store){16 * c->slot + i, v};
+        store[i] = (struct m_store){16 * slot + i, v};
     }
+}
+
+/* "Its records share one version, and bits 16 to 23 of the kind word hold their number; a single record, or a basket of one, has 0 there" */
+int m_basket_stores(const uint8_t *image, size_t length, const struct m_index *index, const struct m_record *record, uint32_t count, struct m_store *store) {
+    uint32_t taken[GROUP], inserts = 0, removes = 0;
+    for (uint32_t i = 0; i < count; i++) {
+        removes += record[i].kind == 2;
+        inserts += record[i].kind == 1 && !follow(image, m_slots(length), index, record[i].key).slot;
+    }
+    int refusal = refuse_slots(image, m_slots(length), index, inserts, removes, count, taken);
+    for (uint32_t i = 0; !refusal && i < count; i++)
+        write_record(image, taken[i], index->state.version, &record[i], count > 1 ? count : 0, store + 16 * i);
+    return refusal;
 }
 
 static struct m_change refuse(int number, uint32_t compared) {
     return (struct m_change){.refusal = number, .compared = compared};
+}
+
+/* A call that writes one record and inserts or removes so many keys: its refusals after those of its key, or its slot and stores. The slot is taken from the index
+ * where it is the reuse chain's first, as it is "with an index .. the image's own"; otherwise "only refusals are fixed". */
+static struct m_change change(const uint8_t *image, uint32_t n, struct m_index *index, const struct m_record *r, uint32_t inserts, uint32_t removes, uint32_t compared) {
+    uint32_t slot;
+    int refusal = refuse_slots(image, n, index, inserts, removes, 1, &slot);
+    if (refusal)
+        return refuse(refusal, compared);
+    struct m_change c = {.version = index->state.version, .compared = compared, .slot = slot};
+    if (slot != index->state.first) {
+        c.free = 1;
+        return c;
+    }
+    write_record(image, take(index), c.version, r, 0, c.store);
+    index->state.live += inserts - removes;
+    index->state.newest = slot;
+    index->state.version++;
+    return c;
 }
 
 /* "insert for a key not held, replace for one that is": what they test first, and where the key stands */
@@ -331,19 +466,11 @@ struct m_change m_insert(const uint8_t *image, size_t length, struct m_index *in
         return refuse(walk.refusal, 0);
     if (walk.slot)
         return refuse(20, walk.compared);
-    if ((uint64_t)index->state.live + 1 >= n)
-        return refuse(12, walk.compared);
-    if (index->state.version >> 63)
-        return refuse(9, walk.compared);
-    if (reuse_is_bad(index, n))
-        return refuse(11, walk.compared);
-    struct m_change c = {.version = index->state.version, .compared = walk.compared};
-    c.slot = take(index);
-    write_record(image, &c, key, 1, bytes, size);
+    struct m_change c = change(image, n, index, &(struct m_record){1, key, bytes, size}, 1, 0, walk.compared);
+    if (c.refusal || c.free)
+        return c;
     index->next[c.slot] = 0;
     link_after(index, key, walk.before, c.slot);
-    index->state.live++;
-    index->state.version++;
     return c;
 }
 
@@ -354,17 +481,12 @@ struct m_change m_replace(const uint8_t *image, size_t length, struct m_index *i
         return refuse(walk.refusal, 0);
     if (!walk.slot)
         return refuse(21, walk.compared);
-    if (index->state.version >> 63)
-        return refuse(9, walk.compared);
-    if (reuse_is_bad(index, m_slots(length)))
-        return refuse(11, walk.compared);
-    struct m_change c = {.version = index->state.version, .compared = walk.compared};
-    c.slot = take(index);
-    write_record(image, &c, key, 1, bytes, size);
+    struct m_change c = change(image, m_slots(length), index, &(struct m_record){1, key, bytes, size}, 0, 0, walk.compared);
+    if (c.refusal || c.free)
+        return c;
     index->next[c.slot] = index->next[walk.slot];
     link_after(index, key, walk.before, c.slot);
     append(index, walk.slot);
-    index->state.version++;
     return c;
 }
 
@@ -378,18 +500,12 @@ struct m_change m_remove(const uint8_t *image, size_t length, struct m_index *in
         return refuse(walk.refusal, 0);
     if (!walk.slot)
         return (struct m_change){.absent = 1, .compared = walk.compared};
-    if (index->state.version >> 63)
-        return refuse(9, walk.compared);
-    if (reuse_is_bad(index, n) || index->state.live == 0)
-        return refuse(11, walk.compared);
-    struct m_change c = {.version = index->state.version, .compared = walk.compared};
-    c.slot = take(index);
-    write_record(image, &c, key, 2, (const uint8_t *)"", 0);
+    struct m_change c = change(image, n, index, &(struct m_record){2, key, (const uint8_t *)"", 0}, 0, 1, walk.compared);
+    if (c.refusal || c.free)
+        return c;
     link_after(index, key, walk.before, index->next[walk.slot]);
     append(index, walk.slot);
     append(index, c.slot);
-    index->state.live--;
-    index->state.version++;
     return c;
 }
 

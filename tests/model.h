@@ -7,7 +7,7 @@
 #include <stdint.h>
 
 struct m_state {
-    uint32_t first, last, live;
+    uint32_t first, last, live, newest; /* newest: the slot that the last call took, 0 for none since recovery */
     uint64_t version;
 };
 
@@ -24,12 +24,21 @@ struct m_store {
     uint64_t value;
 };
 
+/* A record that is to be written: kind 1 put, 2 remove. */
+struct m_record {
+    unsigned kind;
+    uint64_t key;
+    const uint8_t *bytes;
+    size_t size;
+};
+
 /* What insert, replace, remove and the book's steps answer: a refusal, or absent, or slot, version and stores; of an order that was acknowledged already no
  * stores. With each of them the slots compared, which the book's steps do not report. */
 struct m_change {
     int refusal;
     int absent;
     int already;
+    int free; /* the slot is not the reuse chain's first: the index is not the image's own, and all but the refusal is free */
     uint32_t slot;
     uint64_t version;
     struct m_store store[16];
@@ -51,10 +60,12 @@ struct m_place {
     uint32_t compared;
 };
 
-/* A refusal of recovery and the slot that it names, 0 for none; refusal 0: accepted. */
+/* A refusal of recovery and the slot that it names, 0 for none; refusal 0: accepted, with the stores that open void slots. */
 struct m_recovered {
     int refusal;
     uint32_t slot;
+    uint32_t count;
+    struct m_store opening[8];
 };
 
 uint32_t m_slots(size_t length); /* N, or 0 where no image has that length */
@@ -76,6 +87,12 @@ int m_line(enum m_query query, const uint8_t *line, size_t length, uint64_t vers
 
 int m_play(uint8_t *image, size_t length, const uint32_t at[16], const uint64_t value[16], size_t a, size_t b);
 int m_play_list(uint8_t *bytes, size_t length, const uint32_t *at, size_t places, const uint64_t *value, size_t values);
+
+/* May a call take the slot? */
+int m_may_take(const uint8_t *image, uint32_t n, uint32_t slot);
+
+/* The stores of a basket, sixteen for each of its 1 to 8 records, or its refusal by the slots (11, 28, 9). The index stays as it is: recovery comes next. */
+int m_basket_stores(const uint8_t *image, size_t length, const struct m_index *index, const struct m_record *record, uint32_t count, struct m_store *store);
 
 uint64_t m_word(const uint8_t *image, size_t i);
 void m_set_word(uint8_t *image, size_t i, uint64_t value);

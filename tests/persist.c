@@ -1,8 +1,9 @@
 /* orderset_persist.h: what it stores is what play makes; the stores reach the memory one word at a time and in order;
  * then come the flushes of both lines and one fence, for each accepted insert, replace and remove, and none for get,
  * absent and refusals. Some calls are watched instruction by instruction, so that the flushes and the fence are those
- * that the processor executes, and not only the header's hooks. Stores that are no call's are refused. A start flushes
- * every line and fences once. The fallback stores to every page again and syncs it, and the file is as the image. Ends
+ * that the processor executes, and not only the header's hooks. Stores that are no call's are refused. So it is with
+ * lists of stores, of recovery and random ones, each line of which is flushed. A start flushes every line and
+ * fences once. The fallback stores to every page again and syncs it, and the file is as the image. Ends
  * with status 1 at the first thing that is otherwise.
  *
  *     persist [SEED]
@@ -59,6 +60,9 @@ enum {
     LINES = LENGTH / 64,
     CALLS = 20000,
     WATCHED = 2000,
+    LISTS = 5000,
+    LISTS_WATCHED = 50,
+    LIST = 64, /* stores of a list at the most */
     TRAP_FLAG = 0x100,
     PAGE = 4096
 };
@@ -66,6 +70,8 @@ enum {
 static uint8_t *image, played[LENGTH];
 static uint32_t heads[HEADS], next[N + 1], state[ORDERSET_STATE], at[ORDERSET_STORES];
 static uint64_t version[1], value[ORDERSET_STORES], answer[ORDERSET_CHANGE_ANSWER], stored, unstored;
+static uint32_t list_at[LIST];
+static uint64_t list_value[LIST], lists;
 
 static void expect(int holds, const char *what) {
     if (holds)
@@ -247,8 +253,12 @@ static void get(uint64_t key) {
 }
 
 static void make(uint8_t *bytes) {
+    uint32_t count[1];
     expect(orderset_format(bytes, LENGTH, answer) == ORDERSET_OK, "format");
-    expect(orderset_recover(bytes, LENGTH, heads, HEADS, next, N + 1, state, version) == ORDERSET_OK, "recover");
+    expect(orderset_recover(bytes, LENGTH, heads, HEADS, next, N + 1, state, version, count, list_at, list_value)
+                   == ORDERSET_OK
+               && count[0] == 0,
+           "recover");
 }
 
 static void calls(enum orderset_flush flush) {
@@ -300,6 +310,99 @@ static void no_calls_stores(enum orderset_flush flush) {
         uint32_t a = (uint32_t)chance() | 1, b = (uint32_t)chance();
         refused(LENGTH, below(2) ? a : words + 8 * (uint32_t)below(1000), b, flush);
     }
+}
+
+/* ---- lists of stores */
+
+/* Some stores on each of some lines: mostly words 0 up to one, in order. */
+static size_t any_list(void) {
+    size_t count = 0;
+    for (uint64_t lines = below(9); lines > 0; lines--) {
+        uint32_t first = 8 * (uint32_t)below(LINES), words = 1 + (uint32_t)below(8);
+        for (uint32_t i = 0; i < words; i++) {
+            list_at[count] = first + (below(8) ? i : (uint32_t)below(8));
+            list_value[count++] = chance();
+        }
+    }
+    return count;
+}
+
+/* The stores of a list that stand together on one line, or in one page, are a group: the first of each. */
+static int begins_group(size_t i, uint32_t words) {
+    return i == 0 || list_at[i] / words != list_at[i - 1] / words;
+}
+
+/* Answers how many lines were flushed. */
+static unsigned persist_list(size_t count, enum orderset_flush flush, int watching) {
+    unsigned i = 0, flushed = 0;
+    int each = 1;
+    memcpy(played, image, LENGTH);
+    expect(orderset_play_list(played, LENGTH, list_at, count, list_value, count) == ORDERSET_OK, "play takes a list");
+    events = 0;
+    if (watching)
+        watch(image);
+    int code = orderset_persist_list(image, LENGTH, list_at, list_value, count, flush);
+    if (watching)
+        watch_no_more();
+    expect(code == 0, "persist_list takes a list");
+    for (; watching && i < count; i++)
+        expect(is(i, STORE, (uint64_t *)image + list_at[i]) && event[i].value == list_value[i],
+               "store i is the one of the list, of one word");
+    for (size_t j = 0; j < count; j++)
+        if (begins_group(j, 8)) {
+            each &= is_flush(&i, image + list_at[j] / 8 * 64, flush, watching);
+            flushed++;
+        }
+    expect(each, "then each line of the list is flushed");
+    expect(is_last_fence(i, watching), "after a list there is one fence, and nothing more");
+    expect(memcmp(image, played, LENGTH) == 0, "the bytes are as play_list leaves them");
+    lists++;
+    return flushed;
+}
+
+/* Recovery opens line A of each void slot: of a basket of eight the first `voids` records stand alone. */
+static void open_voids(uint32_t voids, enum orderset_flush flush, int watching) {
+    uint32_t count[1], slot;
+    make(image);
+    for (slot = 1; slot <= voids; slot++) {
+        uint64_t *words = (uint64_t *)image + 16 * (size_t)slot;
+        words[1] = slot;
+        words[2] = 1 + (8 << 16);
+        words[7] = words[15] = 2 * 5;
+    }
+    expect(orderset_recover(image, LENGTH, heads, HEADS, next, N + 1, state, version, count, list_at, list_value) == 0
+               && count[0] == voids,
+           "recovery hands out a store for each void slot");
+    expect(persist_list(count[0], flush, watching) == voids, "each line that is opened is flushed once");
+    expect(orderset_recover(image, LENGTH, heads, HEADS, next, N + 1, state, version, count, list_at, list_value) == 0
+               && count[0] == 0,
+           "then no slot is void");
+}
+
+/* One store is to a word that is not in a whole line of the bytes. */
+static void outside(size_t length, enum orderset_flush flush) {
+    size_t count = 1 + below(LIST);
+    for (size_t i = 0; i < count; i++)
+        list_at[i] = (uint32_t)below(LENGTH / 8 - 8);
+    list_at[below(count)] = below(2) ? (uint32_t)(length / 64 * 8 + below(9)) : (uint32_t)chance() | LENGTH;
+    memcpy(played, image, LENGTH);
+    events = 0;
+    errno = 0;
+    expect(orderset_persist_list(image, length, list_at, list_value, count, flush) == -1 && errno == EINVAL,
+           "persist_list refuses a store outside the bytes");
+    errno = 0;
+    expect(orderset_persist_list_file(image, length, list_at, list_value, count) == -1 && errno == EINVAL,
+           "persist_list_file refuses a store outside the bytes");
+    expect(memcmp(image, played, LENGTH) == 0 && events == 0, "of a refused list nothing is stored, flushed or synced");
+}
+
+static void all_lists(enum orderset_flush flush) {
+    for (int i = 0; i < LISTS; i++)
+        persist_list(any_list(), flush, i < LISTS_WATCHED);
+    for (int i = 0; i < 1000; i++)
+        outside(below(2) ? LENGTH : LENGTH - 1 - below(63), flush);
+    for (uint32_t voids = 0; voids < 8; voids++)
+        open_voids(voids, flush, 1);
 }
 
 /* ---- a start */
@@ -365,6 +468,29 @@ static void sync_errors(uint8_t *mapped) {
     sync_fails = 0;
 }
 
+/* Each page of a list is synced, where its stores stand together once. */
+static void list_in_file(uint8_t *mapped, int file) {
+    uint8_t held[LENGTH];
+    size_t count = any_list(), pages = 0;
+    memcpy(played, mapped, LENGTH);
+    expect(orderset_play_list(played, LENGTH, list_at, count, list_value, count) == ORDERSET_OK, "play takes a list");
+    events = 0;
+    expect(orderset_persist_list_file(mapped, LENGTH, list_at, list_value, count) == 0, "persist_list_file");
+    for (size_t i = 0; i < count; i++)
+        if (begins_group(i, PAGE / 8)) {
+            expect(is((unsigned)pages, SYNC, page_of(mapped, list_at[i])) && event[pages].value == PAGE,
+                   "persist_list_file syncs each page");
+            pages++;
+        }
+    expect(events == pages, "persist_list_file syncs no more than that");
+    expect(pread(file, held, LENGTH, 0) == LENGTH && memcmp(held, played, LENGTH) == 0,
+           "the file is as play_list leaves it");
+    sync_fails = count > 0;
+    expect(count == 0 || (orderset_persist_list_file(mapped, LENGTH, list_at, list_value, count) == -1 && errno == EIO),
+           "persist_list_file tells that msync fails");
+    sync_fails = 0;
+}
+
 static void whole_file(uint8_t *mapped, int file) {
     uint8_t held[LENGTH];
     for (uint32_t i = 0; i < ORDERSET_STORES; i++)
@@ -398,6 +524,8 @@ static void fallback(void) {
     for (uint64_t key = 0; key < N - 1; key++)
         insert_in_file(mapped, fileno(file), key);
     sync_errors(mapped);
+    for (int i = 0; i < 1000; i++)
+        list_in_file(mapped, fileno(file));
     whole_file(mapped, fileno(file));
     fclose(file);
 }
@@ -414,10 +542,11 @@ int main(int count, char **words) {
         whole_image((enum orderset_flush)flush, 0);
         whole_image((enum orderset_flush)flush, 1);
         misaligned_image((enum orderset_flush)flush);
+        all_lists((enum orderset_flush)flush);
     }
     fallback();
     printf("%u kinds of flush, %" PRIu64 " calls stored with 2 line flushes and 1 fence each, %" PRIu64
-           " did not with none, and msync: all as the header says (%.0f s)\n",
-           kinds, stored, unstored, seconds());
+           " did not with none, %" PRIu64 " lists with 1 fence each, and msync: all as the header says (%.0f s)\n",
+           kinds, stored, unstored, lists, seconds());
     return 0;
 }

@@ -55,6 +55,8 @@ fault header 'the count of a refusal is not looked for' tests/header.cc \
 fault header 'the result is kept in 32 bits' tests/header.cc 's/refused\(uint64_t code/refused(uint32_t code/' \
     'warning: .*shift count >= width of type'
 
+fault header 'the opening stores are not made' tests/header.cc \
+    's/orderset_persist_list\((.*), count\[0\], best\)/orderset_persist_list(\1, 0, best)/' 'NOT SO'
 fault header 'the lines are asked about after the stores' tests/header.cc \
     's/lines_foretell\(\) \&\& made_durable\(ORDERSET_OK\)/made_durable(ORDERSET_OK) \&\& lines_foretell()/' 'NOT SO'
 fault header 'a line of 63 bytes is to be taken' tests/header.cc \
@@ -86,6 +88,25 @@ fault persist 'a failed msync is not told' $header 's/return (msync\(image, imag
     'NOT SO: persist_image_file tells that msync fails'
 fault persist 'a start does not store to the pages again' $header '/__atomic_store_n\(word, __atomic_load_n/d' \
     'NOT SO: persist_image_file stores to every page again'
+
+list='/orderset_persist_list\(/,/^}/'
+list_file='/orderset_persist_list_file\(/,/^}/'
+left_out='/orderset_store_list\(void/,/^}/s/size_t i = 0/size_t i = 1/'
+backwards='/orderset_store_list\(void/,/^}/s/\(size_t i = 0; i < count; i\+\+\)/(size_t i = count; i-- > 0;)/'
+fault persist 'a store of a list is left out' $header "$left_out" 'NOT SO: store i is the one of the list'
+fault persist 'the stores of a list are made from the last one on' $header "$backwards" \
+    'NOT SO: store i is the one of the list'
+fault persist 'only the first line of a list is flushed' $header "${list}s/if \(i == 0 \|\| .*/if (i == 0)/" \
+    'NOT SO: then each line of the list is flushed'
+fault persist 'a line of a list is flushed for each store' $header "${list}s/if \(i == 0 \|\| .*/if (i < count)/" \
+    'NOT SO: (then each line of the list is flushed|after a list there is one fence)'
+fault persist 'no fence after a list' $header "${list}{/orderset_fence/d}" 'NOT SO: after a list there is one fence'
+fault persist 'a word past the end of a list is taken' $header 's/at\[i\] >= words/at[i] > words/' \
+    'NOT SO: persist_list refuses a store outside the bytes'
+fault persist 'the fallback syncs one page of a list' $header "${list_file}s/here != synced/!synced/" \
+    'NOT SO: persist_list_file syncs each page'
+fault persist 'a failed msync of a list is not told' $header \
+    "${list_file}s/(msync\(.*, MS_SYNC\))\)/(\1, 0))/" 'NOT SO: persist_list_file tells that msync fails'
 
 fault lock 'no lock' $gateway 's/flock\(file, how \| LOCK_NB\) == 0/(void)how, 1/' \
     'NOT SO: a second gateway .* is refused'
@@ -127,6 +148,17 @@ fault storm 'the first and the last store change places' $header "$exchange" 'LO
 fault storm 'a call is acknowledged before it is persisted' tests/storm.c \
     's|^    if \(orderset_persist\(visible|    map[i] = call.later, call.under_way = 0;\n&|' 'LOST key'
 
+fault storm 'void slots are not opened' tests/storm.c '/^static void recover\(/,/^}/{/open_voids\(\);/d}' 'LOST key'
+fault storm 'void slots are opened and not flushed' tests/storm.c \
+    's/if \(orderset_persist_list\(.*, voids\[0\], flush\)\)/if (orderset_store_list(visible, list_at, list_value, voids[0]), 0)/' \
+    'LOST (key|recovery refuses)'
+fault storm 'a basket has its number in no record' tests/model.c 's/count > 1 \? count : 0, store/0, store/' \
+    'LOST (key|recovery refuses)'
+fault storm 'a basket says one record less' tests/model.c 's/count > 1 \? count : 0, store/count - (count > 2), store/' \
+    'LOST (key|recovery refuses)'
+fault storm 'a basket takes any slot' tests/model.c \
+    '/^int m_may_take/,/^}/s/if \(version == 0\)/if (n > 0)/' 'LOST (key|recovery refuses|a call of key)'
+fault storm 'one line of a basket is not flushed' $header "${list}s/if \(i == 0 \|\|/if (i > 0 \&\&/" 'LOST key'
 fault storm 'an insert of a held key should be done' tests/storm.c \
     's/return ORDERSET_INSERT_HELD;/return ORDERSET_OK;/' 'LOST a call of key [0-9]+ answers 20'
 fault storm 'a replace of a key that is not held should be done' tests/storm.c 's/ORDERSET_NOT_HELD;/ORDERSET_OK;/' \
@@ -148,6 +180,8 @@ fault kills 'a call is not synced' $header 's/if \(msync\(\(void \*\)a, page, MS
 fault kills 'a failed sync is answered' $gateway \
     's/(: orderset_persist_file\(s->image, s->length, at, value\))\)/\1 \&\& 0)/' \
     'NOT SO: (key|the gateway (recovers|runs))'
+fault kills 'void slots are not opened' $gateway 's/^ +open_voids\(s, path, writing\);//' \
+    'NOT SO: (key|an order that was never sent|the gateway (recovers|runs)|recovery takes)'
 fault kills 'the directory of a new file is not synced' $gateway '/^static void make\(/,/^}/s/sync_name\(path\);//' \
     'NOT SO: the directory of a new file'
 
@@ -163,10 +197,16 @@ fault guard 'the answer of a get one word shorter' tests/guard.c 's/return ORDER
     'NOT SO: (signal 11: answer is touched|answer changed, after what was lent)'
 fault guard 'the answer of an insert one word shorter' tests/guard.c 's/return ORDERSET_CHANGE_ANSWER;/return 3;/' \
     'NOT SO: (signal 11: answer is touched|answer changed, after what was lent)'
+fault guard 'one opening store less' tests/guard.c 's/place\(OPEN_AT, 4 \* ORDERSET_OPENINGS\)/place(OPEN_AT, 28)/' \
+    "NOT SO: (signal 11: the opening stores' words is touched|the opening stores' words changed, after)"
+fault guard 'a state of three numbers' tests/guard.c 's/place\(STATE, 4 \* ORDERSET_STATE\)/place(STATE, 12)/' \
+    'NOT SO: (signal 11: state is touched|state changed, after what was lent)'
+fault guard 'a refused recovery changes the count' tests/guard.c \
+    's/if \(end\(orderset_recover\(/if ((++*(uint8_t *)w(COUNT), end)(orderset_recover(/' 'NOT SO: count changed, by a refused'
 fault guard 'a call writes what it may only read' tests/guard.c \
     's/orderset_play\(w\(IMAGE\)/orderset_play((uint8_t *)r(IMAGE)/' 'NOT SO: signal 11: image is .* lent for reading'
 fault guard 'a refused call changes the state' tests/guard.c \
-    's/end\(orderset_recover\(/(++*(uint8_t *)w(STATE), end)(orderset_recover(/' 'NOT SO: state changed, by a refused'
+    's/if \(end\(orderset_recover\(/if ((++*(uint8_t *)w(STATE), end)(orderset_recover(/' 'NOT SO: state changed, by a refused'
 fault guard 'a refused insert changes the version' tests/guard.c \
     's/return orderset_insert\(/return (++*(uint8_t *)w(VERSION), orderset_insert)(/' \
     'NOT SO: version changed, by a refused'
@@ -193,11 +233,12 @@ fault differential 'a remove queues its record first' tests/model.c \
 fault differential 'the next version skips broken slots' tests/model.c \
     's/if \(slot\[s\].highest > highest\)/if (slot[s].kind != BROKEN \&\& slot[s].highest > highest)/' 'DIFFERENCE'
 fault differential 'the mark is flipped' tests/model.c \
-    's/v = open;/v = 1 - m_word(image, 16 * (size_t)c->slot + (i < 8 ? 0 : 8));/' 'DIFFERENCE'
-fault differential 'the last spare slot is filled' tests/model.c 's/live \+ 1 >= n/live >= n/' 'DIFFERENCE'
-fault differential '9 is tested before 12' tests/model.c \
-    's/if \((\(uint64_t\)index->state.live \+ 1 >= n)/if (!(index->state.version >> 63) \&\& \1/' \
-    'DIFFERENCE in the code: archive 12, model 9'
+    's/v = open;/v = 1 - m_word(image, 16 * (size_t)slot + (i < 8 ? 0 : 8));/' 'DIFFERENCE'
+fault differential 'the last spare slot is filled' tests/model.c 's/inserts - removes >= n/inserts - removes > n/' \
+    'DIFFERENCE in the code: archive 28, model 0'
+fault differential '9 is tested before 28' tests/model.c \
+    's/if \((\(uint64_t\)s->live \+ inserts)/if (!(s->version >> 63) \&\& \1/' \
+    'DIFFERENCE in the code: archive 28, model 9'
 fault differential 'a struck call counts as done with 8 and 7 stores' tests/differential.c \
     's/a == 8 \&\& b == 8/a == 8 \&\& b >= 7/' 'DIFFERENCE in the plain map'
 fault differential '6 of a later slot is said first' tests/model.c \
@@ -205,10 +246,65 @@ fault differential '6 of a later slot is said first' tests/model.c \
     'DIFFERENCE in the code: archive 24, model 6'
 fault differential 'a remove with a length is taken' tests/model.c 's/ \|\| \(kind == 2 \&\& size > 0\)//' \
     'DIFFERENCE in the code: archive 23, model 0'
-fault differential 'one broken slot is refused' tests/model.c 's/if \(broken > 1\)/if (broken > 0)/' \
+fault differential 'eight broken slots are refused' tests/model.c 's/broken \+ voids > GROUP/broken + voids >= GROUP/' \
     'DIFFERENCE in the code: archive 0, model 25'
-fault differential 'two broken slots are accepted' tests/model.c 's/if \(broken > 1\)/if (broken > 2)/' \
-    'DIFFERENCE in the code: archive 25, model 0'
+fault differential 'nine broken slots are accepted' tests/model.c \
+    's/broken \+ voids > GROUP/broken + voids > GROUP + 1/' 'DIFFERENCE in the code: archive 25, model 0'
+fault differential 'void slots do not stand with the broken ones' tests/model.c \
+    's/broken \+ voids > GROUP/broken > GROUP/' 'DIFFERENCE in the code: archive 25, model 0'
+fault differential '25 is tested before 7' tests/model.c \
+    's/^    if \(sharers_at_fault/    if (broken > GROUP)\n        return no(25, 0);\n&/' \
+    'DIFFERENCE in the code: archive 7, model 25'
+
+judge='/^static uint32_t judge/,/^}/'
+fault differential 'the number of records is ignored' tests/model.c "${judge}s/if \(count - from >= .*/if (1)/" 'DIFFERENCE'
+fault differential 'only the highest version is judged' tests/model.c "${judge}s/count = from;/return from;/" 'DIFFERENCE'
+fault differential 'a basket with one record missing counts' tests/model.c "${judge}s/count - from >=/count - from + 1 >=/" \
+    'DIFFERENCE'
+fault differential 'a number of 1 is taken' tests/model.c 's/ \|\| number == 1//' \
+    'DIFFERENCE in the code: archive 6, model 0'
+fault differential 'a number of 9 is taken' tests/model.c 's/number > GROUP\)/number > GROUP + 1)/' \
+    'DIFFERENCE in the code: archive 6, model'
+fault differential 'bit 24 is taken' tests/model.c 's/word >> 24 \|\|/word >> 25 ||/' 'DIFFERENCE in the code: archive 6, model'
+fault differential 'numbers of one version may differ' tests/model.c \
+    's/slot\[valid\[j\].slot\].number != slot\[valid\[i\].slot\].number/0/' 'DIFFERENCE in the code: archive 7, model'
+fault differential 'more records than their number are taken' tests/model.c 's/j - i \+ 1 > said\([^|]*$/0/' \
+    'DIFFERENCE in the code: archive 7, model'
+fault differential 'a basket may have a key twice' tests/model.c 's/^ +\|\| valid\[j\].key == valid\[i\].key\)/)/' \
+    'DIFFERENCE in the code: archive 7, model'
+fault differential 'records of one version are chained by falling slot' tests/model.c \
+    's/\(a->slot > b->slot\) - \(a->slot < b->slot\)/(a->slot < b->slot) - (a->slot > b->slot)/' 'DIFFERENCE'
+fault differential 'a void slot is not queued' tests/model.c 's/slot\[s\].kind == BROKEN \|\| slot\[s\].kind == VOID/slot[s].kind == BROKEN/' \
+    'DIFFERENCE'
+fault differential 'an opening store closes the line' tests/model.c \
+    's/\{16 \* s, 1 - (\(m_word.*)\};/{16 * s, \1};/' "DIFFERENCE in an opening store's value"
+fault differential 'an opening store is of line B' tests/model.c 's/\{16 \* s, 1 - /{16 * s + 8, 1 - /' \
+    "DIFFERENCE in an opening store's word"
+fault differential 'the opening stores are by falling slot' tests/model.c \
+    '/^static void open_voids/,/^}/s/uint32_t s = 1; s <= n; s\+\+/uint32_t s = n; s > 0; s--/' \
+    "DIFFERENCE in an opening store's word"
+fault differential 'void slots are not opened' tests/differential.c 's/^    open_voids\(s, UINT_MAX\);$//' 'DIFFERENCE'
+fault differential 'a basket with an open line is to be there' tests/differential.c \
+    's/whole \&= a == 8 \&\& b == 8;/whole \&= a == 8 \&\& b > 6;/' 'DIFFERENCE in the plain map'
+
+take='/^int m_may_take/,/^}/'
+fault differential 'a slot of the highest version is taken' tests/model.c "${take}s/if \(t > n\)/if (t > n + 1)/" \
+    'DIFFERENCE in the code: archive 28, model 0'
+fault differential 'a remove record with an older one is taken' tests/model.c "${take}s/\+ 16\] != 2/+ 16] != 3/" \
+    'DIFFERENCE in the code: archive 28, model 0'
+fault differential 'a put record with an older one is kept' tests/model.c "${take}s/\+ 16\] != 2/+ 16] > 2/" 'DIFFERENCE'
+fault differential '28 is tested before 11 of a later link' tests/model.c \
+    's/if \(after > n \|\| \(met == n/if (after > n \&\& met > 1) return 28;\n        &/' \
+    'DIFFERENCE in the code: archive 11, model 28'
+fault differential 'a chain without an end is 28' tests/model.c 's/ \|\| \(met == n \&\& after\)\)$/)\n            return 11;\n        if (met == n)/' \
+    'DIFFERENCE in the code: archive (11|0|28), model'
+fault differential '28 is tested before 11 of the live count' tests/model.c \
+    's/^    if \(s->live < removes\)/    if (follow_reuse(image, n, index, wanted, taken) == 28)\n        return 28;\n&/' \
+    'DIFFERENCE in the code: archive 11, model 28'
+fault differential 'the newest slot is not kept' tests/model.c '/index->state.newest = slot;/d' \
+    'DIFFERENCE in the newest slot'
+fault differential 'recovery keeps the newest slot' tests/model.c '/index->state.newest = 0;/d' \
+    'DIFFERENCE in the newest slot'
 fault differential 'the slot after the one at fault is named' tests/model.c \
     's/return no\(slot\[s\].fault, s\);/return no(slot[s].fault, s + 1);/' 'DIFFERENCE in the slot named'
 
@@ -223,9 +319,9 @@ fault differential 'a replace inserts' tests/model.c "s/return refuse\(21, .*/re
 fault differential '20 is tested before 10' tests/model.c \
     "${insert}s/if \(walk.refusal\)/if (walk.refusal == 10 \&\& $held) return refuse(20, 0);\n    &/" \
     'DIFFERENCE in the code: archive 10, model 20'
-fault differential '12 is tested before 20' tests/model.c \
-    "${insert}s/if \(walk.slot\)/if (index->state.live + 1 >= n) return refuse(12, 0);\n    &/" \
-    'DIFFERENCE in the code: archive 20, model 12'
+fault differential '28 is tested before 20' tests/model.c \
+    "${insert}s/if \(walk.slot\)/if (index->state.live + 1 >= n) return refuse(28, 0);\n    &/" \
+    'DIFFERENCE in the code: archive 20, model 28'
 fault differential '9 is tested before 20' tests/model.c \
     "${insert}s/if \(walk.slot\)/if (index->state.version >> 63) return refuse(9, 0);\n    &/" \
     'DIFFERENCE in the code: archive 20, model 9'
@@ -239,10 +335,10 @@ fault differential '9 is tested before 21' tests/model.c \
     "${replace}s/if \(!walk.slot\)/if (index->state.version >> 63) return refuse(9, 0);\n    &/" \
     'DIFFERENCE in the code: archive 21, model 9'
 fault differential 'a replace is refused for room' tests/model.c \
-    "${replace}s/if \(index->state.version/if (index->state.live + 1 >= m_slots(length)) return refuse(12, 0);\n&/" \
-    'DIFFERENCE in the code: archive 0, model 12'
+    "${replace}s/struct m_change c =/if (index->state.live + 1 >= m_slots(length)) return refuse(28, 0);\n    &/" \
+    'DIFFERENCE in the code: archive (0|9), model 28'
 fault differential 'a replace counts one more live slot' tests/model.c \
-    "${replace}s/index->state.version\+\+;/index->state.live++;\n    &/" 'DIFFERENCE in the live count'
+    "${replace}s/append\(index, walk.slot\);/index->state.live++;\n    &/" 'DIFFERENCE in the live count'
 fault differential 'a replace does not queue the old slot' tests/model.c "${replace}{/append\(index, walk.slot\);/d}" \
     'DIFFERENCE in the (first|last) slot'
 fault differential 'a refused insert takes a version' tests/model.c \
@@ -263,17 +359,16 @@ fault differential 'a refusal by the chain reports slots' tests/model.c \
 fault differential '10 reports slots' tests/model.c \
     "s/return \(struct walk\)\{.refusal = 10\};/return (struct walk){.refusal = 10, .compared = 1};/
      s/return refuse\(walk.refusal, 0\);/$after/" 'DIFFERENCE in the slots compared: archive 0, model 1'
-for number in 20 12 21; do
+for number in 20 21; do
     fault differential "$number reports 0" tests/model.c "s/refuse\($number, walk.compared\)/refuse($number, 0)/" \
         'DIFFERENCE in the slots compared: archive 1, model 0'
 done
-fault differential '9 of a replace reports 0' tests/model.c "${replace}s/refuse\(9, walk.compared\)/refuse(9, 0)/" \
-    'DIFFERENCE in the slots compared: archive 1, model 0'
-fault differential '11 of the reuse chain reports 0 in an insert' tests/model.c \
-    "${insert}s/refuse\(11, walk.compared\)/refuse(11, 0)/" 'DIFFERENCE in the slots compared: archive 1, model 0'
-fault differential '11 of a remove reports 0' tests/model.c \
-    '/^struct m_change m_remove/,/^}/s/refuse\(11, walk.compared\)/refuse(11, 0)/' \
-    'DIFFERENCE in the slots compared: archive 1, model 0'
+for case in '28 of an insert, inserts > 0' '28 of a replace, inserts + removes == 0' '28 of a remove, removes > 0' \
+    '9 of a replace, inserts + removes == 0' '11 of an insert, inserts > 0' '11 of a remove, removes > 0'; do
+    fault differential "${case%,*} reports 0" tests/model.c \
+        "s/return refuse\(refusal, compared\);/return refuse(refusal, refusal == ${case%% *} \&\& ${case#*, } ? 0 : compared);/" \
+        'DIFFERENCE in the slots compared: archive 1, model 0'
+done
 for number in 23 13; do
     fault differential "$number reports 0" tests/model.c "s/\{.refusal = $number, .compared = [^}]*\}/{.refusal = $number}/" \
         'DIFFERENCE in the slots compared: archive 1, model 0'

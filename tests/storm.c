@@ -1,8 +1,10 @@
 /* A storm of power cuts and kills. The program under test inserts, replaces, removes and gets with the archive and
  * makes its stores durable with orderset_persist.h, over a simulated cache: what a process sees and what is durable are
- * apart, and each line has a list of the stores that are not durable yet. Whenever something strikes, the program
- * starts again, makes the image durable and recovers. Then every acknowledged order must be there, the call that was
- * struck must be there wholly or not at all, and nothing else may be there.
+ * apart, and each line has a list of the stores that are not durable yet. Baskets are made too, with the stores of the
+ * model, since the archive has no call for them; after a basket the program recovers. Whenever something strikes, the
+ * program starts again, makes the image durable, recovers and makes the stores that recovery hands out, and there it
+ * may be struck again. Then every acknowledged order must be there, the call or the basket that was struck must be
+ * there wholly or not at all, and nothing else may be there.
  *
  *     storm [SEED [STRIKES]]
  */
@@ -16,6 +18,7 @@
 #include <unistd.h>
 
 #include "chance.h"
+#include "model.h"
 
 /* Every store, line flush and fence of the header goes through the simulated cache.
  * line is orderset_flush_line's parameter. */
@@ -28,8 +31,9 @@ static void fence(void);
 #include "orderset_persist.h"
 
 enum { MAX_N = 300, MAX_HEADS = 40, MAX_KEYS = MAX_N + 3, LINES = 2 * (MAX_N + 1), WAITING = 32, STRIKES = 1000000 };
+enum { BASKET = 8 }; /* keys of a basket, at the most */
 
-static uint64_t strikes, cuts, kills, in_start, in_call, acknowledged;
+static uint64_t strikes, cuts, kills, in_start, in_call, in_basket, in_opening, acknowledged, baskets, opened;
 
 /* ---- the cache */
 
@@ -120,11 +124,14 @@ static uint32_t keys;
 static uint64_t key_of[MAX_KEYS];
 static struct value map[MAX_KEYS];
 
+/* one key, or those of a basket */
 static struct {
     int under_way;
-    uint32_t key;
-    struct value later;
+    uint32_t count, stores;
+    uint32_t key[BASKET];
+    struct value later[BASKET];
 } call;
+static int made_basket; /* in this set: it is not grown by single calls alone */
 
 static void __attribute__((noreturn, format(printf, 1, 2))) lost(const char *what, ...) {
     va_list list;
@@ -154,8 +161,10 @@ static uint32_t held(void) {
 static size_t heads_length;
 static uint32_t heads[MAX_HEADS], next[MAX_N + 1], state[ORDERSET_STATE], at[ORDERSET_STORES];
 static uint64_t version[1], value[ORDERSET_STORES], answer[ORDERSET_CHANGE_ANSWER];
+static uint32_t voids[1], list_at[BASKET * ORDERSET_STORES];
+static uint64_t list_value[BASKET * ORDERSET_STORES];
 static enum orderset_flush flush;
-static int after_kill;
+static int after_kill, opening; /* opening: void slots are being opened */
 
 /* A call compared so many slots: no more than held keys share the key's head, one at least where the key is held, and
  * all of them where it is not. */
@@ -179,37 +188,71 @@ static struct value get(uint32_t i) {
     return found;
 }
 
+static int is_struck(uint32_t i) {
+    for (uint32_t k = 0; call.under_way && k < call.count; k++)
+        if (call.key[k] == i)
+            return 1;
+    return 0;
+}
+
+/* The keys of the call that was struck: all as before it, or all as after it. */
+static void check_struck(void) {
+    int earlier = !fenced, later = stores_made == call.stores;
+    for (uint32_t k = 0; k < call.count; k++) {
+        struct value found = get(call.key[k]);
+        earlier &= same(&found, &map[call.key[k]]);
+        later &= same(&found, &call.later[k]);
+    }
+    if (!earlier && !later)
+        lost("key %" PRIu64 " and %" PRIu32 " more of one call: neither all as before it nor all as after it",
+             key_of[call.key[0]], call.count - 1);
+    for (uint32_t k = 0; later && k < call.count; k++)
+        map[call.key[k]] = call.later[k];
+}
+
 /* What recovery found against what was acknowledged. The map goes on with what the struck call left. */
 static void check(void) {
     for (uint32_t i = 0; i < keys; i++) {
         struct value found = get(i);
-        int struck_key = call.under_way && i == call.key;
-        int earlier = same(&found, &map[i]) && !(struck_key && fenced),
-            later = struck_key && stores_made == ORDERSET_STORES && same(&found, &call.later);
-        if (!earlier && !later)
+        if (!is_struck(i) && !same(&found, &map[i]))
             lost("key %" PRIu64 ": acknowledged %s of %zu bytes, found %s of %zu bytes", key_of[i],
                  map[i].held ? "a value" : "absent", map[i].size, found.held ? "a value" : "absent", found.size);
-        if (later)
-            map[i] = call.later;
     }
+    if (call.under_way)
+        check_struck();
     if (state[ORDERSET_LIVE] != held())
         lost("a count: %" PRIu32 " orders, found %" PRIu32, held(), state[ORDERSET_LIVE]);
     call.under_way = 0;
+}
+
+/* The stores that recovery handed out, before any other call. */
+static void open_voids(void) {
+    opening = voids[0] > 0;
+    if (orderset_persist_list(visible, length, list_at, list_value, voids[0], flush))
+        lost("persist_list");
+    opened += voids[0];
+    opening = 0;
+}
+
+static void recover(void) {
+    heads_length = 1 + below(below(2) ? MAX_HEADS : 3);
+    fill(heads, sizeof heads);
+    fill(next, sizeof next);
+    point(); /* recovery writes nothing to the image: a strike in it is one before or after it, with the index lost */
+    uint64_t code = orderset_recover(visible, length, heads, heads_length, next, n + 1, state, version, voids, list_at,
+                                     list_value);
+    point();
+    if (code)
+        lost("recovery refuses: %" PRIu32 ", slot %" PRIu32, ORDERSET_REFUSAL(code), ORDERSET_FAULT_SLOT(code));
+    check();
+    open_voids();
 }
 
 /* Every start makes the image durable first. After a power cut, and only then, it may leave that out. */
 static void start(void) {
     if ((after_kill || below(2)) && orderset_persist_image(visible, length, flush))
         lost("persist_image");
-    heads_length = 1 + below(below(2) ? MAX_HEADS : 3);
-    fill(heads, sizeof heads);
-    fill(next, sizeof next);
-    point(); /* recovery writes nothing to the image: a strike in it is one before or after it, with the index lost */
-    uint64_t code = orderset_recover(visible, length, heads, heads_length, next, n + 1, state, version);
-    point();
-    if (code)
-        lost("recovery refuses: %" PRIu32 ", slot %" PRIu32, ORDERSET_REFUSAL(code), ORDERSET_FAULT_SLOT(code));
-    check();
+    recover();
 }
 
 enum kind { INSERT, REPLACE, REMOVE };
@@ -221,13 +264,27 @@ static enum kind any_write(uint32_t i) {
     return map[i].held ? REPLACE : INSERT;
 }
 
+static int none_to_take(void) {
+    for (uint32_t slot = state[ORDERSET_FIRST]; slot; slot = next[slot])
+        if (m_may_take(visible, n, slot))
+            return 0;
+    return 1;
+}
+
 /* What the rules answer. */
 static uint32_t due(enum kind kind, uint32_t i) {
-    if (kind == REPLACE)
-        return map[i].held ? ORDERSET_OK : ORDERSET_NOT_HELD;
+    if (kind == REPLACE && !map[i].held)
+        return ORDERSET_NOT_HELD;
     if (kind == INSERT && map[i].held)
         return ORDERSET_INSERT_HELD;
-    return kind == INSERT && held() + 1 >= n ? ORDERSET_FULL : ORDERSET_OK;
+    if (kind == REMOVE && !map[i].held)
+        return ORDERSET_OK;
+    if (none_to_take()) {
+        if (!made_basket)
+            lost("a slot to take");
+        return ORDERSET_NO_ROOM;
+    }
+    return kind == INSERT && held() + 1 >= n ? ORDERSET_NO_ROOM : ORDERSET_OK;
 }
 
 static uint64_t carry_out(enum kind kind, uint64_t key, const struct value *v) {
@@ -244,28 +301,77 @@ static uint64_t carry_out(enum kind kind, uint64_t key, const struct value *v) {
     }
 }
 
+/* The key is to have a value, or none. */
+static const struct value *later_of(uint32_t k, uint32_t i, int holds) {
+    struct value *later = &call.later[k];
+    call.key[k] = i;
+    later->held = holds;
+    later->size = holds ? below(ORDERSET_VALUE_MAX + 1) : 0;
+    fill(later->bytes, later->size);
+    return later;
+}
+
+static void call_begins(uint32_t count) {
+    call.count = count;
+    call.stores = count * ORDERSET_STORES;
+    stores_made = 0;
+    fenced = 0;
+    call.under_way = calling = 1;
+}
+
+static void call_ends(void) {
+    if (stores_made != call.stores || !fenced)
+        lost("persist: %u stores seen, fence seen: %d", stores_made, fenced);
+    point();
+    for (uint32_t k = 0; k < call.count; k++)
+        map[call.key[k]] = call.later[k]; /* acknowledged */
+    call.under_way = 0;
+    acknowledged++;
+}
+
 static void change(uint32_t i, enum kind kind) {
-    call.key = i;
-    call.later.held = kind != REMOVE;
-    call.later.size = call.later.held ? below(ORDERSET_VALUE_MAX + 1) : 0;
-    fill(call.later.bytes, call.later.size);
-    uint64_t code = carry_out(kind, key_of[i], &call.later);
-    if (ORDERSET_REFUSAL(code) != due(kind, i))
+    const uint32_t wanted = due(kind, i);
+    uint64_t code = carry_out(kind, key_of[i], later_of(0, i, kind != REMOVE));
+    if (ORDERSET_REFUSAL(code) != wanted)
         lost("a call of key %" PRIu64 " answers %" PRIu32, key_of[i], ORDERSET_REFUSAL(code));
     counted(i, code ? ORDERSET_REFUSED_COMPARED(code) : answer[ORDERSET_COMPARED]);
     if (code || answer[0] == ORDERSET_ABSENT)
         return;
-    stores_made = 0;
-    fenced = 0;
-    call.under_way = calling = 1;
+    call_begins(1);
     if (orderset_persist(visible, length, at, value, flush))
         lost("persist");
-    if (stores_made != ORDERSET_STORES || !fenced)
-        lost("persist: %u stores seen, fence seen: %d", stores_made, fenced);
-    point();
-    map[i] = call.later; /* acknowledged */
-    call.under_way = 0;
-    acknowledged++;
+    call_ends();
+}
+
+/* A basket of several keys, if there is room for it. The index is not kept up to date: recovery comes next. */
+static void basket(void) {
+    const struct m_index index = {heads, heads_length, next, n + 1,
+                                  {state[ORDERSET_FIRST], state[ORDERSET_LAST], state[ORDERSET_LIVE],
+                                   state[ORDERSET_NEWEST], version[0]}};
+    struct m_record record[BASKET];
+    struct m_store store[BASKET * ORDERSET_STORES];
+    uint32_t count = 0, wanted = 2 + (uint32_t)below(BASKET - 1), first = (uint32_t)below(keys);
+    for (uint32_t k = 0; k < keys && count < wanted; k++) {
+        const uint32_t i = (first + k) % keys;
+        if (below(3)) {
+            const struct value *later = later_of(count, i, !map[i].held || below(2));
+            record[count++] = (struct m_record){later->held ? 1 : 2, key_of[i], later->bytes, later->size};
+        }
+    }
+    if (count < 2 || m_basket_stores(visible, length, &index, record, count, store))
+        return;
+    for (uint32_t k = 0; k < count * ORDERSET_STORES; k++) {
+        list_at[k] = store[k].at;
+        list_value[k] = store[k].value;
+    }
+    made_basket = 1;
+    call_begins(count);
+    if (orderset_persist_list(visible, length, list_at, list_value, call.stores, flush))
+        lost("persist_list");
+    call_ends();
+    baskets++;
+    calling = 0;
+    recover();
 }
 
 static void run_until_struck(void) {
@@ -276,9 +382,11 @@ static void run_until_struck(void) {
     start();
     in_start--;
     for (;;) {
-        uint32_t i = (uint32_t)below(keys), kind = (uint32_t)below(8);
+        uint32_t i = (uint32_t)below(keys), kind = (uint32_t)below(9);
         struct value found;
-        if (kind > 0)
+        if (kind > 7)
+            basket();
+        else if (kind > 0)
             change(i, kind > 2 ? any_write(i) : REMOVE);
         else if (found = get(i), !same(&found, &map[i]))
             lost("get of key %" PRIu64, key_of[i]);
@@ -301,6 +409,9 @@ static void strike(void) {
         cut();
     }
     in_call += (uint64_t)(calling && call.under_way);
+    in_basket += (uint64_t)(calling && call.under_way && call.count > 1);
+    in_opening += (uint64_t)opening;
+    opening = 0;
     strikes++;
 }
 
@@ -316,7 +427,7 @@ static void make(void) {
     if (orderset_format(visible, length, answer))
         lost("format");
     memcpy(durable, visible, length);
-    call.under_way = after_kill = 0;
+    call.under_way = after_kill = made_basket = 0;
 }
 
 int main(int count, char **word) {
@@ -331,8 +442,10 @@ int main(int count, char **word) {
             strike();
         }
     }
-    printf("%" PRIu64 " cuts and %" PRIu64 " kills, %" PRIu64 " of them in a start and %" PRIu64 " in a call, %" PRIu64
-           " calls acknowledged: nothing lost (%.0f s)\n",
-           cuts, kills, in_start, in_call, acknowledged, seconds());
-    return 0;
+    printf("%" PRIu64 " cuts and %" PRIu64 " kills, %" PRIu64 " of them in a start, %" PRIu64 " in a call, %" PRIu64
+           " in a basket and %" PRIu64 " while %" PRIu64 " void slots were opened, %" PRIu64 " calls and %" PRIu64
+           " baskets acknowledged: nothing lost (%.0f s)\n",
+           cuts, kills, in_start, in_call - in_basket, in_basket, in_opening, opened, acknowledged - baskets, baskets,
+           seconds());
+    return in_basket == 0 || in_opening == 0;
 }

@@ -26,13 +26,16 @@ static uint32_t heads[1], next[SLOTS + 1], state[ORDERSET_STATE], at[ORDERSET_ST
 static uint64_t version[1], value[ORDERSET_STORES], answer[ORDERSET_CHANGE_ANSWER];
 
 static void make_set(void) {
-    uint64_t slots[ORDERSET_FORMAT_ANSWER];
+    uint64_t slots[ORDERSET_FORMAT_ANSWER], open_value[ORDERSET_OPENINGS];
+    uint32_t count[1], open_at[ORDERSET_OPENINGS];
     int there = open(file, O_RDWR | O_CREAT | O_TRUNC, 0600);
     expect(there >= 0 && ftruncate(there, LENGTH) == 0, "a file %s", file);
     image = mmap(NULL, LENGTH, PROT_READ | PROT_WRITE, MAP_SHARED, there, 0);
     close(there);
     expect(image != MAP_FAILED && orderset_format(image, LENGTH, slots) == 0
-               && orderset_recover(image, LENGTH, heads, 1, next, SLOTS + 1, state, version) == 0,
+               && orderset_recover(image, LENGTH, heads, 1, next, SLOTS + 1, state, version, count, open_at, open_value)
+                      == 0
+               && count[0] == 0,
            "a set of two slots");
 }
 
