@@ -53,7 +53,7 @@ extern "C" {
 #define ORDERSET_LOG_CELLS_MAX 1000u
 #define ORDERSET_LOG_CELL_BYTES 448u
 #define ORDERSET_LOG_MESSAGE_MAX 384u
-#define ORDERSET_LOG_STORES 56u /* the most stores of an append: the marked line's eight, then up to eight a payload line */
+#define ORDERSET_LOG_STORES 56u /* the most stores of an append: eight of the marked line, up to eight of each other */
 
 /* the bytes of an area of k cells */
 #define ORDERSET_LOG_BYTES(k) ((size_t)ORDERSET_LOG_CELL_BYTES * (size_t)(k))

@@ -1,0 +1,12 @@
+pub mod Differences
+pub mod Flexible
+pub mod Cells
+pub mod Appends
+pub mod Openings
+pub mod Shown
+pub mod Parts
+pub mod Inside
+pub mod AnyArea
+pub mod Claims
+pub mod Events
+pub mod LogRule
