@@ -10,3 +10,9 @@ pub mod AnyArea
 pub mod Claims
 pub mod Events
 pub mod LogRule
+pub mod Pairs
+pub mod CellWords
+pub mod Fillings
+pub mod Plans
+pub mod Recoveries
+pub mod Readings

@@ -23,11 +23,11 @@ use Rattle.log.proofs.Cells.{SameCell}
 -- ---- which stores are on which line
 
 module _ (m : ℕ → ℕ) (h : ℕ) where
-  opens : (k n : ℕ) → isAbove m h k ≡ true → openings m h k (suc n) ≡ opener m k ∷ openings m h (suc k) n
+  pub opens : (k n : ℕ) → isAbove m h k ≡ true → openings m h k (suc n) ≡ opener m k ∷ openings m h (suc k) n
   unfolding openings
   opens k n e = pick-true (isAbove m h k) _ _ e
 
-  passes : (k n : ℕ) → isAbove m h k ≡ false → openings m h k (suc n) ≡ openings m h (suc k) n
+  pub passes : (k n : ℕ) → isAbove m h k ≡ false → openings m h k (suc n) ≡ openings m h (suc k) n
   unfolding openings
   passes k n e = pick-false (isAbove m h k) _ _ e
 

@@ -12,7 +12,7 @@ use lib.Dec.{eqb, ltb}
 use borrow.Author.Tests.{le-ltb, eq-eqb, ne-eqb, eqb-false}
 use Rattle.prelude.specs.Refusal.{say, unlessRefused}
 use Rattle.prelude.proofs.Tests.{tests}
-use Rattle.prelude.proofs.Refusals.{say-false, say-zero, orElse-later}
+use Rattle.prelude.proofs.Refusals.{say-true, say-false, say-zero, orElse-later}
 use Rattle.words.specs.Word.{AreBytes, word}
 use Rattle.words.proofs.Laws.{word-byte}
 use Rattle.log.specs.Area.{cellsOf, cellsIn, areaFault, markedLine, payloadLine}
@@ -31,7 +31,7 @@ cells-sized k low high =
     say-false _ _ _ (le-ltb (448 * k) 896 (omega arith)) ∙ say-false _ _ _ (le-ltb 448000 (448 * k) (omega arith))
     ∙ say-false _ _ _ (ap not (eq-eqb (448 * k % 448) 0 (omega arith))) ∙ omega arith
 
-pub cells-known : (len : ℕ) → (cellsOf len ≡ 0 → ⊥) → CellCount len (cellsOf len)
+cells-known : (len : ℕ) → (cellsOf len ≡ 0 → ⊥) → CellCount len (cellsOf len)
 unfolding cellsOf say
 cells-known len ne =
     by-cases (decLt len 896) (λ h. absurd (ne (search tests)))
@@ -50,6 +50,19 @@ cells-known len ne =
 pub area-cells : (area : List ℕ) → areaFault area ≡ 0 → CellCount (length area) (cellsIn area)
 unfolding areaFault
 area-cells area z = cells-known (length area) (eqb-false (cellsIn area) 0 (say-zero _ _ _ z (omega arith) .0))
+
+-- by a count that is known
+module _ (area : List ℕ) (k : ℕ) (e : k ≡ cellsIn area) where
+  pub no-area : k ≡ 0 → areaFault area ≡ 30
+  unfolding areaFault
+  no-area z = say-true (eqb (cellsIn area) 0) 30 0 (eq-eqb _ 0 (sym e ∙ z))
+
+  pub is-area : (k ≡ 0 → ⊥) → areaFault area ≡ 0
+  unfolding areaFault
+  is-area ne = say-false (eqb (cellsIn area) 0) 30 0 (ne-eqb _ 0 (λ z. ne (e ∙ z)))
+
+  pub cells-by : (k ≡ 0 → ⊥) → CellCount (length area) k
+  cells-by ne = subst (CellCount (length area)) (sym e) (cells-known (length area) (λ z. ne (e ∙ z)))
 
 -- ---- the part that holds a message
 

@@ -5,3 +5,19 @@ pub enum Handed {
     Given { number: u64, count: usize },
     Refused(u32),
 }
+
+// Word 2 of the marked line of a message, and how many stores its payload lines have.
+pub struct Payload {
+    pub pairs: u64,
+    pub count: usize,
+}
+
+// What an append reads before it writes: its refusal, 0 for none; and where there is none its number, its cell, word 2 of its marked line, and the
+// count of its stores.
+pub struct AppendPlan {
+    pub fault: u32,
+    pub number: u64,
+    pub cell: usize,
+    pub pairs: u64,
+    pub count: usize,
+}
