@@ -1,7 +1,7 @@
 -- What read and its parts compute. Assumes nothing.
 use mathlib.Core.Path.{_≡_, refl, sym, ap, ap₂, _∙_, subst}
 use mathlib.Core.Bool.{Bool, true, false, not}
-use mathlib.Core.List.{List, []}
+use mathlib.Core.List.{List, [], _∷_}
 use Prim.Native.Nat.{ℕ, _+_, _-_, _*_, _%_, _≤_, _<_}
 use native.Mathlib.Nat.{mod-lt}
 use native.Mathlib.Omega.{arith}
@@ -9,12 +9,13 @@ use lib.ListN.{length, take, drop}
 use lib.Dec.{eqb}
 use borrow.Author.Tests.{not-false}
 use Rattle.prelude.specs.Refusal.{say, unlessRefused}
+use Rattle.prelude.specs.Answer.{Answer, gives, refused}
 use Rattle.prelude.proofs.Choice.{both-right}
 use Rattle.prelude.proofs.Refusals.{say-zero, orElse-first, orElse-zero, taken-leaves, refused-keeps}
 use Rattle.words.specs.Word.{word}
 use Rattle.log.specs.Area.{cellsIn, areaFault, markedLine}
 use Rattle.log.specs.Message.{inWindow, highest, shown, messageStart, messageIn}
-use Rattle.log.specs.Read.{readFault, readPart, readEnd, readResult}
+use Rattle.log.specs.Read.{readFault, readPart, readEnd, readResult, partResult}
 use Rattle.log.specs.inner.Needs.{CellCount, Readable}
 use Rattle.log.proofs.Cells.{held}
 use Rattle.log.proofs.Parts.{area-cells, no-area, is-area, read-fault}
@@ -79,6 +80,17 @@ module _ (area : List ℕ) (number f : ℕ) (e : f ≡ readFault area number) wh
         (r ∙ ap (messageIn area) (p ∙ ap (λ (j : ℕ). number % j) q)
         ∙ sym (taken-leaves (messageIn area (number % cellsIn area)) [] (readFault area number) (sym e ∙ z)))
         e
+
+    pub find-taken : (r : Answer) (k c : ℕ) → k ≡ cellsIn area → c ≡ number % k → r ≡ gives (messageStart c ∷ markedLine (word area) c 1 ∷ [])
+        → r ≡ partResult area number
+    unfolding partResult
+    find-taken r k c q p s =
+        s ∙ ap (λ (x : ℕ). gives (messageStart x ∷ markedLine (word area) x 1 ∷ [])) (p ∙ ap (λ (j : ℕ). number % j) q)
+        ∙ sym (taken-leaves _ (refused (readFault area number)) (readFault area number) (sym e ∙ z))
+
+  pub find-refused : (f ≡ 0 → ⊥) → refused f ≡ partResult area number
+  unfolding partResult
+  find-refused ne = ap refused e ∙ sym (refused-keeps _ (refused (readFault area number)) (readFault area number) (λ z. ne (e ∙ z)))
 
 -- the part that the code takes
 pub part-is : (area : List ℕ) (c size : ℕ) → size ≡ word area (8 * (7 * c) + 1)

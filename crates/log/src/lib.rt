@@ -6,6 +6,12 @@ pub enum Handed {
     Refused(u32),
 }
 
+// Where a message stands in the area: at which byte it starts and how many bytes it has; or the number of the refusal.
+pub enum Part {
+    At { start: usize, size: usize },
+    Refused(u32),
+}
+
 // Word 2 of the marked line of a message, and how many stores its payload lines have.
 pub struct Payload {
     pub pairs: u64,

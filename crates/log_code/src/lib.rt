@@ -8,5 +8,7 @@ mod recovering;
 
 pub use appending::append;
 pub use log::Handed;
+pub use log::Part;
+pub use reading::find;
 pub use reading::read;
 pub use recovering::recover_log;
