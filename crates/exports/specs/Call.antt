@@ -2,7 +2,7 @@
 use mathlib.Core.List.{List, [], _∷_, _++_}
 use Prim.Native.Nat.{ℕ, _+_, _*_, _^_}
 use lib.ListN.{replicate}
-use Rattle.prelude.specs.Answer.{Answer, gives, absent, refused, refusalIn}
+use Rattle.prelude.specs.Answer.{Answer, gives, absent, refused, refusalIn, givenOr}
 use Rattle.face.specs.Set.{Store, State, Result, stateValues, FormatResult, handedOut, ChangeResult, GetResult}
 
 -- the lent answer of n words: 1 and the values that the call gives, or zeros for absent. "A refused call changes no lent byte, index number or state"
@@ -52,18 +52,12 @@ pub record RecoverCall : Type 0 where
 abbrev pub recoverLeft : (code : ℕ) → State → (heads next : List ℕ) → RecoverCall
 recoverLeft code s heads next = record { returns = code; state = stateValues s; heads = heads; next = next }
 
--- the state that recovery answers, or the one that was lent
-unfoldable pub recoveredValues : Answer → (lent : List ℕ) → List ℕ
-recoveredValues (gives values) lent = values
-recoveredValues absent lent = lent
-recoveredValues (refused number) lent = lent
-
--- the same, by the result of recover and the lent state
+-- the same, by the result of recover and the lent state: the state that recovery answers, or the one that was lent
 unfoldable pub recoverCall : Result → State → RecoverCall
 recoverCall r s =
     record {
       returns = returnedWith (r .answer) (r .slot);
-      state = recoveredValues (r .answer) (stateValues s);
+      state = givenOr (r .answer) (stateValues s);
       heads = r .heads;
       next = r .next;
     }

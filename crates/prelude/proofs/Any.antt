@@ -1,9 +1,10 @@
 -- A test over a range: a search for it turn by turn, and a test that holds nowhere. Assumes nothing.
 use mathlib.Core.Path.{_≡_, refl, sym, ap, ap₂, _∙_}
 use mathlib.Core.Bool.{Bool, true, false, cond, true≢false}
+use mathlib.Core.Logic.{_⊎_, inl, inr}
 use Prim.Native.Nat.{ℕ, zero, suc, _+_, _-_, _≤_, _<_}
 use native.Mathlib.Omega.{arith}
-use Rattle.prelude.proofs.Choice.{pick-true, pick-false}
+use Rattle.prelude.proofs.Choice.{pick-true, pick-false, split, true-false}
 use Rattle.prelude.specs.Range.{anyOf}
 
 -- the search from start to end has come to k: what is left of it answers for the whole
@@ -73,3 +74,20 @@ any-some p k (suc n) (suc i) h e = either (p k) _ (any-some p (suc k) n i (omega
     either : (a b : Bool) → b ≡ true → cond a true b ≡ true
     either true b q = refl
     either false b q = q
+
+-- and where it holds
+pub any-place : (p : ℕ → Bool) (k n : ℕ) → anyOf p k n ≡ true → (i : ℕ) × (i < k + n) × (p i ≡ true)
+unfolding anyOf
+any-place p k zero e = absurd (true-false e refl)
+any-place p k (suc n) e = go (split (p k)) (any-place p (suc k) n)
+  where
+    go : (p k ≡ true) ⊎ (p k ≡ false) → (anyOf p (suc k) n ≡ true → (i : ℕ) × (i < suc k + n) × (p i ≡ true)) → (i : ℕ) × (i < k + suc n) × (p i ≡ true)
+    go (inl q) ih = (k, omega arith, q)
+    go (inr q) ih = let r = ih (sym (pick-false (p k) true (anyOf p (suc k) n) q) ∙ e) in (r .0, omega (arith, r .1), r .2)
+
+-- two tests that agree over the range
+pub any-same : (p q : ℕ → Bool) (k n : ℕ) → ((i : ℕ) → k ≤ i → i < k + n → p i ≡ q i) → anyOf p k n ≡ anyOf q k n
+unfolding anyOf
+any-same p q k zero h = refl
+any-same p q k (suc n) h =
+    ap₂ (λ (x y : Bool). cond x true y) (h k (omega arith) (omega arith)) (any-same p q (suc k) n (λ i l m. h i (omega arith) (omega arith)))

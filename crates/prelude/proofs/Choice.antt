@@ -24,6 +24,15 @@ pub both-right : (a b : Bool) → a && b ≡ true → b ≡ true
 both-right true b e = e
 both-right false b e = absurd (true-false e refl)
 
+pub both-of : (a b : Bool) → a && b ≡ true → (a ≡ true) × (b ≡ true)
+both-of a b e = (both-left a b e, both-right a b e)
+
 pub both : (a b : Bool) → a ≡ true → b ≡ true → a && b ≡ true
 both true b e d = d
 both false b e d = e
+
+-- two tests of which each implies the other
+pub same-test : (a b : Bool) → (a ≡ true → b ≡ true) → (b ≡ true → a ≡ true) → a ≡ b
+same-test true b f g = sym (f refl)
+same-test false true f g = g refl
+same-test false false f g = refl

@@ -3,11 +3,11 @@ use mathlib.Core.Path.{_≡_, refl, sym, ap, _∙_, fun-ext}
 use mathlib.Core.Bool.{true, false, cond}
 use mathlib.Core.Logic.{_⊎_, inl, inr}
 use mathlib.Core.List.{List, [], _∷_}
-use Prim.Native.Nat.{ℕ, zero, suc, _+_, _-_, _*_, _/_, _%_, _<_}
+use Prim.Native.Nat.{ℕ, zero, suc, _+_, _-_, _*_, _/_, _%_, _≤_, _<_}
 use native.Mathlib.Nat.{mod-lt, zero-lt-suc}
 use native.Mathlib.Omega.{arith}
 use native.Mathlib.Numerals.{unary-clauses}
-use lib.ListN.{take}
+use lib.ListN.{length, take}
 use lib.Seq.{take-nil}
 use lib.Dec.{eqb}
 use borrow.Author.Tests.{eqb-true, eqb-false, eq-eqb, ne-eqb}
@@ -130,12 +130,41 @@ pub cut-at : (ss : List Store) (counts m : ℕ → ℕ) (n i : ℕ) → i < 8
 cut-at ss counts m n i h =
     cut-word ss counts m (8 * n + i) ∙ ap (λ (x : ℕ). playedWords (take (counts x) (onLine x ss)) m (8 * n + i)) (omega arith)
 
--- a line without stores stays
-pub line-out : (counts m : ℕ → ℕ) (ss : List Store) (n : ℕ) → onLine n ss ≡ [] → line (afterCut counts ss m) n ≡ line m n
+-- a line of which no store is made stays
+untaken : (counts m : ℕ → ℕ) (ss : List Store) (n : ℕ) → take (counts n) (onLine n ss) ≡ [] → line (afterCut counts ss m) n ≡ line m n
 unfolding playedWords
-line-out counts m ss n none = fun-ext (λ i. at (i % 8) (mod-lt i (zero-lt-suc 7)))
+untaken counts m ss n none = fun-ext (λ i. at (i % 8) (mod-lt i (zero-lt-suc 7)))
   where
     at : (i : ℕ) → i < 8 → afterCut counts ss m (8 * n + i) ≡ m (8 * n + i)
-    at i h =
-        cut-at ss counts m n i h
-        ∙ ap (λ (t : List Store). playedWords t m (8 * n + i)) (ap (take (counts n)) none ∙ take-nil (counts n))
+    at i h = cut-at ss counts m n i h ∙ ap (λ (t : List Store). playedWords t m (8 * n + i)) none
+
+-- there is none for it
+pub line-out : (counts m : ℕ → ℕ) (ss : List Store) (n : ℕ) → onLine n ss ≡ [] → line (afterCut counts ss m) n ≡ line m n
+line-out counts m ss n none = untaken counts m ss n (ap (take (counts n)) none ∙ take-nil (counts n))
+
+-- or none stands
+pub line-none : (counts m : ℕ → ℕ) (ss : List Store) (n : ℕ) → counts n ≡ 0 → line (afterCut counts ss m) n ≡ line m n
+line-none counts m ss n e = untaken counts m ss n (ap (λ (k : ℕ). take k (onLine n ss)) e)
+
+-- ---- every store stands
+
+pub on-few : (n : ℕ) (ss : List Store) → length (onLine n ss) ≤ length ss
+unfolding onLine
+on-few n [] = omega arith
+on-few n (s ∷ ss) = go (on-few n ss) (split (eqb (s .word / 8) n))
+  where
+    go : length (onLine n ss) ≤ length ss → (eqb (s .word / 8) n ≡ true) ⊎ (eqb (s .word / 8) n ≡ false) → length (onLine n (s ∷ ss)) ≤ suc (length ss)
+    go ih (inl e) = omega (arith, ap length (on-hit n s ss (eqb-true (s .word / 8) n e)))
+    go ih (inr e) = omega (arith, ap length (on-miss n s ss (eqb-false (s .word / 8) n e)))
+
+pub all-standing : (ss : List Store) (counts : ℕ → ℕ) → ((n : ℕ) → length ss ≤ counts n) → standing counts ss ≡ ss
+unfolding standing
+all-standing [] counts h = refl
+all-standing (s ∷ ss) counts h =
+    one-stands counts s ss (λ (z : counts (s .word / 8) ≡ 0). omega (arith, h (s .word / 8)))
+    ∙ ap (λ (t : List Store). s ∷ t) (all-standing ss (less (s .word / 8) counts) (λ n. left n (split (eqb n (s .word / 8)))))
+  where
+    left : (n : ℕ) → (eqb n (s .word / 8) ≡ true) ⊎ (eqb n (s .word / 8) ≡ false) → length ss ≤ less (s .word / 8) counts n
+    left n (inl e) =
+        omega (arith, h (s .word / 8), ap (less (s .word / 8) counts) (eqb-true n (s .word / 8) e), less-own (s .word / 8) counts)
+    left n (inr e) = omega (arith, h n, less-other (s .word / 8) counts n (eqb-false n (s .word / 8) e))
