@@ -15,13 +15,13 @@
  *
  * How to write: log_append and log_recover leave the area as it is and hand out stores, answer[ORDERSET_LOG_COUNT] of
  * them, at the front of at and value; the entries after them keep what they had. The caller makes these stores, in
- * order within each line of 64 bytes, flushes the lines that they are in and fences once; without persistence
- * orderset_play_list (orderset.h) makes them. Only then may the next append, recovery or read follow. If that was not
- * finished, log_recover comes next, and so it does at every start: its stores are made and fenced before the next
- * append. If they are not finished, log_recover comes again.
+ * order within each line of 64 bytes, flushes the lines that they are in and fences once (orderset_persist_list in
+ * orderset_persist.h); without persistence orderset_play_list (orderset.h) makes them. Only then may the next append,
+ * recovery or read follow. If that was not finished, log_recover comes next, and so it does at every start: its stores
+ * are made and fenced before the next append. If they are not finished, log_recover comes again.
  *
  * How to start: as in orderset.h, recovery takes what it reads as what stands in the memory. After anything but a power
- * cut the whole area is made durable first.
+ * cut the whole area is made durable first (orderset_persist_image).
  *
  * What a call returns: 0, or the number of its refusal (enum orderset_log_refusal). A refused call leaves everything
  * that it was lent as it was.
@@ -33,7 +33,7 @@
  * else: from the start of an append or a recovery until its stores are made, no other call runs.
  *
  * What is proved: for any area, any message and any lent lists each function returns and leaves what the definition
- * says (crates/exports/specs/Log), reads and writes nothing outside what it is lent, and ends. Over every list of
+ * says (crates/log_exports/specs/Call), reads and writes nothing outside what it is lent, and ends. Over every list of
  * appends, reads, recoveries and power cuts from an area of zeros, the messages that can be read are the last K - 1 of
  * the list of appended messages that no cut made absent, or all if there are fewer, byte for byte, and an append that a
  * cut strikes is there whole or not at all (crates/log/specs/Rule, LogRule). What is not proved: this header, the C

@@ -1,6 +1,8 @@
 /* orderset_persist.h: makes an image durable. orderset_persist makes the 16 stores that a call handed out on mapped
- * memory, flushes both lines and fences once; orderset_persist_image makes a whole image durable at a start. C11 and
- * C++11, GCC or Clang, x86-64. No part of the proved archive: what it relies on is said here.
+ * memory, flushes both lines and fences once; orderset_persist_list does the same with a list of any length, as the
+ * message log hands it out (orderset_log.h); orderset_persist_image makes a whole image, or a log's area, durable at a
+ * start. C11 and C++11, GCC or Clang, x86-64. No part of the proved archives, and nothing here is proved: what it relies
+ * on is said here.
  *
  *     flush = orderset_best_flush();                                                  once
  *     if (orderset_persist_image(image, length, flush)) ...stop                       every start, before recovery
@@ -135,6 +137,43 @@ ORDERSET_CALL static inline int orderset_persist(void *image, size_t image_lengt
     return 0;
 }
 
+/* The stores of a list, in order. */
+static inline void orderset_store_list(void *bytes, const uint32_t *at, const uint64_t *value, size_t count) {
+    for (size_t i = 0; i < count; i++)
+        orderset_store((orderset_word *)bytes + at[i], value[i]);
+}
+
+/* Whether each of these words is in a whole line of the bytes. */
+static inline int orderset_inside(size_t bytes_length, const uint32_t *at, size_t count) {
+    const size_t words = bytes_length / ORDERSET_LINE_BYTES * ORDERSET_LINE_STORES;
+    for (size_t i = 0; i < count; i++)
+        if (at[i] >= words)
+            return 0;
+    return 1;
+}
+
+/* Makes a list of stores durable: store i sets word at[i] of the bytes, which begin a line, to value[i]. First all
+ * stores, in order, so that each line has its own in order; then each line that has any is flushed, and then there is
+ * one fence. Where the stores of a line stand together in the list, as in every list that is handed out, it is flushed
+ * once; else once for each group of them. Returns 0; or -1 with errno EINVAL where a word is not in a whole line of the
+ * bytes, and then nothing is stored. Nothing else is tested: a count above that of the call's answer stores what the
+ * lists held before. */
+ORDERSET_CALL static inline int orderset_persist_list(void *bytes, size_t bytes_length, const uint32_t *at,
+                                                      const uint64_t *value, size_t count, enum orderset_flush flush) {
+    if (__builtin_expect(!orderset_inside(bytes_length, at, count), 0)) {
+        errno = EINVAL;
+        return -1;
+    }
+    orderset_store_list(bytes, at, value, count);
+    for (size_t i = 0; i < count; i++) {
+        const size_t line = at[i] / ORDERSET_LINE_STORES;
+        if (i == 0 || line != at[i - 1] / ORDERSET_LINE_STORES)
+            orderset_flush_line((char *)bytes + line * ORDERSET_LINE_BYTES, flush);
+    }
+    orderset_fence();
+    return 0;
+}
+
 /* Makes the whole image durable as it is: flushes every line and fences once. Every start that will write calls it
  * before recovery. Returns 0; or -1 with errno EINVAL where the image is not 64-byte aligned, and then nothing is
  * flushed. */
@@ -176,6 +215,27 @@ ORDERSET_CALL static inline int orderset_persist_file(void *image, size_t image_
     if (msync((void *)a, page, MS_SYNC))
         return -1;
     return a == b ? 0 : msync((void *)b, page, MS_SYNC);
+}
+
+/* Makes a list of stores durable in the file, as orderset_persist_list does. Each page that has any is synced, once where
+ * its stores stand together in the list. Returns 0, or -1 with errno: EINVAL as in orderset_persist_list, with nothing
+ * stored; any other is msync's. */
+ORDERSET_CALL static inline int orderset_persist_list_file(void *bytes, size_t bytes_length, const uint32_t *at,
+                                                           const uint64_t *value, size_t count) {
+    const uintptr_t page = (uintptr_t)sysconf(_SC_PAGESIZE);
+    uintptr_t synced = 0;
+    if (!orderset_inside(bytes_length, at, count)) {
+        errno = EINVAL;
+        return -1;
+    }
+    orderset_store_list(bytes, at, value, count);
+    for (size_t i = 0; i < count; i++) {
+        const uintptr_t here = (uintptr_t)((orderset_word *)bytes + at[i]) / page * page;
+        if (here != synced && msync((void *)here, page, MS_SYNC))
+            return -1;
+        synced = here;
+    }
+    return 0;
 }
 
 /* Makes the whole image durable in the file as it is: stores the first word of every page again, unchanged, so that the

@@ -1,8 +1,9 @@
 /* orderset_persist.h: what it stores is what play makes; the stores reach the memory one word at a time and in order;
  * then come the flushes of both lines and one fence, for each accepted insert, replace and remove, and none for get,
  * absent and refusals. Some calls are watched instruction by instruction, so that the flushes and the fence are those
- * that the processor executes, and not only the header's hooks. Stores that are no call's are refused. A start flushes
- * every line and fences once. The fallback stores to every page again and syncs it, and the file is as the image. Ends
+ * that the processor executes, and not only the header's hooks. Stores that are no call's are refused. So it is with
+ * lists of stores, of the message log and random ones, each line of which is flushed. A start flushes every line and
+ * fences once. The fallback stores to every page again and syncs it, and the file is as the image. Ends
  * with status 1 at the first thing that is otherwise.
  *
  *     persist [SEED]
@@ -50,6 +51,7 @@ static int sync_pages(void *where, size_t length, int flags) {
 #define ORDERSET_FLUSHED() happened(FLUSH, line, 0)
 #define ORDERSET_FENCED() happened(FENCE, NULL, 0)
 #define msync(where, length, flags) sync_pages(where, length, flags)
+#include "orderset_log.h"
 #include "orderset_persist.h"
 
 enum {
@@ -59,6 +61,10 @@ enum {
     LINES = LENGTH / 64,
     CALLS = 20000,
     WATCHED = 2000,
+    LISTS = 5000,
+    LISTS_WATCHED = 50,
+    LIST = 64, /* stores of a list at the most */
+    CELLS = LENGTH / ORDERSET_LOG_CELL_BYTES,
     TRAP_FLAG = 0x100,
     PAGE = 4096
 };
@@ -66,6 +72,8 @@ enum {
 static uint8_t *image, played[LENGTH];
 static uint32_t heads[HEADS], next[N + 1], state[ORDERSET_STATE], at[ORDERSET_STORES];
 static uint64_t version[1], value[ORDERSET_STORES], answer[ORDERSET_CHANGE_ANSWER], stored, unstored;
+static uint32_t list_at[LIST];
+static uint64_t list_value[LIST], lists;
 
 static void expect(int holds, const char *what) {
     if (holds)
@@ -302,6 +310,118 @@ static void no_calls_stores(enum orderset_flush flush) {
     }
 }
 
+/* ---- lists of stores */
+
+/* Some stores on each of some lines: mostly words 0 up to one, in order. */
+static size_t any_list(void) {
+    size_t count = 0;
+    for (uint64_t lines = below(9); lines > 0; lines--) {
+        uint32_t first = 8 * (uint32_t)below(LINES), words = 1 + (uint32_t)below(8);
+        for (uint32_t i = 0; i < words; i++) {
+            list_at[count] = first + (below(8) ? i : (uint32_t)below(8));
+            list_value[count++] = chance();
+        }
+    }
+    return count;
+}
+
+/* The stores of a list that stand together on one line, or in one page, are a group: the first of each. */
+static int begins_group(size_t i, uint32_t words) {
+    return i == 0 || list_at[i] / words != list_at[i - 1] / words;
+}
+
+/* Answers how many lines were flushed. */
+static unsigned persist_list(size_t count, enum orderset_flush flush, int watching) {
+    unsigned i = 0, flushed = 0;
+    int each = 1;
+    memcpy(played, image, LENGTH);
+    expect(orderset_play_list(played, LENGTH, list_at, count, list_value, count) == ORDERSET_OK, "play takes a list");
+    events = 0;
+    if (watching)
+        watch(image);
+    int code = orderset_persist_list(image, LENGTH, list_at, list_value, count, flush);
+    if (watching)
+        watch_no_more();
+    expect(code == 0, "persist_list takes a list");
+    for (; watching && i < count; i++)
+        expect(is(i, STORE, (uint64_t *)image + list_at[i]) && event[i].value == list_value[i],
+               "store i is the one of the list, of one word");
+    for (size_t j = 0; j < count; j++)
+        if (begins_group(j, 8)) {
+            each &= is_flush(&i, image + list_at[j] / 8 * 64, flush, watching);
+            flushed++;
+        }
+    expect(each, "then each line of the list is flushed");
+    expect(is_last_fence(i, watching), "after a list there is one fence, and nothing more");
+    expect(memcmp(image, played, LENGTH) == 0, "the bytes are as play_list leaves them");
+    lists++;
+    return flushed;
+}
+
+static unsigned lines_of(size_t count) {
+    uint8_t has[LINES] = {0};
+    unsigned lines = 0;
+    for (size_t i = 0; i < count; i++)
+        lines += !has[list_at[i] / 8]++;
+    return lines;
+}
+
+/* A message is appended to a log: at most 56 stores, and of each of its lines one flush. */
+static void append(enum orderset_flush flush, int watching) {
+    uint8_t message[ORDERSET_LOG_MESSAGE_MAX];
+    uint64_t handed[ORDERSET_LOG_ANSWER];
+    fill(message, sizeof message);
+    expect(log_append(image, ORDERSET_LOG_BYTES(CELLS), message, 1 + below(sizeof message), list_at, LIST, list_value,
+                      LIST, handed)
+               == ORDERSET_LOG_OK,
+           "append");
+    const size_t count = handed[ORDERSET_LOG_COUNT];
+    expect(count <= ORDERSET_LOG_STORES && persist_list(count, flush, watching) == lines_of(count),
+           "an append is at most 56 stores, and each of its lines is flushed once");
+}
+
+/* Recovery opens marked lines that were left whole, as many as there are. */
+static void recover_log(enum orderset_flush flush) {
+    const uint64_t stamp = 2000000;
+    uint64_t handed[ORDERSET_LOG_ANSWER];
+    for (size_t cell = 0; cell < CELLS; cell += 2) { /* whole, above every number, without a length */
+        memset(image + cell * ORDERSET_LOG_CELL_BYTES, 0, 64);
+        memcpy(image + cell * ORDERSET_LOG_CELL_BYTES + 56, &stamp, sizeof stamp);
+    }
+    expect(log_recover(image, ORDERSET_LOG_BYTES(CELLS), list_at, LIST, list_value, LIST, handed) == ORDERSET_LOG_OK
+               && handed[ORDERSET_LOG_COUNT] == (CELLS + 1) / 2,
+           "recovery opens the lines");
+    expect(persist_list(handed[ORDERSET_LOG_COUNT], flush, 0) == (CELLS + 1) / 2, "each line is flushed once");
+}
+
+/* One store is to a word that is not in a whole line of the bytes. */
+static void outside(size_t length, enum orderset_flush flush) {
+    size_t count = 1 + below(LIST);
+    for (size_t i = 0; i < count; i++)
+        list_at[i] = (uint32_t)below(LENGTH / 8 - 8);
+    list_at[below(count)] = below(2) ? (uint32_t)(length / 64 * 8 + below(9)) : (uint32_t)chance() | LENGTH;
+    memcpy(played, image, LENGTH);
+    events = 0;
+    errno = 0;
+    expect(orderset_persist_list(image, length, list_at, list_value, count, flush) == -1 && errno == EINVAL,
+           "persist_list refuses a store outside the bytes");
+    errno = 0;
+    expect(orderset_persist_list_file(image, length, list_at, list_value, count) == -1 && errno == EINVAL,
+           "persist_list_file refuses a store outside the bytes");
+    expect(memcmp(image, played, LENGTH) == 0 && events == 0, "of a refused list nothing is stored, flushed or synced");
+}
+
+static void all_lists(enum orderset_flush flush) {
+    for (int i = 0; i < LISTS; i++)
+        persist_list(any_list(), flush, i < LISTS_WATCHED);
+    for (int i = 0; i < 1000; i++)
+        outside(below(2) ? LENGTH : LENGTH - 1 - below(63), flush);
+    memset(image, 0, LENGTH);
+    for (int i = 0; i < LISTS; i++)
+        append(flush, i < LISTS_WATCHED);
+    recover_log(flush);
+}
+
 /* ---- a start */
 
 static void whole_image(enum orderset_flush flush, int watching) {
@@ -365,6 +485,29 @@ static void sync_errors(uint8_t *mapped) {
     sync_fails = 0;
 }
 
+/* Each page of a list is synced, where its stores stand together once. */
+static void list_in_file(uint8_t *mapped, int file) {
+    uint8_t held[LENGTH];
+    size_t count = any_list(), pages = 0;
+    memcpy(played, mapped, LENGTH);
+    expect(orderset_play_list(played, LENGTH, list_at, count, list_value, count) == ORDERSET_OK, "play takes a list");
+    events = 0;
+    expect(orderset_persist_list_file(mapped, LENGTH, list_at, list_value, count) == 0, "persist_list_file");
+    for (size_t i = 0; i < count; i++)
+        if (begins_group(i, PAGE / 8)) {
+            expect(is((unsigned)pages, SYNC, page_of(mapped, list_at[i])) && event[pages].value == PAGE,
+                   "persist_list_file syncs each page");
+            pages++;
+        }
+    expect(events == pages, "persist_list_file syncs no more than that");
+    expect(pread(file, held, LENGTH, 0) == LENGTH && memcmp(held, played, LENGTH) == 0,
+           "the file is as play_list leaves it");
+    sync_fails = count > 0;
+    expect(count == 0 || (orderset_persist_list_file(mapped, LENGTH, list_at, list_value, count) == -1 && errno == EIO),
+           "persist_list_file tells that msync fails");
+    sync_fails = 0;
+}
+
 static void whole_file(uint8_t *mapped, int file) {
     uint8_t held[LENGTH];
     for (uint32_t i = 0; i < ORDERSET_STORES; i++)
@@ -398,6 +541,8 @@ static void fallback(void) {
     for (uint64_t key = 0; key < N - 1; key++)
         insert_in_file(mapped, fileno(file), key);
     sync_errors(mapped);
+    for (int i = 0; i < 1000; i++)
+        list_in_file(mapped, fileno(file));
     whole_file(mapped, fileno(file));
     fclose(file);
 }
@@ -414,10 +559,11 @@ int main(int count, char **words) {
         whole_image((enum orderset_flush)flush, 0);
         whole_image((enum orderset_flush)flush, 1);
         misaligned_image((enum orderset_flush)flush);
+        all_lists((enum orderset_flush)flush);
     }
     fallback();
     printf("%u kinds of flush, %" PRIu64 " calls stored with 2 line flushes and 1 fence each, %" PRIu64
-           " did not with none, and msync: all as the header says (%.0f s)\n",
-           kinds, stored, unstored, seconds());
+           " did not with none, %" PRIu64 " lists with 1 fence each, and msync: all as the header says (%.0f s)\n",
+           kinds, stored, unstored, lists, seconds());
     return 0;
 }
