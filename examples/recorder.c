@@ -9,9 +9,9 @@
  *     dd if=/dev/zero of=FILE bs=448 count=K conv=fsync && sync
  *
  * A line that is empty or too long is refused with its number, 29, and the next one is read. On a file system on
- * non-volatile memory (DAX) an append is up to seven line flushes and one fence; on any other it is msync, the fallback.
- * One recorder writes at a time. What list shows was perhaps not durable yet if the last writer was killed. Status 0:
- * all done. 1: something failed; the message that was not answered is there whole or not at all.
+ * non-volatile memory (DAX) an append is up to seven line flushes and one fence; on any other it is msync, the
+ * fallback. One recorder writes at a time. What list shows was perhaps not durable yet if the last writer was killed.
+ * Status 0: all done. 1: something failed; the message that was not answered is there whole or not at all.
  *
  * The calls of the archive are proved; this program, the headers and what lies below them are not. */
 #define _GNU_SOURCE
@@ -51,7 +51,7 @@ static void open_area(int writing) {
         fail("open");
     length = (size_t)found.st_size;
     cells = length / ORDERSET_LOG_CELL_BYTES;
-    /* a store to a hole of the file, on a full disk, would end the program; and what was written may wait in the kernel */
+    /* a store to a hole of the file, on a full disk, would end the program */
     if (writing && ((errno = posix_fallocate(file, 0, found.st_size)) || fsync(file)))
         fail("make durable");
     area = mmap(NULL, length, access, MAP_SHARED_VALIDATE | MAP_SYNC, file, 0);

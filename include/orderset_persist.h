@@ -1,8 +1,8 @@
 /* orderset_persist.h: makes an image durable. orderset_persist makes the 16 stores that a call handed out on mapped
  * memory, flushes both lines and fences once; orderset_persist_list does the same with a list of any length, as the
  * message log hands it out (orderset_log.h); orderset_persist_image makes a whole image, or a log's area, durable at a
- * start. C11 and C++11, GCC or Clang, x86-64. No part of the proved archives, and nothing here is proved: what it relies
- * on is said here.
+ * start. C11 and C++11, GCC or Clang, x86-64. No part of the proved archives: nothing here is proved, and what it
+ * relies on is said here.
  *
  *     flush = orderset_best_flush();                                                  once
  *     if (orderset_persist_image(image, length, flush)) ...stop                       every start, before recovery
@@ -217,9 +217,9 @@ ORDERSET_CALL static inline int orderset_persist_file(void *image, size_t image_
     return a == b ? 0 : msync((void *)b, page, MS_SYNC);
 }
 
-/* Makes a list of stores durable in the file, as orderset_persist_list does. Each page that has any is synced, once where
- * its stores stand together in the list. Returns 0, or -1 with errno: EINVAL as in orderset_persist_list, with nothing
- * stored; any other is msync's. */
+/* Makes a list of stores durable in the file, as orderset_persist_list does. Each page that has any is synced, once
+ * where its stores stand together in the list. Returns 0, or -1 with errno: EINVAL as in orderset_persist_list, with
+ * nothing stored; any other is msync's. */
 ORDERSET_CALL static inline int orderset_persist_list_file(void *bytes, size_t bytes_length, const uint32_t *at,
                                                            const uint64_t *value, size_t count) {
     const uintptr_t page = (uintptr_t)sysconf(_SC_PAGESIZE);

@@ -40,9 +40,9 @@ static size_t call_size, call_places, call_values;
 static uint64_t call_number;
 
 static void show_case(void) {
-    printf("seed %" PRIu64 ", call %" PRIu64 ", %s\n%s: length %zu (K %zu), size %zu, lists %zu and %zu, number %" PRIu64
-           "\n",
-           seed, calls, phase, name[call], length, cells, call_size, call_places, call_values, call_number);
+    printf("seed %" PRIu64 ", call %" PRIu64 ", %s\n", seed, calls, phase);
+    printf("%s: length %zu (K %zu), size %zu, lists %zu and %zu, number %" PRIu64 "\n", name[call], length, cells,
+           call_size, call_places, call_values, call_number);
     for (size_t i = 0; i < length / 8 && length <= 5 * M_CELL; i++)
         printf("%s%" PRIx64 "%s", i % 8 ? " " : i % 56 ? "     " : "cell ", m_word(kept, i), i % 8 == 7 ? "\n" : "");
 }

@@ -1,6 +1,6 @@
 /* kill -9 of the recorder under load, with a restart each time. Every message that was answered is there, of the last
- * K - 1; the one without an answer is there whole or not at all. Empty lines and lines that are too long are refused and
- * change nothing; a second recorder is refused while one has the file, and so is a file that is no log.
+ * K - 1; the one without an answer is there whole or not at all. Empty lines and lines that are too long are refused
+ * and change nothing; a second recorder is refused while one has the file, and so is a file that is no log.
  *
  *     log_kills RECORDER FILE [SEED]
  */
@@ -76,7 +76,8 @@ static void check(void) {
             *last = 0;
         }
         snprintf(wanted, sizeof wanted, "%" PRIu64 ": %s", number, message(number));
-        expect(number <= answered && !strcmp(heard, wanted), "message %" PRIu64 " is '%s': '%s'", number, wanted, heard);
+        expect(number <= answered && !strcmp(heard, wanted), "message %" PRIu64 " is '%s': '%s'", number, wanted,
+               heard);
     }
     expect(end_of(&c) == 0, "list ends with status 0");
     expect(found == answered, "the last message answered is %" PRIu64 ", listed %" PRIu64, answered, found);
@@ -94,7 +95,8 @@ static void no_log_is_refused(void) {
     make_file(CELL * 1001);
     struct child c = start_child((const char *const[]){recorder, path, NULL});
     char heard[LINE];
-    expect(hear(&c, heard) && strstr(heard, "no 30") && end_of(&c) == 1, "a file of 1,001 cells is refused: '%s'", heard);
+    expect(hear(&c, heard) && strstr(heard, "no 30") && end_of(&c) == 1, "a file of 1,001 cells is refused: '%s'",
+           heard);
 }
 
 static void run_and_kill(void) {

@@ -91,8 +91,8 @@ static void add(struct stores *s, size_t at, uint64_t value) {
     s->value[s->count++] = value;
 }
 
-/* "old and new words are compared from word 7 down to word 0, and the search ends at the first that differs": that word,
- * or -1 */
+/* "old and new words are compared from word 7 down to word 0, and the search ends at the first that differs": that
+ * word, or -1 */
 static int differing(const uint8_t *area, size_t first, const uint8_t *fresh) {
     for (int word = 7; word >= 0; word--)
         if (m_word(area, first + (size_t)word) != m_word(fresh, (size_t)word))
@@ -149,7 +149,8 @@ static struct m_handed hand_out(const struct stores *s, uint64_t number, struct 
 
 /* "30 is tested first, and in an append 29, then 9 for a number of 2^63 or more, then 13". "Messages are padded with
  * zeros and numbered one above the highest complete number, from 1." "Stores, the marked line's first". */
-struct m_handed m_append(const uint8_t *area, size_t length, const uint8_t *message, size_t size, struct m_lists lists) {
+struct m_handed m_append(const uint8_t *area, size_t length, const uint8_t *message, size_t size,
+                         struct m_lists lists) {
     struct stores s = {.count = 0};
     uint8_t padded[M_MESSAGE] = {0};
     size_t cells = m_cells(length);
