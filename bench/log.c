@@ -124,7 +124,7 @@ static unsigned append(const uint8_t *message, size_t size, unsigned *lines) {
 
 /* What is appended over what: messages in the manner of FIX, random bytes over as many, a message of 64 bytes over 384 random ones. */
 enum what { FIRST, LIKE, SAME, RANDOM, OVER_LONG, WHATS };
-static const char *const names[WHATS] = {"first use of a cell", "a like message", "the same message again", "other bytes, as many", "a short one over a long one"};
+static const char *const names[WHATS] = {"first use of a cell", "a like message", "the same message again", "other bytes of that length", "a short one over a long one"};
 
 static void count_stores(enum what what, size_t size) {
     enum { TIMES = 1000 };
