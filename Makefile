@@ -1,5 +1,5 @@
 # The C side: the archive's tests, the example and the measurements. The proofs are checked by .ci/run.
-#   make archive   the library, proved and built: target/staticlib/liborderset_c.a                    (rt)
+#   make archive   the libraries, proved and built: target/staticlib/liborderset_c.a, liblog_c.a      (rt)
 #   make test      the tests of docs/TESTS.md: the archive, the headers and the gateway       (gcc g++ python3)
 #   make planted   that each test fails where a fault is planted                                      (gcc g++)
 #   make gateway   the example: a new file, orders, a restart, and the orders again                   (gcc)
@@ -10,6 +10,7 @@
 RT ?= rt
 OUT := target/c
 ARCHIVE := target/staticlib/liborderset_c.a
+LOG_ARCHIVE := target/staticlib/liblog_c.a
 # CC, CXX, CFLAGS, CXXFLAGS and LDFLAGS are the caller's, from the environment or the command line
 ifeq ($(origin CC),default)
 CC := gcc
@@ -21,14 +22,17 @@ CFLAGS ?= -O2
 CXXFLAGS ?= -O2
 C := $(CC) -std=c11 -Wall -Wextra -Iinclude $(CFLAGS) $(LDFLAGS)
 CPLUS := $(CXX) -std=c++11 -Wall -Wextra -Iinclude $(CXXFLAGS) $(LDFLAGS)
-HEADERS := include/orderset.h include/orderset_persist.h
+HEADERS := include/orderset.h include/orderset_persist.h include/orderset_log.h
 CRATES := crates.txt $(shell find crates -name '*.rt' -o -name '*.antt')
 
 .PHONY: test planted gateway heads bench archive run-names run-header run-persist run-guard run-storm run-lock run-kills run-heads run-differential
-archive: $(ARCHIVE)
+archive: $(ARCHIVE) $(LOG_ARCHIVE)
 
 $(ARCHIVE): $(CRATES)
 	$(RT) staticlib orderset_c
+
+$(LOG_ARCHIVE): $(CRATES)
+	$(RT) staticlib log_c
 
 $(OUT):
 	mkdir -p $(OUT)

@@ -33,7 +33,7 @@
  * else: from the start of an append or a recovery until its stores are made, no other call runs.
  *
  * What is proved: for any area, any message and any lent lists each function returns and leaves what the definition
- * says (crates/exports/specs/Log), reads and writes nothing outside what it is lent, and ends. Over every list of
+ * says (crates/log_exports/specs/Call), reads and writes nothing outside what it is lent, and ends. Over every list of
  * appends, reads, recoveries and power cuts from an area of zeros, the messages that can be read are the last K - 1 of
  * the list of appended messages that no cut made absent, or all if there are fewer, byte for byte, and an append that a
  * cut strikes is there whole or not at all (crates/log/specs/Rule, LogRule). What is not proved: this header, the C
