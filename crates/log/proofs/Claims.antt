@@ -27,7 +27,7 @@ use Rattle.log.specs.Append.{messageFault, nextMessage, appendStores, ap
 use Rattle.log.specs.Recover.{recoveryStores, logRecoverFault, logRecoverResult}
 use Rattle.log.specs.Read.{readFault, readPart, readEnd, readResult}
 use Rattle.log.specs.Event.{LogCall, an-append, a-read, a-recovery, logStores, areaDone, Messages, logDueFault, FitsCall, append-fits, read-fits, recovery-fits}
-use Rattle.log.specs.Rule.{shownUpTo, shownMessages, lastOf, Shows, countGiven, HandsOut, CallRight}
+use Rattle.log.specs.Rule.{shownUpTo, shownMessages, lastMessages, Shows, countGiven, HandsOut, CallRight}
 use Rattle.log.specs.Laws.{ShowsSame, ShowsMore}
 use Rattle.log.proofs.Cells.{Window, window, in-window}
 use Rattle.log.proofs.Parts.{read-fault, read-hidden}
@@ -88,8 +88,8 @@ module _ (cells : ℕ) (low : 2 ≤ cells) (area : List ℕ) (log : Messages)
           ∙ ap (λ (x : List ℕ). x ∷ []) (bytes (suc n) w ∙ ap (λ (k : ℕ). getD log k []) (let z : suc n - 1 ≡ n = omega arith in z)))
           ∙ sym (ap (drop d) (take-suc log n [] (omega arith)) ∙ drop-append-le d (take n log) (getD log n [] ∷ []) (omega (arith, length-take-le n log (omega arith))))
 
-  pub list-shown : highest cells (word area) ≡ length log → shownMessages cells area ≡ lastOf (cells - 1) log
-  unfolding shownMessages lastOf
+  pub list-shown : highest cells (word area) ≡ length log → shownMessages cells area ≡ lastMessages (cells - 1) log
+  unfolding shownMessages lastMessages
   list-shown top = ap (shownUpTo cells area) top ∙ up-to (length log) (omega arith) ∙ ap (drop d) (take-all (length log) log (omega arith))
 
 -- ---- what a call that hands out stores leaves

@@ -29,13 +29,13 @@ unfoldable pub shownMessages : (cells : ℕ) → (area : List ℕ) → Messages
 shownMessages cells area = shownUpTo cells area (highest cells (word area))
 
 -- the last n of a list, "or all if fewer"
-unfoldable pub lastOf : (n : ℕ) → Messages → Messages
-lastOf n log = drop (length log - n) log
+unfoldable pub lastMessages : (n : ℕ) → Messages → Messages
+lastMessages n log = drop (length log - n) log
 
 -- "its last K − 1, or all if fewer, are those shown, byte for byte"; and by numbers: these are counted from 1, so message s of the list is the one at s − 1
 pub record Shows (cells : ℕ) (area : List ℕ) (log : Messages) : Type 0 where
   pub size : cellsIn area ≡ cells
-  pub messages : shownMessages cells area ≡ lastOf (cells - 1) log
+  pub messages : shownMessages cells area ≡ lastMessages (cells - 1) log
   pub top : highest cells (word area) ≡ length log
   pub numbers : (s : ℕ) → shown cells (word area) s ≡ inWindow cells (length log) s
   pub bytes : (s : ℕ) → inWindow cells (length log) s ≡ true → readPart area s ≡ getD log (s - 1) []
