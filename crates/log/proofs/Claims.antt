@@ -1,18 +1,18 @@
 -- An area that shows the plain list: each call answers as the plain machine does, and what keeps the list or adds a message to it. Assumes nothing.
 use mathlib.Core.Path.{_≡_, refl, sym, ap, ap₂, _∙_, subst}
-use mathlib.Core.Bool.{Bool, true, false, not, _&&_}
+use mathlib.Core.Bool.{Bool, true, false, cond, not, _&&_}
 use mathlib.Core.Logic.{_⊎_, inl, inr, by-cases}
 use mathlib.Core.List.{List, [], _∷_, _++_}
 use Prim.Native.Nat.{ℕ, zero, suc, _+_, _-_, _*_, _≤_, _<_}
-use native.Mathlib.Decide.{ℕ-discrete}
+use native.Mathlib.Decide.{decLt, ℕ-discrete}
 use native.Mathlib.Omega.{arith}
 use lib.ListN.{length, getD, take, drop, length-append, List·getD-append}
-use lib.Seq.{take-at, getD-at}
+use lib.Seq.{take-at, getD-at, take-all, take-suc, drop-nil, drop-append-le, length-take-le}
 use lib.Dec.{eqb}
 use borrow.Author.Tests.{ne-eqb}
 use Rattle.prelude.specs.Refusal.{say, orElse, unlessRefused}
 use Rattle.prelude.specs.Answer.{gives, refused}
-use Rattle.prelude.proofs.Choice.{same-test, split, both, both-left}
+use Rattle.prelude.proofs.Choice.{pick-true, pick-false, same-test, split, both, both-left}
 use Rattle.prelude.proofs.Refusals.{say-false, orElse-later}
 use Rattle.words.specs.Word.{AreBytes, word}
 use Rattle.layout.specs.Line.{versionFault}
@@ -27,7 +27,7 @@ use Rattle.log.specs.Append.{messageFault, nextMessage, appendStores, ap
 use Rattle.log.specs.Recover.{recoveryStores, logRecoverFault, logRecoverResult}
 use Rattle.log.specs.Read.{readFault, readPart, readEnd, readResult}
 use Rattle.log.specs.Event.{LogCall, an-append, a-read, a-recovery, logStores, areaDone, Messages, logDueFault, FitsCall, append-fits, read-fits, recovery-fits}
-use Rattle.log.specs.Rule.{Shows, countIn, HandsOut, CallRight}
+use Rattle.log.specs.Rule.{shownUpTo, shownMessages, lastMessages, Shows, countGiven, HandsOut, CallRight}
 use Rattle.log.specs.Laws.{ShowsSame, ShowsMore}
 use Rattle.log.proofs.Cells.{Window, window, in-window}
 use Rattle.log.proofs.Parts.{read-fault, read-hidden}
@@ -39,12 +39,65 @@ pub record Keeping (cells : ℕ) (area : List ℕ) (log : Messages) : Type 0 whe
   pub bytes : AreBytes area
   pub shows : Shows cells area log
 
+-- ---- the messages shown, by their numbers
+
+module _ (cells : ℕ) (low : 2 ≤ cells) (area : List ℕ) (log : Messages)
+    (numbers : (s : ℕ) → shown cells (word area) s ≡ inWindow cells (length log) s)
+    (bytes : (s : ℕ) → inWindow cells (length log) s ≡ true → readPart area s ≡ getD log (s - 1) []) where
+  abbrev d : ℕ
+  d = length log - (cells - 1)
+
+  near : (n : ℕ) → n < length log → d ≤ n → inWindow cells (length log) (suc n) ≡ true
+  near n h l = in-window cells (length log) (suc n) (record { low = omega arith; high = omega arith; near = omega arith })
+
+  far : (n : ℕ) → n < d → shown cells (word area) (suc n) ≡ false
+  far n h = numbers (suc n) ∙ go (split (inWindow cells (length log) (suc n)))
+    where
+      go : (inWindow cells (length log) (suc n) ≡ true) ⊎ (inWindow cells (length log) (suc n) ≡ false) → inWindow cells (length log) (suc n) ≡ false
+      go (inl e) = let w = window cells (length log) (suc n) e in absurd (omega (arith, w .near, w .high))
+      go (inr e) = e
+
+  take-short : (n : ℕ) (l : Messages) → length (take n l) ≤ n
+  take-short zero l = omega arith
+  take-short (suc n) [] = omega arith
+  take-short (suc n) (x ∷ l) = omega (arith, take-short n l)
+
+  none-dropped : (n : ℕ) → n ≤ d → drop d (take n log) ≡ []
+  none-dropped n h = drop-over d (take n log) (omega (arith, take-short n log))
+    where
+      drop-over : (k : ℕ) (l : Messages) → length l ≤ k → drop k l ≡ []
+      drop-over k [] h = drop-nil k
+      drop-over zero (x ∷ l) h = absurd (omega arith)
+      drop-over (suc k) (x ∷ l) h = drop-over k l (omega arith)
+
+  up-to : (n : ℕ) → n ≤ length log → shownUpTo cells area n ≡ drop d (take n log)
+  unfolding shownUpTo
+  up-to zero h = sym (drop-nil d)
+  up-to (suc n) h = by-cases (decLt n d) (older (up-to n (omega arith))) (newer (up-to n (omega arith)))
+    where
+      older : shownUpTo cells area n ≡ drop d (take n log) → n < d → shownUpTo cells area n ++ cond (shown cells (word area) (suc n)) (readPart area (suc n) ∷ []) [] ≡ drop d (take (suc n) log)
+      older ih l =
+          ap₂ (λ (x y : Messages). x ++ y) (ih ∙ none-dropped n (omega arith)) (pick-false (shown cells (word area) (suc n)) _ _ (far n l))
+          ∙ sym (none-dropped (suc n) (omega arith))
+
+      newer : shownUpTo cells area n ≡ drop d (take n log) → (n < d → ⊥) → shownUpTo cells area n ++ cond (shown cells (word area) (suc n)) (readPart area (suc n) ∷ []) [] ≡ drop d (take (suc n) log)
+      newer ih l =
+          let w = near n (omega arith) (omega arith) in
+          ap₂ (λ (x y : Messages). x ++ y) ih
+          (pick-true (shown cells (word area) (suc n)) _ _ (numbers (suc n) ∙ w)
+          ∙ ap (λ (x : List ℕ). x ∷ []) (bytes (suc n) w ∙ ap (λ (k : ℕ). getD log k []) (let z : suc n - 1 ≡ n = omega arith in z)))
+          ∙ sym (ap (drop d) (take-suc log n [] (omega arith)) ∙ drop-append-le d (take n log) (getD log n [] ∷ []) (omega (arith, length-take-le n log (omega arith))))
+
+  pub list-shown : highest cells (word area) ≡ length log → shownMessages cells area ≡ lastMessages (cells - 1) log
+  unfolding shownMessages lastMessages
+  list-shown top = ap (shownUpTo cells area) top ∙ up-to (length log) (omega arith) ∙ ap (drop d) (take-all (length log) log (omega arith))
+
 -- ---- what a call that hands out stores leaves
 
 module _ (area : List ℕ) (call : LogCall) (ss : List Store) (at value : List ℕ) where
   hands : (f number : ℕ) → logStores area call ≡ unlessRefused f ss [] → (f ≡ 0 → StoresInside (length area) ss)
       → HandsOut area call f number (handing f number ss at value)
-  unfolding handing countIn unlessRefused areaDone zipped wordNumbers values
+  unfolding handing countGiven unlessRefused areaDone zipped wordNumbers values
   hands zero number e inside =
       record {
         answer = ap (λ (t : List Store). gives (number ∷ length t ∷ [])) (sym e);
@@ -152,11 +205,21 @@ module _ (cells : ℕ) (low : 2 ≤ cells) (area : List ℕ) (log : Messages) (k
           bytes = bytes′;
           shows = record {
             size = size-after;
-            top = ap (λ (k : ℕ). highest k (word area′)) (sym (keep .shows .size)) ∙ e .top ∙ top-in;
-            numbers = λ s. by-cells (word area′) s (e .numbers s) (ap (λ (k : ℕ). shown k (word area) s) (keep .shows .size) ∙ keep .shows .numbers s);
-            bytes = λ s w. e .parts s ∙ keep .shows .bytes s w;
+            messages = list-shown cells low area′ log same-numbers same-bytes same-top;
+            top = same-top;
+            numbers = same-numbers;
+            bytes = same-bytes;
           };
         }
+      where
+        same-top : highest cells (word area′) ≡ length log
+        same-top = ap (λ (k : ℕ). highest k (word area′)) (sym (keep .shows .size)) ∙ e .top ∙ top-in
+
+        same-numbers : (s : ℕ) → shown cells (word area′) s ≡ inWindow cells (length log) s
+        same-numbers s = by-cells (word area′) s (e .numbers s) (ap (λ (k : ℕ). shown k (word area) s) (keep .shows .size) ∙ keep .shows .numbers s)
+
+        same-bytes : (s : ℕ) → inWindow cells (length log) s ≡ true → readPart area′ s ≡ getD log (s - 1) []
+        same-bytes s w = e .parts s ∙ keep .shows .bytes s w
 
     -- one more is shown: the list has it too
     module _ (message : List ℕ) (g : ShowsMore area message area′) where
@@ -207,6 +270,9 @@ module _ (cells : ℕ) (low : 2 ≤ cells) (area : List ℕ) (log : Messages) (k
           ∙ keep .shows .bytes s (in-window cells (length log) s (record { low = w .low; high = p; near = omega (arith, w .near) }))
           ∙ sym (List·getD-append log (message ∷ []) [] (s - 1) (omega (arith, w .low)))
 
+      parts-after : (s : ℕ) → inWindow cells (length (log ++ message ∷ [])) s ≡ true → readPart area′ s ≡ getD (log ++ message ∷ []) (s - 1) []
+      parts-after s e = bytes-after s (at s e) (old-or-new s (at s e))
+
       pub more-keeps : Keeping cells area′ (log ++ message ∷ [])
       more-keeps =
           record {
@@ -214,8 +280,9 @@ module _ (cells : ℕ) (low : 2 ≤ cells) (area : List ℕ) (log : Messages) (k
             bytes = bytes′;
             shows = record {
               size = size-after;
+              messages = list-shown cells low area′ (log ++ message ∷ []) numbers-after parts-after (top-after ∙ sym longer);
               top = top-after ∙ sym longer;
               numbers = numbers-after;
-              bytes = λ s e. bytes-after s (at s e) (old-or-new s (at s e));
+              bytes = parts-after;
             };
           }

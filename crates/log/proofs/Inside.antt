@@ -1,5 +1,5 @@
 -- The stores of an append and of a recovery are inside the area, and what is known of an append that is not refused. Assumes nothing.
-use mathlib.Core.Path.{_≡_, refl}
+use mathlib.Core.Path.{_≡_, refl, _∙_}
 use mathlib.Core.Bool.{Bool, true, false, cond}
 use mathlib.Core.List.{List, [], _∷_}
 use Prim.Native.Nat.{ℕ, zero, suc, _+_, _*_, _/_, _%_, _^_, _≤_, _<_}
@@ -8,7 +8,7 @@ use native.Mathlib.Omega.{arith}
 use lib.ListN.{length}
 use lib.Dec.{eqb, leb, ltb}
 use borrow.Author.Tests.{eqb-false, ltb-false, leb-false}
-use Rattle.prelude.proofs.Refusals.{say-zero, orElse-zero}
+use Rattle.prelude.proofs.Refusals.{say-zero, orElse-zero, orElse-first}
 use Rattle.words.specs.Word.{AreBytes, word}
 use Rattle.words.proofs.Laws.{word-range}
 use Rattle.layout.specs.Line.{versionFault}
@@ -66,7 +66,11 @@ openings-inside n m h k (suc j) l = go (isAbove m h k) (openings-inside n m h (s
     go true r = cons-in {s = opener m k} (omega arith) (omega arith) r
     go false r = r
 
--- ---- what an accepted append knows
+-- ---- what an append is refused with first, and what an accepted one knows
+
+pub area-first : (area message : List ℕ) (ats vals : ℕ) → areaFault area ≡ 30 → appendFault area message ats vals ≡ 30
+unfolding appendFault
+area-first area message ats vals e = orElse-first (areaFault area) _ (λ z. omega (arith, e)) ∙ e
 
 pub record Accepted (area message : List ℕ) : Type 0 where
   pub area-fine : areaFault area ≡ 0

@@ -21,10 +21,11 @@ use Rattle.log.specs.Bit.{storeCount, bitPair, packed}
 use Rattle.log.specs.Message.{highest}
 use Rattle.log.specs.Handed.{shortFault, logEnd}
 use Rattle.log.specs.Append.{messageLine, lineCount, payloadStores, payloadsFrom, pairsWord, markedBody, markedWords, messageStores, nextMessage, appendStores, messageFault, appendFault, appendResult}
-use Rattle.log.specs.inner.Needs.{CellCount, Filled, ListRoom, PayloadPlanned, Ready, AppendPlanned}
+use Rattle.log.specs.inner.Needs.{CellCount, Filled, ListRoom, PayloadPlanned, AppendReady, AppendPlanned}
 use Rattle.log.proofs.Flexible.{count-within, pair-low, packed-low}
 use Rattle.log.proofs.Fillings.{Leaving, leave-start, leave-next, leave-end, filled-append, hand-refused, hand-done}
 use Rattle.log.proofs.Parts.{no-area, is-area, cells-by}
+use Rattle.log.proofs.Inside.{area-first}
 
 -- ---- the payload lines
 
@@ -217,10 +218,8 @@ module _ (area message : List ℕ) (ats vals k : ℕ) (e : k ≡ cellsIn area) w
   refuses-with fault number cell pairs count n ne p q = record { refusal = p ∙ q; ready = λ z. absurd (ne (sym p ∙ z)) }
 
   pub plan-no-area : (fault number cell pairs count : ℕ) → k ≡ 0 → fault ≡ 30 → AppendPlanned area message ats vals fault number cell pairs count
-  unfolding appendFault
   plan-no-area fault number cell pairs count z p =
-      refuses-with fault number cell pairs count 30 (λ x. omega arith) p
-      (sym (orElse-first (areaFault area) _ (λ q. omega (arith, no-area area k e z)) ∙ no-area area k e z))
+      refuses-with fault number cell pairs count 30 (λ x. omega arith) p (sym (area-first area message ats vals (no-area area k e z)))
 
   module _ (some : k ≡ 0 → ⊥) where
     all : CellCount (length area) k
@@ -313,7 +312,7 @@ module _ (area message at value : List ℕ) (fault number cell pairs count : ℕ
   append-refused ne = hand-refused _ _ _ at value fault (g .refusal) ne
 
   module _ (z : fault ≡ 0) where
-    ready : Ready area message (length at) (length value) number cell pairs count
+    ready : AppendReady area message (length at) (length value) number cell pairs count
     ready = g .ready z
 
     stores-are : messageStores (word area) cell number message ≡ appendStores (cellsIn area) (word area) message

@@ -12,7 +12,7 @@ use Rattle.stores.specs.Written.{marked, run, lineStores}
 use Rattle.log.specs.Area.{cellsIn, areaFault, markedLine, payloadLine}
 use Rattle.log.specs.Bit.{storeCount, bitPair, packed}
 use Rattle.log.specs.Message.{highest}
-use Rattle.log.specs.Handed.{shortFault, LogResult, handing, ListResult, listing}
+use Rattle.log.specs.Handed.{shortFault, LogResult, handing}
 
 -- "Messages are padded with zeros": the words of payload line i
 abbrev pub messageLine : (message : List ℕ) → (i : ℕ) → ℕ → ℕ
@@ -72,9 +72,3 @@ unfoldable pub appendResult : (area message at value : List ℕ) → LogResult
 appendResult area message at value =
     handing (appendFault area message (length at) (length value)) (nextMessage (cellsIn area) (word area))
     (appendStores (cellsIn area) (word area) message) at value
-
--- the same with the stores in one list
-unfoldable pub appendListResult : (area message : List ℕ) → (list : List Store) → ListResult
-appendListResult area message list =
-    listing (appendFault area message (length list) (length list)) (nextMessage (cellsIn area) (word area))
-    (appendStores (cellsIn area) (word area) message) list

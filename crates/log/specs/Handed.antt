@@ -19,8 +19,6 @@ handedSays (Refused number) = refused number
 unfoldable pub shortFault : (count ats vals : ℕ) → ℕ
 shortFault count ats vals = say (ltb ats count) 13 (say (ltb vals count) 13 0)
 
--- ---- the stores as two lists of numbers
-
 -- the answer, the word numbers and the values
 pub record LogResult : Type 0 where
   pub answer : Answer
@@ -37,18 +35,3 @@ handing fault number ss at value =
     unlessRefused fault
     (logEnd (gives (number ∷ length ss ∷ [])) (wordNumbers ss ++ drop (length ss) at) (values ss ++ drop (length ss) value))
     (logEnd (refused fault) at value)
-
--- ---- and as one list of stores
-
--- the answer and the list
-pub record ListResult : Type 0 where
-  pub answer : Answer
-  pub list : List Store
-
--- what a call with this answer left
-abbrev pub listEnd : Answer → (list : List Store) → ListResult
-listEnd answer list = record { answer = answer; list = list }
-
-unfoldable pub listing : (fault number : ℕ) → List Store → (list : List Store) → ListResult
-listing fault number ss list =
-    unlessRefused fault (listEnd (gives (number ∷ length ss ∷ [])) (ss ++ drop (length ss) list)) (listEnd (refused fault) list)

@@ -1,9 +1,9 @@
 -- THE LOG RULE: the cut rule for the log, as one statement over every list of appends, reads, recoveries and cuts. Document 02, A.10.
 use mathlib.Core.Path.{_≡_}
-use mathlib.Core.Bool.{true}
-use mathlib.Core.List.{List, [], _∷_}
-use Prim.Native.Nat.{ℕ, suc, _-_, _*_, _≤_}
-use lib.ListN.{length, getD, take, replicate}
+use mathlib.Core.Bool.{true, cond}
+use mathlib.Core.List.{List, [], _∷_, _++_}
+use Prim.Native.Nat.{ℕ, zero, suc, _-_, _*_, _≤_}
+use lib.ListN.{length, getD, take, drop, replicate}
 use Rattle.prelude.specs.Refusal.{unlessRefused}
 use Rattle.prelude.specs.Answer.{Answer, gives, absent, refused}
 use Rattle.prelude.specs.Members.{All}
@@ -19,9 +19,23 @@ use Rattle.log.specs.Recover.{logRecoverResult}
 use Rattle.log.specs.Read.{readPart, readEnd, readResult}
 use Rattle.log.specs.Event.{LogCall, an-append, a-read, a-recovery, CutRecovery, Restart, LogEvent, call-done, call-cut, logStores, areaDone, areaCut, areaAgain, areaAfterAll, areaAfter, Messages, logDueFault, messagesAfter, FitsEvent}
 
--- "its last K − 1, or all if fewer, are those shown, byte for byte": messages are numbered from 1, so message s of the list is the one at s − 1
+-- the messages shown of numbers 1 to n, by rising number
+unfoldable pub shownUpTo : (cells : ℕ) → (area : List ℕ) → (n : ℕ) → Messages
+shownUpTo cells area zero = []
+shownUpTo cells area (suc n) = shownUpTo cells area n ++ cond (shown cells (word area) (suc n)) (readPart area (suc n) ∷ []) []
+
+-- all that readers are shown
+unfoldable pub shownMessages : (cells : ℕ) → (area : List ℕ) → Messages
+shownMessages cells area = shownUpTo cells area (highest cells (word area))
+
+-- the last n of a list, "or all if fewer"
+unfoldable pub lastMessages : (n : ℕ) → Messages → Messages
+lastMessages n log = drop (length log - n) log
+
+-- "its last K − 1, or all if fewer, are those shown, byte for byte"; and by numbers: these are counted from 1, so message s of the list is the one at s − 1
 pub record Shows (cells : ℕ) (area : List ℕ) (log : Messages) : Type 0 where
   pub size : cellsIn area ≡ cells
+  pub messages : shownMessages cells area ≡ lastMessages (cells - 1) log
   pub top : highest cells (word area) ≡ length log
   pub numbers : (s : ℕ) → shown cells (word area) s ≡ inWindow cells (length log) s
   pub bytes : (s : ℕ) → inWindow cells (length log) s ≡ true → readPart area s ≡ getD log (s - 1) []
@@ -29,17 +43,17 @@ pub record Shows (cells : ℕ) (area : List ℕ) (log : Messages) : Type 0 where
 -- ---- one call
 
 -- the count in an answer, 0 for a refusal
-unfoldable pub countIn : Answer → ℕ
-countIn (gives values) = getD values 1 0
-countIn absent = 0
-countIn (refused number) = 0
+unfoldable pub countGiven : Answer → ℕ
+countGiven (gives values) = getD values 1 0
+countGiven absent = 0
+countGiven (refused number) = 0
 
 -- a call that hands out stores: it is refused with this number, or else answers this number and the count of its stores; these stand at the front of the two lists, and
 -- play takes them
 pub record HandsOut (area : List ℕ) (call : LogCall) (fault number : ℕ) (r : LogResult) : Type 0 where
   pub answer : r .answer ≡ unlessRefused fault (gives (number ∷ length (logStores area call) ∷ [])) (refused fault)
-  pub stores : zipped (take (countIn (r .answer)) (r .at)) (take (countIn (r .answer)) (r .value)) ≡ logStores area call
-  pub plays : playListResult area (take (countIn (r .answer)) (r .at)) (take (countIn (r .answer)) (r .value)) ≡ playEnd 0 (areaDone area call)
+  pub stores : zipped (take (countGiven (r .answer)) (r .at)) (take (countGiven (r .answer)) (r .value)) ≡ logStores area call
+  pub plays : playListResult area (take (countGiven (r .answer)) (r .at)) (take (countGiven (r .answer)) (r .value)) ≡ playEnd 0 (areaDone area call)
 
 -- each call answers as the plain machine does: an append gives the next number and a recovery how many messages there are; a read gives the message's bytes, or an empty
 -- part; and each is refused exactly where the rules refuse it

@@ -98,7 +98,7 @@ pub record PayloadPlanned (area : List ℕ) (c : ℕ) (message : List ℕ) (pair
   pub few : count ≤ 48
 
 -- an append that is not refused
-pub record Ready (area message : List ℕ) (ats vals number cell pairs count : ℕ) : Type 0 where
+pub record AppendReady (area message : List ℕ) (ats vals number cell pairs count : ℕ) : Type 0 where
   pub next : number ≡ nextMessage (cellsIn area) (word area)
   pub there : cell ≡ nextMessage (cellsIn area) (word area) % cellsIn area
   pub size : count ≡ length (appendStores (cellsIn area) (word area) message)
@@ -107,4 +107,4 @@ pub record Ready (area message : List ℕ) (ats vals number cell pairs count : �
 -- an append
 pub record AppendPlanned (area message : List ℕ) (ats vals fault number cell pairs count : ℕ) : Type 0 where
   pub refusal : fault ≡ appendFault area message ats vals
-  pub ready : fault ≡ 0 → Ready area message ats vals number cell pairs count
+  pub ready : fault ≡ 0 → AppendReady area message ats vals number cell pairs count

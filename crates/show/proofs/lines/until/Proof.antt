@@ -1,11 +1,11 @@
--- `cases::lines::until` meets its contract. Assumes nothing.
+-- `show::lines::until` meets its contract. Assumes nothing.
 use Prim.Native.Nat.{_-_, _≤_}
 use native.Mathlib.Omega.{arith}
 use lib.ListN.{length}
 use borrow.Author.Needs.{needs}
 use Rattle.prelude.proofs.Lists.{front-length}
-use Rattle.cases.proofs.lines.until.Statement.{statement}
-use Rattle.cases.proofs.lines.until.Tie as tie
+use Rattle.show.proofs.lines.until.Statement.{statement}
+use Rattle.show.proofs.lines.until.Tie as tie
 
 abbrev Inv-loop : tie.InvT-loop
 Inv-loop list from bound i₀ i = (from ≤ i) × (i ≤ length list)

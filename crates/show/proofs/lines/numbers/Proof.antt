@@ -1,9 +1,9 @@
--- `cases::lines::numbers` is safe and ends. Assumes nothing.
+-- `show::lines::numbers` is safe and ends. Assumes nothing.
 use Prim.Native.Nat.{_-_, _≤_}
 use lib.ListN.{length}
 use borrow.Author.Needs.{needs}
-use Rattle.cases.proofs.lines.numbers.Statement.{statement}
-use Rattle.cases.proofs.lines.numbers.Tie as tie
+use Rattle.show.proofs.lines.numbers.Statement.{statement}
+use Rattle.show.proofs.lines.numbers.Tie as tie
 
 abbrev Inv-loop : tie.InvT-loop
 Inv-loop line n₀ i₀ n i = i ≤ length line
