@@ -8,10 +8,11 @@
  *
  *     dd if=/dev/zero of=FILE bs=448 count=K conv=fsync && sync
  *
- * A line that is empty or too long is refused with its number, 29, and the next one is read. On a file system on
- * non-volatile memory (DAX) an append is up to seven line flushes and one fence; on any other it is msync, the
- * fallback. One recorder writes at a time. What list shows was perhaps not durable yet if the last writer was killed.
- * Status 0: all done. 1: something failed; the message that was not answered is there whole or not at all.
+ * A line that is empty or too long is refused with its number, 29, and the next one is read. A last line without its
+ * end is not appended, as its rest may be missing. On a file system on non-volatile memory (DAX) an append is up to
+ * seven line flushes and one fence; on any other it is msync, the fallback. One recorder writes at a time. What list
+ * shows was perhaps not durable yet if the last writer was killed. Status 0: all done. 1: something failed; the message
+ * that was not answered is there whole or not at all.
  *
  * The calls of the archive are proved; this program, the headers and what lies below them are not. */
 #define _GNU_SOURCE
@@ -105,8 +106,8 @@ static void append_lines(void) {
     char *line = NULL;
     size_t room = 0;
     ssize_t size;
-    while ((size = getline(&line, &room, stdin)) >= 0)
-        append_line(line, (size_t)size - (size > 0 && line[size - 1] == '\n'));
+    while ((size = getline(&line, &room, stdin)) > 0 && line[size - 1] == '\n')
+        append_line(line, (size_t)size - 1);
     free(line);
     if (ferror(stdin))
         fail("standard input");

@@ -62,7 +62,7 @@ enum {
     CALLS = 20000,
     WATCHED = 2000,
     LISTS = 5000,
-    LISTS_WATCHED = 50,
+    LISTS_WATCHED = 30,
     LIST = 64, /* stores of a list at the most */
     CELLS = LENGTH / ORDERSET_LOG_CELL_BYTES,
     TRAP_FLAG = 0x100,

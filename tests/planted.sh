@@ -480,7 +480,7 @@ fault log_differential 'number 0 can be complete' $model \
     's/if \(number < 1 \|\|/if (/' 'DIFFERENCE in the code: archive 31, model 0'
 fault log_differential 'number h - K + 1 is shown' $model 's/highest - number < cells - 1/highest - number < cells/' \
     'DIFFERENCE in the code: archive 31, model 0'
-fault log_differential 'a number above the highest complete one is shown' $model \
+fault log_differential 'every complete message is shown' $model \
     '/^int m_shown/,/^}/s/return number <= highest \&\& highest - number < cells - 1 \&\&/return/' \
     'DIFFERENCE in the code: archive 31, model 0'
 fault log_differential '29 is tested before 30' $model \
