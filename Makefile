@@ -1,8 +1,9 @@
 # The C side: the archive's tests, the example and the measurements. The proofs are checked by .ci/run.
-#   make archive   the library, proved and built: target/staticlib/liborderset_c.a                    (rt)
+#   make archive   the libraries, proved and built: target/staticlib/liborderset_c.a and liblog_c.a   (rt)
 #   make test      the tests of docs/TESTS.md: the archive, the headers and the gateway       (gcc g++ python3)
 #   make planted   that each test fails where a fault is planted                                      (gcc g++)
 #   make gateway   the example: a new file, orders, a restart, and the orders again                   (gcc)
+#   make recorder  the example of the log: a new file, messages, a restart, and the last messages     (gcc)
 #   make heads     the table of docs/HEADS.md: the slots compared and the time of a get, by the number of heads  (gcc)
 #   make bench     the table and the chart of docs/PERFORMANCE.md
 #                  (gcc python3 valgrind libpmemobj-dev liblmdb-dev libsqlite3-dev)
@@ -10,6 +11,7 @@
 RT ?= rt
 OUT := target/c
 ARCHIVE := target/staticlib/liborderset_c.a
+LOG_ARCHIVE := target/staticlib/liblog_c.a
 # CC, CXX, CFLAGS, CXXFLAGS and LDFLAGS are the caller's, from the environment or the command line
 ifeq ($(origin CC),default)
 CC := gcc
@@ -21,44 +23,63 @@ CFLAGS ?= -O2
 CXXFLAGS ?= -O2
 C := $(CC) -std=c11 -Wall -Wextra -Iinclude $(CFLAGS) $(LDFLAGS)
 CPLUS := $(CXX) -std=c++11 -Wall -Wextra -Iinclude $(CXXFLAGS) $(LDFLAGS)
-HEADERS := include/orderset.h include/orderset_persist.h
+HEADERS := include/orderset.h include/orderset_log.h include/orderset_persist.h
 CRATES := crates.txt $(shell find crates -name '*.rt' -o -name '*.antt')
 
-.PHONY: test planted gateway heads bench archive run-names run-header run-persist run-guard run-storm run-lock run-watch \
-	run-kills run-heads run-differential
-archive: $(ARCHIVE)
+.PHONY: test planted gateway recorder heads bench archive run-names run-header run-persist run-guard run-storm run-lock \
+	run-watch run-kills run-heads run-differential run-log_header run-log_storm run-log_guard run-log_kills \
+	run-log_differential
+archive: $(ARCHIVE) $(LOG_ARCHIVE)
 
 $(ARCHIVE): $(CRATES)
 	$(RT) staticlib orderset_c
+
+$(LOG_ARCHIVE): $(CRATES)
+	$(RT) staticlib log_c
 
 $(OUT):
 	mkdir -p $(OUT)
 
 # the tests: docs/TESTS.md; SEED=... repeats a run, and run-storm and the like run one of them
 TESTS := persist guard storm lock kills heads watch differential
-$(OUT)/persist: tests/persist.c tests/chance.c
-$(OUT)/guard $(OUT)/differential: $(OUT)/%: tests/%.c tests/images.c tests/model.c tests/chance.c
-$(OUT)/storm: tests/storm.c tests/model.c tests/chance.c
+LOG_TESTS := log_storm log_guard log_kills log_differential
+$(OUT)/persist: tests/persist.c tests/chance.c $(LOG_ARCHIVE)
+$(OUT)/guard: tests/guard.c tests/pieces.c tests/images.c tests/model.c tests/chance.c
+$(OUT)/differential: tests/differential.c tests/images.c tests/model.c tests/chance.c
+$(OUT)/storm: tests/storm.c tests/cache.c tests/model.c tests/chance.c
 $(OUT)/lock $(OUT)/heads: $(OUT)/%: tests/%.c tests/child.c tests/chance.c
 $(OUT)/kills $(OUT)/watch: $(OUT)/%: tests/%.c tests/model.c tests/child.c tests/chance.c
 
 $(TESTS:%=$(OUT)/%): $(wildcard tests/*.h) $(HEADERS) $(ARCHIVE) | $(OUT)
-	$(C) -Itests $(filter %.c,$^) $(ARCHIVE) -o $@
+	$(C) -Itests $(filter %.c,$^) $(filter %.a,$^) -o $@
+
+LOG_MODEL := tests/log_areas.c tests/log_model.c tests/model.c tests/chance.c
+$(OUT)/log_storm: tests/log_storm.c tests/cache.c tests/chance.c
+$(OUT)/log_guard: tests/log_guard.c tests/pieces.c $(LOG_MODEL)
+$(OUT)/log_differential: tests/log_differential.c $(LOG_MODEL)
+$(OUT)/log_kills: tests/log_kills.c tests/child.c tests/chance.c
+
+$(LOG_TESTS:%=$(OUT)/%): $(wildcard tests/*.h) $(HEADERS) $(LOG_ARCHIVE) | $(OUT)
+	$(C) -Itests $(filter %.c,$^) $(LOG_ARCHIVE) -o $@
 
 $(OUT)/header: tests/header.cc $(HEADERS) $(ARCHIVE) | $(OUT)
 	$(CPLUS) tests/header.cc $(ARCHIVE) -o $@
+
+$(OUT)/log_header: tests/log_header.cc $(HEADERS) $(ARCHIVE) $(LOG_ARCHIVE) | $(OUT)
+	$(CPLUS) tests/log_header.cc $(LOG_ARCHIVE) $(ARCHIVE) -o $@
 
 # the gateway on a simulated disk
 $(OUT)/gateway_on_disk: examples/gateway.c tests/disk.c $(HEADERS) $(ARCHIVE) | $(OUT)
 	$(C) examples/gateway.c tests/disk.c $(ARCHIVE) -Wl,--wrap=mmap,--wrap=msync,--wrap=fsync,--wrap=renameat2 -o $@
 
 .NOTPARALLEL:
-test: run-names run-header run-persist run-lock run-watch run-heads run-storm run-kills run-guard run-differential
+test: run-names run-header run-persist run-lock run-watch run-heads run-storm run-kills run-guard run-differential \
+	run-log_header run-log_storm run-log_kills run-log_guard run-log_differential
 run-names:
 	@tests/names
-run-header: $(OUT)/header
-	@$(OUT)/header
-run-persist run-guard run-storm run-differential: run-%: $(OUT)/%
+run-header run-log_header: run-%: $(OUT)/%
+	@$(OUT)/$*
+run-persist run-guard run-storm run-differential run-log_storm run-log_guard run-log_differential: run-%: $(OUT)/%
 	@$(OUT)/$* $(SEED)
 run-lock run-heads: run-%: $(OUT)/% $(OUT)/gateway
 	@$(OUT)/$* $(OUT)/gateway $(OUT)/$*.img $(SEED)
@@ -66,13 +87,26 @@ run-watch: $(OUT)/watch $(OUT)/sender
 	@$(OUT)/watch $(OUT)/sender $(OUT)/watch.img $(SEED)
 run-kills: $(OUT)/kills $(OUT)/gateway $(OUT)/gateway_on_disk
 	@$(OUT)/kills $(OUT)/gateway $(OUT)/gateway_on_disk $(OUT)/kills.img $(SEED)
+run-log_kills: $(OUT)/log_kills $(OUT)/recorder
+	@$(OUT)/log_kills $(OUT)/recorder $(OUT)/log_kills.log $(SEED)
 
 # every test fails where a fault is planted
-planted: $(ARCHIVE)
+planted: $(ARCHIVE) $(LOG_ARCHIVE)
 	tests/planted.sh
 
 $(OUT)/gateway $(OUT)/sender: $(OUT)/%: examples/%.c $(HEADERS) $(ARCHIVE) | $(OUT)
 	$(C) examples/$*.c $(ARCHIVE) -o $@
+
+$(OUT)/recorder: examples/recorder.c $(HEADERS) $(LOG_ARCHIVE) | $(OUT)
+	$(C) examples/recorder.c $(LOG_ARCHIVE) -o $@
+
+# a new file of four cells and two starts on it: the last three messages are there
+recorder: $(OUT)/recorder
+	rm -f $(OUT)/messages.log
+	dd if=/dev/zero of=$(OUT)/messages.log bs=448 count=4 conv=fsync status=none
+	printf '%s\n' 'new 7 100' 'acknowledge 7' 'fill 7 40' | $(OUT)/recorder $(OUT)/messages.log
+	printf '%s\n' 'fill 7 60' 'new 8 5' | $(OUT)/recorder $(OUT)/messages.log
+	$(OUT)/recorder $(OUT)/messages.log list
 
 # a new file and two starts on it: what the first one was told, the second one recovers
 gateway: $(OUT)/gateway
@@ -85,5 +119,5 @@ gateway: $(OUT)/gateway
 heads: $(ARCHIVE)
 	$(MAKE) -f bench/Makefile heads
 
-bench: $(ARCHIVE)
+bench: $(ARCHIVE) $(LOG_ARCHIVE)
 	$(MAKE) -f bench/Makefile run

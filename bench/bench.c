@@ -1,21 +1,10 @@
 /* The measurements: every engine in one process, repetition by repetition in turn, so that they share the machine's good and bad moments.
  *     bench [REPETITIONS [N]]     comma-separated values on standard output */
-#define _GNU_SOURCE
 #include "bench.h"
 
-#include <fcntl.h>
 #include <stdio.h>
 #include <stdlib.h>
 #include <string.h>
-#include <sys/mman.h>
-#include <sys/resource.h>
-#include <time.h>
-#include <unistd.h>
-
-int bench_strict, bench_slow;
-uint64_t bench_delay, bench_waits, bench_flushes;
-double bench_ticks_per_ns;
-uint8_t bench_values[VALUES + KEPT] __attribute__((aligned(64)));
 
 extern const struct engine engine_hand, engine_set, engine_journal, engine_pmemobj, engine_lmdb, engine_sqlite;
 
@@ -26,64 +15,6 @@ static const struct {
 } plan[ENGINES] = {
     {&engine_hand, 32, 24}, {&engine_set, 32, 24}, {&engine_journal, 32, 24}, {&engine_pmemobj, 16, 24}, {&engine_lmdb, 10, 8}, {&engine_sqlite, 6, 2},
 };
-
-static const struct {
-    const char *name;
-    int strict;
-    double delay;
-} settings[] = {{"P", 0, 0}, {"S", 1, 0}, {"S", 1, 200}, {"S", 1, 800}};
-
-void *bench_map(const char *path, size_t length) {
-    int file = open(path, O_RDWR | O_CREAT | O_TRUNC, 0600);
-    if (file < 0 || ftruncate(file, (off_t)length)) {
-        perror(path);
-        exit(1);
-    }
-    void *memory = mmap(NULL, length, PROT_READ | PROT_WRITE, MAP_SHARED | MAP_POPULATE, file, 0);
-    if (memory == MAP_FAILED) {
-        perror(path);
-        exit(1);
-    }
-    close(file);
-    return memory;
-}
-
-void bench_unmap(const char *path, void *memory, size_t length) {
-    munmap(memory, length);
-    unlink(path);
-}
-
-static double nanoseconds(void) {
-    struct timespec t;
-    clock_gettime(CLOCK_MONOTONIC, &t);
-    return (double)t.tv_sec * 1e9 + (double)t.tv_nsec;
-}
-
-static void calibrate(void) {
-    double from = nanoseconds(), to;
-    uint64_t ticks = __rdtsc();
-    do
-        to = nanoseconds();
-    while (to - from < 2e8);
-    bench_ticks_per_ns = (double)(__rdtsc() - ticks) / (to - from);
-}
-
-long bench_preempted(void) {
-    struct rusage use;
-    getrusage(RUSAGE_THREAD, &use);
-    return use.ru_nivcsw;
-}
-
-static void set_wait(int strict, double delay) {
-    bench_strict = strict;
-    bench_delay = (uint64_t)(delay * bench_ticks_per_ns);
-    bench_slow = strict || bench_delay;
-}
-
-static int by_size(const void *x, const void *y) {
-    double a = *(const double *)x, b = *(const double *)y;
-    return (a > b) - (a < b);
-}
 
 /* The means of the repetitions, by operation. */
 struct runs {
@@ -98,7 +29,7 @@ static void print_runs(const struct config *c, unsigned setting, unsigned e, str
         struct sum s = r->counted[o];
         if (!r->count[o])
             continue;
-        qsort(r->ns[o], r->count[o], sizeof(double), by_size);
+        qsort(r->ns[o], r->count[o], sizeof(double), bench_by_size);
         printf("%s,%.0f,%u,%u,%u,%s,%s,%.1f,%.1f,%.2f,%.2f\n", settings[setting].name, settings[setting].delay, c->n, c->heads, c->size,
                plan[e].engine->name, op[o], r->ns[o][r->count[o] / 2], r->ns[o][0], s.waits / s.calls, s.flushes / s.calls);
     }
@@ -123,7 +54,7 @@ static void keep(struct runs *runs, const struct result *r, int last) {
 static void measure(const struct config *c, unsigned setting, unsigned repetitions, const int *open) {
     static struct runs runs[ENGINES];
     memset(runs, 0, sizeof runs);
-    set_wait(settings[setting].strict, settings[setting].delay);
+    bench_set_wait(&settings[setting]);
     for (unsigned turn = 0; turn < repetitions; turn++)
         for (unsigned e = 0; e < ENGINES; e++) {
             struct result result;
@@ -142,13 +73,13 @@ static void measure_config(const struct config *c, int first_heads, unsigned rep
     int open[ENGINES];
     for (unsigned e = 0; e < ENGINES; e++) {
         open[e] = first_heads || plan[e].engine->counts_heads;
-        set_wait(0, 0);
+        bench_set_wait(&settings[0]);
         if (open[e] && plan[e].engine->open(c)) {
             fprintf(stderr, "%s does not open\n", plan[e].engine->name);
             exit(1);
         }
     }
-    for (unsigned s = 0; s < sizeof settings / sizeof *settings; s++)
+    for (unsigned s = 0; s < SETTINGS; s++)
         measure(c, s, repetitions, open);
     for (unsigned e = 0; e < ENGINES; e++)
         if (open[e])
@@ -159,12 +90,9 @@ int main(int count, char **word) {
     static const uint32_t slots[] = {1000, 65535}, sizes[] = {24, 80};
     unsigned repetitions = count > 1 ? (unsigned)atoi(word[1]) : 21;
     uint32_t only = count > 2 ? (uint32_t)atoi(word[2]) : 0;
-    uint64_t seed = 7;
     if (repetitions < 1 || repetitions > MOST)
         return 2;
-    calibrate();
-    for (size_t i = 0; i < sizeof bench_values; i++)
-        bench_values[i] = (uint8_t)bench_chance(&seed);
+    bench_begin();
     printf("mode,delay,n,heads,size,engine,op,ns,least,waits,flushes\n");
     for (int n = 0; n < 2; n++)
         for (int h = 0; h < 2; h++)

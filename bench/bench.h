@@ -6,7 +6,7 @@
 #include <stdint.h>
 #include <x86intrin.h>
 
-enum { VALUES = 65536, KEPT = 128 };
+enum { VALUES = 65536, KEPT = 512 };
 
 struct config {
     uint32_t n, heads, size; /* slots, heads, bytes of a value; half of the slots are live */
@@ -34,7 +34,7 @@ struct engine {
  * Not strict, with no delay: sfence alone, as in the paper. */
 extern int bench_strict, bench_slow; /* slow: strict or delayed */
 extern uint64_t bench_delay;         /* ticks */
-extern uint64_t bench_waits, bench_flushes;
+extern uint64_t bench_waits, bench_flushes, bench_bytes; /* bytes: those that a log's append stores */
 extern double bench_ticks_per_ns;
 extern uint8_t bench_values[VALUES + KEPT];
 
@@ -63,7 +63,19 @@ static inline uint64_t bench_chance(uint64_t *state) {
     return z ^ z >> 31;
 }
 
+/* The waits that are measured. */
+enum { SETTINGS = 4 };
+struct setting {
+    const char *name;
+    int strict;
+    double delay; /* ns */
+};
+extern const struct setting settings[SETTINGS];
+void bench_set_wait(const struct setting *);
+
+void bench_begin(void);     /* once: the clock and the values */
 long bench_preempted(void); /* how often the thread was preempted so far */
+int bench_by_size(const void *, const void *); /* doubles, for qsort */
 void *bench_map(const char *path, size_t length); /* a new file in /dev/shm, mapped */
 void bench_unmap(const char *path, void *memory, size_t length);
 

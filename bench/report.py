@@ -225,4 +225,5 @@ def main():
     print(f"table: {table}\nchart: {picture}")
 
 
-main()
+if __name__ == "__main__":
+    main()

@@ -1,10 +1,8 @@
-/* The waits of the libraries: a symbol of the program stands before that of a shared library, so that each drain of libpmem and each sync of LMDB and SQLite
- * comes by here, is counted and is followed by the added delay. */
+/* The waits of libpmem: a symbol of the program stands before that of a shared library, so that each drain comes by here, is counted and is followed by the
+ * added delay. */
 #define _GNU_SOURCE
 #include <dlfcn.h>
 #include <libpmem.h>
-#include <sys/syscall.h>
-#include <unistd.h>
 
 #include "bench.h"
 
@@ -76,22 +74,4 @@ void *pmem_memcpy_nodrain(void *to, const void *from, size_t length) {
 
 void *pmem_memset_nodrain(void *to, int byte, size_t length) {
     return pmem_memset(to, byte, length, PMEM_F_MEM_NODRAIN);
-}
-
-int fdatasync(int file) {
-    int code = (int)syscall(SYS_fdatasync, file);
-    bench_waited();
-    return code;
-}
-
-int fsync(int file) {
-    int code = (int)syscall(SYS_fsync, file);
-    bench_waited();
-    return code;
-}
-
-int msync(void *at, size_t length, int flags) {
-    int code = (int)syscall(SYS_msync, at, length, flags);
-    bench_waited();
-    return code;
 }

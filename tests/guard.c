@@ -1,26 +1,19 @@
-/* Calls on lent memory that begins or ends at a page which nobody may touch. Each piece of memory is mapped twice, for
- * reading alone and for writing too: what is const in a prototype is lent through the first mapping. So a call that
- * reads or writes past what it was lent, or writes what is const, faults, and the fault ends the test. What a refused
- * call was lent is compared with what it was. Images and indexes are sound, damaged and garbage; lengths are right and
- * wrong.
+/* Calls on lent memory that begins or ends at a page which nobody may touch (pieces.h). What a refused call was lent is
+ * compared with what it was. Images and indexes are sound, damaged and garbage; lengths are right and wrong.
  *
  *     guard [SEED [CALLS]]
  */
-#define _GNU_SOURCE
 #include <inttypes.h>
-#include <signal.h>
-#include <stdarg.h>
 #include <stdio.h>
 #include <stdlib.h>
 #include <string.h>
-#include <sys/mman.h>
-#include <unistd.h>
 
 #include "chance.h"
 #include "images.h"
 #include "orderset.h"
+#include "pieces.h"
 
-enum { CALLS = 5000000, PAGE = 4096, NEAR = 64 };
+enum { CALLS = 5000000 };
 enum which {
     FORMAT, RECOVER, INSERT, REPLACE, REMOVE, NEW, ACKNOWLEDGE, FILL, WITHDRAW, GET, LOCATE, PLAY, PLAY_LIST,
     LINE_WHOLE, LINE_VERSION, LINE_FIRST, LINE_LAST, WHICH
@@ -29,21 +22,15 @@ static const char *const name[WHICH] = {"format",      "recover",      "insert",
                                         "acknowledge", "fill",         "withdraw",   "get",      "locate", "play",
                                         "play_list",   "line_whole",   "line_version", "line_first", "line_last"};
 
-static uint64_t calls, already, opened; /* second acknowledges, stores that open void slots */
-static uint64_t answers[WHICH][2];      /* [0] not refused, [1] refused */
+static uint64_t already, opened;   /* second acknowledges, stores that open void slots */
+static uint64_t answers[WHICH][2]; /* [0] not refused, [1] refused */
 static enum which call;
 
 /* ---- pieces of memory */
 
 enum what { IMAGE, HEADS, NEXT, STATE, VERSION, BYTES, OUTPUT, AT, VALUE, ANSWER, COUNT, OPEN_AT, OPEN_VALUE, PIECES };
 
-static struct piece {
-    const char *name;
-    size_t room;           /* whole pages */
-    uint8_t *write, *read; /* its two mappings, each between two pages that nobody may touch */
-    uint8_t *before;       /* what it was before the call */
-    size_t at, length;     /* what is lent of it: the first bytes or the last */
-} piece[PIECES] = {
+struct piece piece[PIECES] = {
     {"image", ORDERSET_IMAGE_BYTES(ORDERSET_SLOTS_MAX) + PAGE, NULL, NULL, NULL, 0, 0},
     {"heads", 4 * ORDERSET_HEADS_MAX + PAGE, NULL, NULL, NULL, 0, 0},
     {"next", 4 * ORDERSET_HEADS_MAX + PAGE, NULL, NULL, NULL, 0, 0},
@@ -59,115 +46,24 @@ static struct piece {
     {"the opening stores' values", PAGE, NULL, NULL, NULL, 0, 0},
 };
 
-static void __attribute__((format(printf, 1, 2))) show(const char *what, ...) {
-    va_list list;
-    printf("\nNOT SO: ");
-    va_start(list, what);
-    vprintf(what, list);
-    va_end(list);
-    printf("\nseed %" PRIu64 ", call %" PRIu64 ", %s\n", seed, calls, name[call]);
-    for (int i = 0; i < PIECES; i++)
-        printf("%s %zu bytes at the %s; ", piece[i].name, piece[i].length, piece[i].at ? "end" : "beginning");
-    printf("\n");
-    fflush(stdout);
-}
-
-static void fault(int number, siginfo_t *info, void *context) {
-    (void)context;
-    const uint8_t *where = info->si_addr;
-    for (int i = 0; i < PIECES; i++)
-        for (int j = 0; j < 2; j++) {
-            const uint8_t *start = (j ? piece[i].read : piece[i].write) + piece[i].at;
-            if (where < start - PAGE - piece[i].at || where >= start - piece[i].at + piece[i].room + PAGE)
-                continue;
-            show("signal %d: %s is touched at byte %td of %zu%s", number, piece[i].name, where - start, piece[i].length,
-                 j ? ", lent for reading" : "");
-            _exit(1);
-        }
-    show("signal %d at %p", number, info->si_addr);
-    _exit(1);
-}
-
-static uint8_t *map_between(int file, size_t room, int access) {
-    uint8_t *all = mmap(NULL, room + 2 * PAGE, PROT_NONE, MAP_PRIVATE | MAP_ANONYMOUS, -1, 0);
-    if (all == MAP_FAILED || mmap(all + PAGE, room, access, MAP_SHARED | MAP_FIXED, file, 0) == MAP_FAILED)
-        abort();
-    return all + PAGE;
-}
-
-static void make_pieces(void) {
-    static uint8_t stack[1 << 16];
-    stack_t other = {.ss_sp = stack, .ss_size = sizeof stack};
-    struct sigaction action = {.sa_sigaction = fault, .sa_flags = SA_SIGINFO | SA_ONSTACK};
-    for (struct piece *p = piece; p < piece + PIECES; p++) {
-        int file = memfd_create(p->name, 0);
-        if (file < 0 || ftruncate(file, (off_t)p->room))
-            abort();
-        p->write = map_between(file, p->room, PROT_READ | PROT_WRITE);
-        p->read = map_between(file, p->room, PROT_READ);
-        p->before = malloc(p->room);
-        close(file);
-    }
-    if (sysconf(_SC_PAGESIZE) != PAGE || sigaltstack(&other, NULL) || sigaction(SIGSEGV, &action, NULL)
-        || sigaction(SIGBUS, &action, NULL))
-        abort();
-}
-
-static void place(enum what what, size_t length) {
-    piece[what].length = length;
-    piece[what].at = below(2) ? 0 : piece[what].room - length;
-}
-
-static void *w(enum what what) {
-    return piece[what].write + piece[what].at;
-}
-
-static const void *r(enum what what) {
-    return piece[what].read + piece[what].at;
-}
+const int pieces = PIECES;
 
 /* ---- before and after a call */
 
-static size_t from(const struct piece *p) {
-    return p->at > NEAR ? p->at - NEAR : 0;
-}
-
-static size_t to(const struct piece *p) {
-    return p->at + p->length + NEAR < p->room ? p->at + p->length + NEAR : p->room;
-}
-
-static void same(const struct piece *p, size_t start, size_t end, const char *why) {
-    if (memcmp(p->write + start, p->before + start, end - start) == 0)
-        return;
-    show("%s changed, %s", p->name, why);
-    exit(1);
-}
-
-/* The pieces of the list, up to PIECES, may be written by the call. */
-static void begin(enum which which, const enum what *writable) {
-    calls++;
+static void begin(enum which which, const int *writable) {
     call = which;
-    for (; *writable != PIECES; writable++) {
-        const struct piece *p = &piece[*writable];
-        memcpy(p->before + from(p), p->write + from(p), to(p) - from(p));
-    }
+    begin_call(name[call], writable);
 }
 
 /* Answers the number of the refusal. What stands above it, the slots compared or recovery's slot, is at most N. */
-static uint32_t end(uint64_t code, const enum what *writable) {
+static uint32_t end(uint64_t code, const int *writable) {
     const uint32_t number = ORDERSET_REFUSAL(code), above = ORDERSET_REFUSED_COMPARED(code);
     answers[call][code != 0]++;
     if ((code && !number) || (above && above >= piece[IMAGE].length / ORDERSET_SLOT_BYTES)) {
         show("refusal %" PRIu32 " with %" PRIu32 " above it", number, above);
         exit(1);
     }
-    for (; *writable != PIECES; writable++) {
-        const struct piece *p = &piece[*writable];
-        same(p, from(p), p->at, "before what was lent");
-        same(p, p->at + p->length, to(p), "after what was lent");
-        if (code)
-            same(p, p->at, p->at + p->length, "by a refused call");
-    }
+    end_call(code != 0, writable);
     return number;
 }
 
@@ -177,7 +73,7 @@ static uint32_t slots; /* what the image was made for; 0 for another length */
 static size_t heads_length, next_length;
 
 static void call_format(void) {
-    static const enum what writable[] = {IMAGE, ANSWER, PIECES};
+    static const int writable[] = {IMAGE, ANSWER, NONE};
     begin(FORMAT, writable);
     end(orderset_format(w(IMAGE), piece[IMAGE].length, w(ANSWER)), writable);
 }
@@ -197,7 +93,7 @@ static void openings_are_sound(void) {
 }
 
 static void call_recover(void) {
-    static const enum what writable[] = {HEADS, NEXT, STATE, VERSION, COUNT, OPEN_AT, OPEN_VALUE, PIECES};
+    static const int writable[] = {HEADS, NEXT, STATE, VERSION, COUNT, OPEN_AT, OPEN_VALUE, NONE};
     begin(RECOVER, writable);
     if (end(orderset_recover(r(IMAGE), piece[IMAGE].length, w(HEADS), heads_length, w(NEXT), next_length, w(STATE),
                              w(VERSION), w(COUNT), w(OPEN_AT), w(OPEN_VALUE)),
@@ -213,7 +109,7 @@ static void call_recover(void) {
 }
 
 static void call_play(size_t a, size_t b) {
-    static const enum what writable[] = {IMAGE, PIECES};
+    static const int writable[] = {IMAGE, NONE};
     begin(PLAY, writable);
     end(orderset_play(w(IMAGE), piece[IMAGE].length, r(AT), r(VALUE), a, b), writable);
 }
@@ -247,20 +143,20 @@ static uint64_t change(uint64_t key, uint64_t quantity) {
 
 /* 1 if there are stores to be made */
 static int call_change(uint64_t key) {
-    static const enum what writable[] = {HEADS, NEXT, STATE, VERSION, AT, VALUE, ANSWER, PIECES};
+    static const int writable[] = {HEADS, NEXT, STATE, VERSION, AT, VALUE, ANSWER, NONE};
     uint64_t answer;
     begin(call, writable);
     uint32_t code = end(change(key, any_quantity()), writable);
     memcpy(&answer, w(ANSWER), sizeof answer);
     if (code == 0 && answer != ORDERSET_GIVEN)
-        for (const enum what *p = writable; *p != ANSWER; p++)
+        for (const int *p = writable; *p != ANSWER; p++)
             same(&piece[*p], piece[*p].at, piece[*p].at + piece[*p].length, "by a call that stores nothing");
     already += code == 0 && answer == ORDERSET_ALREADY;
     return code == 0 && answer == ORDERSET_GIVEN;
 }
 
 static void call_get(uint64_t key) {
-    static const enum what writable[] = {OUTPUT, ANSWER, PIECES};
+    static const int writable[] = {OUTPUT, ANSWER, NONE};
     const struct piece *out = &piece[OUTPUT];
     uint64_t answer[ORDERSET_ANSWER];
     begin(GET, writable);
@@ -273,14 +169,14 @@ static void call_get(uint64_t key) {
 }
 
 static void call_locate(uint64_t key) {
-    static const enum what writable[] = {ANSWER, PIECES};
+    static const int writable[] = {ANSWER, NONE};
     begin(LOCATE, writable);
     end(orderset_locate(r(IMAGE), piece[IMAGE].length, r(HEADS), heads_length, r(NEXT), next_length, key, w(ANSWER)),
         writable);
 }
 
 static void call_play_list(void) {
-    static const enum what writable[] = {IMAGE, PIECES};
+    static const int writable[] = {IMAGE, NONE};
     size_t places = below(20), values = below(4) ? places : below(20), words = piece[IMAGE].length / 8;
     place(AT, 4 * places);
     place(VALUE, 8 * values);
@@ -303,7 +199,7 @@ static uint32_t ask(uint64_t version) {
 }
 
 static void call_line(void) {
-    static const enum what writable[] = {ANSWER, PIECES};
+    static const int writable[] = {ANSWER, NONE};
     begin(call, writable);
     end(ask(chance() >> below(64)), writable);
 }

@@ -2,8 +2,8 @@
  * then come the flushes of both lines and one fence, for each accepted insert, replace and remove, and none for get,
  * absent and refusals. Some calls are watched instruction by instruction, so that the flushes and the fence are those
  * that the processor executes, and not only the header's hooks. Stores that are no call's are refused. So it is with
- * lists of stores, of recovery and random ones, each line of which is flushed. A start flushes every line and
- * fences once. The fallback stores to every page again and syncs it, and the file is as the image. Ends
+ * lists of stores, of recovery, of the message log and random ones, each line of which is flushed. A start flushes
+ * every line and fences once. The fallback stores to every page again and syncs it, and the file is as the image. Ends
  * with status 1 at the first thing that is otherwise.
  *
  *     persist [SEED]
@@ -51,6 +51,7 @@ static int sync_pages(void *where, size_t length, int flags) {
 #define ORDERSET_FLUSHED() happened(FLUSH, line, 0)
 #define ORDERSET_FENCED() happened(FENCE, NULL, 0)
 #define msync(where, length, flags) sync_pages(where, length, flags)
+#include "orderset_log.h"
 #include "orderset_persist.h"
 
 enum {
@@ -63,6 +64,7 @@ enum {
     LISTS = 5000,
     LISTS_WATCHED = 50,
     LIST = 64, /* stores of a list at the most */
+    CELLS = LENGTH / ORDERSET_LOG_CELL_BYTES,
     TRAP_FLAG = 0x100,
     PAGE = 4096
 };
@@ -379,6 +381,42 @@ static void open_voids(uint32_t voids, enum orderset_flush flush, int watching) 
            "then no slot is void");
 }
 
+static unsigned lines_of(size_t count) {
+    uint8_t has[LINES] = {0};
+    unsigned lines = 0;
+    for (size_t i = 0; i < count; i++)
+        lines += !has[list_at[i] / 8]++;
+    return lines;
+}
+
+/* A message is appended to a log: at most 56 stores, and of each of its lines one flush. */
+static void append(enum orderset_flush flush, int watching) {
+    uint8_t message[ORDERSET_LOG_MESSAGE_MAX];
+    uint64_t handed[ORDERSET_LOG_ANSWER];
+    fill(message, sizeof message);
+    expect(log_append(image, ORDERSET_LOG_BYTES(CELLS), message, 1 + below(sizeof message), list_at, LIST, list_value,
+                      LIST, handed)
+               == ORDERSET_LOG_OK,
+           "append");
+    const size_t count = handed[ORDERSET_LOG_COUNT];
+    expect(count <= ORDERSET_LOG_STORES && persist_list(count, flush, watching) == lines_of(count),
+           "an append is at most 56 stores, and each of its lines is flushed once");
+}
+
+/* Recovery opens marked lines that were left whole, as many as there are. */
+static void recover_log(enum orderset_flush flush) {
+    const uint64_t stamp = 2000000;
+    uint64_t handed[ORDERSET_LOG_ANSWER];
+    for (size_t cell = 0; cell < CELLS; cell += 2) { /* whole, above every number, without a length */
+        memset(image + cell * ORDERSET_LOG_CELL_BYTES, 0, 64);
+        memcpy(image + cell * ORDERSET_LOG_CELL_BYTES + 56, &stamp, sizeof stamp);
+    }
+    expect(log_recover(image, ORDERSET_LOG_BYTES(CELLS), list_at, LIST, list_value, LIST, handed) == ORDERSET_LOG_OK
+               && handed[ORDERSET_LOG_COUNT] == (CELLS + 1) / 2,
+           "recovery opens the lines");
+    expect(persist_list(handed[ORDERSET_LOG_COUNT], flush, 0) == (CELLS + 1) / 2, "each line is flushed once");
+}
+
 /* One store is to a word that is not in a whole line of the bytes. */
 static void outside(size_t length, enum orderset_flush flush) {
     size_t count = 1 + below(LIST);
@@ -403,6 +441,10 @@ static void all_lists(enum orderset_flush flush) {
         outside(below(2) ? LENGTH : LENGTH - 1 - below(63), flush);
     for (uint32_t voids = 0; voids < 8; voids++)
         open_voids(voids, flush, 1);
+    memset(image, 0, LENGTH);
+    for (int i = 0; i < LISTS; i++)
+        append(flush, i < LISTS_WATCHED);
+    recover_log(flush);
 }
 
 /* ---- a start */

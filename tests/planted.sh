@@ -6,6 +6,7 @@ set -u
 export LC_ALL=C
 cd "$(dirname "$0")/.."
 archive=target/staticlib/liborderset_c.a
+log_archive=target/staticlib/liblog_c.a
 tree=target/planted/tree
 log=target/planted/log
 only=${1:-}
@@ -35,7 +36,8 @@ fault() {
     if cmp -s "$file" "$tree/$file"; then
         echo "the edit changes nothing" >"$log"
         not_seen "$test" "$what"
-    elif make -s -C "$tree" -o "$archive" "run-$test" SEED=1 >"$log" 2>&1 || ! grep -qE "$message" "$log"; then
+    elif make -s -C "$tree" -o "$archive" -o "$log_archive" "run-$test" SEED=1 >"$log" 2>&1 ||
+        ! grep -qE "$message" "$log"; then
         not_seen "$test" "$what"
     else
         echo "seen      $test: $what: $(grep -m1 -E "$message" "$log" | cut -c1-100)"
@@ -146,7 +148,7 @@ fault storm 'a start makes every other line durable' $header 's/i \+= ORDERSET_L
 fault storm 'the second line is not flushed' $header '/orderset_flush_line\(b, flush\);/d' 'LOST (key|recovery refuses)'
 fault storm 'the first and the last store change places' $header "$exchange" 'LOST (key|recovery refuses)'
 fault storm 'a call is acknowledged before it is persisted' tests/storm.c \
-    's|^    if \(orderset_persist\(visible|    map[i] = call.later, call.under_way = 0;\n&|' 'LOST key'
+    's|^    if \(orderset_persist\(visible|    map[i] = call.later[0], call.under_way = 0;\n&|' 'LOST key'
 
 fault storm 'void slots are not opened' tests/storm.c '/^static void recover\(/,/^}/{/open_voids\(\);/d}' 'LOST key'
 fault storm 'void slots are opened and not flushed' tests/storm.c \
@@ -351,7 +353,8 @@ fault differential 'the plain map lets a replace insert' tests/differential.c \
 after='return refuse(walk.refusal, walk.compared);'
 fault differential 'the count begins at 0' tests/model.c 's/.compared = passed \+ 1/.compared = passed/' \
     'DIFFERENCE in the slots compared: archive 1, model 0'
-fault differential 'the count of an absent key has one more' tests/model.c 's/.compared = passed\}/.compared = passed + 1}/' \
+fault differential 'the count of an absent key has one more' tests/model.c \
+    's/.compared = passed\}/.compared = passed + 1}/' \
     'DIFFERENCE in the slots compared: archive 1, model 2'
 fault differential 'a refusal by the chain reports slots' tests/model.c \
     "s/\{.refusal = 11\}/{.refusal = 11, .compared = passed}/; s/return refuse\(walk.refusal, 0\);/$after/" \
@@ -370,7 +373,8 @@ for case in '28 of an insert, inserts > 0' '28 of a replace, inserts + removes =
         'DIFFERENCE in the slots compared: archive 1, model 0'
 done
 for number in 23 13; do
-    fault differential "$number reports 0" tests/model.c "s/\{.refusal = $number, .compared = [^}]*\}/{.refusal = $number}/" \
+    fault differential "$number reports 0" tests/model.c \
+    "s/\{.refusal = $number, .compared = [^}]*\}/{.refusal = $number}/" \
         'DIFFERENCE in the slots compared: archive 1, model 0'
 done
 for call in 'remove change' 'get got' 'locate place'; do
@@ -434,6 +438,184 @@ fault differential 'a directed line is whole by the low bit' tests/differential.
     "DIFFERENCE in a directed case's line"
 fault differential 'a call is to store the mark last' tests/differential.c 's/s->value\[i\], first/s->value[i], last/' \
     'DIFFERENCE in the first store of a line'
+
+fault log_header 'a store of a list is left out' $header "$left_out" 'NOT SO'
+fault log_header "recovery's stores are not made" tests/log_header.cc \
+    's/recovers\(5, 1\) \&\& made_durable\(\)/recovers(5, 1)/' 'NOT SO'
+fault log_header 'a list of nine entries is to be refused' tests/log_header.cc \
+    's/at.data\(\), 7,/at.data(), 9,/' 'NOT SO'
+fault log_header 'the oldest of K messages is to be read' tests/log_header.cc \
+    's/\&\& not_shown\(2\)/\&\& !not_shown(2)/' \
+    'NOT SO'
+
+storm=tests/log_storm.c
+fault log_storm 'a start does not make the area durable' $storm \
+    's/\(after_kill \|\| below\(2\)\) \&\& orderset_persist_image\(.*\)\)/0)/' 'LOST message'
+fault log_storm "recovery's stores are not made" $storm 's/if \(orderset_persist_list\(.*, count, flush\)\)/if (0)/' \
+    'LOST (message|a recovery in a run)'
+fault log_storm "recovery's stores are made and not flushed" $storm \
+    's/if \(orderset_persist_list\(.*, count, flush\)\)/if (orderset_store_list(visible, at, value, count), 0)/' \
+    'LOST message'
+fault log_storm 'the first line of a list is not flushed' $header \
+    "${list}s/if \(i == 0 \|\|/if (i > 0 \&\&/" 'LOST message'
+fault log_storm 'only the first line of a list is flushed' $header "${list}s/if \(i == 0 \|\| .*/if (i == 0)/" \
+    'LOST message'
+fault log_storm 'the stores of a list are made from the last one on' $header "$backwards" 'LOST message'
+fault log_storm 'no fence after a list' $header "${list}{/orderset_fence/d}" 'LOST persist_list: .* fence seen: 0'
+fault log_storm 'a message is answered before it is durable' $storm \
+    's|^    if \(orderset_persist_list\(.*append.stores, flush\)\)|    add_message();\n&|
+     s|^    add_message\(\); /\* answered \*/||' 'LOST message'
+fault log_storm 'the oldest of K messages is to be read' $storm \
+    's/messages - cells \+ 2 : 1/messages - cells + 1 : 1/' \
+    'LOST message [0-9]+: answered, and read says no 31'
+
+recorder=examples/recorder.c
+fault log_kills 'a message is answered before it is durable' $recorder \
+    '/^static void append_line\(/,/^}/{s/^ +make_durable\(\);//; s/^}/    usleep(3000), make_durable();\n}/}' \
+    'NOT SO: the last message answered'
+fault log_kills 'no lock' $recorder 's/flock\(file, .* \| LOCK_NB\)/0/' 'NOT SO: a second recorder is refused'
+fault log_kills 'a long line is cut short' $recorder \
+    's/\(const uint8_t \*\)line, size,/(const uint8_t *)line, size > 384 ? 384 : size,/' \
+    "NOT SO: the recorder answers 'no 29'"
+fault log_kills 'the list begins one message late' $recorder 's/last - cells \+ 2/last - cells + 3/' \
+    'NOT SO: the (first one|last message)'
+
+guard=tests/log_guard.c
+append='/^static uint32_t call_append/,/^}/'
+recover='/^static uint32_t call_recover/,/^}/'
+fault log_guard 'in append word numbers one longer than lent' $guard "${append}s/piece\[AT\].length \/ NUMBER/& + 1/" \
+    'NOT SO: (signal 11: at is touched|at changed, after what was lent)'
+fault log_guard 'in append values one longer than lent' $guard "${append}s/piece\[VALUE\].length \/ WORD/& + 1/" \
+    'NOT SO: (signal 11: value is touched|value changed, after what was lent)'
+fault log_guard 'in recover word numbers one longer than lent' $guard \
+    "${recover}s/piece\[AT\].length \/ NUMBER/& + 1/" \
+    'NOT SO: (signal 11: at is touched|at changed, after what was lent)'
+fault log_guard 'in recover values one longer than lent' $guard "${recover}s/piece\[VALUE\].length \/ WORD/& + 1/" \
+    'NOT SO: (signal 11: value is touched|value changed, after what was lent)'
+for call in append recover read; do
+    fault log_guard "in $call an area one cell longer than lent" $guard \
+        "s/log_$call\(r\(AREA\), piece\[AREA\].length/& + 448/" 'NOT SO: signal 11: area is touched'
+done
+fault log_guard 'a message one byte longer than lent' $guard \
+    "s/piece\[MESSAGE\].length, w/piece[MESSAGE].length + 1, w/" \
+    'NOT SO: signal 11: message is touched'
+fault log_guard 'an answer one word shorter' $guard \
+    's/place\(ANSWER, WORD \* ORDERSET_LOG_ANSWER\)/place(ANSWER, WORD)/' \
+    'NOT SO: (signal 11: answer is touched|answer changed, after what was lent)'
+for call in append recover read; do
+    fault log_guard "a refused $call changes the answer" $guard \
+        "s/log_$call\(r\(AREA\)/(++*(uint8_t *)w(ANSWER), log_$call)(r(AREA)/" 'NOT SO: answer changed, by a refused'
+done
+fault log_guard 'what may only be read is written' $guard 's/m_set_word\(w\(AREA\)/m_set_word((uint8_t *)r(AREA)/' \
+    'NOT SO: signal 11: area is .* lent for reading'
+fault log_guard 'an entry past the stores changes' $guard \
+    's/^    same\(\&piece\[AT\], /    if (piece[AT].length) ++((uint8_t *)w(AT))[piece[AT].length - 1];\n&/' \
+    'NOT SO: at changed, past the stores'
+
+model=tests/log_model.c
+appending='/^struct m_handed m_append/,/^}/'
+fault log_differential 'the search goes from word 0 up' $model \
+    's/int word = 7; word >= 0; word--/int word = 0; word < 8; word++/' \
+    'DIFFERENCE'
+fault log_differential 'the position has no trailing zeros' $model \
+    's/^            bit\+\+;/            continue;/' 'DIFFERENCE'
+fault log_differential 'the position is that of the highest bit that differs' $model \
+    's/for \(uint64_t d = (.*); d % 2 == 0; d \/= 2\)/for (uint64_t d = \1; d > 1; d \/= 2)/' 'DIFFERENCE'
+fault log_differential "the pair has the old line's bit" $model \
+    's/512 \* \(m_word\(fresh, place\)/512 * (m_word(area, first + place)/' 'DIFFERENCE'
+fault log_differential 'equal lines store' $model \
+    's/word <= last; word/word <= (last < 0 ? 0 : last); word/' 'DIFFERENCE'
+fault log_differential 'only the word that differs is stored' $model \
+    's/int word = 0; word <= last/int word = last < 0 ? 0 : last; word <= last/' 'DIFFERENCE'
+fault log_differential 'the payload is stored first' $model \
+    "${appending}{/store_payload/d; s/^    store_marked/    store_payload(\&s, area, number % cells, padded);\n&/}" \
+    'DIFFERENCE'
+fault log_differential 'words 3 to 6 are kept' $model \
+    's/marked_at\(cell\) \+ word, 0\)/marked_at(cell) + word, marked(area, cell, word))/' \
+    'DIFFERENCE'
+fault log_differential 'words 3 to 6 are tested' $model \
+    's/if \(number < 1 \|\|/if (marked(area, cell, 3 + number % 4) || number < 1 ||/' 'DIFFERENCE'
+fault log_differential 'the mark is flipped' $model \
+    's/turned = 1 - marked\(area, cell, STAMP\) % 2/turned = 1 - marked(area, cell, 0)/' \
+    'DIFFERENCE'
+fault log_differential 'the stamp keeps the close bit' $model \
+    's/number \* 2 \+ turned/number * 2 + 1 - turned/' 'DIFFERENCE'
+fault log_differential 'the padding is of ones' $model \
+    "${appending}s/    memcpy\(padded/    memset(padded, 0xff, sizeof padded);\n&/" 'DIFFERENCE'
+fault log_differential 'the low bit of a mark decides whether a line is whole' $model \
+    's/return marked\(area, cell, 0\) ==/return marked(area, cell, 0) % 2 ==/' 'DIFFERENCE'
+fault log_differential 'an open line counts' $model 's/ \|\| !is_whole\(area, cell\)//' 'DIFFERENCE'
+fault log_differential 'a length of 385 is complete' $model \
+    '/^int m_complete/,/^}/s/size > M_MESSAGE/size > M_MESSAGE + 1/' 'DIFFERENCE'
+fault log_differential 'the last bit need not match' $model \
+    '/^int m_complete/,/^}/s/line < PAYLOAD_LINES/line + 1 < PAYLOAD_LINES/' 'DIFFERENCE'
+fault log_differential 'a number in the cell of another counts' $model \
+    '/^int m_complete/,/^}/s/^    uint64_t size/    for (size_t i = 0; i < cells; i++)\n        cell = version(area, i) == number ? i : cell;\n&/' \
+    'DIFFERENCE'
+fault log_differential 'number 0 can be complete' $model \
+    's/if \(number < 1 \|\|/if (/' 'DIFFERENCE in the code: archive 31, model 0'
+fault log_differential 'number h - K + 1 is shown' $model 's/highest - number < cells - 1/highest - number < cells/' \
+    'DIFFERENCE in the code: archive 31, model 0'
+fault log_differential 'every complete message is shown' $model \
+    '/^int m_shown/,/^}/s/return number <= highest \&\& highest - number < cells - 1 \&\&/return/' \
+    'DIFFERENCE in the code: archive 31, model 0'
+fault log_differential '29 is tested before 30' $model \
+    "${appending}s/    if \(!cells\)/    if (size < 1 || size > M_MESSAGE)\n        return no(29);\n&/" \
+    'DIFFERENCE in the code: archive 30, model 29'
+fault log_differential '9 is tested before 29' $model \
+    "${appending}s/    if \(size < 1/    if (m_highest(area, cells) == INT64_MAX)\n        return no(9);\n&/" \
+    'DIFFERENCE in the code: archive 29, model 9'
+fault log_differential '13 is tested before 9' $model \
+    "${appending}s/    if \(number >= 1/    if (lists.places < 8)\n        return no(13);\n&/" \
+    'DIFFERENCE in the code: archive 9, model 13'
+fault log_differential 'the number 2^63 - 1 is refused' $model 's/number >= 1ull << 63/number >= INT64_MAX/' \
+    'DIFFERENCE in the code: archive 0, model 9'
+fault log_differential 'a message of 384 bytes is refused' $model "${appending}s/size > M_MESSAGE/size >= M_MESSAGE/" \
+    'DIFFERENCE in the code: archive 0, model 29'
+fault log_differential '13 by the word numbers alone' $model 's/ \|\| lists.values < s->count//' \
+    'DIFFERENCE in the code: archive 13, model 0'
+fault log_differential '13 where the list is just long enough' $model \
+    's/lists.places < s->count/lists.places <= s->count/' \
+    'DIFFERENCE in the code: archive 0, model 13'
+fault log_differential 'the entry past the stores is cleared' $model \
+    's/^    return \(struct m_handed\)\{.number = number/    if (lists.places > s->count)\n        lists.at[s->count] = 0;\n&/' \
+    'DIFFERENCE in the word numbers'
+fault log_differential 'K of 1 and of 1,001 are taken' $model \
+    's/cells >= 2 \&\& cells <= 1000/cells >= 1 \&\& cells <= 1001/' \
+    'DIFFERENCE'
+fault log_differential 'recovery opens nothing' $model \
+    's/if \(is_whole\(area, cell\) \&\& version.*/if (0)/' 'DIFFERENCE'
+fault log_differential 'recovery opens the highest message too' $model \
+    's/version\(area, cell\) > highest\)/version(area, cell) >= highest)/' \
+    'DIFFERENCE'
+fault log_differential 'recovery opens lines in their own cell alone' $model \
+    's/version\(area, cell\) > highest\)/version(area, cell) > highest \&\& version(area, cell) % cells == cell)/' \
+    'DIFFERENCE'
+fault log_differential 'recovery stores the close bit' $model \
+    's/add\(\&s, marked_at\(cell\), 1 - (.*)\);/add(\&s, marked_at(cell), \1);/' 'DIFFERENCE'
+fault log_differential 'a read answers the padded message' $model \
+    's/.length = marked\(area, cell, LENGTH\)/.length = M_MESSAGE/' \
+    'DIFFERENCE in the second answer'
+fault log_differential 'a read answers the whole cell' $model \
+    's/.offset = 8 \* payload_at\(cell, 0\)/.offset = 8 * marked_at(cell)/' \
+    'DIFFERENCE in the first answer'
+differential=tests/log_differential.c
+fault log_differential 'the plain list has struck appends' $differential \
+    's/if \(make_some_of\(stores\)\)/if (make_some_of(stores) + 1)/' \
+    'DIFFERENCE in the highest number by the plain list'
+fault log_differential 'the plain list shows K messages' $differential \
+    's/plain_count - cells \+ 2 : 1/plain_count - cells + 1 : 1/' \
+    'DIFFERENCE with the plain list: message [0-9]+ cannot be read'
+fault log_differential 'an append of a directed case has no trailing zeros' $differential \
+    's/1, 9, 0x203\)/1, 9, 0x200)/' \
+    'DIFFERENCE in a directed case, a value'
+fault log_differential 'a finished append is to leave what can be read' $differential \
+    's/all \? \&expected : before/before/' \
+    'DIFFERENCE in what can be read after an append'
+fault log_differential 'a struck append is to be read' $differential 's/all \? \&expected : before/\&expected/' \
+    'DIFFERENCE in what can be read after a struck append'
+fault log_differential "recovery's stores are not made" $differential \
+    '/^static void laws/,/^}/{s/^    make_all\(\);//}' 'DIFFERENCE in what can be read after a struck append'
 
 echo "$count faults planted, $((count - unseen)) seen"
 [ $unseen -eq 0 ]

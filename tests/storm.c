@@ -17,100 +17,16 @@
 #include <sys/mman.h>
 #include <unistd.h>
 
+#include "cache.h"
 #include "chance.h"
 #include "model.h"
 
-/* Every store, line flush and fence of the header goes through the simulated cache.
- * line is orderset_flush_line's parameter. */
-static void store(volatile void *word, uint64_t value);
-static void flush_line(const void *line);
-static void fence(void);
-#define ORDERSET_FLUSHED() flush_line(line)
-#define ORDERSET_FENCED() fence()
-#define __atomic_store_n(word, value, order) store(word, value)
-#include "orderset_persist.h"
-
-enum { MAX_N = 300, MAX_HEADS = 40, MAX_KEYS = MAX_N + 3, LINES = 2 * (MAX_N + 1), WAITING = 32, STRIKES = 1000000 };
+enum { MAX_N = 300, MAX_HEADS = 40, MAX_KEYS = MAX_N + 3, STRIKES = 1000000 };
 enum { BASKET = 8 }; /* keys of a basket, at the most */
 
 static uint64_t strikes, cuts, kills, in_start, in_call, in_basket, in_opening, acknowledged, baskets, opened;
 
-/* ---- the cache */
-
 static uint32_t n;
-static size_t length; /* of the image */
-static _Alignas(64) uint8_t visible[ORDERSET_IMAGE_BYTES(MAX_N)], durable[ORDERSET_IMAGE_BYTES(MAX_N)];
-
-/* the stores of a line that are not durable, the oldest first; the next fence makes the first `flushed` durable */
-static struct line {
-    unsigned count, flushed;
-    unsigned place[WAITING];
-    uint64_t value[WAITING];
-} waiting[LINES];
-
-/* The oldest stores of the line become durable. */
-static void write_back(size_t number, unsigned stores) {
-    struct line *line = &waiting[number];
-    for (unsigned i = 0; i < stores; i++)
-        memcpy(durable + 64 * number + 8 * line->place[i], &line->value[i], 8);
-    line->count -= stores;
-    line->flushed = line->flushed > stores ? line->flushed - stores : 0;
-    memmove(line->place, line->place + stores, line->count * sizeof *line->place);
-    memmove(line->value, line->value + stores, line->count * sizeof *line->value);
-}
-
-/* Each line keeps some number of its stores, counted from the first, and what is visible is what is durable. */
-static void cut(void) {
-    for (size_t i = 0; i < length / 64; i++) {
-        write_back(i, (unsigned)below(waiting[i].count + 1));
-        waiting[i].count = waiting[i].flushed = 0;
-    }
-    memcpy(visible, durable, length);
-}
-
-/* ---- what strikes, and where: each point of the program counts the fuse down */
-
-static unsigned fuse;
-static jmp_buf struck;
-
-static void point(void) {
-    if (fuse-- == 0)
-        longjmp(struck, 1);
-    if (below(32) == 0) { /* the cache writes a line back by itself */
-        size_t i = below(length / 64);
-        write_back(i, waiting[i].count);
-    }
-}
-
-static int calling;          /* 1 in a call, 0 in a start */
-static unsigned stores_made; /* of the last call */
-static int fenced;           /* the last call is durable */
-
-static void store(volatile void *word, uint64_t value) {
-    size_t place = (size_t)((const volatile uint8_t *)word - visible);
-    struct line *line = &waiting[place / 64];
-    point();
-    if (line->count == WAITING)
-        write_back(place / 64, WAITING);
-    line->place[line->count] = place % 64 / 8;
-    line->value[line->count++] = value;
-    memcpy(visible + place, &value, sizeof value);
-    stores_made++;
-}
-
-static void flush_line(const void *line) {
-    size_t number = (size_t)((const uint8_t *)line - visible) / 64;
-    point();
-    waiting[number].flushed = waiting[number].count;
-}
-
-static void fence(void) {
-    point();
-    for (size_t i = 0; i < length / 64; i++)
-        write_back(i, waiting[i].flushed);
-    fenced |= calling;
-    point();
-}
 
 /* ---- the plain map of what was acknowledged, and the call that may have been struck */
 
@@ -402,11 +318,10 @@ static void strike(void) {
     after_kill = (int)below(2);
     if (after_kill) {
         kills++;
-        for (size_t i = 0; i < length / 64; i++)
-            waiting[i].flushed = 0;
+        process_kill();
     } else {
         cuts++;
-        cut();
+        power_cut();
     }
     in_call += (uint64_t)(calling && call.under_way);
     in_basket += (uint64_t)(calling && call.under_way && call.count > 1);
@@ -423,10 +338,9 @@ static void make(void) {
     for (uint32_t i = 0; i < keys; i++)
         key_of[i] = below(2) ? i : chance() / MAX_KEYS * MAX_KEYS + i; /* distinct: key mod MAX_KEYS is i */
     memset(map, 0, sizeof map);
-    memset(waiting, 0, sizeof waiting);
     if (orderset_format(visible, length, answer))
         lost("format");
-    memcpy(durable, visible, length);
+    all_durable();
     call.under_way = after_kill = made_basket = 0;
 }
 

@@ -3,7 +3,6 @@
 // leaves is printed after it; another sets a part of the set or, if it has no such name, is only printed.
 mod change;
 mod image;
-mod lines;
 mod names;
 mod read;
 mod set;
@@ -16,9 +15,6 @@ use image::opened;
 use image::played;
 use image::recovered;
 use image::show_word;
-use lines::is_asked;
-use lines::numbers;
-use lines::until;
 use names::FORMAT;
 use names::GET;
 use names::LIST;
@@ -33,6 +29,9 @@ use set::Set;
 use set::set_up;
 use set::show_stores;
 use set::start;
+use show::lines::is_asked;
+use show::lines::numbers;
+use show::lines::until;
 use step::show_total;
 use words_code::padded_word;
 

@@ -1,13 +1,14 @@
 -- A test over a range: a search for it turn by turn, and a test that holds nowhere. Assumes nothing.
 use mathlib.Core.Path.{_≡_, refl, sym, ap, ap₂, _∙_}
 use mathlib.Core.Bool.{Bool, true, false, cond, true≢false}
+use mathlib.Core.Logic.{_⊎_, inl, inr}
 use Prim.Native.Nat.{ℕ, zero, suc, _+_, _-_, _≤_, _<_}
 use native.Mathlib.Omega.{arith}
 use lib.Dec.{eqb}
 use borrow.Author.Tests.{eqb-true, eqb-false}
 use Rattle.prelude.specs.Members.{Slot}
 use Rattle.prelude.specs.Range.{anyOf}
-use Rattle.prelude.proofs.Choice.{pick-true, pick-false}
+use Rattle.prelude.proofs.Choice.{pick-true, pick-false, split, true-false}
 
 -- the search from start to end has come to k: what is left of it answers for the whole
 pub record Going (p : ℕ → Bool) (end start k : ℕ) : Type 0 where
@@ -77,14 +78,12 @@ any-some p k (suc n) (suc i) h e = either (p k) _ (any-some p (suc k) n i (omega
     either true b q = refl
     either false b q = q
 
--- the same for tests that are the same at these numbers
-pub any-same : (p q : ℕ → Bool) (k n : ℕ) → ((i : ℕ) → i < n → p (k + i) ≡ q (k + i)) → anyOf p k n ≡ anyOf q k n
+-- two tests that agree over the range
+pub any-same : (p q : ℕ → Bool) (k n : ℕ) → ((i : ℕ) → k ≤ i → i < k + n → p i ≡ q i) → anyOf p k n ≡ anyOf q k n
 unfolding anyOf
-any-same p q k zero e = refl
-any-same p q k (suc n) e =
-    let a : k + 0 ≡ k = omega arith in
-    ap₂ (λ (b c : Bool). cond b true c) (ap p (sym a) ∙ e 0 (omega arith) ∙ ap q a)
-    (any-same p q (suc k) n (λ i h. let d : suc k + i ≡ k + suc i = omega arith in ap p d ∙ e (suc i) (omega arith) ∙ ap q (sym d)))
+any-same p q k zero h = refl
+any-same p q k (suc n) h =
+    ap₂ (λ (x y : Bool). cond x true y) (h k (omega arith) (omega arith)) (any-same p q (suc k) n (λ i l m. h i (omega arith) (omega arith)))
 
 -- over the slots
 pub any-none-slot : (p : ℕ → Bool) (n : ℕ) → anyOf p 1 n ≡ false → (t : ℕ) → Slot n t → p t ≡ false
@@ -110,3 +109,13 @@ passing p (suc n) = go (p (suc n)) refl (passing p n)
     go true e ih = passes (suc n) (omega arith) e
     go false e (passes s i q) = passes s (omega arith) q
     go false e (none-passes h) = none-passes (λ t i. each e h (eqb t (suc n)) t i refl)
+
+-- and where it holds
+pub any-place : (p : ℕ → Bool) (k n : ℕ) → anyOf p k n ≡ true → (i : ℕ) × (i < k + n) × (p i ≡ true)
+unfolding anyOf
+any-place p k zero e = absurd (true-false e refl)
+any-place p k (suc n) e = go (split (p k)) (any-place p (suc k) n)
+  where
+    go : (p k ≡ true) ⊎ (p k ≡ false) → (anyOf p (suc k) n ≡ true → (i : ℕ) × (i < suc k + n) × (p i ≡ true)) → (i : ℕ) × (i < k + suc n) × (p i ≡ true)
+    go (inl q) ih = (k, omega arith, q)
+    go (inr q) ih = let r = ih (sym (pick-false (p k) true (anyOf p (suc k) n) q) ∙ e) in (r .0, omega (arith, r .1), r .2)

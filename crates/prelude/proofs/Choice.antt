@@ -24,6 +24,9 @@ pub both-right : (a b : Bool) → a && b ≡ true → b ≡ true
 both-right true b e = e
 both-right false b e = absurd (true-false e refl)
 
+pub both-of : (a b : Bool) → a && b ≡ true → (a ≡ true) × (b ≡ true)
+both-of a b e = (both-left a b e, both-right a b e)
+
 pub both : (a b : Bool) → a ≡ true → b ≡ true → a && b ≡ true
 both true b e d = d
 both false b e d = e

@@ -84,21 +84,6 @@ count-fewer p q (suc n) h = go (q (suc n)) refl (p (suc n)) refl (count-fewer p 
     go false e true d ih = omega arith
     go false e false d ih = ih
 
--- where only one slot may pass it, at most one does
-pub count-one : (p : ℕ → Bool) (n s : ℕ) → ((t : ℕ) → Slot n t → (t ≡ s → ⊥) → p t ≡ false) → count p n ≤ 1
-unfolding count
-count-one p zero s h = omega arith
-count-one p (suc n) s h = go (eqb s (suc n)) refl (count-one p n s (λ t i. h t (omega arith)))
-  where
-    last : (b : Bool) → count p n ≡ 0 → step b (count p n) ≤ 1
-    last true z = omega arith
-    last false z = omega arith
-
-    go : (b : Bool) → eqb s (suc n) ≡ b → count p n ≤ 1 → step (p (suc n)) (count p n) ≤ 1
-    go true e ih =
-        let at = eqb-true s (suc n) e in last (p (suc n)) (count-none p n (λ t i. h t (omega arith) (λ q. omega arith)))
-    go false e ih = rw (h (suc n) (omega arith) (λ q. eqb-false s (suc n) e (sym q))) ih
-
 -- and fewer where one that passes the other fails it
 pub count-less : (p q : ℕ → Bool) (n s : ℕ) → Slot n s → q s ≡ false → p s ≡ true → ((t : ℕ) → Slot n t → q t ≡ true → p t ≡ true)
     → count q n < count p n

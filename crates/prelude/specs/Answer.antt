@@ -16,6 +16,12 @@ refusalIn (gives given) = 0
 refusalIn absent = 0
 refusalIn (refused number) = number
 
+-- the values that the call gives, or those that were lent
+unfoldable pub givenOr : Answer → (lent : List ℕ) → List ℕ
+givenOr (gives values) lent = values
+givenOr absent lent = lent
+givenOr (refused number) lent = lent
+
 -- a number that is not 0 refuses
 unfoldable pub refuses : (number : ℕ) → Bool
 refuses number = not (eqb number 0)

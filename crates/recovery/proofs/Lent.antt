@@ -28,4 +28,3 @@ same-recovery l image heads next heads′ next′ p q z =
     recovery-taken l image heads next z
     ∙ ap (λ (b : ℕ). recovered (tableOf l image) (slotsIn image) b (stores l image)) p
     ∙ sym (recovery-taken l image heads′ next′ (sym (ap₂ (recoverFault l image) p q) ∙ z))
-

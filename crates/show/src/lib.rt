@@ -1,4 +1,6 @@
-// Printing to standard output: labels, numbers and lists of them, and the answers of the calls.
+// For the programs: printing to standard output, of labels, numbers and lists of them and of the answers of the calls; and lines of input.
+pub mod lines;
+
 use libc::STDOUT_FILENO;
 use orderset::Formatted;
 use orderset::Got;
@@ -36,7 +38,7 @@ pub fn values(list: &[u64]) {
     }
 }
 
-fn refused(k: u32) {
+pub fn refused(k: u32) {
     text(b" no");
     number(k as u64);
 }

@@ -8,13 +8,12 @@ use lib.ListN.{length}
 use Rattle.words.specs.Word.{word}
 use Rattle.prelude.specs.Members.{All, none-left, one-more, In, Once}
 use Rattle.stores.specs.Store.{Store, played, standing, onLine}
-use Rattle.stores.specs.Written.{recordStores}
 use Rattle.stores.specs.Basket.{BasketRecord, basketSlots, basketStores}
 use Rattle.stores.specs.Cut.{afterCut, SlotWritten, LawfulRecord, AllWritten}
 use Rattle.stores.proofs.defs.Cut.{Carries, Avoids, SlotStores, carries, StoresInside, nil-in}
 use Rattle.stores.proofs.Line.{on-append}
 use Rattle.stores.proofs.SlotStores.{carried}
-use Rattle.stores.proofs.Confined.{confined-to, eight-stand}
+use Rattle.stores.proofs.Confined.{confined-to}
 use Rattle.stores.proofs.Table.{record-carries, record-off, record-spares}
 use Rattle.stores.proofs.Bytes.{struck-words, append-inside, record-inside}
 
@@ -111,12 +110,6 @@ module _ (l : ℕ) (m : ℕ → ℕ) (number version : ℕ) where
               confined-to l counts m (basketStores l m number version es) (basketSlots es) (basket-spares es)
               (into-slot _ (basket-holds es once) fine);
         }
-
-    -- with a count of 8 for each line all the stores stand
-    pub basket-all : standing (λ n. 8) (basketStores l m number version es) ≡ basketStores l m number version es
-    basket-all =
-        eight-stand l (λ n. 8) m (basketStores l m number version es) (basketSlots es) (basket-spares es)
-        (into-slot _ (basket-holds es once) fine)
 
   -- ---- on bytes
 

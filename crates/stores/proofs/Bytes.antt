@@ -10,9 +10,9 @@ use native.Mathlib.Omega.{arith}
 use lib.ListN.{length}
 use lib.Dec.{eqb, ltb}
 use borrow.Author.Tests.{eq-eqb, ne-eqb}
-use Rattle.words.specs.Word.{word, setWord}
+use Rattle.words.specs.Word.{AreBytes, word, setWord}
 use Rattle.prelude.proofs.Choice.{pick-true, pick-false}
-use Rattle.words.proofs.Laws.{setWord-length, word-same, word-other}
+use Rattle.words.proofs.Laws.{setWord-length, setWord-bytes, word-same, word-other}
 use Rattle.layout.specs.Record.{limit}
 use Rattle.layout.specs.Content.{top}
 use Rattle.stores.specs.Store.{Store, played, stored, playedWords, less, standing}
@@ -37,6 +37,11 @@ pub played-length : (ss : List Store) (img : List ℕ) → length (played ss img
 unfolding played
 played-length [] img = refl
 played-length (s ∷ ss) img = played-length ss (setWord img (s .word) (s .value)) ∙ setWord-length img (s .word) (s .value)
+
+pub played-bytes : (ss : List Store) (img : List ℕ) → AreBytes img → AreBytes (played ss img)
+unfolding played
+played-bytes [] img h = h
+played-bytes (s ∷ ss) img h = played-bytes ss (setWord img (s .word) (s .value)) (setWord-bytes img (s .word) (s .value) h)
 
 -- THE BRIDGE
 bridge : {ss : List Store} (img : List ℕ) {n : ℕ} → StoresInside n ss → length img ≡ n → word (played ss img) ≡ playedWords ss (word img)
@@ -71,17 +76,17 @@ pub append-inside : {n : ℕ} {x y : List Store} → StoresInside n x → Stores
 append-inside nil-in q = q
 append-inside (cons-in h b r) q = cons-in h b (append-inside r q)
 
-run-inside : (n base : ℕ) (words : ℕ → ℕ) (k j : ℕ) → 8 * (base + k + j) ≤ n → ((i : ℕ) → words i < 2 ^ 64) → StoresInside n (run base words k j)
+pub run-inside : (n base : ℕ) (words : ℕ → ℕ) (k j : ℕ) → 8 * (base + k + j) ≤ n → ((i : ℕ) → words i < 2 ^ 64) → StoresInside n (run base words k j)
 unfolding run
 run-inside n base words k zero h b = nil-in
 run-inside n base words k (suc j) h b =
     cons-in {s = record { word = base + k; value = words k }} (omega arith) (b k) (run-inside n base words (suc k) j (omega arith) b)
 
-cond-below : (t : Bool) (x y n : ℕ) → x < n → y < n → cond t x y < n
+pub cond-below : (t : Bool) (x y n : ℕ) → x < n → y < n → cond t x y < n
 cond-below true x y n p q = p
 cond-below false x y n p q = q
 
-marked-below : (stamp version : ℕ) (body : ℕ → ℕ) → version < 2 ^ 63 → ((i : ℕ) → body i < 2 ^ 64) → (i : ℕ) → marked stamp version body i < 2 ^ 64
+pub marked-below : (stamp version : ℕ) (body : ℕ → ℕ) → version < 2 ^ 63 → ((i : ℕ) → body i < 2 ^ 64) → (i : ℕ) → marked stamp version body i < 2 ^ 64
 unfolding marked
 marked-below stamp version body h b i =
     cond-below (eqb i 0) _ _ _ (omega arith) (cond-below (eqb i 7) _ _ _ (omega arith) (b i))

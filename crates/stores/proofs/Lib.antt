@@ -1,5 +1,6 @@
 pub mod Making
 pub mod Plays
+pub mod Lists
 pub mod Line
 pub mod Placed
 pub mod Fields

@@ -7,7 +7,7 @@ use Prim.Native.Nat.{ℕ, zero, suc, _+_, _*_, _/_, _%_, _≤_, _<_}
 use native.Mathlib.Nat.{mod-lt, zero-lt-suc, mod-eq-of-lt}
 use native.Mathlib.Decide.{decLt}
 use native.Mathlib.Omega.{arith}
-use lib.ListN.{take}
+use lib.ListN.{length, take}
 use lib.Arith.{digits-mod, digits-div}
 use lib.Dec.{eqb, ltb}
 use borrow.Author.Tests.{eqb-true, eqb-false, eq-eqb, ne-eqb, lt-ltb, le-ltb}
@@ -16,7 +16,7 @@ use Rattle.layout.specs.Line.{line, whole, versionOf, firstWord, lastWord}
 use Rattle.stores.specs.Store.{Store, stored, playedWords, onLine}
 use Rattle.stores.specs.Written.{marked, run, lineStores}
 use Rattle.stores.specs.Cut.{afterCut, LineCut, untouched, torn, full}
-use Rattle.stores.proofs.StandingStores.{on-hit, on-miss, cut-at, line-unmade}
+use Rattle.stores.proofs.StandingStores.{on-hit, on-miss, cut-at, line-none}
 
 -- ---- the stores of a line among others
 
@@ -30,14 +30,14 @@ on-append n (s ∷ x) y = go (on-append n x y) (split (eqb (s .word / 8) n))
     go ih (inl e) = rw e (ap (λ (t : List Store). s ∷ t) ih)
     go ih (inr e) = rw e ih
 
-own-run : (n : ℕ) (words : ℕ → ℕ) (k j : ℕ) → k + j ≤ 8 → onLine n (run (8 * n) words k j) ≡ run (8 * n) words k j
+pub own-run : (n : ℕ) (words : ℕ → ℕ) (k j : ℕ) → k + j ≤ 8 → onLine n (run (8 * n) words k j) ≡ run (8 * n) words k j
 unfolding onLine run
 own-run n words k zero h = refl
 own-run n words k (suc j) h =
     on-hit n (record { word = 8 * n + k; value = words k }) (run (8 * n) words (suc k) j) (omega arith)
     ∙ ap (λ (t : List Store). record { word = 8 * n + k; value = words k } ∷ t) (own-run n words (suc k) j (omega arith))
 
-other-run : (n o : ℕ) (words : ℕ → ℕ) (k j : ℕ) → (o ≡ n → ⊥) → k + j ≤ 8 → onLine n (run (8 * o) words k j) ≡ []
+pub other-run : (n o : ℕ) (words : ℕ → ℕ) (k j : ℕ) → (o ≡ n → ⊥) → k + j ≤ 8 → onLine n (run (8 * o) words k j) ≡ []
 unfolding onLine run
 other-run n o words k zero ne h = refl
 other-run n o words k (suc j) ne h =
@@ -63,13 +63,13 @@ unfolding stored
 stored-off w v m i h = pick-false (eqb i w) v (m i) (ne-eqb i w h)
 
 module _ (base : ℕ) (words : ℕ → ℕ) where
-  under : (n k c : ℕ) (m : ℕ → ℕ) (i : ℕ) → i < k → playedWords (take c (run base words k n)) m (base + i) ≡ m (base + i)
+  outside : (n k c : ℕ) (m : ℕ → ℕ) (i : ℕ) → (k ≤ i → i < k + n → ⊥) → playedWords (take c (run base words k n)) m (base + i) ≡ m (base + i)
   unfolding playedWords run
-  under n k zero m i h = refl
-  under zero k (suc c) m i h = refl
-  under (suc n) k (suc c) m i h =
-      under n (suc k) c (stored (record { word = base + k; value = words k }) m) i (omega arith)
-      ∙ stored-off (base + k) (words k) m (base + i) (λ e. omega arith)
+  outside n k zero m i h = refl
+  outside zero k (suc c) m i h = refl
+  outside (suc n) k (suc c) m i h =
+      outside n (suc k) c (stored (record { word = base + k; value = words k }) m) i (λ p q. h (omega arith) (omega arith))
+      ∙ stored-off (base + k) (words k) m (base + i) (λ e. h (omega arith) (omega arith))
 
   first-made : (n k c : ℕ) (m : ℕ → ℕ) (i : ℕ) → k ≤ i → i < k + n
       → playedWords (take c (run base words k n)) m (base + i) ≡ cond (ltb i (k + c)) (words i) (m (base + i))
@@ -86,7 +86,7 @@ module _ (base : ℕ) (words : ℕ → ℕ) where
           → (eqb i k ≡ true) ⊎ (eqb i k ≡ false)
           → playedWords (take c (run base words (suc k) n)) next (base + i) ≡ cond (ltb i (k + suc c)) (words i) (m (base + i))
       go ih (inl e) =
-          under n (suc k) c next i (omega (arith, eqb-true i k e))
+          outside n (suc k) c next i (λ p q. omega (arith, eqb-true i k e))
           ∙ ap (λ (x : ℕ). next (base + x)) (eqb-true i k e)
           ∙ stored-there (base + k) (words k) m ∙ ap words (sym (eqb-true i k e))
           ∙ sym (pick-true (ltb i (k + suc c)) (words i) (m (base + i)) (lt-ltb i (k + suc c) (omega (arith, eqb-true i k e))))
@@ -95,20 +95,33 @@ module _ (base : ℕ) (words : ℕ → ℕ) where
           ∙ ap₂ (λ (x y : ℕ). cond (ltb i x) (words i) y) (omega arith)
           (stored-off (base + k) (words k) m (base + i) (λ q. eqb-false i k e (omega arith)))
 
--- ---- a line after a cut, where its stores among ss are those of `new`
+pub run-length : (base : ℕ) (words : ℕ → ℕ) (k n : ℕ) → length (run base words k n) ≡ n
+unfolding run
+run-length base words k zero = refl
+run-length base words k (suc n) = ap suc (run-length base words (suc k) n)
 
-pub word-cut : (counts m : ℕ → ℕ) (ss : List Store) (n : ℕ) (new : ℕ → ℕ) → onLine n ss ≡ lineStores n new → (i : ℕ) → i < 8
-    → afterCut counts ss m (8 * n + i) ≡ cond (ltb i (counts n)) (new i) (m (8 * n + i))
-unfolding lineStores
-word-cut counts m ss n new own i h =
-    cut-at ss counts m n i h
-    ∙ ap (λ (t : List Store). playedWords (take (counts n) t) m (8 * n + i)) own
-    ∙ first-made (8 * n) new 8 0 (counts n) m i (omega arith) (omega arith)
-    ∙ ap (λ (x : ℕ). cond (ltb i x) (new i) (m (8 * n + i))) (omega arith)
+-- ---- a line after a cut, where its stores among ss are a run of `new` from word 0 on
+
+module _ (counts m : ℕ → ℕ) (ss : List Store) (n size : ℕ) (new : ℕ → ℕ) (own : onLine n ss ≡ run (8 * n) new 0 size) (i : ℕ) (h : i < 8) where
+  own-cut : afterCut counts ss m (8 * n + i) ≡ playedWords (take (counts n) (run (8 * n) new 0 size)) m (8 * n + i)
+  own-cut = cut-at ss counts m n i h ∙ ap (λ (t : List Store). playedWords (take (counts n) t) m (8 * n + i)) own
+
+  -- a word of the run
+  pub run-cut : i < size → afterCut counts ss m (8 * n + i) ≡ cond (ltb i (counts n)) (new i) (m (8 * n + i))
+  run-cut l =
+      own-cut ∙ first-made (8 * n) new size 0 (counts n) m i (omega arith) (omega arith)
+      ∙ ap (λ (x : ℕ). cond (ltb i x) (new i) (m (8 * n + i))) (omega arith)
+
+  -- a word past it
+  pub run-past : size ≤ i → afterCut counts ss m (8 * n + i) ≡ m (8 * n + i)
+  run-past l = own-cut ∙ outside (8 * n) new size 0 (counts n) m i (λ p q. omega arith)
+
+-- ---- and where they are all eight words of `new`
 
 module _ (counts m : ℕ → ℕ) (ss : List Store) (n : ℕ) (new : ℕ → ℕ) (own : onLine n ss ≡ lineStores n new) where
   pub line-cut : (i : ℕ) → line (afterCut counts ss m) n i ≡ cond (ltb (i % 8) (counts n)) (new (i % 8)) (line m n i)
-  line-cut i = word-cut counts m ss n new own (i % 8) (mod-lt i (zero-lt-suc 7))
+  unfolding lineStores
+  line-cut i = run-cut counts m ss n 8 new own (i % 8) (mod-lt i (zero-lt-suc 7)) (mod-lt i (zero-lt-suc 7))
 
   pub line-full : 8 ≤ counts n → (i : ℕ) → i < 8 → line (afterCut counts ss m) n i ≡ new i
   line-full h i l =
@@ -142,7 +155,7 @@ pub line-law : (counts m : ℕ → ℕ) (ss : List Store) (n version : ℕ) (bod
 line-law counts m ss n version body own =
     by-cases (decLt 0 (counts n))
     (λ p. by-cases (decLt (counts n) 8) (λ q. torn p q (opened p q)) (λ q. full (omega arith) (line-full counts m ss n new own (omega arith))))
-    (λ p. untouched (omega arith) (line-unmade counts m ss n (omega arith)))
+    (λ p. untouched (omega arith) (line-none counts m ss n (omega arith)))
   where
     new : ℕ → ℕ
     new = marked (line m n 7) version body

@@ -18,7 +18,7 @@ use Rattle.stores.specs.Store.{Store, stored}
 use Rattle.stores.specs.Opening.{openingStore}
 use Rattle.stores.specs.Cut.{afterCut, SlotOpened, shut, opened}
 use Rattle.stores.proofs.defs.Cut.{Opens}
-use Rattle.stores.proofs.StandingStores.{line-out, line-unmade, line-one}
+use Rattle.stores.proofs.StandingStores.{line-out, line-none, line-one}
 use Rattle.stores.proofs.Line.{stored-there, stored-off}
 
 -- ---- a slot by its lines: A and B before, A′ after, B stays
@@ -54,7 +54,7 @@ module _ (l : ℕ) (counts m : ℕ → ℕ) (ss : List Store) (s : ℕ) (has : O
   same-B = line-out counts m ss (2 * s + 1) (has .line-B)
 
   same-A : counts (2 * s) ≡ 0 → line (afterCut counts ss m) (2 * s) ≡ line m (2 * s)
-  same-A = line-unmade counts m ss (2 * s)
+  same-A = line-none counts m ss (2 * s)
 
   module _ (h : 0 < counts (2 * s)) where
     now-A : (i : ℕ) → line (afterCut counts ss m) (2 * s) i ≡ stored (openingStore m s) m (8 * (2 * s) + i % 8)

@@ -14,7 +14,7 @@ use Rattle.stores.specs.Store.{Store}
 use Rattle.stores.specs.Written.{bodyA, bodyB, newA, newB}
 use Rattle.stores.specs.Cut.{afterCut, LineCut, SlotCut, Fields, Lawful, SlotWritten}
 use Rattle.stores.proofs.defs.Cut.{Carries, Avoids}
-use Rattle.stores.proofs.StandingStores.{line-out, line-unmade}
+use Rattle.stores.proofs.StandingStores.{line-out, line-none}
 use Rattle.stores.proofs.Line.{line-full, line-law}
 use Rattle.stores.proofs.Fields.{number-written}
 use Rattle.stores.proofs.Slot.{slot-top, slot-top-full, slot-cut, slot-fault}
@@ -73,7 +73,7 @@ module _ (l : ℕ) (counts m : ℕ → ℕ) (ss : List Store) (s key kind number
   carried =
       record {
         cut = carried-content;
-        number-old = λ e. ap (λ (A : ℕ → ℕ). recordNumber (A (l + 1))) (line-unmade counts m ss (2 * s) e);
+        number-old = λ e. ap (λ (A : ℕ → ℕ). recordNumber (A (l + 1))) (line-none counts m ss (2 * s) e);
         number-new =
             λ h.
             number-written l (line m (2 * s) 7) key kind number value version fine (line (afterCut counts ss m) (2 * s))

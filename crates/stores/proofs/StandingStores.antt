@@ -131,20 +131,21 @@ pub cut-at : (ss : List Store) (counts m : ℕ → ℕ) (n i : ℕ) → i < 8
 cut-at ss counts m n i h =
     cut-word ss counts m (8 * n + i) ∙ ap (λ (x : ℕ). playedWords (take (counts x) (onLine x ss)) m (8 * n + i)) (omega arith)
 
--- a line of which no store stands stays
-line-none : (counts m : ℕ → ℕ) (ss : List Store) (n : ℕ) → take (counts n) (onLine n ss) ≡ [] → line (afterCut counts ss m) n ≡ line m n
+-- a line of which no store is made stays
+untaken : (counts m : ℕ → ℕ) (ss : List Store) (n : ℕ) → take (counts n) (onLine n ss) ≡ [] → line (afterCut counts ss m) n ≡ line m n
 unfolding playedWords
-line-none counts m ss n none = fun-ext (λ i. at (i % 8) (mod-lt i (zero-lt-suc 7)))
+untaken counts m ss n none = fun-ext (λ i. at (i % 8) (mod-lt i (zero-lt-suc 7)))
   where
     at : (i : ℕ) → i < 8 → afterCut counts ss m (8 * n + i) ≡ m (8 * n + i)
     at i h = cut-at ss counts m n i h ∙ ap (λ (t : List Store). playedWords t m (8 * n + i)) none
 
--- so does one without stores, and one whose count is 0
+-- there is none for it
 pub line-out : (counts m : ℕ → ℕ) (ss : List Store) (n : ℕ) → onLine n ss ≡ [] → line (afterCut counts ss m) n ≡ line m n
-line-out counts m ss n none = line-none counts m ss n (ap (take (counts n)) none ∙ take-nil (counts n))
+line-out counts m ss n none = untaken counts m ss n (ap (take (counts n)) none ∙ take-nil (counts n))
 
-pub line-unmade : (counts m : ℕ → ℕ) (ss : List Store) (n : ℕ) → counts n ≡ 0 → line (afterCut counts ss m) n ≡ line m n
-line-unmade counts m ss n e = line-none counts m ss n (ap (λ (k : ℕ). take k (onLine n ss)) e)
+-- or none stands
+pub line-none : (counts m : ℕ → ℕ) (ss : List Store) (n : ℕ) → counts n ≡ 0 → line (afterCut counts ss m) n ≡ line m n
+line-none counts m ss n e = untaken counts m ss n (ap (λ (k : ℕ). take k (onLine n ss)) e)
 
 -- a line with one store, which stands
 pub line-one : (counts m : ℕ → ℕ) (ss : List Store) (n : ℕ) (s : Store) → onLine n ss ≡ s ∷ [] → 0 < counts n → (i : ℕ)
@@ -176,3 +177,15 @@ all-stand (s ∷ ss) counts h = go (all-stand ss (less (s .word / 8) counts))
     go : (((n : ℕ) → length (onLine n ss) ≤ less (s .word / 8) counts n) → standing (less (s .word / 8) counts) ss ≡ ss)
         → standing counts (s ∷ ss) ≡ s ∷ ss
     go ih = one-stands counts s ss (λ (z : counts (s .word / 8) ≡ 0). omega (arith, own)) ∙ ap (λ (t : List Store). s ∷ t) (ih fewer)
+
+pub on-few : (n : ℕ) (ss : List Store) → length (onLine n ss) ≤ length ss
+unfolding onLine
+on-few n [] = omega arith
+on-few n (s ∷ ss) = go (on-few n ss) (split (eqb (s .word / 8) n))
+  where
+    go : length (onLine n ss) ≤ length ss → (eqb (s .word / 8) n ≡ true) ⊎ (eqb (s .word / 8) n ≡ false) → length (onLine n (s ∷ ss)) ≤ suc (length ss)
+    go ih (inl e) = omega (arith, ap length (on-hit n s ss (eqb-true (s .word / 8) n e)))
+    go ih (inr e) = omega (arith, ap length (on-miss n s ss (eqb-false (s .word / 8) n e)))
+
+pub all-made : (ss : List Store) (counts : ℕ → ℕ) → ((n : ℕ) → length ss ≤ counts n) → standing counts ss ≡ ss
+all-made ss counts h = all-stand ss counts (λ n. omega (arith, h n, on-few n ss))

@@ -4,11 +4,11 @@ use mathlib.Core.List.{List, [], _∷_}
 use Prim.Native.Nat.{ℕ, _-_, _/_}
 use lib.Dec.{eqb}
 use Rattle.words.specs.Word.{setWord}
+use Rattle.stores.specs.declared.Store.{Store as StoreStruct}
 
--- "a word number (32 bits, counted from the start of the image) and a 64-bit value"
-pub record Store : Type 0 where
-  pub word : ℕ
-  pub value : ℕ
+-- "a word number (32 bits, counted from the start of the image) and a 64-bit value": the struct of that name
+abbrev pub Store : Type 0
+Store = StoreStruct
 
 -- the stores that a list of word numbers and a list of values name
 unfoldable pub zipped : (at value : List ℕ) → List Store

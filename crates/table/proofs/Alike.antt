@@ -1,10 +1,9 @@
 -- Two tables with the same slots 1 to n say the same. Assumes nothing.
 use mathlib.Core.Path.{_≡_, refl, sym, ap, ap₂, _∙_}
-use mathlib.Core.Bool.{Bool, true, false, cond, not, _&&_}
-use mathlib.Core.Option.{Option}
+use mathlib.Core.Bool.{Bool, true, cond, not, _&&_}
 use mathlib.Core.List.{List, [], _∷_}
 use mathlib.Core.Logic.{inl, inr}
-use Prim.Native.Nat.{ℕ, zero, suc, _+_, _≤_, _<_}
+use Prim.Native.Nat.{ℕ, zero, suc}
 use native.Mathlib.Omega.{arith}
 use lib.Dec.{eqb, ltb}
 use Rattle.prelude.specs.Range.{anyOf}
@@ -64,7 +63,7 @@ module _ (f g : Table) (n : ℕ) (same : (t : ℕ) → Slot n t → g t ≡ f t)
   unfolding mayTake
   alike-take s i =
       ap₂ (λ (c : Content) (b : Bool). cond (isRecord c) (ltb (topOf c) (highestValid g n) && not (isRemove c && b)) true) (same s i)
-      (any-same (older g s) (older f s) 1 n (λ k h. alike-older s (1 + k) i (omega arith)))
+      (any-same (older g s) (older f s) 1 n (λ k l h. alike-older s k i (omega arith)))
       ∙ ap (λ (h : ℕ). cond (isRecord (f s)) (ltb (topOf (f s)) h && not (isRemove (f s) && anyOf (older f s) 1 n)) true) alike-highest
 
   pub alike-takeable : takeableCount g n ≡ takeableCount f n

@@ -6,20 +6,18 @@ use mathlib.Core.List.{List, [], _∷_, _++_}
 use Prim.Native.Nat.{ℕ, _≤_, _<_}
 use native.Mathlib.Omega.{arith}
 use lib.Dec.{eqb}
-use borrow.Author.Tests.{ne-eqb, eqb-true, eqb-false, le-ltb, ltb-false}
+use borrow.Author.Tests.{ne-eqb, le-ltb, ltb-false}
 use Rattle.layout.specs.Content.{Content, broken, empty, putRecord, removeRecord, Table}
 use Rattle.prelude.specs.Filter.{filter}
 use Rattle.prelude.specs.Members.{In, Slot}
 use Rattle.sorting.proofs.Order.{filter-in}
 use Rattle.prelude.proofs.defs.Members.{Rising}
 use Rattle.prelude.proofs.Choice.{true-false}
-use Rattle.prelude.proofs.Count.{count-none, count-fewer, count-one}
+use Rattle.prelude.proofs.Count.{count-none}
 use Rattle.prelude.proofs.Lists.{in-append}
 use Rattle.table.specs.Table.{isRecord, isBroken, brokenCount, brokenLimit, manyBroken, decidingPut, live}
 use Rattle.table.specs.Order.{rankOf}
 use Rattle.table.specs.Reuse.{BrokenFirst}
-use Rattle.table.proofs.defs.Write.{upd, BrokenAt}
-use Rattle.table.proofs.OneSlot.{upd-other}
 
 -- ---- one slot
 
@@ -75,30 +73,6 @@ few-many f n h = le-ltb brokenLimit (brokenCount f n) h
 pub none-broken : (f : Table) (n : ℕ) → ((t : ℕ) → Slot n t → isBroken (f t) ≡ false) → brokenCount f n ≤ brokenLimit
 unfolding brokenCount
 none-broken f n h = omega (arith, count-none (λ t. isBroken (f t)) n h)
-
--- A SLOT CHANGES, to whatever content, that is broken where any slot is: there is no broken slot more than the limit
-pub few-broken : (f : Table) (n s : ℕ) (c : Content) → BrokenAt f n s → brokenCount f n ≤ brokenLimit
-    → brokenCount (upd f s c) n ≤ brokenLimit
-unfolding brokenCount brokenLimit
-few-broken f n s c first few = go (isBroken (f s)) refl
-  where
-    after : ℕ → Bool
-    after t = isBroken (upd f s c t)
-
-    elsewhere : (t : ℕ) → (t ≡ s → ⊥) → after t ≡ isBroken (f t)
-    elsewhere t ne = ap isBroken (upd-other f s c t ne)
-
-    more : isBroken (f s) ≡ true → (t : ℕ) → (x : Bool) → eqb t s ≡ x → after t ≡ true → isBroken (f t) ≡ true
-    more b t true e d = ap (λ (k : ℕ). isBroken (f k)) (eqb-true t s e) ∙ b
-    more b t false e d = sym (elsewhere t (eqb-false t s e)) ∙ d
-
-    whole : isBroken (f s) ≡ false → (t : ℕ) → Slot n t → (x : Bool) → isBroken (f t) ≡ x → isBroken (f t) ≡ false
-    whole b t i true e = absurd (true-false (first t i e) b)
-    whole b t i false e = e
-
-    go : (b : Bool) → isBroken (f s) ≡ b → brokenCount (upd f s c) n ≤ brokenLimit
-    go true b = omega (arith, few, count-fewer (λ t. isBroken (f t)) after n (λ t i d. more b t (eqb t s) refl d))
-    go false b = omega (arith, count-one after n s (λ t i ne. elsewhere t ne ∙ whole b t i (isBroken (f t)) refl))
 
 -- ---- reuse
 

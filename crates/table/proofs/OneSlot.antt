@@ -102,10 +102,6 @@ unfolding valueAt
 value-at f n zero i = absurd (omega arith)
 value-at f n (suc s) i = refl
 
-pub upd-same : (f : Table) (s : ℕ) (c : Content) → upd f s c s ≡ c
-unfolding upd
-upd-same f s c = ap (λ (b : Bool). cond b c (f s)) (eq-eqb s s refl)
-
 pub upd-other : (f : Table) (s : ℕ) (c : Content) (t : ℕ) → (t ≡ s → ⊥) → upd f s c t ≡ f t
 unfolding upd
 upd-other f s c t h = ap (λ (b : Bool). cond b c (f t)) (ne-eqb t s h)

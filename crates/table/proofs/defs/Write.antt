@@ -4,7 +4,7 @@ use mathlib.Core.Bool.{Bool, true, false, cond}
 use Prim.Native.Nat.{ℕ, suc, _<_}
 use lib.Dec.{eqb}
 use Rattle.layout.specs.Content.{Content, topOf, Table}
-use Rattle.table.specs.Table.{isRecord, isBroken, weight, decider, live}
+use Rattle.table.specs.Table.{isRecord, weight, decider, live}
 use Rattle.prelude.specs.Members.{Slot}
 
 -- w is above every version on a whole line
@@ -46,7 +46,3 @@ Outside f f′ n C = (t : ℕ) → Slot n t → C t ≡ false → f′ t ≡ f t
 -- no slot of C has a record of key k
 abbrev pub NoRecord : Table → (n : ℕ) → (C : ℕ → Bool) → (k : ℕ) → Type 0
 NoRecord f n C k = (t : ℕ) → Slot n t → C t ≡ true → weight k (f t) ≡ 0
-
--- slot s is broken where any slot is
-abbrev pub BrokenAt : Table → (n s : ℕ) → Type 0
-BrokenAt f n s = (t : ℕ) → Slot n t → isBroken (f t) ≡ true → isBroken (f s) ≡ true

@@ -1,0 +1,11 @@
+pub mod Area
+pub mod Bit
+pub mod Message
+pub mod Handed
+pub mod Append
+pub mod Recover
+pub mod Read
+pub mod Event
+pub mod Rule
+pub mod Laws
+pub mod inner

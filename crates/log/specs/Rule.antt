@@ -1,0 +1,94 @@
+-- THE LOG RULE: the cut rule for the log, as one statement over every list of appends, reads, recoveries and cuts. Document 02, A.10.
+use mathlib.Core.Path.{_≡_}
+use mathlib.Core.Bool.{true, cond}
+use mathlib.Core.List.{List, [], _∷_, _++_}
+use Prim.Native.Nat.{ℕ, zero, suc, _-_, _*_, _≤_}
+use lib.ListN.{length, getD, take, drop, replicate}
+use Rattle.prelude.specs.Refusal.{unlessRefused}
+use Rattle.prelude.specs.Answer.{Answer, gives, absent, refused}
+use Rattle.prelude.specs.Members.{All}
+use Rattle.prelude.specs.History.{Throughout}
+use Rattle.words.specs.Word.{word}
+use Rattle.stores.specs.Store.{zipped}
+use Rattle.stores.specs.Play.{playEnd, playListResult}
+use Rattle.log.specs.Area.{cellsIn}
+use Rattle.log.specs.Message.{highest, inWindow, shown}
+use Rattle.log.specs.Handed.{LogResult}
+use Rattle.log.specs.Append.{appendResult}
+use Rattle.log.specs.Recover.{logRecoverResult}
+use Rattle.log.specs.Read.{readPart, readEnd, readResult}
+use Rattle.log.specs.Event.{LogCall, an-append, a-read, a-recovery, LogRestart, LogEvent, call-done, call-cut, logStores, areaDone, areaCut, areaAgain, areaAfterAll, areaAfter, Messages, logDueFault, messagesAfter, FitsEvent}
+
+-- the messages shown of numbers 1 to n, by rising number
+unfoldable pub shownUpTo : (cells : ℕ) → (area : List ℕ) → (n : ℕ) → Messages
+shownUpTo cells area zero = []
+shownUpTo cells area (suc n) = shownUpTo cells area n ++ cond (shown cells (word area) (suc n)) (readPart area (suc n) ∷ []) []
+
+-- all that readers are shown
+unfoldable pub shownMessages : (cells : ℕ) → (area : List ℕ) → Messages
+shownMessages cells area = shownUpTo cells area (highest cells (word area))
+
+-- the last n of a list, "or all if fewer"
+unfoldable pub lastMessages : (n : ℕ) → Messages → Messages
+lastMessages n log = drop (length log - n) log
+
+-- "its last K − 1, or all if fewer, are those shown, byte for byte"; and by numbers: these are counted from 1, so message s of the list is the one at s − 1
+pub record Shows (cells : ℕ) (area : List ℕ) (log : Messages) : Type 0 where
+  pub size : cellsIn area ≡ cells
+  pub messages : shownMessages cells area ≡ lastMessages (cells - 1) log
+  pub top : highest cells (word area) ≡ length log
+  pub numbers : (s : ℕ) → shown cells (word area) s ≡ inWindow cells (length log) s
+  pub bytes : (s : ℕ) → inWindow cells (length log) s ≡ true → readPart area s ≡ getD log (s - 1) []
+
+-- ---- one call
+
+-- the count in an answer, 0 for a refusal
+unfoldable pub countGiven : Answer → ℕ
+countGiven (gives values) = getD values 1 0
+countGiven absent = 0
+countGiven (refused number) = 0
+
+-- a call that hands out stores: it is refused with this number, or else answers this number and the count of its stores; these stand at the front of the two lists, and
+-- play takes them
+pub record HandsOut (area : List ℕ) (call : LogCall) (fault number : ℕ) (r : LogResult) : Type 0 where
+  pub answer : r .answer ≡ unlessRefused fault (gives (number ∷ length (logStores area call) ∷ [])) (refused fault)
+  pub stores : zipped (take (countGiven (r .answer)) (r .at)) (take (countGiven (r .answer)) (r .value)) ≡ logStores area call
+  pub plays : playListResult area (take (countGiven (r .answer)) (r .at)) (take (countGiven (r .answer)) (r .value)) ≡ playEnd 0 (areaDone area call)
+
+-- each call answers as the plain machine does: an append gives the next number and a recovery how many messages there are; a read gives the message's bytes, or an empty
+-- part; and each is refused exactly where the rules refuse it
+unfoldable pub CallRight : (area : List ℕ) → Messages → LogCall → Type 0
+CallRight area log (an-append message at value) =
+    HandsOut area (an-append message at value) (logDueFault area log (an-append message at value)) (suc (length log))
+    (appendResult area message at value)
+CallRight area log (a-read number) =
+    readResult area number ≡
+    readEnd (unlessRefused (logDueFault area log (a-read number)) (getD log (number - 1) []) []) (logDueFault area log (a-read number))
+CallRight area log (a-recovery at value) =
+    HandsOut area (a-recovery at value) (logDueFault area log (a-recovery at value)) (length log) (logRecoverResult area at value)
+
+-- ---- one event
+
+-- after a cut the list stays as it is: it is shown before each recovery, whatever stands of the stores of those before, and each recovery answers right
+abbrev pub RestartRight : (cells : ℕ) → (area : List ℕ) → Messages → LogRestart → Type 0
+RestartRight cells area log restart =
+    Throughout areaAgain (λ a l r. l) (Shows cells) (λ a l r. CallRight a l (a-recovery (r .at) (r .value))) area log (restart .again)
+    × CallRight (areaAfterAll area (restart .again)) log (a-recovery (restart .at) (restart .value))
+
+-- the call is right, and so is the restart after it
+unfoldable pub EventRight : (cells : ℕ) → (area : List ℕ) → Messages → LogEvent → Type 0
+EventRight cells area log (call-done call) = CallRight area log call
+EventRight cells area log (call-cut call counts restart) =
+    CallRight area log call × RestartRight cells (areaCut area call counts) (messagesAfter area log (call-cut call counts restart)) restart
+
+-- ---- every list of events
+
+-- before each event and after the last the list is shown, and each event is right
+abbrev pub LogHolds : (cells : ℕ) → (area : List ℕ) → Messages → List LogEvent → Type 0
+LogHolds cells = Throughout areaAfter messagesAfter (Shows cells) (EventRight cells)
+
+-- "from an area of zeros"
+abbrev pub LogRule : Type 0
+LogRule =
+    (cells : ℕ) → 2 ≤ cells → cells ≤ 1000 → (events : List LogEvent) → All (FitsEvent cells) events
+    → LogHolds cells (replicate (448 * cells) 0) [] events

@@ -1,0 +1,1 @@
+// What the log's functions for C return and leave in lent numbers: definitions.

@@ -1,0 +1,12 @@
+-- `messages::lent::values_of` meets its contract. Assumes nothing.
+use native.Mathlib.Omega.{arith}
+use Rattle.prelude.proofs.Lists.{front-length}
+use Rattle.messages.proofs.lent.values_of.Statement.{statement}
+use Rattle.messages.proofs.lent.values_of.Tie as tie
+
+pub values-of-spec : {M : Type 1} → statement M
+values-of-spec =
+    tie.close
+    (tie.spec
+    (λ c. (omega arith, front-length _ _ (omega arith)))
+    (λ c. (omega arith, front-length _ _ (omega arith))))

@@ -1,0 +1,138 @@
+/* recorder: the last messages of a gateway, unbroken, in a file that is mapped into memory.
+ *
+ *     recorder FILE         appends each line of standard input, and answers its number when it is durable
+ *     recorder FILE list    the messages that can be read, the oldest first
+ *
+ * FILE is K cells of zeros, K from 2 to 1,000, and keeps K - 1 messages of 1 to 384 bytes. A new one is made durable
+ * before its first use:
+ *
+ *     dd if=/dev/zero of=FILE bs=448 count=K conv=fsync && sync
+ *
+ * A line that is empty or too long is refused with its number, 29, and the next one is read. A last line without its
+ * end is not appended, as its rest may be missing. On a file system on non-volatile memory (DAX) an append is up to
+ * seven line flushes and one fence; on any other it is msync, the fallback. One recorder writes at a time. What list
+ * shows was perhaps not durable yet if the last writer was killed. Status 0: all done. 1: something failed; the message
+ * that was not answered is there whole or not at all.
+ *
+ * The calls of the archive are proved; this program, the headers and what lies below them are not. */
+#define _GNU_SOURCE
+#include <errno.h>
+#include <fcntl.h>
+#include <inttypes.h>
+#include <stdio.h>
+#include <stdlib.h>
+#include <string.h>
+#include <sys/file.h>
+#include <sys/mman.h>
+#include <sys/stat.h>
+
+#include "orderset_log.h"
+#include "orderset_persist.h"
+
+static const char *path;
+static uint8_t *area;
+static size_t length, cells;
+static int flushes; /* the mapping is non-volatile memory */
+static enum orderset_flush flush;
+static uint32_t at[ORDERSET_LOG_CELLS_MAX]; /* enough for any append and any recovery */
+static uint64_t value[ORDERSET_LOG_CELLS_MAX], answer[ORDERSET_LOG_ANSWER];
+
+static _Noreturn void fail(const char *what) {
+    fprintf(stderr, "recorder: %s: %s: %s\n", path, what, strerror(errno));
+    exit(1);
+}
+
+/* ---- a start */
+
+static void open_area(int writing) {
+    const int access = PROT_READ | (writing ? PROT_WRITE : 0);
+    struct stat found;
+    int file = open(path, (writing ? O_RDWR : O_RDONLY) | O_CLOEXEC); /* stays open: the lock goes with it */
+    if (file < 0 || flock(file, (writing ? LOCK_EX : LOCK_SH) | LOCK_NB) || fstat(file, &found))
+        fail("open");
+    length = (size_t)found.st_size;
+    cells = length / ORDERSET_LOG_CELL_BYTES;
+    /* a store to a hole of the file, on a full disk, would end the program */
+    if (writing && ((errno = posix_fallocate(file, 0, found.st_size)) || fsync(file)))
+        fail("make durable");
+    area = mmap(NULL, length, access, MAP_SHARED_VALIDATE | MAP_SYNC, file, 0);
+    flushes = area != MAP_FAILED;
+    if (!flushes)
+        area = mmap(NULL, length, access, MAP_SHARED, file, 0);
+    if (area == MAP_FAILED)
+        fail("map");
+    flush = orderset_best_flush();
+}
+
+/* The stores that the last append or recovery handed out. A failed sync ends the program without an answer. */
+static void make_durable(void) {
+    const size_t count = answer[ORDERSET_LOG_COUNT];
+    if (flushes ? orderset_persist_list(area, length, at, value, count, flush)
+                : orderset_persist_list_file(area, length, at, value, count))
+        fail("make durable");
+}
+
+/* The last writer may have been killed: what is seen is made durable before it is recovered. Then recovery opens what
+ * an append that was cut has left. */
+static void start(int writing) {
+    open_area(writing);
+    if (writing && (flushes ? orderset_persist_image(area, length, flush) : orderset_persist_image_file(area, length)))
+        fail("make durable");
+    uint32_t refusal = log_recover(area, length, at, ORDERSET_LOG_CELLS_MAX, value, ORDERSET_LOG_CELLS_MAX, answer);
+    if (refusal) {
+        fprintf(stderr, "recorder: %s: recovery says no %" PRIu32 "\n", path, refusal);
+        exit(1);
+    }
+    if (writing)
+        make_durable();
+}
+
+/* ---- what it does */
+
+static void append_line(const char *line, size_t size) {
+    uint32_t refusal = log_append(area, length, (const uint8_t *)line, size, at, ORDERSET_LOG_CELLS_MAX, value,
+                                  ORDERSET_LOG_CELLS_MAX, answer);
+    if (refusal) {
+        printf("no %" PRIu32 "\n", refusal);
+    } else {
+        make_durable();
+        printf("message %" PRIu64 "\n", answer[ORDERSET_LOG_NUMBER]);
+    }
+    if (fflush(stdout))
+        fail("standard output");
+}
+
+static void append_lines(void) {
+    char *line = NULL;
+    size_t room = 0;
+    ssize_t size;
+    while ((size = getline(&line, &room, stdin)) > 0 && line[size - 1] == '\n')
+        append_line(line, (size_t)size - 1);
+    free(line);
+    if (ferror(stdin))
+        fail("standard input");
+}
+
+static void list(uint64_t last) {
+    for (uint64_t number = last < cells ? 1 : last - cells + 2; number <= last; number++)
+        if (log_read(area, length, number, answer) == ORDERSET_LOG_OK)
+            printf("%" PRIu64 ": %.*s\n", number, (int)answer[ORDERSET_LOG_LENGTH],
+                   (const char *)area + answer[ORDERSET_LOG_OFFSET]);
+    if (fflush(stdout))
+        fail("standard output");
+}
+
+int main(int count, char **word) {
+    const int listing = count == 3 && !strcmp(word[2], "list");
+    if (count != 2 && !listing) {
+        fprintf(stderr, "recorder FILE [list]\n");
+        return 2;
+    }
+    path = word[1];
+    start(!listing);
+    if (listing)
+        list(answer[ORDERSET_LOG_NUMBER]);
+    else
+        append_lines();
+    return 0;
+}
