@@ -183,7 +183,7 @@ fault kills 'a failed sync is answered' $gateway \
     's/(: orderset_persist_file\(s->image, s->length, at, value\))\)/\1 \&\& 0)/' \
     'NOT SO: (key|the gateway (recovers|runs))'
 fault kills 'void slots are not opened' $gateway 's/^ +open_voids\(s, path, writing\);//' \
-    'NOT SO: (key|an order that was never sent|the gateway (recovers|runs)|recovery takes)'
+    'NOT SO: (key|an order that was never sent|the answer is|the gateway (recovers|runs)|recovery takes)'
 fault kills 'the directory of a new file is not synced' $gateway '/^static void make\(/,/^}/s/sync_name\(path\);//' \
     'NOT SO: the directory of a new file'
 
