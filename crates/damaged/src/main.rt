@@ -1,5 +1,5 @@
-// Recovers an image of three slots, whole and with one or two bytes changed, and one of nine slots with some of them broken, and prints the answer,
-// the opening stores and the index each time. Every refusal of recovery is among them, with the slot that it names.
+// Recovers an image of three slots and one of nine, as they are and with one or two bytes changed, and prints the answer, the opening stores and the
+// index each time. Every refusal of recovery is among them, with the slot that it names.
 use orderset::Recovered;
 use orderset::recover;
 
@@ -65,13 +65,17 @@ fn changed(image: &mut [u8], place: usize, byte: u8, second: usize, other: u8) {
     show_recover(image, &mut heads, &mut next);
 }
 
-fn with(place: usize, byte: u8, second: usize, other: u8) {
+fn label(place: usize, byte: u8, second: usize, other: u8) {
     show::text(b"byte");
     show::number(place as u64);
     show::number(byte as u64);
     show::text(b" byte");
     show::number(second as u64);
     show::number(other as u64);
+}
+
+fn with(place: usize, byte: u8, second: usize, other: u8) {
+    label(place, byte, second, other);
     let mut a = image();
     changed(&mut a, place, byte, second, other);
 }
@@ -100,37 +104,33 @@ fn short_next() {
     show_recover(&a, &mut heads, &mut next);
 }
 
-// Nine slots, empty but for slot 9: a put of key 9, version 1, no bytes, with this number of records.
-fn nine_slots(number: u8) -> [u8; 1280] {
+// Nine slots, all broken: the mark of line A is 1. Without that, slots 1 to 8 are empty, and slot 9 is a put of key 9, version 1, no bytes, number 2.
+fn nine_slots() -> [u8; 1280] {
     let mut a = [0u8; 1280];
     a[0] = 9;
     a[8] = 1;
+    a[128] = 1;
+    a[256] = 1;
+    a[384] = 1;
+    a[512] = 1;
+    a[640] = 1;
+    a[768] = 1;
+    a[896] = 1;
+    a[1024] = 1;
+    a[1152] = 1;
     a[1160] = 9;
     a[1168] = 1;
-    a[1170] = number;
+    a[1170] = 2;
     a[1208] = 2;
     a[1272] = 2;
     a
 }
 
-// The first so many slots of nine are broken: the mark of line A becomes 1.
-fn break_slots(image: &mut [u8], count: usize) {
-    let mut s = 1;
-    while s < 10 {
-        if s <= count {
-            set_byte(image, 128 * s, 1);
-        }
-        s += 1;
-    }
-}
-
-fn broken(count: usize, number: u8) {
-    show::text(b"broken");
-    show::number(count as u64);
-    show::text(b" number");
-    show::number(number as u64);
-    let mut a = nine_slots(number);
-    break_slots(&mut a, count);
+fn nine_with(place: usize, byte: u8, second: usize, other: u8) {
+    show::text(b"nine slots, ");
+    label(place, byte, second, other);
+    let mut a = nine_slots();
+    change(&mut a, place, byte, second, other);
     let mut heads = [9u32];
     let mut next = [9u32; 10];
     show_recover(&a, &mut heads, &mut next);
@@ -176,8 +176,8 @@ fn main() {
     with(312, 0, 376, 0);
     with(312, 0, 144, 9);
     with(184, 5, 248, 5);
-    broken(8, 0);
-    broken(9, 0);
-    broken(7, 2);
-    broken(8, 2);
+    nine_with(1279, 0, 1279, 0);
+    nine_with(1152, 0, 1279, 0);
+    nine_with(1152, 0, 1170, 0);
+    nine_with(1152, 0, 1024, 0);
 }

@@ -70,13 +70,23 @@ pub fn recovered(r: Recovered) {
     }
 }
 
-fn pairs(at: &[u32; 8], value: &[u64; 8], count: u32) {
+// Store i, if it is one of the first so many.
+fn store(at: &[u32], value: &[u64], count: u32, i: usize) {
+    if count as usize <= i {
+        return;
+    }
+    if i < at.len() {
+        number(wide(at[i]));
+    }
+    if i < value.len() {
+        number(value[i]);
+    }
+}
+
+fn first_stores(at: &[u32], value: &[u64], count: u32) {
     let mut i = 0;
-    while i < 8 {
-        if i < count as usize {
-            number(wide(at[i]));
-            number(value[i]);
-        }
+    while i < at.len() {
+        store(at, value, count, i);
         i += 1;
     }
 }
@@ -89,7 +99,7 @@ pub fn openings(stores: Openings) {
     text(b" opens");
     let at = stores.at;
     let value = stores.value;
-    pairs(&at, &value, stores.count);
+    first_stores(&at, &value, stores.count);
 }
 
 // The answer of an insert, a replace or a remove.
