@@ -78,13 +78,27 @@ fn differing(image: &[u8; 640], before: &[u8; 640]) -> u64 {
     n
 }
 
+// So many, if both lists have them, or none.
+fn in_both(n: usize, at: &[u32], value: &[u64]) -> usize
+    ensures { λ r. ⌜ Counts r (now (at .entry)) × Counts r (now (value .entry)) ⌝ }
+{
+    if at.len() < n {
+        return 0;
+    }
+    if value.len() < n {
+        return 0;
+    }
+    n
+}
+
 pub fn opened(set: Set, n: [u64; 5]) -> Set {
     let before = set.image;
     let mut image = set.image;
     let openings = set.openings;
     let at = openings.at;
     let value = openings.value;
-    let count = at_most(at_most(n[1] as usize, openings.count as usize), 8);
+    let wanted = at_most(n[1] as usize, openings.count as usize);
+    let count = in_both(wanted, &at, &value);
     let fronts = lent(set);
     let i = fronts.image;
     let answer = play_list(&mut image[..i], &at[..count], &value[..count]);
