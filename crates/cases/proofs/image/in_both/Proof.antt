@@ -1,4 +1,5 @@
 -- `cases::image::in_both` meets its contract. Assumes nothing.
+use mathlib.Core.Path.{refl}
 use native.Mathlib.Omega.{arith}
 use Rattle.prelude.proofs.Lists.{front-length}
 use Rattle.cases.proofs.image.in_both.Statement.{statement}
@@ -8,6 +9,6 @@ pub in-both-spec : {M : Type 1} → statement M
 in-both-spec =
     tie.close
     (tie.spec
-    (λ c. ((omega arith, front-length _ _ (omega arith)), (omega arith, front-length _ _ (omega arith))))
-    (λ c. ((omega arith, front-length _ _ (omega arith)), (omega arith, front-length _ _ (omega arith))))
+    (λ c. ((omega arith, refl), (omega arith, refl)))
+    (λ c. ((omega arith, refl), (omega arith, refl)))
     (λ c. ((omega arith, front-length _ _ (omega arith)), (omega arith, front-length _ _ (omega arith)))))
