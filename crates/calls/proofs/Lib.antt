@@ -3,3 +3,8 @@ pub mod Changes
 pub mod Results
 pub mod Locates
 pub mod Formats
+pub mod BasketChecks
+pub mod BasketPlans
+pub mod BasketLinks
+pub mod BasketStores
+pub mod BasketEnds

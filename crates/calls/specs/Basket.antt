@@ -1,15 +1,17 @@
 -- A basket: up to eight keys changed by one call. Document 02, A.7: "A basket names 1 to 8 distinct keys, each to be inserted, replaced or removed."
 use mathlib.Core.Bool.{Bool, true, false, cond, not}
-use mathlib.Core.List.{List, [], _∷_}
-use Prim.Native.Nat.{ℕ, _+_, _-_, _*_}
+use mathlib.Core.List.{List, [], _∷_, _++_}
+use Prim.Native.Nat.{ℕ, zero, suc, _+_, _-_, _*_, _^_}
 use lib.Dec.{eqb, ltb}
-use lib.ListN.{length, getD}
+use lib.ListN.{length, getD, take, drop, replicate}
 use Rattle.words.specs.Word.{word}
 use Rattle.prelude.specs.Refusal.{say, orElse, unlessRefused}
-use Rattle.prelude.specs.Answer.{gives, refused}
+use Rattle.prelude.specs.Answer.{Answer, gives, absent, refused}
+use Rattle.prelude.specs.Range.{tabulate}
 use Rattle.layout.specs.Size.{slotsIn}
 use Rattle.layout.specs.Record.{limit}
 use Rattle.layout.specs.Header.{lentFault}
+use Rattle.stores.specs.Play.{wordNumbers, values}
 use Rattle.stores.specs.Basket.{BasketRecord, basketStores}
 use Rattle.table.specs.Complete.{numberFor}
 use Rattle.index.specs.Index.{Index, indexOf, stateOf, headOf}
@@ -24,6 +26,10 @@ use Rattle.index.specs.declared.Found.{Found}
 use Rattle.index.specs.declared.Found.the-variants.{At, Missing, BadChain}
 use Rattle.taking.specs.Taking.{takingOf}
 use Rattle.calls.specs.Change.{ChangeResult, unchanged, storeFault}
+use Rattle.calls.specs.declared.BasketItem.{BasketItem}
+use Rattle.calls.specs.declared.BasketAnswer.{BasketAnswer}
+use Rattle.calls.specs.declared.BasketOutcome.{BasketOutcome}
+use Rattle.calls.specs.declared.BasketOutcome.the-variants.{Stored, Refused}
 
 -- what a basket asks for one key; the value of a remove does not matter
 pub record KeyChange : Type 0 where
@@ -32,6 +38,38 @@ pub record KeyChange : Type 0 where
   pub value : List ℕ
 
 -- ---- the basket as it is given
+
+-- the high word of an item's key; layout 1 has none, and it is not read there
+unfoldable pub highIn : (l high : ℕ) → ℕ
+highIn l high = cond (eqb l 1) 0 high
+
+unfoldable pub itemKey : (l : ℕ) → BasketItem → ℕ
+itemKey l k = k .low + 2 ^ 64 * highIn l (k .high)
+
+-- the item with number i, of the eight from 0 on; no basket has another
+unfoldable pub itemAt : List BasketItem → ℕ → BasketItem
+itemAt items i = getD items i (record { action = Insert; low = 0; high = 0; length = 0 })
+
+-- the bytes of its value: item i's start at byte 80 × i
+unfoldable pub valueAt : (values : List ℕ) → (i size : ℕ) → List ℕ
+valueAt values i size = tabulate (λ k. getD values (80 * i + k) 0) 0 size
+
+unfoldable pub changeAt : (l : ℕ) → List BasketItem → (values : List ℕ) → ℕ → KeyChange
+changeAt l items values i =
+    record {
+      action = itemAt items i .action;
+      key = itemKey l (itemAt items i);
+      value = valueAt values i (itemAt items i .length);
+    }
+
+-- what n items from item i on ask
+unfoldable pub changesFrom : (l : ℕ) → List BasketItem → (values : List ℕ) → (i n : ℕ) → List KeyChange
+changesFrom l items values i zero = []
+changesFrom l items values i (suc n) = changeAt l items values i ∷ changesFrom l items values (suc i) n
+
+-- what a basket of so many keys asks
+unfoldable pub changesOf : (l count : ℕ) → List BasketItem → (values : List ℕ) → List KeyChange
+changesOf l count items values = changesFrom l items values 0 count
 
 -- ---- refusals
 
@@ -184,3 +222,55 @@ basketResult l image heads next s changes at words =
     (unchanged (refused (basketFault l image heads next s changes at words)) s heads next)
 
 -- ---- what a call leaves
+
+-- the answer, the slots as eight numbers, the state, the two lent lists and the index at exit
+pub record BasketLeft : Type 0 where
+  pub answer : Answer
+  pub slots : List ℕ
+  pub state : State
+  pub at : List ℕ
+  pub words : List ℕ
+  pub heads : List ℕ
+  pub next : List ℕ
+
+-- the answer of a call that took these slots
+unfoldable pub basketSays : (slots : List ℕ) → BasketOutcome → Answer
+basketSays slots (Stored version) = gives (version ∷ slots)
+basketSays slots (Refused number) = refused number
+
+-- what a call with so many keys and this answer left
+abbrev pub basketEnd : (count : ℕ) → BasketAnswer → (at words heads next : List ℕ) → BasketLeft
+basketEnd count r at words heads next =
+    record {
+      answer = basketSays (take count (r .slots)) (r .outcome);
+      slots = r .slots;
+      state = r .state;
+      at = at;
+      words = words;
+      heads = heads;
+      next = next;
+    }
+
+-- the slots of an answer, and zeros after them up to eight
+unfoldable pub eightSlots : Answer → List ℕ
+eightSlots (gives []) = replicate 8 0
+eightSlots (gives (version ∷ slots)) = slots ++ replicate (8 - length slots) 0
+eightSlots absent = replicate 8 0
+eightSlots (refused number) = replicate 8 0
+
+-- "records past them are kept": numbers at the front of a lent list
+unfoldable pub atFront : (numbers lent : List ℕ) → List ℕ
+atFront numbers lent = numbers ++ drop (length numbers) lent
+
+-- what a call with this result leaves, lent these two lists
+unfoldable pub leftInLists : (at words : List ℕ) → ChangeResult → BasketLeft
+leftInLists at words r =
+    record {
+      answer = r .answer;
+      slots = eightSlots (r .answer);
+      state = r .state;
+      at = atFront (wordNumbers (r .stores)) at;
+      words = atFront (values (r .stores)) words;
+      heads = r .heads;
+      next = r .next;
+    }

@@ -69,3 +69,23 @@ pub struct BasketAnswer {
     pub slots: [u32; 8],
     pub state: State,
 }
+
+// The slots of the old records of a basket's keys, 0 for none; or the refusal by their chains.
+pub struct Olds {
+    pub fault: u32,
+    pub slots: [u32; 8],
+}
+
+// How many keys a basket inserts and how many it removes.
+pub struct Totals {
+    pub inserts: u32,
+    pub removes: u32,
+}
+
+// What a basket reads before it writes: its refusal, 0 for none; else the slots of the old records of its keys, the slots that it takes and the slots before them.
+pub struct Plan {
+    pub fault: u32,
+    pub olds: [u32; 8],
+    pub slots: [u32; 8],
+    pub prevs: [u32; 8],
+}

@@ -21,4 +21,5 @@ pub mod BasketSizes
 pub mod BasketInside
 pub mod Baskets
 pub mod defs
+pub mod Takens
 pub mod BasketWrites

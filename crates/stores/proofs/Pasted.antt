@@ -261,3 +261,13 @@ whole-frame l m s key kind number w version a b old at other words ea eb ew e f 
     (no-value l a b key version kind number w words ew (whole-pasted other _ words f (words-length l a b key w 0 [] version) q))
 
 -- ---- stores behind stores
+
+pub numbers-append : (x y : List Store) → wordNumbers (x ++ y) ≡ wordNumbers x ++ wordNumbers y
+unfolding wordNumbers
+numbers-append [] y = refl
+numbers-append (s ∷ x) y = ap (λ (t : List ℕ). s .word ∷ t) (numbers-append x y)
+
+pub values-append : (x y : List Store) → values (x ++ y) ≡ values x ++ values y
+unfolding values
+values-append [] y = refl
+values-append (s ∷ x) y = ap (λ (t : List ℕ). s .value ∷ t) (values-append x y)

@@ -2,3 +2,4 @@ pub mod Walks
 pub mod Contents
 pub mod Takes
 pub mod Tested
+pub mod Choices

@@ -16,7 +16,7 @@ use Rattle.taking.specs.inner.Walk.{takeFault, endFault, walkFault}
 
 -- ---- the refusal of the slots taken
 
-with-fault : (slot prev : ℕ) (t : Taking) → takeFault (withTaken slot prev t) ≡ takeFault t
+pub with-fault : (slot prev : ℕ) (t : Taking) → takeFault (withTaken slot prev t) ≡ takeFault t
 unfolding takeFault withTaken linkFault fewFault
 with-fault slot prev (taken ts) = refl
 with-fault slot prev tooFew = refl
@@ -24,7 +24,7 @@ with-fault slot prev badLink = refl
 
 module _ (may : ℕ → Bool) (next : List ℕ) (n : ℕ) where
   -- no slot is wanted
-  end-fault : (left prev at : ℕ) → takeFault (takeWalk may next n left 0 prev at) ≡ endFault n left at
+  pub end-fault : (left prev at : ℕ) → takeFault (takeWalk may next n left 0 prev at) ≡ endFault n left at
   unfolding takeWalk atEnd takeFault linkFault fewFault orElse endFault say
   end-fault zero prev at = go (eqb at 0) (ltb n at)
     where

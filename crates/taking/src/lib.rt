@@ -1,1 +1,27 @@
-// The slots that a call takes from the reuse chain: definitions and laws, no function.
+// The slots that a call takes from the reuse chain: types, definitions and laws, no function.
+
+// What is known of the highest valid version: none is above it, and where exact it is the highest.
+pub struct Known {
+    pub top: u64,
+    pub exact: bool,
+}
+
+// How far the choice of slots got along the reuse chain: the link it is at, the slot before it that stays, how many slots may still be met, how many are chosen, what is
+// known of the highest valid version, and the slots chosen with the slots before them.
+pub struct Progress {
+    pub at: u32,
+    pub prev: u32,
+    pub left: usize,
+    pub got: usize,
+    pub top: u64,
+    pub exact: bool,
+    pub slots: [u32; 8],
+    pub prevs: [u32; 8],
+}
+
+// The slots that a call takes, in order, and the slots before them that stay; or its refusal by them.
+pub struct Choice {
+    pub fault: u32,
+    pub slots: [u32; 8],
+    pub prevs: [u32; 8],
+}

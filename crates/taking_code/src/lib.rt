@@ -1,3 +1,4 @@
 // Which slots a call may take, and its refusal by them.
+pub mod choose;
 mod slot;
 pub mod take;

@@ -25,7 +25,7 @@ fn few_of(n: usize) -> usize
 }
 
 // 11 by the link of the slot that is taken, else 0; so many slots may still be met.
-fn end_fault(n: usize, left: usize, link: u32) -> u32
+pub fn end_fault(n: usize, left: usize, link: u32) -> u32
     ensures { λ r. ⌜ r ≡ endFault n left link ⌝ }
 {
     if link == 0 {
@@ -77,7 +77,7 @@ fn walk_fault(
 }
 
 // The version of the slot that the last call took, if it is valid, else 0: it is none above the highest.
-fn newest_version(image: &[u8], n: usize, newest: u32) -> u64
+pub fn newest_version(image: &[u8], n: usize, newest: u32) -> u64
     requires { ⌜ 128 * (n + 1) ≤ length (now image) ⌝ }
     ensures { λ r. ⌜ r ≤ greatest (slotVersion (word (now (image .entry)))) n ⌝ }
 {

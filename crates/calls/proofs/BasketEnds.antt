@@ -1,0 +1,225 @@
+-- What a basket leaves, refused or written. Assumes nothing.
+use mathlib.Core.Path.{_≡_, refl, sym, ap, ap₂, _∙_, subst}
+use mathlib.Core.List.{List, [], _∷_, _++_}
+use Prim.Native.Nat.{ℕ, zero, suc, _+_, _-_, _*_, _^_, _≤_, _<_}
+use native.Mathlib.Omega.{arith}
+use lib.ListN.{length, getD, take, drop, replicate, length-drop, length-replicate, getD-replicate, take-append-drop}
+use lib.Seq.{length-take-le, drop-cons, getD-take, getD-drop, ext-getD}
+use Rattle.words.specs.Word.{word}
+use Rattle.prelude.specs.Answer.{Answer, gives, refused}
+use Rattle.prelude.specs.Refusal.{unlessRefused}
+use Rattle.prelude.specs.Members.{All}
+use Rattle.prelude.proofs.Refusals.{taken-leaves, refused-keeps}
+use Rattle.layout.specs.Record.{Layout}
+use Rattle.layout.specs.Size.{slotsIn}
+use Rattle.stores.specs.Store.{Store}
+use Rattle.stores.specs.Play.{wordNumbers, values}
+use Rattle.stores.specs.Basket.{BasketRecord, basketStores}
+use Rattle.table.specs.Complete.{numberFor}
+use Rattle.index.specs.Index.{Index, indexOf, stateOf}
+use Rattle.index.specs.Walk.{search}
+use Rattle.index.specs.Taking.{Taken, Taking, taken, takeFrom}
+use Rattle.index.specs.Basket.{takenSlots, basketIndex, Item}
+use Rattle.index.specs.inner.Parts.{PartsOf}
+use Rattle.index.specs.inner.Basket.{takensFrom, TakensInside}
+use Rattle.index.specs.declared.State.{State}
+use Rattle.index.specs.declared.Found.{Found}
+use Rattle.index.specs.declared.Found.the-variants.{At, Missing, BadChain}
+use Rattle.index.proofs.BasketInside.{TakenInside, taking-inside}
+use Rattle.index.proofs.Takens.{takens-each}
+use Rattle.index.proofs.Walks.{at-inside}
+use Rattle.taking.specs.Taking.{takingOf}
+use Rattle.calls.specs.Change.{ChangeResult, unchanged}
+use Rattle.calls.specs.Basket.{KeyChange, changesOf, changesFrom, sumOver, insertsBy, removesBy, basketFault, recordsFor, oldIn, itemsFor, indexAfter, basketMade, basketDone, basketResult, BasketLeft, basketSays, basketEnd, eightSlots, atFront, leftInLists}
+use Rattle.calls.specs.inner.Basket.{keyAt, itemsFrom, recordsFrom, TotalsOf, Ready, StoresInside, ItemsInside}
+use Rattle.calls.specs.declared.BasketItem.{BasketItem}
+use Rattle.calls.specs.declared.BasketAnswer.{BasketAnswer}
+use Rattle.calls.specs.declared.BasketOutcome.the-variants.{Stored, Refused}
+use Rattle.calls.specs.declared.Totals.{Totals}
+use Rattle.calls.specs.declared.Plan.{Plan}
+use Rattle.calls.proofs.BasketChecks.{so-many}
+use Rattle.calls.proofs.BasketLinks.{items-found}
+use Rattle.calls.proofs.BasketStores.{records-asked}
+
+-- ---- the slots, as eight numbers
+
+takens-slots : (slots prevs : List ℕ) (i n : ℕ) → i + n ≤ length slots → takenSlots (takensFrom slots prevs i n) ≡ take n (drop i slots)
+unfolding takensFrom takenSlots
+takens-slots slots prevs i zero h = refl
+takens-slots slots prevs i (suc n) h =
+    ap (λ (t : List ℕ). getD slots i 0 ∷ t) (takens-slots slots prevs (suc i) n (omega arith))
+    ∙ sym (ap (take (suc n)) (drop-cons slots i 0 (omega arith)))
+
+padded : (slots : List ℕ) (count : ℕ) → length slots ≡ 8 → count ≤ 8 → ((j : ℕ) → count ≤ j → getD slots j 0 ≡ 0)
+    → slots ≡ take count slots ++ replicate (8 - length (take count slots)) 0
+padded slots count e h zeros =
+    sym (take-append-drop count slots)
+    ∙ ap (λ (t : List ℕ). take count slots ++ t)
+    (ext-getD 0 (drop count slots) (replicate (8 - length (take count slots)) 0) (sizes ∙ sym (length-replicate (8 - length (take count slots)) 0))
+    (λ i q.
+    getD-drop count slots i 0 ∙ zeros (count + i) (omega arith)
+    ∙ sym (getD-replicate (8 - length (take count slots)) i 0 0 (omega (arith, q, sizes)))))
+  where
+    sizes : length (drop count slots) ≡ 8 - length (take count slots)
+    sizes = omega (arith, length-drop count slots, length-take-le count slots (omega (arith, e)))
+
+-- ---- refused
+
+pub basket-refused : (l : ℕ) (image heads next : List ℕ) (s : State) (changes : List KeyChange) (at words : List ℕ) (count k : ℕ)
+    → k ≡ basketFault l image heads next s changes (length at) (length words) → (k ≡ 0 → ⊥)
+    → basketEnd count (record { outcome = Refused k; slots = replicate 8 0; state = s }) at words heads next
+    ≡ leftInLists at words (basketResult l image heads next s changes (length at) (length words))
+unfolding basketResult basketSays leftInLists unchanged eightSlots atFront wordNumbers values
+basket-refused l image heads next s changes at words count k e ne =
+    ap (λ (x : ℕ). leftInLists at words (unchanged (refused x) s heads next)) e
+    ∙ sym (ap (leftInLists at words) (refused-keeps (basketDone l image heads next s changes (takingOf l image next (slotsIn image) (s .first) (length changes))) (unchanged (refused (basketFault l image heads next s changes (length at) (length words))) s heads next) (basketFault l image heads next s changes (length at) (length words)) (λ z. ne (e ∙ z))))
+
+-- not refused
+pub basket-taken : (l : ℕ) (image heads next : List ℕ) (s : State) (count : ℕ) (items : List BasketItem) (bytes at words : List ℕ) (k : ℕ)
+    → k ≡ basketFault l image heads next s (changesOf l count items bytes) (length at) (length words) → k ≡ 0 → (r : BasketLeft)
+    → r ≡ leftInLists at words (basketDone l image heads next s (changesOf l count items bytes) (takingOf l image next (slotsIn image) (s .first) count))
+    → r ≡ leftInLists at words (basketResult l image heads next s (changesOf l count items bytes) (length at) (length words))
+unfolding basketResult
+basket-taken l image heads next s count items bytes at words k e z r h =
+    h
+    ∙ ap (λ (m : ℕ). leftInLists at words (basketDone l image heads next s (changesOf l count items bytes) (takingOf l image next (slotsIn image) (s .first) m)))
+    (sym (so-many l items bytes count))
+    ∙ sym (ap (leftInLists at words) (taken-leaves _ _ _ (sym e ∙ z)))
+
+-- ---- written
+
+-- m is the slots of the image
+pub ready-at : (l : ℕ) (image heads next : List ℕ) (s : State) (count : ℕ) (items : List BasketItem) (at words : ℕ) (p : Plan) (m : ℕ) → m ≡ slotsIn image
+    → Ready l image heads next (slotsIn image) s count items at words p → Ready l image heads next m s count items at words p
+ready-at l image heads next s count items at words p m e w = subst (λ (x : ℕ). Ready l image heads next x s count items at words p) (sym e) w
+
+module _ (l : ℕ) (image heads next : List ℕ) (n : ℕ) (s : State) (count : ℕ) (items : List BasketItem) (at words : ℕ) (p : Plan)
+    (w : Ready l image heads next n s count items at words p) where
+  abbrev ts : List Taken
+  ts = takensFrom (p .slots) (p .prevs) 0 count
+
+  -- the slots lie inside the index
+  all-inside : All (TakenInside n) ts
+  unfolding takingOf
+  all-inside = taking-inside _ next n (s .first) count ts (w .taking-is) .0
+
+  each : (j : ℕ) → j < count → TakenInside n (record { slot = getD (p .slots) j 0; prev = getD (p .prevs) j 0 })
+  each j h = takens-each (TakenInside n) (p .slots) (p .prevs) 0 count all-inside j (omega arith) (omega arith)
+
+  old-high : (key : ℕ) → oldIn (search l image heads next key) ≤ n
+  unfolding oldIn
+  old-high key = go (search l image heads next key) refl
+    where
+      go : (d : Found) → search l image heads next key ≡ d → oldIn d ≤ n
+      go (At slot prev compared) q = at-inside l image heads next n key (w .sized .slot-count) slot prev compared q .1
+      go (Missing prev compared) q = omega arith
+      go BadChain q = omega arith
+
+  pub takens-inside : TakensInside (p .slots) (p .prevs) count (length next)
+  takens-inside =
+      record {
+        few = w .few;
+        slot-in = λ j h. omega (arith, each j h .slot-high, w .sized .next-size);
+        prev-in = λ j h. omega (arith, each j h .prev-high, w .sized .next-size);
+      }
+
+  pub items-inside : ItemsInside n (length heads) (length next) (s .last) count (p .olds) (p .slots)
+  items-inside =
+      record {
+        some-head = w .sized .some-head;
+        size = w .sized .next-size;
+        last-in = w .last-in;
+        few = w .few;
+        old-in = λ j h. omega (arith, w .olds-are j h, old-high (keyAt l items j));
+        slot-in = λ j h. each j h .slot-high;
+      }
+
+  pub stores-inside : Layout l → StoresInside l image (s .version) count items (p .slots) at words
+  stores-inside lay =
+      record {
+        layout = lay;
+        some = w .some;
+        few = w .few;
+        version-fits = w .version-fits;
+        size-fits = w .size-fits;
+        slot-fits = λ j h. omega (arith, each j h .slot-high, w .sized .few);
+        slot-in = λ j h. omega (arith, each j h .slot-high, w .sized .image-size);
+        at-room = w .at-room;
+        words-room = w .words-room;
+      }
+
+  -- the live count fits
+  module _ (t : Totals) (totals : TotalsOf l count items t) where
+    pub fits-live : s .live + t .inserts < 2 ^ 32
+    fits-live = omega (arith, w .live-room [], totals .inserts-are [], totals .removes-are [], totals .removes-few, w .few, w .sized .few)
+
+    pub fits-removes : t .removes ≤ s .live + t .inserts
+    fits-removes = omega (arith, w .live-left [], totals .removes-are [])
+
+  -- what the functions leave is what is asked
+  module _ (bytes at₀ words₀ at₁ words₁ heads₁ next₁ : List ℕ) (r : State) (t : Totals) (size : length (p .slots) ≡ 8) (en : n ≡ slotsIn image)
+      (parts : PartsOf heads₁ next₁ r (basketIndex n (indexOf heads next s) ts (itemsFrom l (length heads) items (p .olds) (p .slots) 0 count)) (s .live) (s .version) (s .newest))
+      (numbers : at₁ ≡ atFront (wordNumbers (basketStores l (word image) (numberFor count) (s .version) (recordsFrom l items bytes (p .slots) 0 count))) at₀)
+      (contents : words₁ ≡ atFront (values (basketStores l (word image) (numberFor count) (s .version) (recordsFrom l items bytes (p .slots) 0 count))) words₀)
+      (totals : TotalsOf l count items t) where
+    abbrev changes : List KeyChange
+    changes = changesOf l count items bytes
+
+    index : indexOf heads₁ next₁ r ≡ indexAfter l image heads next s changes ts
+    unfolding indexAfter changesOf
+    index =
+        parts .index
+        ∙ ap₂ (λ (m : ℕ) (ks : List Item). basketIndex m (indexOf heads next s) ts ks) en
+        (items-found (search l image heads next) l (length heads) items bytes (p .olds) (p .slots) (p .prevs) 0 count (λ j a b. w .olds-are j (omega arith)))
+
+    written : basketStores l (word image) (numberFor count) (s .version) (recordsFrom l items bytes (p .slots) 0 count)
+        ≡ basketStores l (word image) (numberFor (length changes)) (s .version) (recordsFor changes ts)
+    unfolding changesOf
+    written =
+        ap₂ (λ (m : ℕ) (rs : List BasketRecord). basketStores l (word image) (numberFor m) (s .version) rs) (sym (so-many l items bytes count))
+        (records-asked l items bytes (p .slots) (p .prevs) 0 count)
+
+    slots-are : take count (p .slots) ≡ takenSlots ts
+    slots-are = sym (takens-slots (p .slots) (p .prevs) 0 count (omega (arith, size, w .few)))
+
+    first-slot : getD (p .slots) 0 0 ≡ getD (takenSlots ts) 0 0
+    first-slot = sym (getD-take count (p .slots) 0 0 (w .some)) ∙ ap (λ (x : List ℕ). getD x 0 0) slots-are
+
+    eight : p .slots ≡ takenSlots ts ++ replicate (8 - length (takenSlots ts)) 0
+    eight = padded (p .slots) count size (w .few) (w .zeros) ∙ ap (λ (x : List ℕ). x ++ replicate (8 - length x) 0) slots-are
+
+    live : s .live + t .inserts - t .removes ≡ s .live + sumOver insertsBy changes - sumOver removesBy changes
+    live = ap₂ (λ (a b : ℕ). s .live + a - b) (totals .inserts-are bytes) (totals .removes-are bytes)
+
+    left-by : {a b : Answer} {x y : List ℕ} {c d : State} {e f g h i j k m : List ℕ} → a ≡ b → x ≡ y → c ≡ d → e ≡ f → g ≡ h → i ≡ j → k ≡ m
+        → _≡_ {A = BasketLeft} (record { answer = a; slots = x; state = c; at = e; words = g; heads = i; next = k })
+        (record { answer = b; slots = y; state = d; at = f; words = h; heads = j; next = m })
+    left-by p₁ p₂ p₃ p₄ p₅ p₆ p₇ = cc
+
+    state-by : {a b c d e f g h : ℕ} {v : ℕ} → a ≡ b → c ≡ d → e ≡ f → g ≡ h
+        → _≡_ {A = State} (record { first = a; last = c; live = e; version = v; newest = g }) (record { first = b; last = d; live = f; version = v; newest = h })
+    state-by p₁ p₂ p₃ p₄ = cc
+
+    pub basket-written : basketEnd count
+        (record {
+          outcome = Stored (s .version);
+          slots = p .slots;
+          state = record {
+            first = r .first;
+            last = r .last;
+            live = s .live + t .inserts - t .removes;
+            version = s .version + 1;
+            newest = getD (p .slots) 0 0;
+          };
+        }) at₁ words₁ heads₁ next₁
+        ≡ leftInLists at₀ words₀ (basketDone l image heads next s changes (takingOf l image next (slotsIn image) (s .first) count))
+    unfolding basketSays leftInLists basketDone basketMade eightSlots
+    basket-written =
+        left-by (ap (λ (x : List ℕ). gives (s .version ∷ x)) slots-are) eight
+        (state-by (ap (λ (i : Index). i .first) index) (ap (λ (i : Index). i .last) index) live first-slot)
+        (numbers ∙ ap (λ (x : List Store). atFront (wordNumbers x) at₀) written)
+        (contents ∙ ap (λ (x : List Store). atFront (values x) words₀) written)
+        (ap (λ (i : Index). i .heads) index) (ap (λ (i : Index). i .next) index)
+        ∙ sym
+        (ap (λ (x : Taking). leftInLists at₀ words₀ (basketDone l image heads next s changes x))
+        (ap (λ (m : ℕ). takingOf l image next m (s .first) count) (sym en) ∙ w .taking-is))

@@ -1,0 +1,71 @@
+-- The choice of several slots, as the functions make it.
+use mathlib.Core.Path.{_≡_}
+use mathlib.Core.Bool.{Bool, true, cond}
+use mathlib.Core.List.{List}
+use Prim.Native.Nat.{ℕ, _+_, _-_, _≤_, _<_}
+use lib.ListN.{length, getD, set}
+use Rattle.prelude.specs.Range.{greatest}
+use Rattle.words.specs.Word.{word}
+use Rattle.layout.specs.Content.{contentsOf}
+use Rattle.table.specs.Taking.{mayTake}
+use Rattle.index.specs.Taking.{Taking, taken}
+use Rattle.index.specs.inner.Basket.{takensFrom}
+use Rattle.taking.specs.inner.Walk.{takeFault}
+use Rattle.taking.specs.inner.Takeable.{slotVersion, takeable}
+use Rattle.taking.specs.declared.Progress.{Progress}
+use Rattle.taking.specs.declared.Choice.{Choice}
+
+-- what is known of the highest version of the valid slots 1 to n, by the words m
+pub record KnownTop (m : ℕ → ℕ) (n top : ℕ) (exact : Bool) : Type 0 where
+  pub bounded : top ≤ greatest (slotVersion m) n
+  pub exactly : exact ≡ true → top ≡ greatest (slotVersion m) n
+
+-- by this version the test of slot s is that of the rule
+abbrev pub Decided : (image : List ℕ) → (n top s : ℕ) → Type 0
+Decided image n top s = (l : ℕ) → takeable (contentsOf l image) n top true s ≡ mayTake (contentsOf l image) n s
+
+-- the slot at which p is can be met
+pub record Meetable (n : ℕ) (p : Progress) : Type 0 where
+  pub low : 0 < p .at
+  pub high : p .at ≤ n
+  pub some : 0 < p .left
+  pub few : p .got < 8
+
+-- it is taken
+unfoldable pub withSlot : (next : List ℕ) → Progress → (top : ℕ) → (exact : Bool) → Progress
+withSlot next p top exact =
+    record {
+      at = getD next (p .at) 0;
+      prev = p .prev;
+      left = p .left - 1;
+      got = p .got + 1;
+      top = top;
+      exact = exact;
+      slots = set (p .slots) (p .got) (p .at);
+      prevs = set (p .prevs) (p .got) (p .prev);
+    }
+
+-- or passed over
+unfoldable pub pastSlot : (next : List ℕ) → Progress → (top : ℕ) → (exact : Bool) → Progress
+pastSlot next p top exact =
+    record {
+      at = getD next (p .at) 0;
+      prev = p .at;
+      left = p .left - 1;
+      got = p .got;
+      top = top;
+      exact = exact;
+      slots = p .slots;
+      prevs = p .prevs;
+    }
+
+-- r is p after the slot was met, by whether it may be taken
+pub record Met (l : ℕ) (image next : List ℕ) (n : ℕ) (p r : Progress) : Type 0 where
+  pub known : KnownTop (word image) n (r .top) (r .exact)
+  pub is : r ≡ cond (mayTake (contentsOf l image) n (p .at)) (withSlot next p (r .top) (r .exact)) (pastSlot next p (r .top) (r .exact))
+
+-- c is the choice of the slots that following the chain gives
+pub record Chosen (t : Taking) (wanted : ℕ) (c : Choice) : Type 0 where
+  pub fault-is : c .fault ≡ takeFault t
+  pub slots-are : c .fault ≡ 0 → t ≡ taken (takensFrom (c .slots) (c .prevs) 0 wanted)
+  pub zeros : c .fault ≡ 0 → (j : ℕ) → wanted ≤ j → getD (c .slots) j 0 ≡ 0
