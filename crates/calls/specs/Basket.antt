@@ -24,7 +24,7 @@ use Rattle.index.specs.declared.Action.{Action}
 use Rattle.index.specs.declared.Action.the-variants.{Insert, Replace, Remove}
 use Rattle.index.specs.declared.Found.{Found}
 use Rattle.index.specs.declared.Found.the-variants.{At, Missing, BadChain}
-use Rattle.taking.specs.Taking.{takingOf}
+use Rattle.taking.specs.Taking.{takingOf, choiceOf}
 use Rattle.calls.specs.Change.{ChangeResult, unchanged, storeFault}
 use Rattle.calls.specs.declared.BasketItem.{BasketItem}
 use Rattle.calls.specs.declared.BasketAnswer.{BasketAnswer}
@@ -218,7 +218,7 @@ basketDone l image heads next s changes badLink = unchanged (refused 11) s heads
 unfoldable pub basketResult : (l : ℕ) → (image heads next : List ℕ) → State → List KeyChange → (at words : ℕ) → ChangeResult
 basketResult l image heads next s changes at words =
     unlessRefused (basketFault l image heads next s changes at words)
-    (basketDone l image heads next s changes (takingOf l image next (slotsIn image) (s .first) (length changes)))
+    (basketDone l image heads next s changes (choiceOf l image next (slotsIn image) (s .first) (length changes)))
     (unchanged (refused (basketFault l image heads next s changes at words)) s heads next)
 
 -- ---- what a call leaves
