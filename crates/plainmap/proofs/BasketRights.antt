@@ -56,7 +56,7 @@ use Rattle.plainmap.proofs.Refuses.{sound-lent, sound-chain, store-row}
 use Rattle.plainmap.proofs.Rights.{refusal-told}
 use Rattle.plainmap.proofs.CallSteps.{Stepped, stored-none, stored-records}
 use Rattle.plainmap.proofs.BasketKeys.{KeyReady}
-use Rattle.plainmap.proofs.BasketRuns.{basket-passed, BasketPassed, key-ready, first-none, map-all, held-old, olds-once, taking-is, ts, es, new, many, as-many, once, each, basket, basket-wrote}
+use Rattle.plainmap.proofs.BasketRuns.{basket-passed, BasketPassed, key-ready, first-none, map-all, held-old, olds-once, taking-is, choice-is, ts, es, new, many, as-many, once, each, basket, basket-wrote}
 
 -- ---- the plain map's step, key by key
 
@@ -226,7 +226,7 @@ module _ (l : ℕ) (lay : Layout l) (w : World) (chains : Chain → List ℕ) (a
   unfolding basketResult basketDone
   made-is b p typed z =
       taken-leaves _ _ _ z
-      ∙ ap (basketDone l (w .image) (w .heads) (w .next) (w .state) (b .changes)) (taking-is l lay w chains accepted g none-void (b .changes) typed p)
+      ∙ ap (basketDone l (w .image) (w .heads) (w .next) (w .state) (b .changes)) (choice-is l lay w chains accepted g none-void (b .changes) typed p)
 
   refused-is : (b : Basket) → (basketFault l (w .image) (w .heads) (w .next) (w .state) (b .changes) (b .at) (b .words) ≡ 0 → ⊥)
       → basketResult l (w .image) (w .heads) (w .next) (w .state) (b .changes) (b .at) (b .words) ≡

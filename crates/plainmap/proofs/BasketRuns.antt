@@ -51,7 +51,8 @@ use Rattle.index.proofs.Baskets.{SitsWith, sits-basket}
 use Rattle.index.proofs.defs.Items.{appendsOf, oldsBy, oldsOf, OldStands, Ready}
 use Rattle.recovery.specs.Recover.{placeOf}
 use Rattle.index.proofs.Takings.{sits-taking, takes-slots, few-exact, taken-enough}
-use Rattle.taking.specs.Taking.{takingOf}
+use Rattle.taking.specs.Taking.{takingOf, choiceOf}
+use Rattle.taking.proofs.Choices.{choice-own}
 use Rattle.calls.specs.Basket.{KeyChange, keyCountFault, among, anyTwice, givenFault, firstFault, valueFault, actionFault, basketLentFault, keysFault, insertsBy, removesBy, sumOver, kindBy, valueBy, basketFault, recordsFor, oldIn, itemsFor}
 use Rattle.images.proofs.defs.Entries.{recordOf, recordAt}
 use Rattle.images.proofs.Entries.{slots-length, EntryAt, entry-at, made-record, made-key}
@@ -62,7 +63,7 @@ use Rattle.plainmap.specs.Baskets.{TypedChange}
 use Rattle.plainmap.proofs.AcceptedImages.{accepted-right}
 use Rattle.plainmap.proofs.Sees.{place-live, Sees, sees-held, sees-absent, sound-sees}
 use Rattle.plainmap.proofs.Wrote.{SomeSound, some-sound, nextOf, WroteRecords}
-use Rattle.plainmap.proofs.SoundAfter.{broken, place-after, sound-after}
+use Rattle.plainmap.proofs.SoundAfter.{older, broken, place-after, sound-after}
 use Rattle.plainmap.proofs.Outcomes.{StorePassed, store-passed, head-in, free-spares, same, same-map, above, holder-at}
 use Rattle.plainmap.proofs.BasketKeys.{KeyReady, recordFor, put-by, insert-free, replace-held, remove-held, removed-held, inserts-alike, removes-alike, moves-alike, joins-alike, record-slots, item-slots, records-length, records-all}
 
@@ -431,6 +432,13 @@ module _ (l : ℕ) (lay : Layout l) (w : World) (chains : Chain → List ℕ) (a
     taking-is =
         sits-taking n b _ (indexOf (w .heads) (w .next) (w .state)) chains (g .index) (mayTake f n) (length cs)
         ∙ taken-enough (mayTake f n) 0 (length cs) (chains reuse) enough
+
+    -- are those that the basket takes
+    pub choice-is : choiceOf l (w .image) (w .next) n (w .state .first) (length cs) ≡ taken ts
+    choice-is =
+        choice-own l (w .image) (w .heads) (w .next) (w .state) n b _ chains (length cs) (g .index) (free-spares l lay w chains accepted g none-void)
+        (older l w chains g [] (λ t. f t) none-void)
+        ∙ taking-is
 
     -- the records
     abbrev pub es : List BasketRecord
