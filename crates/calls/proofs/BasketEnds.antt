@@ -30,7 +30,7 @@ use Rattle.index.proofs.Takens.{takens-each}
 use Rattle.index.proofs.Walks.{at-inside}
 use Rattle.taking.specs.Taking.{choiceOf}
 use Rattle.calls.specs.Change.{ChangeResult, unchanged}
-use Rattle.calls.specs.Basket.{KeyChange, changesOf, changesFrom, sumOver, insertsBy, removesBy, basketFault, recordsFor, oldIn, itemsFor, indexAfter, basketMade, basketDone, basketResult, BasketLeft, basketSays, basketEnd, eightSlots, atFront, leftInLists}
+use Rattle.calls.specs.Basket.{KeyChange, changesOf, changesFrom, sumOver, insertsBy, removesBy, basketFault, recordsFor, oldIn, itemsFor, indexAfter, basketMade, basketDone, basketBy, basketResult, BasketLeft, basketSays, basketEnd, eightSlots, atFront, leftInLists}
 use Rattle.calls.specs.inner.Basket.{keyAt, itemsFrom, recordsFrom, TotalsOf, Ready, StoresInside, ItemsInside}
 use Rattle.calls.specs.declared.BasketItem.{BasketItem}
 use Rattle.calls.specs.declared.BasketAnswer.{BasketAnswer}
@@ -69,7 +69,7 @@ pub basket-refused : (l : ℕ) (image heads next : List ℕ) (s : State) (change
     → k ≡ basketFault l image heads next s changes (length at) (length words) → (k ≡ 0 → ⊥)
     → basketEnd count (record { outcome = Refused k; slots = replicate 8 0; state = s }) at words heads next
     ≡ leftInLists at words (basketResult l image heads next s changes (length at) (length words))
-unfolding basketResult basketSays leftInLists unchanged eightSlots atFront wordNumbers values
+unfolding basketResult basketBy basketSays leftInLists unchanged eightSlots atFront wordNumbers values
 basket-refused l image heads next s changes at words count k e ne =
     ap (λ (x : ℕ). leftInLists at words (unchanged (refused x) s heads next)) e
     ∙ sym (ap (leftInLists at words) (refused-keeps (basketDone l image heads next s changes (choiceOf l image next (slotsIn image) (s .first) (length changes))) (unchanged (refused (basketFault l image heads next s changes (length at) (length words))) s heads next) (basketFault l image heads next s changes (length at) (length words)) (λ z. ne (e ∙ z))))
@@ -79,7 +79,7 @@ pub basket-taken : (l : ℕ) (image heads next : List ℕ) (s : State) (count : 
     → k ≡ basketFault l image heads next s (changesOf l count items bytes) (length at) (length words) → k ≡ 0 → (r : BasketLeft)
     → r ≡ leftInLists at words (basketDone l image heads next s (changesOf l count items bytes) (choiceOf l image next (slotsIn image) (s .first) count))
     → r ≡ leftInLists at words (basketResult l image heads next s (changesOf l count items bytes) (length at) (length words))
-unfolding basketResult
+unfolding basketResult basketBy
 basket-taken l image heads next s count items bytes at words k e z r h =
     h
     ∙ ap (λ (m : ℕ). leftInLists at words (basketDone l image heads next s (changesOf l count items bytes) (choiceOf l image next (slotsIn image) (s .first) m)))

@@ -397,6 +397,12 @@ module _ (l : ℕ) (lay : Layout l) (w : World) (chains : Chain → List ℕ) (a
           let o = held-old (c .action) (c .key) (bare c r) x i in
           no-old (c .key) (o .0) ks us (none-among (c .key) ks q) rs (subst (λ (y : ℕ). In y (oldsOf (itemsFor found b ks us))) (o .1) j))
 
+  -- THE SLOTS that a basket takes are those of the rule
+  pub choice-rule : (wanted : ℕ) → choiceOf l (w .image) (w .next) n (w .state .first) wanted ≡ takingOf l (w .image) (w .next) n (w .state .first) wanted
+  choice-rule wanted =
+      choice-own l (w .image) (w .heads) (w .next) (w .state) n b _ chains wanted (g .index) (free-spares l lay w chains accepted g none-void)
+      (older l w chains g [] (λ t. f t) none-void)
+
   -- ---- a basket that has passed
 
   module _ (cs : List KeyChange) (typed : All (TypedChange l) cs) (p : BasketPassed l w cs) where
@@ -435,10 +441,7 @@ module _ (l : ℕ) (lay : Layout l) (w : World) (chains : Chain → List ℕ) (a
 
     -- are those that the basket takes
     pub choice-is : choiceOf l (w .image) (w .next) n (w .state .first) (length cs) ≡ taken ts
-    choice-is =
-        choice-own l (w .image) (w .heads) (w .next) (w .state) n b _ chains (length cs) (g .index) (free-spares l lay w chains accepted g none-void)
-        (older l w chains g [] (λ t. f t) none-void)
-        ∙ taking-is
+    choice-is = choice-rule (length cs) ∙ taking-is
 
     -- the records
     abbrev pub es : List BasketRecord
