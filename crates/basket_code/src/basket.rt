@@ -146,3 +146,31 @@ pub fn basket(
         words,
     )
 }
+
+// A basket in layout 2: keys of two words.
+pub fn basket2(
+    image: &[u8],
+    heads: &mut [u32],
+    next: &mut [u32],
+    state: State,
+    count: usize,
+    items: [BasketItem; 8],
+    values: [u8; 640],
+    at: &mut [u32],
+    words: &mut [u64],
+) -> BasketAnswer
+    ensures { λ r. ⌜ basketEnd count r (now (at .exit)) (now (words .exit)) (now (heads .exit)) (now (next .exit)) ≡ leftInLists (now (at .entry)) (now (words .entry)) (basketResult 2 (now (image .entry)) (now (heads .entry)) (now (next .entry)) state (changesOf 2 count items values) (length (now (at .entry))) (length (now (words .entry)))) ⌝ }
+{
+    basket_in(
+        image,
+        2,
+        heads,
+        next,
+        state,
+        count,
+        items,
+        values,
+        at,
+        words,
+    )
+}

@@ -3,7 +3,7 @@ ghost use mathlib.Core.Path.{_≡_};
 ghost use mathlib.Core.List.{List};
 ghost use Prim.Native.Nat.{ℕ, _-_, _≤_};
 ghost use lib.Dec.{eqb};
-ghost use Rattle.layout.specs.inner.Key.{keyWith};
+ghost use Rattle.layout.specs.Record.{keyWith};
 ghost use Rattle.calls.specs.Basket.{highIn, itemKey, among, anyTwice, changesFrom, changesOf, keyCountFault, listsFault, givenFault};
 use calls::BasketItem;
 

@@ -14,8 +14,7 @@ use Rattle.prelude.specs.Refusal.{say, orElse}
 use Rattle.prelude.proofs.Choice.{pick-true, pick-false}
 use Rattle.prelude.proofs.Refusals.{say-true, say-false, say-zero, orElse-first, orElse-later, orElse-zero}
 use Rattle.prelude.proofs.Tabulate.{tabulate-length}
-use Rattle.layout.specs.Record.{limit}
-use Rattle.layout.specs.inner.Key.{keyWith}
+use Rattle.layout.specs.Record.{keyWith, limit}
 use Rattle.layout.proofs.KeyWords.{same-words}
 use Rattle.index.specs.Walk.{chainFault}
 use Rattle.index.specs.Change.{isFound}

@@ -6,7 +6,7 @@ use Prim.Native.Nat.{ℕ, zero, suc, _+_, _-_, _≤_, _<_}
 use native.Mathlib.Omega.{arith}
 use lib.Dec.{eqb}
 use lib.ListN.{length, getD}
-use Rattle.layout.specs.inner.Key.{keyWith}
+use Rattle.layout.specs.Record.{keyWith}
 use Rattle.index.specs.Index.{Index, indexOf, headOf, setLast}
 use Rattle.index.specs.Taking.{Taken}
 use Rattle.index.specs.Basket.{takeSlot, takeAll, Item, linkBy, linkItem, linkAll, basketIndex}

@@ -10,8 +10,7 @@ use lib.Seq.{take-all, length-take-le, getD-take, getD-drop, drop-drop, ext-getD
 use Rattle.words.specs.Word.{word}
 use Rattle.prelude.specs.Range.{tabulate}
 use Rattle.prelude.proofs.Tabulate.{tabulate-length, tabulate-get}
-use Rattle.layout.specs.Record.{Layout, limit}
-use Rattle.layout.specs.inner.Key.{keyWith}
+use Rattle.layout.specs.Record.{Layout, keyWith, limit}
 use Rattle.stores.specs.Store.{Store}
 use Rattle.stores.specs.Written.{run, lineStores, recordStores}
 use Rattle.stores.specs.Play.{wordNumbers, values}

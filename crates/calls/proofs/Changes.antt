@@ -6,7 +6,7 @@ use native.Mathlib.Omega.{arith}
 use lib.ListN.{length}
 use Rattle.words.specs.Word.{word}
 use Rattle.prelude.specs.Answer.{Answer, gives}
-use Rattle.layout.specs.inner.Key.{keyWith}
+use Rattle.layout.specs.Record.{keyWith}
 use Rattle.stores.specs.Store.{Store, zipped}
 use Rattle.stores.specs.Written.{run, lineStores, recordStores}
 use Rattle.index.specs.Index.{Index, indexOf, stateOf, headOf}

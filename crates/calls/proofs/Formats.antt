@@ -15,14 +15,14 @@ use Rattle.prelude.specs.Answer.{gives, refused}
 use Rattle.layout.specs.Size.{slotsOf, slotsIn}
 use Rattle.layout.specs.Header.{headerWord, headerFault, imageFault}
 use Rattle.layout.specs.Content.{empty, contentsOf}
-use Rattle.prelude.proofs.Refusals.{say-true, say-false}
+use Rattle.prelude.proofs.Refusals.{say-true, say-false, taken-leaves, refused-keeps}
 use Rattle.layout.proofs.Content.{blank-table}
 use Rattle.layout.proofs.Size.{long}
 use Rattle.prelude.proofs.Any.{any-clear}
 use Rattle.calls.specs.Format.{FormatResult, formatFault, formatted, formatResult}
 use Rattle.prelude.proofs.Fills.{zeros}
 
--- ---- format_in: n is the slots of the image
+-- ---- format: n is the slots of the image
 
 module _ (n len : ℕ) (e : n ≡ slotsOf len) (ne : n ≡ 0 → ⊥) where
   pub format-room : 384 ≤ len
@@ -31,12 +31,20 @@ module _ (n len : ℕ) (e : n ≡ slotsOf len) (ne : n ≡ 0 → ⊥) where
   pub format-fits : n < 4294967296
   format-fits = omega (arith, e, long len (λ q. ne (e ∙ q)) .high)
 
+-- 1 before 32
+length-first : (l n : ℕ) → n ≡ 0 → formatFault l n ≡ 1
+unfolding formatFault
+length-first l n z = say-true _ _ _ (eq-eqb n 0 z)
+
+pub some-slots : (l n f : ℕ) → f ≡ formatFault l n → f ≡ 0 → n ≡ 0 → ⊥
+some-slots l n f q z e = omega (arith, q, length-first l n e)
+
 -- what a call that gives n leaves
 abbrev left : ℕ → List ℕ → FormatResult
 left n bytes = record { answer = gives (n ∷ []); bytes = bytes }
 
 module _ (l : ℕ) (image : List ℕ) (n : ℕ) (e : n ≡ slotsIn image) where
-  result-by : (f : ℕ) → formatFault (length image) ≡ f
+  result-by : (f : ℕ) → formatFault l (slotsIn image) ≡ f
       → formatResult l image ≡
       unlessRefused f (left (slotsIn image) (formatted l (length image))) (record { answer = refused f; bytes = image })
   unfolding formatResult
@@ -46,17 +54,19 @@ module _ (l : ℕ) (image : List ℕ) (n : ℕ) (e : n ≡ slotsIn image) where
       unlessRefused x (left (slotsIn image) (formatted l (length image))) (record { answer = refused x; bytes = image }))
       q
 
-  pub format-refused : n ≡ 0 → record { answer = refused 1; bytes = image } ≡ formatResult l image
-  unfolding unlessRefused formatFault
-  format-refused z = sym (result-by 1 (say-true _ _ _ (eq-eqb (slotsIn image) 0 (sym e ∙ z))))
+  here : (f : ℕ) → f ≡ formatFault l n → formatFault l (slotsIn image) ≡ f
+  here f q = ap (formatFault l) (sym e) ∙ sym q
 
-  pub format-done : (n ≡ 0 → ⊥) → (a b c : List ℕ) → a ≡ replicate (length image) 0 → b ≡ setWord a 0 n → c ≡ setWord b 1 l
+  pub format-refused : (f : ℕ) → f ≡ formatFault l n → (f ≡ 0 → ⊥) → record { answer = refused f; bytes = image } ≡ formatResult l image
+  format-refused f q ne = sym (result-by f (here f q) ∙ refused-keeps _ _ f ne)
+
+  pub format-done : (f : ℕ) → f ≡ formatFault l n → f ≡ 0 → (a b c : List ℕ) → a ≡ replicate (length image) 0 → b ≡ setWord a 0 n → c ≡ setWord b 1 l
       → record { answer = gives (n ∷ []); bytes = c } ≡ formatResult l image
-  unfolding unlessRefused formatFault formatted
-  format-done ne a b c p q r =
+  unfolding formatted
+  format-done f g z a b c p q r =
       ap₂ left e
       (r ∙ ap (λ (t : List ℕ). setWord t 1 l) (q ∙ ap₂ (λ (t : List ℕ) (x : ℕ). setWord t 0 x) p e))
-      ∙ sym (result-by 0 (say-false _ _ _ (ne-eqb (slotsIn image) 0 (λ q. ne (e ∙ q)))))
+      ∙ sym (result-by f (here f g) ∙ taken-leaves _ _ f z)
 
 -- ---- a formatted image
 

@@ -1,7 +1,7 @@
 -- A basket: up to eight keys changed by one call. Document 02, A.7: "A basket names 1 to 8 distinct keys, each to be inserted, replaced or removed."
 use mathlib.Core.Bool.{Bool, true, false, cond, not}
 use mathlib.Core.List.{List, [], _∷_, _++_}
-use Prim.Native.Nat.{ℕ, zero, suc, _+_, _-_, _*_, _^_}
+use Prim.Native.Nat.{ℕ, zero, suc, _+_, _-_, _*_}
 use lib.Dec.{eqb, ltb}
 use lib.ListN.{length, getD, take, drop, replicate}
 use Rattle.words.specs.Word.{word}
@@ -9,7 +9,7 @@ use Rattle.prelude.specs.Refusal.{say, orElse, unlessRefused}
 use Rattle.prelude.specs.Answer.{Answer, gives, absent, refused}
 use Rattle.prelude.specs.Range.{tabulate}
 use Rattle.layout.specs.Size.{slotsIn}
-use Rattle.layout.specs.Record.{limit}
+use Rattle.layout.specs.Record.{keyWith, limit}
 use Rattle.layout.specs.Header.{lentFault}
 use Rattle.stores.specs.Play.{wordNumbers, values}
 use Rattle.stores.specs.Basket.{BasketRecord, basketStores}
@@ -44,7 +44,7 @@ unfoldable pub highIn : (l high : ℕ) → ℕ
 highIn l high = cond (eqb l 1) 0 high
 
 unfoldable pub itemKey : (l : ℕ) → BasketItem → ℕ
-itemKey l k = k .low + 2 ^ 64 * highIn l (k .high)
+itemKey l k = keyWith (k .low) (highIn l (k .high))
 
 -- the item with number i, of the eight from 0 on; no basket has another
 unfoldable pub itemAt : List BasketItem → ℕ → BasketItem

@@ -18,7 +18,7 @@ pub fn formatted(set: Set) -> Set {
     let mut image = set.image;
     let fronts = lent(set);
     let i = fronts.image;
-    show::formatted(format(&mut image[..i]));
+    show::formatted(format(&mut image[..i], 1));
     let mut after = set;
     after.image = image;
     after

@@ -1,7 +1,6 @@
 // Remove: a key is no longer held. `l` is the layout; a key is two words, the high one 0 in layout 1.
 ghost use mathlib.Core.Path.{_≡_};
-ghost use Rattle.layout.specs.Record.{Layout};
-ghost use Rattle.layout.specs.inner.Key.{keyWith};
+ghost use Rattle.layout.specs.Record.{Layout, keyWith};
 ghost use Rattle.stores.specs.Store.{zipped};
 ghost use Rattle.taking.specs.Taking.{takingOf};
 ghost use Rattle.taking.specs.inner.Takeable.{Walkable};
@@ -76,7 +75,7 @@ fn remove_lookup(
 }
 
 // Remove, in layout l. The stores are lent: at is their word numbers, words their values.
-fn remove_in(
+pub fn remove_in(
     image: &[u8],
     l: usize,
     heads: &mut [u32],
@@ -143,4 +142,20 @@ pub fn remove(
     ensures { λ r. ⌜ changeEnd r (now (at .exit)) (now (words .exit)) (now (heads .exit)) (now (next .exit)) ≡ reported (leftIn (zipped (now (at .entry)) (now (words .entry))) (removeResult 1 (now (image .entry)) (now (heads .entry)) (now (next .entry)) state key)) (keyCompared 1 (now (image .entry)) (now (heads .entry)) (now (next .entry)) key) ⌝ }
 {
     remove_in(image, 1, heads, next, state, key, 0, at, words)
+}
+
+// Remove in layout 2: a key of two words.
+pub fn remove2(
+    image: &[u8],
+    heads: &mut [u32],
+    next: &mut [u32],
+    state: State,
+    low: u64,
+    high: u64,
+    at: &mut [u32; 16],
+    words: &mut [u64; 16],
+) -> Change
+    ensures { λ r. ⌜ changeEnd r (now (at .exit)) (now (words .exit)) (now (heads .exit)) (now (next .exit)) ≡ reported (leftIn (zipped (now (at .entry)) (now (words .entry))) (removeResult 2 (now (image .entry)) (now (heads .entry)) (now (next .entry)) state (keyWith low high))) (keyCompared 2 (now (image .entry)) (now (heads .entry)) (now (next .entry)) (keyWith low high)) ⌝ }
+{
+    remove_in(image, 2, heads, next, state, low, high, at, words)
 }

@@ -1,8 +1,7 @@
 // Insert and replace: a key that is not held, or one that is, gets a value. `l` is the layout; a key is two words, the high one 0 in layout 1.
 ghost use mathlib.Core.Path.{_≡_};
 ghost use lib.ListN.{length};
-ghost use Rattle.layout.specs.Record.{Layout};
-ghost use Rattle.layout.specs.inner.Key.{keyWith};
+ghost use Rattle.layout.specs.Record.{Layout, keyWith};
 ghost use Rattle.stores.specs.Store.{zipped};
 ghost use Rattle.index.specs.declared.Mode.the-variants.{Insert, Replace};
 ghost use Rattle.taking.specs.Taking.{takingOf};
@@ -108,7 +107,7 @@ fn write_lookup(
 }
 
 // Insert or replace, in layout l. The stores are lent: at is their word numbers, words their values.
-fn write_in(
+pub fn write_in(
     image: &[u8],
     l: usize,
     heads: &mut [u32],
@@ -210,6 +209,64 @@ pub fn replace(
         Mode::Replace,
         key,
         0,
+        value,
+        at,
+        words,
+    )
+}
+
+// Insert in layout 2: a key of two words.
+pub fn insert2(
+    image: &[u8],
+    heads: &mut [u32],
+    next: &mut [u32],
+    state: State,
+    low: u64,
+    high: u64,
+    value: &[u8],
+    at: &mut [u32; 16],
+    words: &mut [u64; 16],
+) -> Change
+    ensures { λ r. ⌜ changeEnd r (now (at .exit)) (now (words .exit)) (now (heads .exit)) (now (next .exit)) ≡ reported (leftIn (zipped (now (at .entry)) (now (words .entry))) (writeResult 2 (now (image .entry)) (now (heads .entry)) (now (next .entry)) state Insert (keyWith low high) (now (value .entry)))) (writeCompared 2 (now (image .entry)) (now (heads .entry)) (now (next .entry)) (keyWith low high) (length (now (value .entry)))) ⌝ }
+{
+    write_in(
+        image,
+        2,
+        heads,
+        next,
+        state,
+        Mode::Insert,
+        low,
+        high,
+        value,
+        at,
+        words,
+    )
+}
+
+// Replace in layout 2.
+pub fn replace2(
+    image: &[u8],
+    heads: &mut [u32],
+    next: &mut [u32],
+    state: State,
+    low: u64,
+    high: u64,
+    value: &[u8],
+    at: &mut [u32; 16],
+    words: &mut [u64; 16],
+) -> Change
+    ensures { λ r. ⌜ changeEnd r (now (at .exit)) (now (words .exit)) (now (heads .exit)) (now (next .exit)) ≡ reported (leftIn (zipped (now (at .entry)) (now (words .entry))) (writeResult 2 (now (image .entry)) (now (heads .entry)) (now (next .entry)) state Replace (keyWith low high) (now (value .entry)))) (writeCompared 2 (now (image .entry)) (now (heads .entry)) (now (next .entry)) (keyWith low high) (length (now (value .entry)))) ⌝ }
+{
+    write_in(
+        image,
+        2,
+        heads,
+        next,
+        state,
+        Mode::Replace,
+        low,
+        high,
         value,
         at,
         words,

@@ -37,7 +37,7 @@ use Rattle.index.specs.declared.State.{State}
 use Rattle.index.specs.declared.Found.{Found}
 use Rattle.index.specs.declared.Found.the-variants.{At, Missing, BadChain}
 use Rattle.recovery.specs.Recover.{Result, settledFault, slotsFault, slotsNamed, recovered, recoverFault, recoverSlot, refusedResult, recoverResult}
-use Rattle.calls.specs.Format.{FormatResult, formatFault, formatResult}
+use Rattle.calls.specs.Format.{FormatResult, layoutFault, formatFault, formatResult}
 use Rattle.calls.specs.Change.{ChangeResult, unchanged, changed, writeLentFault, writeLaterFault, writeFault, writeDone, writeResult, storeFault, removeLaterFault, removeFault, removeDone, removeResult}
 use Rattle.calls.specs.Get.{GetResult, lengthFault, getLaterFault, getFault, getDone, getResult}
 use Rattle.face.specs.Numbers.{Numbered, AnswersAsAsked, formatRefusals, noSlotRefusals, slotRefusals, recoverRefusals, Names, a-slot, no-slot, writeRefusals, storingRefusals, getRefusals, roomyGetRefusals, locateRefusals}
@@ -133,12 +133,13 @@ module _ {A : Type 0} (ks : List ℕ) (answer : A → Answer) (refusing : ℕ �
   numbered (suc k) (inl e) new p = absurd (omega arith)
   numbered (suc k) (inr i) new p = subst (Numbered ks) (sym (told (suc k))) i
 
--- FORMAT: 1
+-- FORMAT: 1, 32
 pub format-numbered : (l : ℕ) (image : List ℕ) → Numbered formatRefusals (formatResult l image .answer)
-unfolding formatResult formatFault
+unfolding formatResult formatFault layoutFault
 format-numbered l image =
     numbered formatRefusals (λ (r : FormatResult). r .answer) (λ fault. record { answer = refused fault; bytes = image }) (λ k. refl) _
-    (say-due formatRefusals _ 1 0 (one-of 1 formatRefusals refl) (none-due formatRefusals)) _ tt
+    (say-due formatRefusals _ 1 _ (one-of 1 formatRefusals refl)
+    (say-due formatRefusals _ 32 _ (one-of 32 formatRefusals refl) (say-due formatRefusals _ 32 0 (one-of 32 formatRefusals refl) (none-due formatRefusals)))) _ tt
 
 -- ---- recover
 

@@ -24,7 +24,7 @@ AnswersAsAsked Replace (refused number) = ⊥
 
 -- format
 abbrev pub formatRefusals : List ℕ
-formatRefusals = 1 ∷ []
+formatRefusals = 1 ∷ 32 ∷ []
 
 -- recover: those of its refusals that name no slot
 abbrev pub noSlotRefusals : List ℕ

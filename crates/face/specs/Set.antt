@@ -3,7 +3,7 @@
 -- sizes, what an image holds, and the keys of a map
 pub use Rattle.layout.specs.Size.{slotsIn}
 pub use Rattle.layout.specs.Size.{slotsOf}
-pub use Rattle.layout.specs.Record.{Layout, limit}
+pub use Rattle.layout.specs.Record.{Layout, keyWith, limit}
 unfoldable pub use Rattle.layout.specs.Header.{indexFault}
 pub use Rattle.table.specs.Complete.{tableOf}
 pub use Rattle.table.specs.Table.{holder, liveCount, nextVersion}
@@ -24,7 +24,7 @@ pub use Rattle.recovery.specs.declared.Openings.{Openings}
 unfoldable pub use Rattle.recovery.specs.Opening.{storesIn}
 pub use Rattle.calls.specs.Format.{FormatResult}
 pub use Rattle.calls.specs.Format.{formatted}
-unfoldable pub use Rattle.calls.specs.Format.{formatSays, formatFault, formatResult}
+unfoldable pub use Rattle.calls.specs.Format.{formatSays, layoutFault, formatFault, formatResult}
 pub use Rattle.calls.specs.Compared.{Reported, reported, keyCompared}
 pub use Rattle.calls.specs.declared.Change.{Change}
 pub use Rattle.calls.specs.declared.Got.{Got}

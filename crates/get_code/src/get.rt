@@ -1,7 +1,6 @@
 // Get: the value of a key. `l` is the layout; a key is two words, the high one 0 in layout 1.
 ghost use mathlib.Core.Path.{_≡_};
-ghost use Rattle.layout.specs.Record.{Layout};
-ghost use Rattle.layout.specs.inner.Key.{keyWith};
+ghost use Rattle.layout.specs.Record.{Layout, keyWith};
 ghost use Rattle.calls.specs.Compared.{reported, keyCompared};
 ghost use Rattle.calls.specs.Get.{getEnd, lengthFault, getLaterFault, getResult};
 ghost use Rattle.calls.specs.inner.Lookup.{FoundInside, GetLookup};
@@ -77,7 +76,7 @@ fn get_lookup(
 }
 
 // Get, in layout l.
-fn get_in(
+pub fn get_in(
     image: &[u8],
     l: usize,
     heads: &[u32],
@@ -117,4 +116,18 @@ pub fn get(image: &[u8], heads: &[u32], next: &[u32], key: u64, out: &mut [u8]) 
     ensures { λ r. ⌜ getEnd r (now (out .exit)) ≡ reported (getResult 1 (now (image .entry)) (now (heads .entry)) (now (next .entry)) key (now (out .entry))) (keyCompared 1 (now (image .entry)) (now (heads .entry)) (now (next .entry)) key) ⌝ }
 {
     get_in(image, 1, heads, next, key, 0, out)
+}
+
+// Get in layout 2: a key of two words.
+pub fn get2(
+    image: &[u8],
+    heads: &[u32],
+    next: &[u32],
+    low: u64,
+    high: u64,
+    out: &mut [u8],
+) -> GetAnswer
+    ensures { λ r. ⌜ getEnd r (now (out .exit)) ≡ reported (getResult 2 (now (image .entry)) (now (heads .entry)) (now (next .entry)) (keyWith low high) (now (out .entry))) (keyCompared 2 (now (image .entry)) (now (heads .entry)) (now (next .entry)) (keyWith low high)) ⌝ }
+{
+    get_in(image, 2, heads, next, low, high, out)
 }

@@ -1,7 +1,6 @@
 // Locate: the slot and the version of a key. `l` is the layout; a key is two words, the high one 0 in layout 1.
 ghost use mathlib.Core.Path.{_≡_};
-ghost use Rattle.layout.specs.Record.{Layout};
-ghost use Rattle.layout.specs.inner.Key.{keyWith};
+ghost use Rattle.layout.specs.Record.{Layout, keyWith};
 ghost use Rattle.calls.specs.Compared.{reported, keyCompared};
 ghost use Rattle.calls.specs.Locate.{locateEnd, locateResult};
 use calls::LocateAnswer;
@@ -13,7 +12,7 @@ use layout_code::header::slot_count;
 use words_code::read_word;
 
 // Locate, in layout l.
-fn locate_in(
+pub fn locate_in(
     image: &[u8],
     l: usize,
     heads: &[u32],
@@ -60,4 +59,11 @@ pub fn locate(image: &[u8], heads: &[u32], next: &[u32], key: u64) -> LocateAnsw
     ensures { λ r. ⌜ locateEnd r ≡ reported (locateResult 1 (now (image .entry)) (now (heads .entry)) (now (next .entry)) key) (keyCompared 1 (now (image .entry)) (now (heads .entry)) (now (next .entry)) key) ⌝ }
 {
     locate_in(image, 1, heads, next, key, 0)
+}
+
+// Locate in layout 2: a key of two words.
+pub fn locate2(image: &[u8], heads: &[u32], next: &[u32], low: u64, high: u64) -> LocateAnswer
+    ensures { λ r. ⌜ locateEnd r ≡ reported (locateResult 2 (now (image .entry)) (now (heads .entry)) (now (next .entry)) (keyWith low high)) (keyCompared 2 (now (image .entry)) (now (heads .entry)) (now (next .entry)) (keyWith low high)) ⌝ }
+{
+    locate_in(image, 2, heads, next, low, high)
 }

@@ -5,7 +5,7 @@ use native.Mathlib.Nat.{mod-lt}
 use native.Mathlib.Omega.{arith}
 use lib.Bits.{bitAnd}
 use Rattle.prelude.proofs.Bits.{mask-remainder}
-use Rattle.layout.specs.inner.Key.{keyWith}
+use Rattle.layout.specs.Record.{keyWith}
 use Rattle.index.specs.Index.{headOf}
 
 pub head-by-low : (low high b : ℕ) → low < 2 ^ 64 → low % b ≡ headOf (keyWith low high) b

@@ -20,7 +20,7 @@ abbrev pub stateOf : Index → (live version newest : ℕ) → State
 stateOf i live version newest =
     record { first = i .first; last = i .last; live = live; version = version; newest = newest }
 
--- "key k belongs to head k mod B", by the key's low word
+-- "key k belongs to head k mod B", by the key's low word. Document 02, A.11: "Its head is word 1 mod B"
 abbrev pub headOf : (key b : ℕ) → ℕ
 headOf key b = key % 2 ^ 64 % b
 

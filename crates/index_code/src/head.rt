@@ -1,7 +1,7 @@
 // The head of a key.
 ghost use mathlib.Core.Path.{_≡_};
 ghost use Prim.Native.Nat.{ℕ, _<_, _≤_};
-ghost use Rattle.layout.specs.inner.Key.{keyWith};
+ghost use Rattle.layout.specs.Record.{keyWith};
 ghost use Rattle.index.specs.Index.{headOf};
 
 // Which of b heads a key with this low word belongs to. Where b is a power of two, its mask gives the remainder.

@@ -1,7 +1,6 @@
 // Following a key's chain.
 ghost use mathlib.Core.Path.{_≡_};
-ghost use Rattle.layout.specs.Record.{Layout};
-ghost use Rattle.layout.specs.inner.Key.{keyWith};
+ghost use Rattle.layout.specs.Record.{Layout, keyWith};
 ghost use Rattle.layout.specs.inner.Sized.{Sized};
 ghost use Rattle.index.specs.Walk.{search};
 ghost use Rattle.index.specs.inner.Lookup.{lookupBy};

@@ -6,8 +6,8 @@ use native.Mathlib.Nat.{pow-succ', div-one, div-lt-iff-lt-mul, div-div-eq-div-mu
 use native.Mathlib.Omega.{arith}
 use lib.Dec.{eqb}
 use borrow.Author.Tests.{eq-eqb, ne-eqb, eqb-true, eqb-false}
-use Rattle.layout.specs.Record.{Layout, keyFrom, keyOf, keyWord}
-use Rattle.layout.specs.inner.Key.{keyWith, highWord}
+use Rattle.layout.specs.Record.{Layout, keyFrom, keyOf, keyWith, keyWord}
+use Rattle.layout.specs.inner.Key.{highWord}
 
 word-zero : (x : ℕ) → keyWord x 0 ≡ x % 2 ^ 64
 word-zero x = ap (λ (y : ℕ). y % 2 ^ 64) (div-one x)

@@ -1,6 +1,7 @@
 -- The fields of a record, for layout l (1 in document 01). Document 01, "Lines, slots and words": "In line A, word 1 is the key, word 2 is
 -- kind + 256 × length (kind 1 put, 2 remove), words 3 to 6 are value bytes 0 to 31. In line B, words 1 to 6 are value bytes 32 to 79."
--- Layout l has l key words from word 1 on, the kind word at word l + 1, and the value from word l + 2 on.
+-- Layout l has l key words from word 1 on, the kind word at word l + 1, and the value from word l + 2 on. Document 02, A.11: "Layout 2 has the key in words 1 and 2
+-- of line A, the kind word in word 3, and a value of at most 72 bytes from word 4 on."
 use mathlib.Core.Bool.{cond}
 use mathlib.Core.List.{List}
 use Prim.Native.Nat.{ℕ, zero, suc, _+_, _-_, _*_, _/_, _%_, _^_, _≤_}
@@ -20,6 +21,10 @@ keyFrom A i (suc n) = A i + 2 ^ 64 * keyFrom A (suc i) n
 -- the key in line A: l words from word 1 on
 unfoldable pub keyOf : (l : ℕ) → (A : ℕ → ℕ) → ℕ
 keyOf l A = keyFrom A 1 l
+
+-- a key of two words; the high one is 0 in layout 1
+abbrev pub keyWith : (low high : ℕ) → ℕ
+keyWith low high = low + 2 ^ 64 * high
 
 -- word i of a key, low word first
 abbrev pub keyWord : (key i : ℕ) → ℕ
@@ -41,7 +46,7 @@ lengthOf w = w / 256 % 256
 abbrev pub recordNumber : ℕ → ℕ
 recordNumber w = w / 65536 % 256
 
--- the greatest length of a value: 80 in layout 1
+-- the greatest length of a value: 80 in layout 1; "Limits of 80 read 72" in layout 2
 abbrev pub limit : ℕ → ℕ
 limit l = 88 - 8 * l
 

@@ -5,10 +5,10 @@ ghost use lib.Dec.{eqb};
 ghost use lib.ListN.{length};
 ghost use Rattle.words.specs.Word.{word};
 ghost use Rattle.layout.specs.Line.{lineA, lineB};
-ghost use Rattle.layout.specs.Record.{keyOf, kindOf, lengthOf, recordNumber, limit};
+ghost use Rattle.layout.specs.Record.{keyOf, keyWith, kindOf, lengthOf, recordNumber, limit};
 ghost use Rattle.layout.specs.Fault.{bitsFault, kindFault, longest, wordFault, tailFault, faultOf};
 ghost use Rattle.layout.specs.inner.Inside.{SlotInside};
-ghost use Rattle.layout.specs.inner.Key.{keyWith, highWord};
+ghost use Rattle.layout.specs.inner.Key.{highWord};
 use crate::value::value_word;
 use words_code::read_word;
 

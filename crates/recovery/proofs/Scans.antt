@@ -18,8 +18,8 @@ use Rattle.prelude.specs.Range.{anyOf, greatest, lowest, atLowest, count}
 use Rattle.prelude.proofs.Lowest.{at-lowest-next}
 use Rattle.layout.specs.Line.{lineA, lineB, lineTop}
 use Rattle.layout.specs.Slot.{paired, verdictOf, lineVerdict, slotVerdict, isValid}
-use Rattle.layout.specs.Record.{Layout, kindOf, keyOf, valueOf}
-use Rattle.layout.specs.inner.Key.{keyWith, highWord}
+use Rattle.layout.specs.Record.{Layout, kindOf, keyOf, keyWith, valueOf}
+use Rattle.layout.specs.inner.Key.{highWord}
 use Rattle.layout.specs.Content.{Content, broken, empty, putRecord, removeRecord, made, contentBy, contentOf, content, topOf, Table}
 use Rattle.layout.specs.Fault.{markFault, faultOf, recordFault}
 use Rattle.layout.specs.declared.Verdict.{Verdict}

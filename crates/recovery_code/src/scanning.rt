@@ -6,7 +6,7 @@ ghost use lib.Dec.{eqb};
 ghost use Rattle.words.specs.Word.{word};
 ghost use Rattle.prelude.specs.Refusal.{say, orElse};
 ghost use Rattle.layout.specs.inner.Inside.{SlotInside};
-ghost use Rattle.layout.specs.inner.Key.{keyWith};
+ghost use Rattle.layout.specs.Record.{keyWith};
 ghost use Rattle.index.specs.Index.{headOf};
 ghost use Rattle.recovery.specs.inner.Scan.{Scannable, validSummary, Summed, isRemoveBy, ClassesWith, slotsCounted, ScanWith, Scanned};
 use index_code::head::head_of;

@@ -11,7 +11,7 @@ use Rattle.prelude.specs.Answer.{Answer, gives}
 use Rattle.prelude.specs.Members.{none-left}
 use Rattle.prelude.proofs.Refusals.{say-false, taken-leaves}
 use Rattle.face.proofs.SetLaws.{layout-1, call-laws}
-use Rattle.face.specs.Set.{World, PlainMap, slotsMap, RightSize, Played, recoverFault, recoverResult, worldAfter, openedWorld, FormatResult, formatFault, formatted, formatResult, indexFault, slotsOf, slotsIn}
+use Rattle.face.specs.Set.{World, PlainMap, slotsMap, RightSize, Played, recoverFault, recoverResult, worldAfter, openedWorld, FormatResult, layoutFault, formatFault, formatted, formatResult, indexFault, slotsOf, slotsIn}
 use Rattle.face.specs.Recovers.{Recovers}
 use Rattle.face.specs.Laws.{SetLaws}
 use Rattle.text.specs.Output.{Printed, ok}
@@ -43,6 +43,10 @@ recover-step p n image heads next m gives-map size =
     (recoverResult 1 image heads next .state) answer)
     (call-laws 1 layout-1 .answers-state image heads next (gives-map .accepts heads next size))
 
+no-layout-fault : layoutFault 1 ≡ 0
+unfolding layoutFault say
+no-layout-fault = refl
+
 module _ (Inv : World → PlainMap → Type 0) (laws : SetLaws 1 Inv) where
   -- A NEW SET, on an image and an index of its size
   module _ (n : ℕ) (low : 2 ≤ n) (high : n ≤ 511) (s : Session) (image heads next : List ℕ)
@@ -56,7 +60,7 @@ module _ (Inv : World → PlainMap → Type 0) (laws : SetLaws 1 Inv) where
     formats : formatResult 1 image ≡ leftBytes n (formatted 1 (length image))
     unfolding formatResult formatFault
     formats =
-        taken-leaves _ _ _ (say-false _ _ _ (ne-eqb (slotsIn image) 0 some-slots))
+        taken-leaves _ _ _ (say-false _ _ _ (ne-eqb (slotsIn image) 0 some-slots) ∙ no-layout-fault)
         ∙ ap (λ (k : ℕ). leftBytes k (formatted 1 (length image))) slots-here
 
     index-fits : indexFault (slotsIn image) (length heads) (length next) ≡ 0

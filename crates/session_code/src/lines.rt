@@ -77,7 +77,7 @@ pub fn make(
 ) -> Stepped
     ensures { λ r. ⌜ stepEnd r (now (image .exit)) (now (heads .exit)) (now (next .exit)) ≡ makeStep n session (now (image .entry)) (now (heads .entry)) (now (next .entry)) ⌝ }
 {
-    let formatted = format(image);
+    let formatted = format(image, 1);
     match formatted {
         Formatted::Slots(slots) => recovered(Reply::Made(slots as u64), n, image, heads, next),
         Formatted::Refused(number) => Stepped {

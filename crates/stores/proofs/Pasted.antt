@@ -11,8 +11,7 @@ use Rattle.words.specs.Word.{word}
 use Rattle.prelude.specs.Range.{tabulate}
 use Rattle.prelude.proofs.Tabulate.{tabulate-get, tabulate-length}
 use Rattle.layout.specs.Line.{firstWord, lastWord}
-use Rattle.layout.specs.Record.{Layout, kindWord, limit, valuePlace}
-use Rattle.layout.specs.inner.Key.{keyWith}
+use Rattle.layout.specs.Record.{Layout, keyWith, kindWord, limit, valuePlace}
 use Rattle.layout.specs.inner.Steps.{steps}
 use Rattle.layout.proofs.Places.{place-in-body}
 use Rattle.stores.specs.Store.{Store, zipped}

@@ -9,8 +9,7 @@ use lib.ListN.{length}
 use borrow.Author.Tests.{eq-eqb, ne-eqb, lt-ltb, le-ltb}
 use Rattle.prelude.proofs.Choice.{pick-true, pick-false}
 use Rattle.prelude.specs.Range.{tabulate}
-use Rattle.layout.specs.Record.{Layout, keyWord, kindWord, limit}
-use Rattle.layout.specs.inner.Key.{keyWith}
+use Rattle.layout.specs.Record.{Layout, keyWith, keyWord, kindWord, limit}
 use Rattle.stores.specs.Store.{Store, zipped}
 use Rattle.stores.specs.Written.{newA, newB, bodyA, bodyB, run, lineStores, recordStores}
 use Rattle.stores.specs.inner.Written.{recordNumbers, recordWords}

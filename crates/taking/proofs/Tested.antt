@@ -12,9 +12,9 @@ use Rattle.prelude.specs.Filter.{anyIn}
 use Rattle.prelude.proofs.Choice.{both-left, both-right, pick-true, pick-false}
 use Rattle.layout.specs.Line.{lineA, lineB, versionOf}
 use Rattle.layout.specs.Slot.{paired, verdictOf, lineVerdict, slotVerdict}
-use Rattle.layout.specs.Record.{Layout, kindOf, keyOf}
+use Rattle.layout.specs.Record.{Layout, kindOf, keyOf, keyWith}
 use Rattle.layout.specs.Content.{topOf, content}
-use Rattle.layout.specs.inner.Key.{keyWith, highWord}
+use Rattle.layout.specs.inner.Key.{highWord}
 use Rattle.layout.specs.declared.Verdict.{Verdict}
 use Rattle.layout.specs.declared.Verdict.the-variants.{Valid, Empty, Broken}
 use Rattle.layout.proofs.KeyWords.{key-parts}

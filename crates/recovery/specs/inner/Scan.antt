@@ -8,10 +8,10 @@ use lib.ListN.{length, getD}
 use Rattle.prelude.specs.Refusal.{say, orElse}
 use Rattle.prelude.specs.Range.{anyOf, greatest, lowest, atLowest, count}
 use Rattle.layout.specs.Line.{lineA, lineB}
-use Rattle.layout.specs.Record.{Layout, keyOf, kindOf}
+use Rattle.layout.specs.Record.{Layout, keyOf, keyWith, kindOf}
 use Rattle.layout.specs.Content.{Content, broken, empty, putRecord, removeRecord, content, topOf, Table}
 use Rattle.layout.specs.Fault.{markFault, faultOf, recordFault}
-use Rattle.layout.specs.inner.Key.{keyWith, highWord}
+use Rattle.layout.specs.inner.Key.{highWord}
 use Rattle.table.specs.Table.{keyIn, brokenCount}
 use Rattle.table.specs.Order.{rankOf}
 use Rattle.table.specs.inner.Class.{isEmpty, isPut}

@@ -1,7 +1,7 @@
 -- `basket_code::given::is_among` meets its contract. Assumes nothing.
 use Prim.Native.Nat.{_-_}
 use native.Mathlib.Omega.{arith}
-use Rattle.layout.specs.inner.Key.{keyWith}
+use Rattle.layout.specs.Record.{keyWith}
 use Rattle.calls.specs.Basket.{itemAt}
 use Rattle.calls.proofs.BasketChecks.{Seeking, seek-starts, seek-hit, seek-on, seek-end}
 use borrow.Author.Needs.{needs}

@@ -1,7 +1,7 @@
 -- `index_code::search::find` meets its contract. Assumes nothing.
 use native.Mathlib.Omega.{arith}
 use borrow.Author.Needs.{needs}
-use Rattle.layout.specs.inner.Key.{keyWith}
+use Rattle.layout.specs.Record.{keyWith}
 use Rattle.index.proofs.Walks.{Going, begins, at-end, past, here, on, out}
 use Rattle.index_code.proofs.search.find.Statement.{statement}
 use Rattle.index_code.proofs.search.find.Tie as tie

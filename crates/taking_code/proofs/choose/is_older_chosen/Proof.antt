@@ -3,7 +3,7 @@ use mathlib.Core.Path.{refl, sym, _∙_}
 use native.Mathlib.Omega.{arith}
 use borrow.Author.Needs.{needs}
 use Rattle.layout.specs.Content.{contentsOf}
-use Rattle.layout.specs.inner.Key.{keyWith}
+use Rattle.layout.specs.Record.{keyWith}
 use Rattle.taking.specs.inner.Takeable.{olderThan}
 use Rattle.taking.proofs.Tested.{Looking, looking-hit, looking-on, looking-ends}
 use Rattle.taking_code.proofs.choose.is_older_chosen.Statement.{statement}

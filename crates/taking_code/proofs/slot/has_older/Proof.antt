@@ -5,7 +5,7 @@ use native.Mathlib.Omega.{arith}
 use borrow.Author.Needs.{needs}
 use Rattle.prelude.proofs.Any.{Going, any-start, any-hit, any-next, any-end}
 use Rattle.layout.specs.Content.{contentsOf}
-use Rattle.layout.specs.inner.Key.{keyWith}
+use Rattle.layout.specs.Record.{keyWith}
 use Rattle.taking.specs.inner.Takeable.{olderThan}
 use Rattle.taking.proofs.Tested.{any-slot}
 use Rattle.taking_code.proofs.slot.has_older.Statement.{statement}
