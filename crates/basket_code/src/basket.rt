@@ -38,7 +38,17 @@ fn store_basket(
     let n = slot_count(image.len());
     let totals = totals_of(items, count);
     let rest = change_index(heads, next, n, state, count, items, olds, slots, prevs);
-    put_stores(image, l, state.version, count, items, values, slots, at, words);
+    put_stores(
+        image,
+        l,
+        state.version,
+        count,
+        items,
+        values,
+        slots,
+        at,
+        words,
+    );
     BasketAnswer {
         outcome: BasketOutcome::Stored {
             version: state.version,
@@ -92,7 +102,19 @@ fn basket_in(
     let slots = p.slots;
     let prevs = p.prevs;
     store_basket(
-        image, l, heads, next, state, count, items, values, olds, slots, prevs, at, words,
+        image,
+        l,
+        heads,
+        next,
+        state,
+        count,
+        items,
+        values,
+        olds,
+        slots,
+        prevs,
+        at,
+        words,
     )
 }
 
@@ -111,5 +133,16 @@ pub fn basket(
 ) -> BasketAnswer
     ensures { λ r. ⌜ basketEnd count r (now (at .exit)) (now (words .exit)) (now (heads .exit)) (now (next .exit)) ≡ leftInLists (now (at .entry)) (now (words .entry)) (basketResult 1 (now (image .entry)) (now (heads .entry)) (now (next .entry)) state (changesOf 1 count items values) (length (now (at .entry))) (length (now (words .entry)))) ⌝ }
 {
-    basket_in(image, 1, heads, next, state, count, items, values, at, words)
+    basket_in(
+        image,
+        1,
+        heads,
+        next,
+        state,
+        count,
+        items,
+        values,
+        at,
+        words,
+    )
 }

@@ -95,13 +95,7 @@ fn lists_fault(count: usize, at: usize, words: usize) -> u32
 }
 
 // 26, 27 or 13, else 0.
-pub fn given_fault(
-    l: usize,
-    count: usize,
-    items: [BasketItem; 8],
-    at: usize,
-    words: usize,
-) -> u32
+pub fn given_fault(l: usize, count: usize, items: [BasketItem; 8], at: usize, words: usize) -> u32
     ensures { λ r. ⌜ ((values : List ℕ) → r ≡ givenFault (changesOf l count items values) at words) ⌝ }
 {
     let number = count_fault(count);

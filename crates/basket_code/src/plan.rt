@@ -39,7 +39,7 @@ fn plan_keys(
     count: usize,
     items: [BasketItem; 8],
 ) -> Plan
-    requires { ⌜ Layout l × Sized (now image) (now heads) (now next) n × (count ≤ 8) ⌝ }
+    requires { ⌜ Layout l × Sized (now image) (now heads) (now next) n × (count ≤ 8) × (2 ≤ n) ⌝ }
     ensures { λ r. ⌜ KeysPlanned l (now (image .entry)) (now (heads .entry)) (now (next .entry)) n state count items r ⌝ }
 {
     let found = find_olds(image, l, heads, next, n, count, items);

@@ -93,6 +93,13 @@ pub ready-at : (l : ℕ) (image heads next : List ℕ) (s : State) (count : ℕ)
     → Ready l image heads next (slotsIn image) s count items at words p → Ready l image heads next m s count items at words p
 ready-at l image heads next s count items at words p m e w = subst (λ (x : ℕ). Ready l image heads next x s count items at words p) (sym e) w
 
+-- what a plan without a refusal has
+pub ready-plan : (l : ℕ) (image heads next : List ℕ) (n : ℕ) (s : State) (count : ℕ) (items : List BasketItem) (at words : ℕ) (p : Plan) → p .fault ≡ 0
+    → Ready l image heads next n s count items at words p
+    → Ready l image heads next n s count items at words (record { fault = 0; olds = p .olds; slots = p .slots; prevs = p .prevs })
+ready-plan l image heads next n s count items at words p z w =
+    subst (λ (x : ℕ). Ready l image heads next n s count items at words (record { fault = x; olds = p .olds; slots = p .slots; prevs = p .prevs })) z w
+
 module _ (l : ℕ) (image heads next : List ℕ) (n : ℕ) (s : State) (count : ℕ) (items : List BasketItem) (at words : ℕ) (p : Plan)
     (w : Ready l image heads next n s count items at words p) where
   abbrev ts : List Taken

@@ -13,7 +13,7 @@ use Rattle.layout.specs.Size.{slotsIn}
 use Rattle.layout.specs.Record.{Layout, limit}
 use Rattle.layout.specs.Header.{lentFault}
 use Rattle.layout.specs.inner.Sized.{Sized}
-use Rattle.layout.proofs.Lents.{version-fine, lent-sized}
+use Rattle.layout.proofs.Lents.{version-fine, lent-sized, lent-slots}
 use Rattle.index.specs.Walk.{search, chainFault}
 use Rattle.index.specs.Change.{isFound}
 use Rattle.index.specs.Taking.{Taking, taken}
@@ -138,9 +138,10 @@ module _ (l : ℕ) (items : List BasketItem) (count at words g : ℕ) (eg : (val
       let a = orElse-zero _ _ (sym (eg []) ∙ zg) in
       let b = say-zero _ _ _ (a .1) (omega arith) in
       let c = say-zero _ _ _ (b .1) (omega arith) in
-      let d = say-zero _ _ _ (c .1) (omega arith) in
-      (omega (arith, ltb-false at (16 * length (changesOf l count items [])) (c .0), so-many l items [] count),
-      omega (arith, ltb-false words (16 * length (changesOf l count items [])) (d .0), so-many l items [] count))
+      let d = say-zero _ _ _ (c .1) (omega arith) in (
+        omega (arith, ltb-false at (16 * length (changesOf l count items [])) (c .0), so-many l items [] count),
+        omega (arith, ltb-false words (16 * length (changesOf l count items [])) (d .0), so-many l items [] count),
+      )
 
 -- ---- plan
 
@@ -189,12 +190,15 @@ module _ (l : ℕ) (image heads next : List ℕ) (s : State) (count : ℕ) (item
           pub plan-sized : (m : ℕ) → m ≡ n → Sized image heads next m
           plan-sized m e = lent-sized l 0 image heads next (sym (lent-fine .0)) refl m e
 
+          pub plan-slots : (m : ℕ) → m ≡ n → 2 ≤ m
+          plan-slots m e = lent-slots l 0 image heads next (sym (lent-fine .0)) refl m e
+
           module _ (p : Plan) (w : KeysPlanned l image heads next n s count items p) where
             prepared : p .fault ≡ 0 → Ready l image heads next n s count items at words p
             unfolding storeFault
             prepared z =
                 let store : (values : List ℕ) → storeFault (takingOf l image next n (s .first) count) n s (sumOver insertsBy (wanted values)) (sumOver removesBy (wanted values)) ≡ 0 =
-                    λ values. orElse-zero _ _ (sym (w .fault-is values) ∙ z) .1 in
+                λ values. orElse-zero _ _ (sym (w .fault-is values) ∙ z) .1 in
                 record {
                   sized = plan-sized n refl;
                   some = counted l items count at words g eg zg .0;

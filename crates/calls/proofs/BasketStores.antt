@@ -194,9 +194,10 @@ module _ (l : ℕ) (image : List ℕ) (version count : ℕ) (items : List Basket
       pub storing-ends : count ≤ j → (at ≡ atFront (wordNumbers (from-item 0 count)) at₀) × (words ≡ atFront (values (from-item 0 count)) words₀)
       unfolding recordsFrom basketStores wordNumbers values
       storing-ends h =
-          let d : count - j ≡ 0 = omega (arith, w .position) in
-          (sym (over-none (16 * j) at) ∙ sym (ap (λ (k : ℕ). over (16 * j) (wordNumbers (from-item j k)) at) d) ∙ w .at-rest,
-          sym (over-none (16 * j) words) ∙ sym (ap (λ (k : ℕ). over (16 * j) (values (from-item j k)) words) d) ∙ w .words-rest)
+          let d : count - j ≡ 0 = omega (arith, w .position) in (
+            sym (over-none (16 * j) at) ∙ sym (ap (λ (k : ℕ). over (16 * j) (wordNumbers (from-item j k)) at) d) ∙ w .at-rest,
+            sym (over-none (16 * j) words) ∙ sym (ap (λ (k : ℕ). over (16 * j) (values (from-item j k)) words) d) ∙ w .words-rest,
+          )
 
 -- ---- the records by what is asked
 

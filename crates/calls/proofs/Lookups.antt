@@ -159,7 +159,7 @@ length-later l image size found slot prev compared len r e q h =
 
 -- ---- what the walks need
 
-sized-walkable : (l : ℕ) (image heads next : List ℕ) (n : ℕ) → Sized image heads next n → 2 ≤ n → Layout l → Walkable image next l n
+pub sized-walkable : (l : ℕ) (image heads next : List ℕ) (n : ℕ) → Sized image heads next n → 2 ≤ n → Layout l → Walkable image next l n
 sized-walkable l image heads next n sized some lay =
     record { layout = lay; image-size = sized .image-size; next-size = sized .next-size; some = some; few = sized .few }
 

@@ -8,11 +8,9 @@ use Rattle.basket_code.proofs.given.any_twice.Statement.{statement}
 use Rattle.basket_code.proofs.given.any_twice.Tie as tie
 
 abbrev Inv-loop : tie.InvT-loop
-
 Inv-loop l count items i₀ i = Pairing l items count i
 
 abbrev μ-loop : tie.MeasureT-loop
-
 μ-loop l count items i₀ i = count - i
 
 loop-holds : tie.Need-loop-holds Inv-loop μ-loop

@@ -9,11 +9,9 @@ use Rattle.basket_code.proofs.given.is_among.Statement.{statement}
 use Rattle.basket_code.proofs.given.is_among.Tie as tie
 
 abbrev Inv-loop : tie.InvT-loop
-
 Inv-loop l from count low high items j₀ j = Seeking l items count (keyWith low high) from j
 
 abbrev μ-loop : tie.MeasureT-loop
-
 μ-loop l from count low high items j₀ j = count - j
 
 loop-holds : tie.Need-loop-holds Inv-loop μ-loop

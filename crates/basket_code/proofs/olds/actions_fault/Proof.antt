@@ -8,11 +8,9 @@ use Rattle.basket_code.proofs.olds.actions_fault.Statement.{statement}
 use Rattle.basket_code.proofs.olds.actions_fault.Tie as tie
 
 abbrev Inv-loop : tie.InvT-loop
-
 Inv-loop count items olds i₀ i = Acting items count olds i
 
 abbrev μ-loop : tie.MeasureT-loop
-
 μ-loop count items olds i₀ i = count - i
 
 loop-holds : tie.Need-loop-holds Inv-loop μ-loop

@@ -9,11 +9,9 @@ use Rattle.basket_code.proofs.olds.find_olds.Statement.{statement}
 use Rattle.basket_code.proofs.olds.find_olds.Tie as tie
 
 abbrev Inv-loop : tie.InvT-loop
-
 Inv-loop image l heads next n count items slots₀ i₀ slots i = Finding (following l image heads next) l items count slots i
 
 abbrev μ-loop : tie.MeasureT-loop
-
 μ-loop image l heads next n count items slots₀ i₀ slots i = count - i
 
 loop-holds : tie.Need-loop-holds Inv-loop μ-loop

@@ -10,12 +10,10 @@ use Rattle.basket_code.proofs.records.put_stores.Statement.{statement}
 use Rattle.basket_code.proofs.records.put_stores.Tie as tie
 
 abbrev Inv-loop : tie.InvT-loop
-
 Inv-loop image l version count at₀ words₀ items values slots number j₀ at words j =
     (number ≡ numberFor count) × Storing l image version count items values slots at₀ words₀ at words j
 
 abbrev μ-loop : tie.MeasureT-loop
-
 μ-loop image l version count at₀ words₀ items values slots number j₀ at words j = count - j
 
 loop-holds : tie.Need-loop-holds Inv-loop μ-loop
@@ -57,13 +55,13 @@ mul-record-stores-at-2 c = omega (arith, c .before .before .before .before .befo
 record-stores-at-requires : tie.Need-record-stores-at-requires Inv-loop μ-loop
 unfolding itemAt
 record-stores-at-requires c κs = (
-      recordable _ _ _ _ _ _ _ _ _ _ _ _ (c .before .before .before .before .before .before .before .before .before .loop .inv .1) (c .before .before .before .before .before .before .before .before .before .before .before .before .before .before .pre) (c .before .before .before .before .before .before .before .before .loop-test .taken) _ _ _ (c .before .before .before .before .before .kind-by .ensures) (c .before .before .before .before .before .before .before .before .before .loop .inv .0)
+  recordable _ _ _ _ _ _ _ _ _ _ _ _ (c .before .before .before .before .before .before .before .before .before .loop .inv .1) (c .before .before .before .before .before .before .before .before .before .before .before .before .before .before .pre) (c .before .before .before .before .before .before .before .before .loop-test .taken) _ _ _ (c .before .before .before .before .before .kind-by .ensures) (c .before .before .before .before .before .before .before .before .before .loop .inv .0)
       (value-of _ _ _ _ (c .before .before .before .before .size-by .ensures) (search (needs, size-within _ _ _ _ _ _ _ _ (c .before .before .before .before .before .before .before .before .before .before .before .before .before .before .pre) _ (c .before .before .before .before .before .before .before .before .loop-test .taken) _ (c .before .before .before .before .size-by .ensures)))),
-      c .before .before .before .before .before .before .before .before .before .before .before .before .before .before .pre .slot-fits _ (c .before .before .before .before .before .before .before .before .loop-test .taken),
-      c .before .before .before .before .before .before .before .before .before .before .before .before .before .before .pre .slot-in _ (c .before .before .before .before .before .before .before .before .loop-test .taken),
-      omega (arith, c .before .before .before .before .before .before .before .before .before .loop .inv .1 .at-size, c .before .before .before .before .before .before .before .before .before .before .before .before .before .before .pre .at-room, c .before .before .before .before .before .before .before .before .loop-test .taken),
-      omega (arith, c .before .before .before .before .before .before .before .before .before .loop .inv .1 .words-size, c .before .before .before .before .before .before .before .before .before .before .before .before .before .before .pre .words-room, c .before .before .before .before .before .before .before .before .loop-test .taken),
-    )
+  c .before .before .before .before .before .before .before .before .before .before .before .before .before .before .pre .slot-fits _ (c .before .before .before .before .before .before .before .before .loop-test .taken),
+  c .before .before .before .before .before .before .before .before .before .before .before .before .before .before .pre .slot-in _ (c .before .before .before .before .before .before .before .before .loop-test .taken),
+  omega (arith, c .before .before .before .before .before .before .before .before .before .loop .inv .1 .at-size, c .before .before .before .before .before .before .before .before .before .before .before .before .before .before .pre .at-room, c .before .before .before .before .before .before .before .before .loop-test .taken),
+  omega (arith, c .before .before .before .before .before .before .before .before .before .loop .inv .1 .words-size, c .before .before .before .before .before .before .before .before .before .before .before .before .before .before .pre .words-room, c .before .before .before .before .before .before .before .before .loop-test .taken),
+)
 
 add-j : tie.Need-add-j Inv-loop μ-loop
 add-j c = omega (arith, c .before .before .before .before .before .before .before .before .before .before .before .before .before .loop-test .taken, c .before .before .before .before .before .before .before .before .before .before .before .before .before .before .before .before .before .before .before .pre .few)
@@ -74,12 +72,12 @@ loop-less c = omega (arith, c .before .before .before .before .before .before .b
 loop-again : tie.Need-loop-again Inv-loop μ-loop
 unfolding itemAt
 loop-again c = (
-      c .before .before .before .before .before .before .before .before .before .before .before .before .before .before .loop .inv .0,
-      storing-on _ _ _ _ _ _ _ _ _ _ _ _ (c .before .before .before .before .before .before .before .before .before .before .before .before .before .before .loop .inv .1) (c .before .before .before .before .before .before .before .before .before .before .before .before .before .before .before .before .before .before .before .pre) (c .before .before .before .before .before .before .before .before .before .before .before .before .before .loop-test .taken) _ _ (c .before .before .before .before .record-stores-at .kept .1 .1 .1 .1 .1 .1 .1 .1 .1 .0)
+  c .before .before .before .before .before .before .before .before .before .before .before .before .before .before .loop .inv .0,
+  storing-on _ _ _ _ _ _ _ _ _ _ _ _ (c .before .before .before .before .before .before .before .before .before .before .before .before .before .before .loop .inv .1) (c .before .before .before .before .before .before .before .before .before .before .before .before .before .before .before .before .before .before .before .pre) (c .before .before .before .before .before .before .before .before .before .before .before .before .before .loop-test .taken) _ _ (c .before .before .before .before .record-stores-at .kept .1 .1 .1 .1 .1 .1 .1 .1 .1 .0)
       (c .before .before .before .before .record-stores-at .kept .1 .1 .1 .1 .1 .1 .1 .1 .1 .1 .0) _ _ _ _ (c .before .before .before .before .before .before .before .before .before .before .before .high-in .ensures) (c .before .before .before .before .before .before .before .before .before .before .kind-by .ensures) (c .before .before .before .before .before .before .before .before .before .before .before .before .before .before .loop .inv .0)
       (value-of _ _ _ _ (c .before .before .before .before .before .before .before .before .before .size-by .ensures) (search (needs, size-within _ _ _ _ _ _ _ _ (c .before .before .before .before .before .before .before .before .before .before .before .before .before .before .before .before .before .before .before .pre) _ (c .before .before .before .before .before .before .before .before .before .before .before .before .before .loop-test .taken) _ (c .before .before .before .before .before .before .before .before .before .size-by .ensures))))
       (c .before .before .before .before .record-stores-at .ensures .0) (c .before .before .before .before .record-stores-at .ensures .1),
-    )
+)
 
 same-length : tie.Need-same-length Inv-loop μ-loop
 same-length c = c .before .loop .inv .1 .at-size

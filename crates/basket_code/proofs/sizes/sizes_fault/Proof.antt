@@ -9,11 +9,9 @@ use Rattle.basket_code.proofs.sizes.sizes_fault.Statement.{statement}
 use Rattle.basket_code.proofs.sizes.sizes_fault.Tie as tie
 
 abbrev Inv-loop : tie.InvT-loop
-
 Inv-loop l count items i₀ i = Checking (λ c. valueFault l (c .action) (length (c .value))) l items count i
 
 abbrev μ-loop : tie.MeasureT-loop
-
 μ-loop l count items i₀ i = count - i
 
 loop-holds : tie.Need-loop-holds Inv-loop μ-loop

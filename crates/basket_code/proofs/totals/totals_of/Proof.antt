@@ -8,11 +8,9 @@ use Rattle.basket_code.proofs.totals.totals_of.Statement.{statement}
 use Rattle.basket_code.proofs.totals.totals_of.Tie as tie
 
 abbrev Inv-loop : tie.InvT-loop
-
 Inv-loop count items inserts₀ removes₀ i₀ inserts removes i = Counting items count inserts removes i
 
 abbrev μ-loop : tie.MeasureT-loop
-
 μ-loop count items inserts₀ removes₀ i₀ inserts removes i = count - i
 
 loop-holds : tie.Need-loop-holds Inv-loop μ-loop

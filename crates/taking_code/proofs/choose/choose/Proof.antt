@@ -6,11 +6,9 @@ use Rattle.taking_code.proofs.choose.choose.Statement.{statement}
 use Rattle.taking_code.proofs.choose.choose.Tie as tie
 
 abbrev Inv-loop : tie.InvT-loop
-
 Inv-loop image l next n first newest wanted p₀ p = Choosing l image next n first wanted p
 
 abbrev μ-loop : tie.MeasureT-loop
-
 μ-loop image l next n first newest wanted p₀ p = p .left
 
 newest-version-requires : tie.Need-newest-version-requires Inv-loop μ-loop
