@@ -47,8 +47,8 @@ $(OUT)/persist: tests/persist.c tests/chance.c $(LOG_ARCHIVE)
 $(OUT)/guard: tests/guard.c tests/pieces.c tests/images.c tests/model.c tests/chance.c
 $(OUT)/differential: tests/differential.c tests/images.c tests/model.c tests/chance.c
 $(OUT)/storm: tests/storm.c tests/cache.c tests/model.c tests/chance.c
-$(OUT)/lock $(OUT)/heads: $(OUT)/%: tests/%.c tests/child.c tests/chance.c
-$(OUT)/kills $(OUT)/watch: $(OUT)/%: tests/%.c tests/model.c tests/child.c tests/chance.c
+$(OUT)/lock $(OUT)/heads $(OUT)/kills: $(OUT)/%: tests/%.c tests/child.c tests/chance.c
+$(OUT)/watch: tests/watch.c tests/model.c tests/child.c tests/chance.c
 
 $(TESTS:%=$(OUT)/%): $(wildcard tests/*.h) $(HEADERS) $(ARCHIVE) | $(OUT)
 	$(C) -Itests $(filter %.c,$^) $(filter %.a,$^) -o $@

@@ -89,9 +89,9 @@
  *
  * Threads: the set has no locks. Gets and locates may run beside each other, each with an output and an answer of its
  * own, and beside nothing else: from the start of an insert, a replace, a remove, a basket, a step of the book, a
- * recovery or a play until its stores are made, no other call runs. The questions about a line may run at any time on a copy of the
- * line; a copy that is taken while another thread or process stores is taken from word 7 down to word 0 (see
- * examples/sender.c).
+ * recovery or a play until its stores are made, no other call runs. The questions about a line may run at any time on a
+ * copy of the line; a copy that is taken while another thread or process stores is taken from word 7 down to word 0
+ * (see examples/sender.c).
  *
  * How many heads: a call walks along the chain of its key's head, so with B near N chains are short. Keys k * B all
  * have one head, and are one chain: with N = 65,535, B = 65,536 and 60,000 keys k * 65,536 a get took 280 microseconds,

@@ -1,8 +1,8 @@
 /* orderset_persist.h: makes an image durable. orderset_persist makes the 16 stores that a call handed out on mapped
  * memory, flushes both lines and fences once; orderset_persist_list does the same with a list of any length, as a
  * basket, recovery and the message log (orderset_log.h) hand it out; orderset_persist_image makes a whole image, or a
- * log's area, durable at a start. C11 and C++11, GCC or Clang, x86-64. No part of the proved archives: nothing here is proved, and what it
- * relies on is said here.
+ * log's area, durable at a start. C11 and C++11, GCC or Clang, x86-64. No part of the proved archives: nothing here is
+ * proved, and what it relies on is said here.
  *
  *     flush = orderset_best_flush();                                                  once
  *     if (orderset_persist_image(image, length, flush)) ...stop                       every start, before recovery
