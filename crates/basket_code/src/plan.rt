@@ -1,6 +1,6 @@
 // What a basket reads before it writes. `l` is the layout.
 ghost use mathlib.Core.Path.{_≡_};
-ghost use Prim.Native.Nat.{_≤_};
+ghost use Prim.Native.Nat.{_≤_, _<_};
 ghost use Rattle.layout.specs.Record.{Layout};
 ghost use Rattle.layout.specs.Size.{slotsIn};
 ghost use Rattle.layout.specs.inner.Sized.{Sized};
@@ -39,7 +39,7 @@ fn plan_keys(
     count: usize,
     items: [BasketItem; 8],
 ) -> Plan
-    requires { ⌜ Layout l × Sized (now image) (now heads) (now next) n × (count ≤ 8) × (2 ≤ n) ⌝ }
+    requires { ⌜ Layout l × Sized (now image) (now heads) (now next) n × (0 < count) × (count ≤ 8) × (2 ≤ n) ⌝ }
     ensures { λ r. ⌜ KeysPlanned l (now (image .entry)) (now (heads .entry)) (now (next .entry)) n state count items r ⌝ }
 {
     let found = find_olds(image, l, heads, next, n, count, items);

@@ -1,7 +1,7 @@
 // The slots that a basket takes, and the refusals by them, by the live count and by the next version.
 ghost use mathlib.Core.Path.{_≡_};
-ghost use Prim.Native.Nat.{_≤_};
-ghost use Rattle.taking.specs.Taking.{takingOf};
+ghost use Prim.Native.Nat.{_≤_, _<_};
+ghost use Rattle.taking.specs.Taking.{takingOf, choiceOf};
 ghost use Rattle.taking.specs.inner.Takeable.{Walkable};
 ghost use Rattle.calls.specs.inner.Basket.{StoreChoice};
 use index::State;
@@ -23,8 +23,8 @@ pub fn choose_slots(
     inserts: u32,
     removes: u32,
 ) -> Choice
-    requires { ⌜ Walkable (now image) (now next) l n × (wanted ≤ 8) ⌝ }
-    ensures { λ r. ⌜ StoreChoice (takingOf l (now (image .entry)) (now (next .entry)) n (state .first) wanted) n state wanted inserts removes r ⌝ }
+    requires { ⌜ Walkable (now image) (now next) l n × (0 < wanted) × (wanted ≤ 8) ⌝ }
+    ensures { λ r. ⌜ StoreChoice (takingOf l (now (image .entry)) (now (next .entry)) n (state .first) wanted) (choiceOf l (now (image .entry)) (now (next .entry)) n (state .first) wanted) n state wanted inserts removes r ⌝ }
 {
     let ends = ends_fault(n as u32, state.first, state.last);
     if ends != 0 {

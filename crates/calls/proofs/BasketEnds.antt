@@ -28,9 +28,9 @@ use Rattle.index.specs.declared.Found.the-variants.{At, Missing, BadChain}
 use Rattle.index.proofs.BasketInside.{TakenInside, taking-inside}
 use Rattle.index.proofs.Takens.{takens-each}
 use Rattle.index.proofs.Walks.{at-inside}
-use Rattle.taking.specs.Taking.{takingOf}
+use Rattle.taking.specs.Taking.{choiceOf}
 use Rattle.calls.specs.Change.{ChangeResult, unchanged}
-use Rattle.calls.specs.Basket.{KeyChange, changesOf, changesFrom, sumOver, insertsBy, removesBy, basketFault, recordsFor, oldIn, itemsFor, indexAfter, basketMade, basketDone, basketResult, BasketLeft, basketSays, basketEnd, eightSlots, atFront, leftInLists}
+use Rattle.calls.specs.Basket.{KeyChange, changesOf, changesFrom, sumOver, insertsBy, removesBy, basketFault, recordsFor, oldIn, itemsFor, indexAfter, basketMade, basketDone, basketBy, basketResult, BasketLeft, basketSays, basketEnd, eightSlots, atFront, leftInLists}
 use Rattle.calls.specs.inner.Basket.{keyAt, itemsFrom, recordsFrom, TotalsOf, Ready, StoresInside, ItemsInside}
 use Rattle.calls.specs.declared.BasketItem.{BasketItem}
 use Rattle.calls.specs.declared.BasketAnswer.{BasketAnswer}
@@ -69,20 +69,20 @@ pub basket-refused : (l : ℕ) (image heads next : List ℕ) (s : State) (change
     → k ≡ basketFault l image heads next s changes (length at) (length words) → (k ≡ 0 → ⊥)
     → basketEnd count (record { outcome = Refused k; slots = replicate 8 0; state = s }) at words heads next
     ≡ leftInLists at words (basketResult l image heads next s changes (length at) (length words))
-unfolding basketResult basketSays leftInLists unchanged eightSlots atFront wordNumbers values
+unfolding basketResult basketBy basketSays leftInLists unchanged eightSlots atFront wordNumbers values
 basket-refused l image heads next s changes at words count k e ne =
     ap (λ (x : ℕ). leftInLists at words (unchanged (refused x) s heads next)) e
-    ∙ sym (ap (leftInLists at words) (refused-keeps (basketDone l image heads next s changes (takingOf l image next (slotsIn image) (s .first) (length changes))) (unchanged (refused (basketFault l image heads next s changes (length at) (length words))) s heads next) (basketFault l image heads next s changes (length at) (length words)) (λ z. ne (e ∙ z))))
+    ∙ sym (ap (leftInLists at words) (refused-keeps (basketDone l image heads next s changes (choiceOf l image next (slotsIn image) (s .first) (length changes))) (unchanged (refused (basketFault l image heads next s changes (length at) (length words))) s heads next) (basketFault l image heads next s changes (length at) (length words)) (λ z. ne (e ∙ z))))
 
 -- not refused
 pub basket-taken : (l : ℕ) (image heads next : List ℕ) (s : State) (count : ℕ) (items : List BasketItem) (bytes at words : List ℕ) (k : ℕ)
     → k ≡ basketFault l image heads next s (changesOf l count items bytes) (length at) (length words) → k ≡ 0 → (r : BasketLeft)
-    → r ≡ leftInLists at words (basketDone l image heads next s (changesOf l count items bytes) (takingOf l image next (slotsIn image) (s .first) count))
+    → r ≡ leftInLists at words (basketDone l image heads next s (changesOf l count items bytes) (choiceOf l image next (slotsIn image) (s .first) count))
     → r ≡ leftInLists at words (basketResult l image heads next s (changesOf l count items bytes) (length at) (length words))
-unfolding basketResult
+unfolding basketResult basketBy
 basket-taken l image heads next s count items bytes at words k e z r h =
     h
-    ∙ ap (λ (m : ℕ). leftInLists at words (basketDone l image heads next s (changesOf l count items bytes) (takingOf l image next (slotsIn image) (s .first) m)))
+    ∙ ap (λ (m : ℕ). leftInLists at words (basketDone l image heads next s (changesOf l count items bytes) (choiceOf l image next (slotsIn image) (s .first) m)))
     (sym (so-many l items bytes count))
     ∙ sym (ap (leftInLists at words) (taken-leaves _ _ _ (sym e ∙ z)))
 
@@ -107,8 +107,8 @@ module _ (l : ℕ) (image heads next : List ℕ) (n : ℕ) (s : State) (count : 
 
   -- the slots lie inside the index
   all-inside : All (TakenInside n) ts
-  unfolding takingOf
-  all-inside = taking-inside _ next n (s .first) count ts (w .taking-is) .0
+  unfolding choiceOf
+  all-inside = taking-inside _ next n (s .first) count ts (w .choice-is) .0
 
   each : (j : ℕ) → j < count → TakenInside n (record { slot = getD (p .slots) j 0; prev = getD (p .prevs) j 0 })
   each j h = takens-each (TakenInside n) (p .slots) (p .prevs) 0 count all-inside j (omega arith) (omega arith)
@@ -219,7 +219,7 @@ module _ (l : ℕ) (image heads next : List ℕ) (n : ℕ) (s : State) (count : 
             newest = getD (p .slots) 0 0;
           };
         }) at₁ words₁ heads₁ next₁
-        ≡ leftInLists at₀ words₀ (basketDone l image heads next s changes (takingOf l image next (slotsIn image) (s .first) count))
+        ≡ leftInLists at₀ words₀ (basketDone l image heads next s changes (choiceOf l image next (slotsIn image) (s .first) count))
     unfolding basketSays leftInLists basketDone basketMade eightSlots
     basket-written =
         left-by (ap (λ (x : List ℕ). gives (s .version ∷ x)) slots-are) eight
@@ -229,4 +229,4 @@ module _ (l : ℕ) (image heads next : List ℕ) (n : ℕ) (s : State) (count : 
         (ap (λ (i : Index). i .heads) index) (ap (λ (i : Index). i .next) index)
         ∙ sym
         (ap (λ (x : Taking). leftInLists at₀ words₀ (basketDone l image heads next s changes x))
-        (ap (λ (m : ℕ). takingOf l image next m (s .first) count) (sym en) ∙ w .taking-is))
+        (ap (λ (m : ℕ). choiceOf l image next m (s .first) count) (sym en) ∙ w .choice-is))

@@ -23,7 +23,7 @@ use Rattle.index.specs.declared.Found.{Found}
 use Rattle.index.specs.declared.Found.the-variants.{At, Missing, BadChain}
 use Rattle.index.proofs.Walks.{at-inside}
 use Rattle.index.proofs.Faults.{reuse-ends, reuse-live, room-fine}
-use Rattle.taking.specs.Taking.{takingOf}
+use Rattle.taking.specs.Taking.{takingOf, choiceOf}
 use Rattle.taking.specs.inner.Choice.{Chosen}
 use Rattle.taking.specs.declared.Choice.{Choice}
 use Rattle.calls.specs.Change.{storeFault}
@@ -38,9 +38,9 @@ use Rattle.calls.proofs.BasketChecks.{so-many, sizes-fit, count-few}
 
 -- ---- choose_slots
 
-module _ (taking : Taking) (n : ℕ) (s : State) (wanted inserts removes : ℕ) where
+module _ (taking choice : Taking) (n : ℕ) (s : State) (wanted inserts removes : ℕ) where
   pub no-choice : (c : Choice) (k : ℕ) → c .fault ≡ k → (k ≡ 0 → ⊥) → k ≡ storeFault taking n s inserts removes
-      → StoreChoice taking n s wanted inserts removes c
+      → StoreChoice taking choice n s wanted inserts removes c
   no-choice c k e ne f =
       record {
         fault-is = e ∙ f;
@@ -48,8 +48,8 @@ module _ (taking : Taking) (n : ℕ) (s : State) (wanted inserts removes : ℕ) 
         zeros = λ z. absurd (ne (sym e ∙ z));
       }
 
-  pub a-choice : (c : Choice) → Chosen taking wanted c → c .fault ≡ 0 → (v : ℕ) → v ≡ 0 → v ≡ storeFault taking n s inserts removes
-      → StoreChoice taking n s wanted inserts removes c
+  pub a-choice : (c : Choice) → Chosen taking choice wanted c → c .fault ≡ 0 → (v : ℕ) → v ≡ 0 → v ≡ storeFault taking n s inserts removes
+      → StoreChoice taking choice n s wanted inserts removes c
   a-choice c h z v y f = record { fault-is = z ∙ sym y ∙ f; slots-are = h .slots-are; zeros = h .zeros }
 
 -- ---- plan_keys
@@ -81,7 +81,7 @@ module _ (l : ℕ) (image heads next : List ℕ) (n : ℕ) (s : State) (count : 
       record {
         fault-is = λ values. e ∙ f values;
         olds-are = λ z. absurd (ne (sym e ∙ z));
-        taking-is = λ z. absurd (ne (sym e ∙ z));
+        choice-is = λ z. absurd (ne (sym e ∙ z));
         zeros = λ z. absurd (ne (sym e ∙ z));
       }
 
@@ -109,7 +109,7 @@ module _ (l : ℕ) (image heads next : List ℕ) (n : ℕ) (s : State) (count : 
       keys-held p e ne = keys-refused p h e ne (λ values. said (stores values) (held values) ne)
 
       pub keys-planned : h ≡ 0 → (t : Totals) → TotalsOf l count items t → (c : Choice)
-          → StoreChoice (takingOf l image next n (s .first) count) n s count (t .inserts) (t .removes) c
+          → StoreChoice (takingOf l image next n (s .first) count) (choiceOf l image next n (s .first) count) n s count (t .inserts) (t .removes) c
           → KeysPlanned l image heads next n s count items (record { fault = c .fault; olds = o .slots; slots = c .slots; prevs = c .prevs })
       keys-planned y t g c k =
           record {
@@ -118,7 +118,7 @@ module _ (l : ℕ) (image heads next : List ℕ) (n : ℕ) (s : State) (count : 
                 (k .fault-is
                 ∙ ap₂ (λ (a b : ℕ). storeFault (takingOf l image next n (s .first) count) n s a b) (g .inserts-are values) (g .removes-are values));
             olds-are = λ q j x. w .slot-is z j x;
-            taking-is = k .slots-are;
+            choice-is = k .slots-are;
             zeros = k .zeros;
           }
 
@@ -128,6 +128,9 @@ module _ (l : ℕ) (items : List BasketItem) (count at words g : ℕ) (eg : (val
   counted : (0 < count) × (count ≤ 8)
   unfolding givenFault
   counted = let a = orElse-zero _ _ (sym (eg []) ∙ zg) in count-few count (keyCountFault count) refl (ap keyCountFault (sym (so-many l items [] count)) ∙ a .0)
+
+  pub given-some : 0 < count
+  given-some = counted .0
 
   pub given-few : count ≤ 8
   given-few = counted .1
@@ -207,7 +210,7 @@ module _ (l : ℕ) (image heads next : List ℕ) (s : State) (count : ℕ) (item
                   words-room = roomy l items count at words g eg zg .1;
                   size-fits = sizes-fit l items count [] (lent-fine .1);
                   olds-are = w .olds-are z;
-                  taking-is = w .taking-is z;
+                  choice-is = w .choice-is z;
                   zeros = w .zeros z;
                   last-in = reuse-ends _ _ _ _ _ _ (orElse-zero _ _ (store []) .0) .last-high;
                   version-fits = version-fine (s .version) (orElse-zero _ _ (orElse-zero _ _ (store []) .1) .1);

@@ -24,7 +24,7 @@ use Rattle.index.specs.declared.Action.{Action}
 use Rattle.index.specs.declared.Action.the-variants.{Insert, Replace, Remove}
 use Rattle.index.specs.declared.Found.{Found}
 use Rattle.index.specs.declared.Found.the-variants.{At, Missing, BadChain}
-use Rattle.taking.specs.Taking.{takingOf}
+use Rattle.taking.specs.Taking.{takingOf, choiceOf}
 use Rattle.calls.specs.Change.{ChangeResult, unchanged, storeFault}
 use Rattle.calls.specs.declared.BasketItem.{BasketItem}
 use Rattle.calls.specs.declared.BasketAnswer.{BasketAnswer}
@@ -214,12 +214,22 @@ basketDone l image heads next s changes (taken ts) =
 basketDone l image heads next s changes tooFew = unchanged (refused 28) s heads next
 basketDone l image heads next s changes badLink = unchanged (refused 11) s heads next
 
--- at and words are the lengths of the lent lists
+-- where it is not refused, by these slots; at and words are the lengths of the lent lists
+unfoldable pub basketBy : (l : ℕ) → (image heads next : List ℕ) → State → List KeyChange → (at words : ℕ) → Taking → ChangeResult
+basketBy l image heads next s changes at words choice =
+    unlessRefused (basketFault l image heads next s changes at words)
+    (basketDone l image heads next s changes choice)
+    (unchanged (refused (basketFault l image heads next s changes at words)) s heads next)
+
+-- "with an index not the image's own, only refusals are fixed": they are those of the taking rule for any index; the slots are so chosen that with an index that is the
+-- image's own they are the rule's too, `basketByRule`
 unfoldable pub basketResult : (l : ℕ) → (image heads next : List ℕ) → State → List KeyChange → (at words : ℕ) → ChangeResult
 basketResult l image heads next s changes at words =
-    unlessRefused (basketFault l image heads next s changes at words)
-    (basketDone l image heads next s changes (takingOf l image next (slotsIn image) (s .first) (length changes)))
-    (unchanged (refused (basketFault l image heads next s changes at words)) s heads next)
+    basketBy l image heads next s changes at words (choiceOf l image next (slotsIn image) (s .first) (length changes))
+
+unfoldable pub basketByRule : (l : ℕ) → (image heads next : List ℕ) → State → List KeyChange → (at words : ℕ) → ChangeResult
+basketByRule l image heads next s changes at words =
+    basketBy l image heads next s changes at words (takingOf l image next (slotsIn image) (s .first) (length changes))
 
 -- ---- what a call leaves
 

@@ -47,11 +47,11 @@ with-within n wanted at prev (taken ts) l m p w r =
 with-within n wanted at prev tooFew l m p w r = tt
 with-within n wanted at prev badLink l m p w r = tt
 
-walk-within : (may : ℕ → Bool) (next : List ℕ) (n left wanted prev at : ℕ) → prev ≤ n
-    → TakingWithin n wanted (takeWalk may next n left wanted prev at)
+walk-within : (may : List ℕ → ℕ → Bool) (next : List ℕ) (n left wanted prev at : ℕ) (chosen : List ℕ) → prev ≤ n
+    → TakingWithin n wanted (takeWalk may next n left wanted prev at chosen)
 unfolding takeWalk
-walk-within may next n zero wanted prev at p = either-way n wanted (eqb at 0) _ _ (λ e. end-within n wanted) (λ e. tt)
-walk-within may next n (suc left) wanted prev at p =
+walk-within may next n zero wanted prev at chosen p = either-way n wanted (eqb at 0) _ _ (λ e. end-within n wanted) (λ e. tt)
+walk-within may next n (suc left) wanted prev at chosen p =
     either-way n wanted (eqb at 0) _ _ (λ e. end-within n wanted)
     (λ z.
     either-way n wanted (ltb n at) _ _ (λ e. tt)
@@ -60,16 +60,16 @@ walk-within may next n (suc left) wanted prev at p =
     let high : at ≤ n = ltb-false n at e in
     either-way n wanted (eqb wanted 0) _ _ (λ k. (none-left, omega (arith, eqb-true wanted 0 k)))
     (λ k.
-    either-way n wanted (may at) _ _
+    either-way n wanted (may chosen at) _ _
     (λ t.
-    with-within n wanted at prev (takeWalk may next n left (wanted - 1) prev (getD next at 0)) low high p (omega (arith, eqb-false wanted 0 k))
-    (walk-within may next n left (wanted - 1) prev (getD next at 0) p))
-    (λ t. walk-within may next n left wanted at (getD next at 0) high))))
+    with-within n wanted at prev (takeWalk may next n left (wanted - 1) prev (getD next at 0) (at ∷ chosen)) low high p (omega (arith, eqb-false wanted 0 k))
+    (walk-within may next n left (wanted - 1) prev (getD next at 0) (at ∷ chosen) p))
+    (λ t. walk-within may next n left wanted at (getD next at 0) chosen high))))
 
-pub taking-inside : (may : ℕ → Bool) (next : List ℕ) (n first wanted : ℕ) (ts : List Taken) → takeFrom may next n first wanted ≡ taken ts
+pub taking-inside : (may : List ℕ → ℕ → Bool) (next : List ℕ) (n first wanted : ℕ) (ts : List Taken) → takeFrom may next n first wanted ≡ taken ts
     → All (TakenInside n) ts × (length ts ≡ wanted)
 unfolding takeFrom
-taking-inside may next n first wanted ts e = subst (TakingWithin n wanted) e (walk-within may next n n wanted 0 first (omega arith))
+taking-inside may next n first wanted ts e = subst (TakingWithin n wanted) e (walk-within may next n n wanted 0 first [] (omega arith))
 
 -- ---- the last slot of reuse
 

@@ -4,14 +4,14 @@ use mathlib.Core.Bool.{Bool, true, false, cond}
 use mathlib.Core.List.{List, [], _∷_}
 use Prim.Native.Nat.{ℕ, zero, suc, _+_, _-_, _≤_}
 use native.Mathlib.Omega.{arith}
-use lib.Dec.{ltb, leb·suc-suc}
+use lib.Dec.{eqb, ltb, leb·suc-suc}
 use lib.ListN.{length, getD, take}
 use borrow.Author.Tests.{eq-eqb, ne-eqb, lt-ltb, le-ltb}
 use Rattle.prelude.specs.Refusal.{say}
 use Rattle.prelude.specs.Filter.{filter}
 use Rattle.index.specs.Index.{Index, Chain, reuse, start, ahead}
 use Rattle.index.specs.Linked.{Linked, Sits}
-use Rattle.index.specs.Taking.{taken, tooFew, withTaken, atEnd, takeWalk, takeFrom, linkFault, fewFault}
+use Rattle.index.specs.Taking.{Taking, taken, tooFew, badLink, withTaken, atEnd, takeWalk, takeFrom, linkFault, fewFault}
 use Rattle.index.specs.Basket.{takenSlots}
 use Rattle.index.proofs.defs.TakenIn.{takesIn, takenIn}
 use Rattle.index.proofs.ChainLengths.{at-most, formed-linked}
@@ -50,37 +50,74 @@ ended may prev (suc wanted) = rw (ne-eqb (suc wanted) 0 (λ e. omega arith), lt-
 
 -- ---- the links
 
-taking-linked : (may : ℕ → Bool) (next : List ℕ) (n : ℕ) (xs : List ℕ) (left wanted prev at : ℕ) → length next ≡ n + 1 → Linked next at xs
-    → length xs ≤ left → takeWalk may next n left wanted prev at ≡ takenIn may prev wanted xs
+taking-linked : (may : ℕ → Bool) (next : List ℕ) (n : ℕ) (xs : List ℕ) (left wanted prev at : ℕ) (chosen : List ℕ) → length next ≡ n + 1 → Linked next at xs
+    → length xs ≤ left → takeWalk (λ c. may) next n left wanted prev at chosen ≡ takenIn may prev wanted xs
 unfolding takeWalk
-taking-linked may next n [] zero wanted prev at z r h = rw (eq-eqb at 0 r) (ended may prev wanted)
-taking-linked may next n [] (suc left) wanted prev at z r h = rw (eq-eqb at 0 r) (ended may prev wanted)
-taking-linked may next n (x ∷ xs) zero wanted prev at z r h = absurd (omega arith)
-taking-linked may next n (x ∷ xs) (suc left) zero prev at z r h =
+taking-linked may next n [] zero wanted prev at chosen z r h = rw (eq-eqb at 0 r) (ended may prev wanted)
+taking-linked may next n [] (suc left) wanted prev at chosen z r h = rw (eq-eqb at 0 r) (ended may prev wanted)
+taking-linked may next n (x ∷ xs) zero wanted prev at chosen z r h = absurd (omega arith)
+taking-linked may next n (x ∷ xs) (suc left) zero prev at chosen z r h =
     let q : x ≤ n = omega (arith, r .2) in
     rw (r .0, ne-eqb x 0 (λ e. omega (arith, r .1)), le-ltb n x q) (sym (enough may prev (x ∷ xs)))
-taking-linked may next n (x ∷ xs) (suc left) (suc wanted) prev at z r h =
+taking-linked may next n (x ∷ xs) (suc left) (suc wanted) prev at chosen z r h =
     let q : x ≤ n = omega (arith, r .2) in
     let d : suc wanted - 1 ≡ wanted = omega arith in
     rw (r .0, ne-eqb x 0 (λ e. omega (arith, r .1)), le-ltb n x q, ne-eqb (suc wanted) 0 (λ e. omega arith), d)
-    (go (may x) refl (taking-linked may next n xs left wanted prev (getD next x 0) z (r .3) (omega arith))
-    (taking-linked may next n xs left (suc wanted) x (getD next x 0) z (r .3) (omega arith)))
+    (go (may x) refl (taking-linked may next n xs left wanted prev (getD next x 0) (x ∷ chosen) z (r .3) (omega arith))
+    (taking-linked may next n xs left (suc wanted) x (getD next x 0) chosen z (r .3) (omega arith)))
   where
-    go : (b : Bool) → may x ≡ b → takeWalk may next n left wanted prev (getD next x 0) ≡ takenIn may prev wanted xs
-        → takeWalk may next n left (suc wanted) x (getD next x 0) ≡ takenIn may x (suc wanted) xs
-        → cond b (withTaken x prev (takeWalk may next n left wanted prev (getD next x 0)))
-        (takeWalk may next n left (suc wanted) x (getD next x 0)) ≡ takenIn may prev (suc wanted) (x ∷ xs)
+    go : (b : Bool) → may x ≡ b → takeWalk (λ c. may) next n left wanted prev (getD next x 0) (x ∷ chosen) ≡ takenIn may prev wanted xs
+        → takeWalk (λ c. may) next n left (suc wanted) x (getD next x 0) chosen ≡ takenIn may x (suc wanted) xs
+        → cond b (withTaken x prev (takeWalk (λ c. may) next n left wanted prev (getD next x 0) (x ∷ chosen)))
+        (takeWalk (λ c. may) next n left (suc wanted) x (getD next x 0) chosen) ≡ takenIn may prev (suc wanted) (x ∷ xs)
     go true e a b = ap (withTaken x prev) a ∙ more may prev wanted x xs e
     go false e a b = b ∙ pass may prev wanted x xs e
 
 -- THE WALK of the reuse chain
 pub sits-taking : (n b : ℕ) (place : ℕ → Chain) (i : Index) (chains : Chain → List ℕ) → Sits n b place i chains
-    → (may : ℕ → Bool) (wanted : ℕ) → takeFrom may (i .next) n (i .first) wanted ≡ takenIn may 0 wanted (chains reuse)
+    → (may : ℕ → Bool) (wanted : ℕ) → takeFrom (λ c. may) (i .next) n (i .first) wanted ≡ takenIn may 0 wanted (chains reuse)
 unfolding takeFrom ahead start
 sits-taking n b place i chains g may wanted =
-    taking-linked may (i .next) n (chains reuse) n wanted 0 (i .first) (g .next-size)
+    taking-linked may (i .next) n (chains reuse) n wanted 0 (i .first) [] (g .next-size)
     (formed-linked i _ chains reuse (g .formed .disjoint))
     (at-most n (chains reuse) (sits-once n b place i chains g reuse) (λ x m. let q = sits-in n b place i chains g reuse x m in (q .0, q .1)))
+
+-- two tests that agree on each slot of the list, after the slots that were taken before it
+abbrev pub AgreeAlong : (p q : List ℕ → ℕ → Bool) → (chosen : List ℕ) → List ℕ → Type 0
+AgreeAlong p q chosen [] = Unit
+AgreeAlong p q chosen (x ∷ xs) = (p chosen x ≡ q chosen x) × AgreeAlong p q (cond (q chosen x) (x ∷ chosen) chosen) xs
+
+walk-alike : (p q : List ℕ → ℕ → Bool) (next : List ℕ) (n : ℕ) (xs : List ℕ) (left wanted prev at : ℕ) (chosen : List ℕ) → Linked next at xs
+    → length xs ≤ left → AgreeAlong p q chosen xs → takeWalk p next n left wanted prev at chosen ≡ takeWalk q next n left wanted prev at chosen
+unfolding takeWalk
+walk-alike p q next n [] zero wanted prev at chosen r h a = refl
+walk-alike p q next n [] (suc left) wanted prev at chosen r h a = rw (eq-eqb at 0 r) refl
+walk-alike p q next n (x ∷ xs) zero wanted prev at chosen r h a = absurd (omega arith)
+walk-alike p q next n (x ∷ xs) (suc left) wanted prev at chosen r h a =
+    rw (r .0, a .0)
+    (ap (λ (t : Taking). cond (eqb x 0) (atEnd wanted) (cond (ltb n x) badLink (cond (eqb wanted 0) (taken []) t)))
+    (go (q chosen x) (a .1)
+    (walk-alike p q next n xs left (wanted - 1) prev (getD next x 0) (x ∷ chosen) (r .3) (omega arith))
+    (walk-alike p q next n xs left wanted x (getD next x 0) chosen (r .3) (omega arith))))
+  where
+    go : (b : Bool) → AgreeAlong p q (cond b (x ∷ chosen) chosen) xs
+        → (AgreeAlong p q (x ∷ chosen) xs → takeWalk p next n left (wanted - 1) prev (getD next x 0) (x ∷ chosen)
+        ≡ takeWalk q next n left (wanted - 1) prev (getD next x 0) (x ∷ chosen))
+        → (AgreeAlong p q chosen xs → takeWalk p next n left wanted x (getD next x 0) chosen ≡ takeWalk q next n left wanted x (getD next x 0) chosen)
+        → cond b (withTaken x prev (takeWalk p next n left (wanted - 1) prev (getD next x 0) (x ∷ chosen))) (takeWalk p next n left wanted x (getD next x 0) chosen)
+        ≡ cond b (withTaken x prev (takeWalk q next n left (wanted - 1) prev (getD next x 0) (x ∷ chosen))) (takeWalk q next n left wanted x (getD next x 0) chosen)
+    go true d e f = ap (withTaken x prev) (e d)
+    go false d e f = f d
+
+-- along the reuse chain such tests take the same slots
+pub sits-alike : (n b : ℕ) (place : ℕ → Chain) (i : Index) (chains : Chain → List ℕ) → Sits n b place i chains → (p q : List ℕ → ℕ → Bool) (wanted : ℕ)
+    → AgreeAlong p q [] (chains reuse) → takeFrom p (i .next) n (i .first) wanted ≡ takeFrom q (i .next) n (i .first) wanted
+unfolding takeFrom ahead start
+sits-alike n b place i chains g p q wanted a =
+    walk-alike p q (i .next) n (chains reuse) n wanted 0 (i .first) []
+    (formed-linked i _ chains reuse (g .formed .disjoint))
+    (at-most n (chains reuse) (sits-once n b place i chains g reuse) (λ x m. let q = sits-in n b place i chains g reuse x m in (q .0, q .1)))
+    a
 
 -- ---- what is taken
 

@@ -28,19 +28,20 @@ withTaken slot prev badLink = badLink
 unfoldable pub atEnd : (wanted : ℕ) → Taking
 atEnd wanted = cond (eqb wanted 0) (taken []) tooFew
 
--- from the link `at` on, with `prev` before it that stays, `wanted` slots to be taken and `left` that may still be met; `may` tells which slots may be taken
-unfoldable pub takeWalk : (may : ℕ → Bool) → (next : List ℕ) → (n left wanted prev at : ℕ) → Taking
-takeWalk may next n zero wanted prev at = cond (eqb at 0) (atEnd wanted) badLink
-takeWalk may next n (suc left) wanted prev at =
+-- from the link `at` on, with `prev` before it that stays, `wanted` slots to be taken, `left` that may still be met and `chosen` taken so far, the last one first; `may`
+-- tells which slots may be taken after those
+unfoldable pub takeWalk : (may : List ℕ → ℕ → Bool) → (next : List ℕ) → (n left wanted prev at : ℕ) → (chosen : List ℕ) → Taking
+takeWalk may next n zero wanted prev at chosen = cond (eqb at 0) (atEnd wanted) badLink
+takeWalk may next n (suc left) wanted prev at chosen =
     cond (eqb at 0) (atEnd wanted)
     (cond (ltb n at) badLink
     (cond (eqb wanted 0) (taken [])
-    (cond (may at) (withTaken at prev (takeWalk may next n left (wanted - 1) prev (getD next at 0)))
-    (takeWalk may next n left wanted at (getD next at 0)))))
+    (cond (may chosen at) (withTaken at prev (takeWalk may next n left (wanted - 1) prev (getD next at 0) (at ∷ chosen)))
+    (takeWalk may next n left wanted at (getD next at 0) chosen))))
 
 -- the first `wanted` slots of the reuse chain that may be taken
-unfoldable pub takeFrom : (may : ℕ → Bool) → (next : List ℕ) → (n first wanted : ℕ) → Taking
-takeFrom may next n first wanted = takeWalk may next n n wanted 0 first
+unfoldable pub takeFrom : (may : List ℕ → ℕ → Bool) → (next : List ℕ) → (n first wanted : ℕ) → Taking
+takeFrom may next n first wanted = takeWalk may next n n wanted 0 first []
 
 -- ---- refusals
 

@@ -40,14 +40,14 @@ use Rattle.index.specs.declared.Found.{Found}
 use Rattle.index.proofs.defs.Items.{oldsBy, oldsOf}
 use Rattle.taking.specs.Taking.{takingOf}
 use Rattle.calls.specs.Change.{storeFault, unchanged}
-use Rattle.calls.specs.Basket.{KeyChange, anyTwice, keyCountFault, givenFault, firstFault, valueFault, actionFault, basketLentFault, keysFault, insertsBy, removesBy, sumOver, kindBy, valueBy, basketFault, recordsFor, oldIn, itemsFor, indexAfter, basketMade, basketDone, basketResult}
+use Rattle.calls.specs.Basket.{KeyChange, anyTwice, keyCountFault, givenFault, firstFault, valueFault, actionFault, basketLentFault, keysFault, insertsBy, removesBy, sumOver, kindBy, valueBy, basketFault, recordsFor, oldIn, itemsFor, indexAfter, basketMade, basketDone, basketBy, basketResult, basketByRule}
 use Rattle.images.proofs.defs.Entries.{recordOf}
 use Rattle.plainmap.specs.World.{World, Called, calledChange}
 use Rattle.plainmap.specs.Plain.{PlainMap, Update, giving, dropping, updated, plainNext, plainStep}
 use Rattle.plainmap.specs.Accepted.{Accepted}
 use Rattle.plainmap.specs.Sound.{Sound}
 use Rattle.plainmap.specs.Claims.{slotsMap}
-use Rattle.plainmap.specs.Baskets.{Basket, basketCalled, keyUpdate, basketUpdates, basketRule, basketDue, slotsTaken, BasketRight, TypedChange}
+use Rattle.plainmap.specs.Baskets.{Basket, basketCalled, basketRuled, keyUpdate, basketUpdates, basketRule, basketDue, slotsTaken, BasketRight, TypedChange}
 use Rattle.plainmap.proofs.Wrote.{SomeSound, some-sound, nextOf}
 use Rattle.plainmap.proofs.Outcomes.{worldWith, same}
 use Rattle.prelude.proofs.Lists.{in-append}
@@ -56,7 +56,7 @@ use Rattle.plainmap.proofs.Refuses.{sound-lent, sound-chain, store-row}
 use Rattle.plainmap.proofs.Rights.{refusal-told}
 use Rattle.plainmap.proofs.CallSteps.{Stepped, stored-none, stored-records}
 use Rattle.plainmap.proofs.BasketKeys.{KeyReady}
-use Rattle.plainmap.proofs.BasketRuns.{basket-passed, BasketPassed, key-ready, first-none, map-all, held-old, olds-once, taking-is, ts, es, new, many, as-many, once, each, basket, basket-wrote}
+use Rattle.plainmap.proofs.BasketRuns.{basket-passed, BasketPassed, key-ready, first-none, map-all, held-old, olds-once, taking-is, choice-is, choice-rule, ts, es, new, many, as-many, once, each, basket, basket-wrote}
 
 -- ---- the plain map's step, key by key
 
@@ -223,15 +223,15 @@ module _ (l : ℕ) (lay : Layout l) (w : World) (chains : Chain → List ℕ) (a
       → basketResult l (w .image) (w .heads) (w .next) (w .state) (b .changes) (b .at) (b .words) ≡
       basketMade l (w .image) (w .state) (b .changes) (ts l lay w chains accepted g none-void (b .changes) typed p)
       (indexAfter l (w .image) (w .heads) (w .next) (w .state) (b .changes) (ts l lay w chains accepted g none-void (b .changes) typed p))
-  unfolding basketResult basketDone
+  unfolding basketResult basketBy basketDone
   made-is b p typed z =
       taken-leaves _ _ _ z
-      ∙ ap (basketDone l (w .image) (w .heads) (w .next) (w .state) (b .changes)) (taking-is l lay w chains accepted g none-void (b .changes) typed p)
+      ∙ ap (basketDone l (w .image) (w .heads) (w .next) (w .state) (b .changes)) (choice-is l lay w chains accepted g none-void (b .changes) typed p)
 
   refused-is : (b : Basket) → (basketFault l (w .image) (w .heads) (w .next) (w .state) (b .changes) (b .at) (b .words) ≡ 0 → ⊥)
       → basketResult l (w .image) (w .heads) (w .next) (w .state) (b .changes) (b .at) (b .words) ≡
       unchanged (refused (basketFault l (w .image) (w .heads) (w .next) (w .state) (b .changes) (b .at) (b .words))) (w .state) (w .heads) (w .next)
-  unfolding basketResult
+  unfolding basketResult basketBy
   refused-is b nz = refused-keeps _ _ _ nz
 
   -- THE BASKET: it stores nothing and the plain map stays, or it writes its records, which is the plain map's step
@@ -267,6 +267,13 @@ module _ (l : ℕ) (lay : Layout l) (w : World) (chains : Chain → List ℕ) (a
       cs : List KeyChange
       cs = b .changes
 
+  -- IT IS THE RULE'S
+  by-rule : (b : Basket) → basketCalled l w b ≡ basketRuled l w b
+  unfolding basketCalled basketRuled basketResult basketByRule
+  by-rule b =
+      ap (λ (t : Taking). calledChange (basketBy l (w .image) (w .heads) (w .next) (w .state) (b .changes) (b .at) (b .words) t))
+      (choice-rule l lay w chains accepted g none-void (length (b .changes)))
+
   -- ITS ANSWER IS RIGHT
   pub basket-right : (b : Basket) → All (TypedChange l) (b .changes) → BasketRight l w (slotsMap l (w .image)) b
   unfolding basketCalled calledChange unchanged basketMade refusalIn slotsTaken
@@ -282,6 +289,7 @@ module _ (l : ℕ) (lay : Layout l) (w : World) (chains : Chain → List ℕ) (a
             ∙ ap₂ (λ (v : ℕ) (t : Taking). gives (v ∷ slotsTaken t)) (g .next-version)
             (sym (taking-is l lay w chains accepted g none-void (b .changes) typed p));
         refused-still = λ nz. absurd (nz (sym (basket-fault b) ∙ z));
+        by-rule = by-rule b;
       })
       (λ nz.
       let d = ap calledChange (refused-is b nz) in
@@ -295,6 +303,7 @@ module _ (l : ℕ) (lay : Layout l) (w : World) (chains : Chain → List ℕ) (a
               next = ap (λ (c : Called). c .next) d;
               state = ap (λ (c : Called). c .state) d;
             };
+        by-rule = by-rule b;
       })
 
 -- the answer is a refusal exactly where the rules refuse

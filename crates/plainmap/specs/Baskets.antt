@@ -14,7 +14,7 @@ use Rattle.index.specs.Basket.{takenSlots}
 use Rattle.index.specs.declared.Action.{Action}
 use Rattle.index.specs.declared.Action.the-variants.{Insert, Replace, Remove}
 use Rattle.taking.specs.Taking.{takingOf}
-use Rattle.calls.specs.Basket.{KeyChange, givenFault, firstFault, valueFault, actionFault, insertsBy, removesBy, sumOver, basketResult}
+use Rattle.calls.specs.Basket.{KeyChange, givenFault, firstFault, valueFault, actionFault, insertsBy, removesBy, sumOver, basketResult, basketByRule}
 use Rattle.plainmap.specs.World.{World, Called, calledChange}
 use Rattle.plainmap.specs.Plain.{PlainMap, Update, giving, dropping, Room, roomRule}
 use Rattle.plainmap.specs.Claims.{roomOf, StaysAs}
@@ -28,6 +28,10 @@ pub record Basket : Type 0 where
 -- the basket by its contract
 unfoldable pub basketCalled : (l : ℕ) → World → Basket → Called
 basketCalled l w b = calledChange (basketResult l (w .image) (w .heads) (w .next) (w .state) (b .changes) (b .at) (b .words))
+
+-- and by the taking rule
+unfoldable pub basketRuled : (l : ℕ) → World → Basket → Called
+basketRuled l w b = calledChange (basketByRule l (w .image) (w .heads) (w .next) (w .state) (b .changes) (b .at) (b .words))
 
 -- what it makes of the plain map where it is not refused: each of its keys in turn
 unfoldable pub keyUpdate : Action → (key : ℕ) → (value : List ℕ) → Update
@@ -62,11 +66,13 @@ basketAnswer l w b =
     (nextVersion (tableOf l (w .image)) (slotsIn (w .image))
     ∷ slotsTaken (takingOf l (w .image) (w .next) (slotsIn (w .image)) (w .state .first) (length (b .changes))))
 
--- the answer is right: refused exactly where the rules refuse it, which changes nothing, and otherwise the version and the slots
+-- the answer is right: refused exactly where the rules refuse it, which changes nothing, and otherwise the version and the slots; and the whole call is that of the taking
+-- rule, with its slots, stores and index
 pub record BasketRight (l : ℕ) (w : World) (m : PlainMap) (b : Basket) : Type 0 where
   pub refusal : refusalIn (basketCalled l w b .answer) ≡ basketDue l w m b
   pub answer : basketDue l w m b ≡ 0 → basketCalled l w b .answer ≡ basketAnswer l w b
   pub refused-still : (basketDue l w m b ≡ 0 → ⊥) → StaysAs w (basketCalled l w b)
+  pub by-rule : basketCalled l w b ≡ basketRuled l w b
 
 -- the key of a change has l words, and its value is bytes
 pub record TypedChange (l : ℕ) (c : KeyChange) : Type 0 where

@@ -2,11 +2,13 @@
 use mathlib.Core.Path.{_≡_, refl, sym, ap, ap₂, _∙_}
 use mathlib.Core.Bool.{Bool, true, false, cond, true≢false}
 use mathlib.Core.Logic.{_⊎_, inl, inr}
+use mathlib.Core.List.{List, [], _∷_}
 use Prim.Native.Nat.{ℕ, zero, suc, _+_, _-_, _≤_, _<_}
 use native.Mathlib.Omega.{arith}
 use lib.Dec.{eqb}
 use borrow.Author.Tests.{eqb-true, eqb-false}
-use Rattle.prelude.specs.Members.{Slot}
+use Rattle.prelude.specs.Members.{In, Slot}
+use Rattle.prelude.specs.Filter.{anyIn}
 use Rattle.prelude.specs.Range.{anyOf}
 use Rattle.prelude.proofs.Choice.{pick-true, pick-false, split, true-false}
 
@@ -119,3 +121,22 @@ any-place p k (suc n) e = go (split (p k)) (any-place p (suc k) n)
     go : (p k ≡ true) ⊎ (p k ≡ false) → (anyOf p (suc k) n ≡ true → (i : ℕ) × (i < suc k + n) × (p i ≡ true)) → (i : ℕ) × (i < k + suc n) × (p i ≡ true)
     go (inl q) ih = (k, omega arith, q)
     go (inr q) ih = let r = ih (sym (pick-false (p k) true (anyOf p (suc k) n) q) ∙ e) in (r .0, omega (arith, r .1), r .2)
+
+-- over the elements of a list
+pub in-any : (p : ℕ → Bool) (x : ℕ) (xs : List ℕ) → In x xs → p x ≡ true → anyIn p xs ≡ true
+unfolding anyIn
+in-any p x (y ∷ xs) (inl e) q = pick-true (p y) _ _ (ap p (sym e) ∙ q)
+in-any p x (y ∷ xs) (inr i) q = go (p y) (in-any p x xs i q)
+  where
+    go : (b : Bool) → anyIn p xs ≡ true → cond b true (anyIn p xs) ≡ true
+    go true ih = refl
+    go false ih = ih
+
+pub any-in : (p : ℕ → Bool) (xs : List ℕ) → anyIn p xs ≡ true → (x : ℕ) × In x xs × (p x ≡ true)
+unfolding anyIn
+any-in p [] e = absurd (true-false e refl)
+any-in p (y ∷ xs) e = go (split (p y)) (any-in p xs)
+  where
+    go : (p y ≡ true) ⊎ (p y ≡ false) → (anyIn p xs ≡ true → (x : ℕ) × In x xs × (p x ≡ true)) → (x : ℕ) × In x (y ∷ xs) × (p x ≡ true)
+    go (inl q) ih = (y, inl refl, q)
+    go (inr q) ih = let r = ih (sym (pick-false (p y) true (anyIn p xs) q) ∙ e) in (r .0, inr (r .1), r .2)

@@ -1,5 +1,5 @@
 -- The part of a list that passes a test.
-use mathlib.Core.Bool.{Bool, cond}
+use mathlib.Core.Bool.{Bool, true, false, cond}
 use mathlib.Core.List.{List, [], _∷_}
 use Prim.Native.Nat.{ℕ}
 
@@ -7,3 +7,8 @@ use Prim.Native.Nat.{ℕ}
 unfoldable pub filter : (ℕ → Bool) → List ℕ → List ℕ
 filter p [] = []
 filter p (x ∷ xs) = cond (p x) (x ∷ filter p xs) (filter p xs)
+
+-- does any element pass it?
+unfoldable pub anyIn : (ℕ → Bool) → List ℕ → Bool
+anyIn p [] = false
+anyIn p (x ∷ xs) = cond (p x) true (anyIn p xs)

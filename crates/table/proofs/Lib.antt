@@ -37,3 +37,4 @@ pub mod Room
 pub mod Formatted
 pub mod Accepted
 pub mod Settled
+pub mod TakingAfter

@@ -6,7 +6,7 @@ use Prim.Native.Nat.{ℕ}
 use lib.Dec.{eqb, ltb}
 use lib.ListN.{take}
 use Rattle.prelude.specs.Range.{anyOf, greatest, count}
-use Rattle.prelude.specs.Filter.{filter}
+use Rattle.prelude.specs.Filter.{filter, anyIn}
 use Rattle.layout.specs.Content.{Content, broken, empty, putRecord, removeRecord, topOf, Table}
 use Rattle.table.specs.Table.{isRecord, keyIn, spare}
 
@@ -32,6 +32,12 @@ older f s t = isRecord (f t) && (eqb (keyIn (f t)) (keyIn (f s)) && ltb (topOf (
 unfoldable pub mayTake : Table → (n s : ℕ) → Bool
 mayTake f n s =
     cond (isRecord (f s)) (ltb (topOf (f s)) (highestValid f n) && not (isRemove (f s) && anyOf (older f s) 1 n)) true
+
+-- the same after these slots were taken, by them alone: an older record of the slot's key is looked for only in them. Along the reuse chain of the image's own index that is
+-- the same test, since an older record of a remove record's key stands before it there
+unfoldable pub mayTakeAfter : Table → (n : ℕ) → (chosen : List ℕ) → (s : ℕ) → Bool
+mayTakeAfter f n chosen s =
+    cond (isRecord (f s)) (ltb (topOf (f s)) (highestValid f n) && not (isRemove (f s) && anyIn (older f s) chosen)) true
 
 -- "the first others in the reuse chain": the first m slots of a chain that may be taken
 unfoldable pub takenOf : Table → (n m : ℕ) → (chain : List ℕ) → List ℕ

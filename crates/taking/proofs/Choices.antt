@@ -1,32 +1,43 @@
--- The choice of several slots: what has to be known of the highest version, the turns of the walk, and its loop. Assumes nothing.
+-- The choice of several slots: what has to be known of the highest version, its loop, and that with an index that is the image's own it is the rule's. Assumes nothing.
 use mathlib.Core.Path.{_≡_, refl, sym, ap, ap₂, _∙_, subst}
-use mathlib.Core.Bool.{Bool, true, false, cond, _&&_, true≢false}
+use mathlib.Core.Bool.{Bool, true, false, cond, not, _&&_, true≢false}
+use mathlib.Core.Logic.{_⊎_, inl, inr}
 use mathlib.Core.List.{List, [], _∷_, _++_}
 use Prim.Native.Nat.{ℕ, zero, suc, _+_, _-_, _^_, _≤_, _<_}
 use native.Mathlib.Omega.{arith}
 use lib.Dec.{eqb, ltb}
 use lib.ListN.{length, getD, set, replicate, length-set}
-use lib.Seq.{getD-set-other}
-use borrow.Author.Tests.{eq-eqb, ne-eqb, lt-ltb, le-ltb}
+use lib.Seq.{getD-set-same, getD-set-other}
+use borrow.Author.Tests.{lt-ltb, eqb-true, eqb-false, ltb-true, ltb-false}
 use Rattle.words.specs.Word.{word}
-use Rattle.prelude.specs.Range.{anyOf, greatest}
-use Rattle.prelude.specs.Refusal.{say, orElse}
+use Rattle.prelude.specs.Range.{greatest}
+use Rattle.prelude.specs.Filter.{anyIn}
+use Rattle.prelude.specs.Members.{In, Slot}
+use Rattle.prelude.specs.Refusal.{orElse}
 use Rattle.prelude.proofs.Choice.{pick-true, pick-false}
-use Rattle.prelude.proofs.Refusals.{say-true, say-false, say-zero}
-use Rattle.layout.specs.Content.{Content, topOf, Table, content, contentsOf}
+use Rattle.layout.specs.Content.{Content, topOf, Table, contentsOf}
+use Rattle.index.specs.Index.{Chain, reuse, indexOf}
+use Rattle.index.specs.Linked.{Sits}
 use Rattle.index.specs.Taking.{linkFault, fewFault, Taken, Taking, taken, tooFew, badLink, withTaken, atEnd, takeWalk, takeFrom}
 use Rattle.index.specs.inner.Basket.{takensFrom}
+use Rattle.index.specs.declared.State.{State}
 use Rattle.index.proofs.Takens.{takens-set}
-use Rattle.table.specs.Table.{isRecord}
-use Rattle.table.specs.Taking.{highestValid, isRemove, older, mayTake}
-use Rattle.taking.specs.Taking.{takingOf}
-use Rattle.taking.specs.inner.Walk.{takeFault, endFault}
-use Rattle.taking.specs.inner.Takeable.{slotVersion, takeableIf, takeable}
-use Rattle.taking.specs.inner.Choice.{KnownTop, Decided, withSlot, pastSlot, Met, Chosen}
+use Rattle.index.proofs.Takings.{AgreeAlong, sits-alike}
+use Rattle.table.specs.Table.{isRecord, live}
+use Rattle.table.specs.Taking.{highestValid, isRemove, older, mayTake, mayTakeAfter}
+use Rattle.table.specs.Reuse.{OlderFirst}
+use Rattle.table.proofs.defs.Reuse.{Spares}
+use Rattle.table.proofs.Taking.{older-below, older-idle}
+use Rattle.table.proofs.ReuseOrder.{remove-is-record}
+use Rattle.table.proofs.TakingAfter.{after-same}
+use Rattle.taking.specs.Taking.{takingOf, choiceOf}
+use Rattle.taking.specs.inner.Walk.{takeFault}
+use Rattle.taking.specs.inner.Takeable.{slotVersion, takeableIf}
+use Rattle.taking.specs.inner.Choice.{KnownTop, Decided, chosenOf, Meetable, withSlot, pastSlot, Met, Chosen}
 use Rattle.taking.specs.declared.Progress.{Progress}
 use Rattle.taking.specs.declared.Choice.{Choice}
-use Rattle.taking.proofs.Contents.{Holds, holds-none, holds-put, holds-remove, slot-holds}
-use Rattle.taking.proofs.Walks.{with-fault, end-fault}
+use Rattle.taking.proofs.Contents.{Holds, holds-none, holds-put, holds-remove, slot-holds, if-none}
+use Rattle.taking.proofs.Walks.{take-ended, take-above, take-over, take-turn, with-fault}
 use Rattle.taking.proofs.Takes.{highest-is}
 
 -- ---- when a version tells
@@ -34,25 +45,19 @@ use Rattle.taking.proofs.Takes.{highest-is}
 module _ (image : List ℕ) (n top s : ℕ) where
   -- the highest
   pub told-exactly : top ≡ greatest (slotVersion (word image)) n → Decided image n top s
-  unfolding mayTake takeable takeableIf
-  told-exactly e l = ap (λ (t : ℕ). takeable (contentsOf l image) n t true s) (e ∙ highest-is l (word image) n)
+  told-exactly e l o = ap (λ (t : ℕ). takeableIf t o (contentsOf l image s)) (e ∙ highest-is l (word image) n)
 
   module _ (v : ℕ) (e : v ≡ slotVersion (word image) s) where
     -- any, of a slot that is not valid
     pub told-invalid : v ≡ 0 → Decided image n top s
-    unfolding mayTake takeable takeableIf
-    told-invalid z l = go (slot-holds l (word image) s)
-      where
-        go : {kind key : ℕ} → Holds kind key (slotVersion (word image) s) (contentsOf l image s)
-            → takeable (contentsOf l image) n top true s ≡ mayTake (contentsOf l image) n s
-        go (holds-none q r) = pick-false (isRecord (contentsOf l image s)) _ _ r ∙ sym (pick-false (isRecord (contentsOf l image s)) _ _ r)
-        go (holds-put value ne k c) = absurd (ne (sym e ∙ z))
-        go (holds-remove ne k c) = absurd (ne (sym e ∙ z))
+    told-invalid z l o =
+        let h = slot-holds l (word image) s in
+        sym (if-none (contentsOf l image) s _ _ _ h top o (sym e ∙ z)) ∙ if-none (contentsOf l image) s _ _ _ h _ o (sym e ∙ z)
 
     -- one that is none above the highest, of a slot below it
     pub told-below : v < top → top ≤ greatest (slotVersion (word image)) n → Decided image n top s
-    unfolding mayTake takeable takeableIf isRecord topOf
-    told-below h b l = go (slot-holds l (word image) s)
+    unfolding takeableIf isRecord topOf
+    told-below h b l o = go (slot-holds l (word image) s)
       where
         T : ℕ
         T = highestValid (contentsOf l image) n
@@ -60,76 +65,33 @@ module _ (image : List ℕ) (n top s : ℕ) where
         below : slotVersion (word image) s < T
         below = omega (arith, e, highest-is l (word image) n)
 
-        both : (c : Content) → topOf c ≡ slotVersion (word image) s → (rest : Bool)
-            → cond (isRecord c) (ltb (topOf c) top && rest) true ≡ cond (isRecord c) (ltb (topOf c) T && rest) true
-        both c q rest =
-            ap (λ (x : Bool). cond (isRecord c) (x && rest) true)
+        both : (c : Content) → topOf c ≡ slotVersion (word image) s → takeableIf top o c ≡ takeableIf T o c
+        both c q =
+            ap (λ (x : Bool). cond (isRecord c) (x && not (isRemove c && o)) true)
             (lt-ltb (topOf c) top (omega (arith, q, e)) ∙ sym (lt-ltb (topOf c) T (omega (arith, q, below))))
 
         go : {kind key : ℕ} → Holds kind key (slotVersion (word image) s) (contentsOf l image s)
-            → takeable (contentsOf l image) n top true s ≡ mayTake (contentsOf l image) n s
+            → takeableIf top o (contentsOf l image s) ≡ takeableIf T o (contentsOf l image s)
         go (holds-none q r) = pick-false (isRecord (contentsOf l image s)) _ _ r ∙ sym (pick-false (isRecord (contentsOf l image s)) _ _ r)
-        go (holds-put value ne k c) = both (contentsOf l image s) (ap topOf c) _
-        go (holds-remove ne k c) = both (contentsOf l image s) (ap topOf c) _
+        go (holds-put value ne k c) = both (contentsOf l image s) (ap topOf c)
+        go (holds-remove ne k c) = both (contentsOf l image s) (ap topOf c)
 
 -- the highest version is known
 pub known-exactly : (image : List ℕ) (n top : ℕ) → top ≡ greatest (slotVersion (word image)) n → KnownTop (word image) n top true
 known-exactly image n top e = record { bounded = omega (arith, e); exactly = λ q. e }
 
--- ---- the turns of the walk
-
-module _ (may : ℕ → Bool) (next : List ℕ) (n left wanted prev at : ℕ) where
-  pub take-ended : at ≡ 0 → 0 < wanted → takeWalk may next n left wanted prev at ≡ tooFew
-  unfolding takeWalk atEnd
-  take-ended z some = go left
-    where
-      few : cond (eqb wanted 0) (taken []) tooFew ≡ tooFew
-      few = pick-false (eqb wanted 0) _ _ (ne-eqb wanted 0 (λ e. omega arith))
-
-      go : (k : ℕ) → takeWalk may next n k wanted prev at ≡ tooFew
-      go zero = pick-true (eqb at 0) _ _ (eq-eqb at 0 z) ∙ few
-      go (suc k) = pick-true (eqb at 0) _ _ (eq-eqb at 0 z) ∙ few
-
-  pub take-above : n < at → takeWalk may next n left wanted prev at ≡ badLink
-  unfolding takeWalk
-  take-above h = go left
-    where
-      go : (k : ℕ) → takeWalk may next n k wanted prev at ≡ badLink
-      go zero = pick-false (eqb at 0) _ _ (ne-eqb at 0 (λ e. omega arith))
-      go (suc k) = pick-false (eqb at 0) _ _ (ne-eqb at 0 (λ e. omega arith)) ∙ pick-true (ltb n at) _ _ (lt-ltb n at h)
-
-  pub take-over : left ≡ 0 → (at ≡ 0 → ⊥) → takeWalk may next n left wanted prev at ≡ badLink
-  unfolding takeWalk
-  take-over z ne = ap (λ (k : ℕ). takeWalk may next n k wanted prev at) z ∙ pick-false (eqb at 0) _ _ (ne-eqb at 0 ne)
-
-  pub take-turn : 0 < left → 0 < at → at ≤ n → 0 < wanted → takeWalk may next n left wanted prev at
-      ≡ cond (may at) (withTaken at prev (takeWalk may next n (left - 1) (wanted - 1) prev (getD next at 0)))
-      (takeWalk may next n (left - 1) wanted at (getD next at 0))
-  unfolding takeWalk
-  take-turn some low high more = go left some
-    where
-      go : (k : ℕ) → 0 < k → takeWalk may next n k wanted prev at
-          ≡ cond (may at) (withTaken at prev (takeWalk may next n (k - 1) (wanted - 1) prev (getD next at 0)))
-          (takeWalk may next n (k - 1) wanted at (getD next at 0))
-      go zero h = absurd (omega arith)
-      go (suc k) h =
-          let e : k ≡ suc k - 1 = omega arith in
-          pick-false (eqb at 0) _ _ (ne-eqb at 0 (λ q. omega arith)) ∙ pick-false (ltb n at) _ _ (le-ltb n at high)
-          ∙ pick-false (eqb wanted 0) _ _ (ne-eqb wanted 0 (λ q. omega arith))
-          ∙ ap (λ (x : ℕ). cond (may at) (withTaken at prev (takeWalk may next n x (wanted - 1) prev (getD next at 0))) (takeWalk may next n x wanted at (getD next at 0))) e
-
 -- a walk for no more slots that is not refused
-pub take-none : (may : ℕ → Bool) (next : List ℕ) (n left prev at : ℕ) → endFault n left at ≡ 0 → takeWalk may next n left 0 prev at ≡ taken []
-unfolding takeWalk atEnd endFault say
-take-none may next n zero prev at e = go (eqb at 0) (ltb n at) e
+take-none : (may : List ℕ → ℕ → Bool) (next : List ℕ) (n left prev at : ℕ) (chosen : List ℕ) → takeFault (takeWalk may next n left 0 prev at chosen) ≡ 0
+    → takeWalk may next n left 0 prev at chosen ≡ taken []
+unfolding takeWalk atEnd takeFault linkFault fewFault orElse
+take-none may next n zero prev at chosen e = go (eqb at 0) e
   where
-    go : (a b : Bool) → say a 0 (say b 11 (say (eqb 0 0) 11 0)) ≡ 0 → cond a (atEnd 0) badLink ≡ taken []
-    go true b q = refl
-    go false true q = absurd (omega arith)
-    go false false q = absurd (omega arith)
-take-none may next n (suc left) prev at e = go (eqb at 0) (ltb n at) e
+    go : (a : Bool) → takeFault (cond a (atEnd 0) badLink) ≡ 0 → cond a (atEnd 0) badLink ≡ taken []
+    go true q = refl
+    go false q = absurd (omega arith)
+take-none may next n (suc left) prev at chosen e = go (eqb at 0) (ltb n at) e
   where
-    go : (a b : Bool) → say a 0 (say b 11 (say (eqb (suc left) 0) 11 0)) ≡ 0 → cond a (atEnd 0) (cond b badLink (taken [])) ≡ taken []
+    go : (a b : Bool) → takeFault (cond a (atEnd 0) (cond b badLink (taken []))) ≡ 0 → cond a (atEnd 0) (cond b badLink (taken [])) ≡ taken []
     go true b q = refl
     go false true q = absurd (omega arith)
     go false false q = refl
@@ -153,6 +115,23 @@ all-fault : (xs : List Taken) (t : Taking) → takeFault (withAll xs t) ≡ take
 all-fault [] t = refl
 all-fault (y ∷ xs) t = with-fault (y .slot) (y .prev) (withAll xs t) ∙ all-fault xs t
 
+-- ---- the slots chosen, as they stand in an array
+
+-- entries behind them do not matter
+chosen-same : (slots : List ℕ) (k i x : ℕ) → k ≤ i → chosenOf (set slots i x) k ≡ chosenOf slots k
+unfolding chosenOf
+chosen-same slots zero i x h = refl
+chosen-same slots (suc k) i x h =
+    ap₂ (λ (y : ℕ) (ys : List ℕ). y ∷ ys) (getD-set-other slots i k x 0 (λ e. omega arith)) (chosen-same slots k i x (omega arith))
+
+-- one more
+chosen-more : (slots : List ℕ) (k x : ℕ) → k < length slots → chosenOf (set slots k x) (k + 1) ≡ x ∷ chosenOf slots k
+unfolding chosenOf
+chosen-more slots k x h =
+    let e : k + 1 ≡ suc k = omega arith in
+    ap (chosenOf (set slots k x)) e
+    ∙ ap₂ (λ (y : ℕ) (ys : List ℕ). y ∷ ys) (getD-set-same slots k x 0 h) (chosen-same slots k k x (omega arith))
+
 -- ---- the loop: what is left of the walk answers for the whole
 
 pub record Choosing (l : ℕ) (image next : List ℕ) (n first wanted : ℕ) (p : Progress) : Type 0 where
@@ -161,8 +140,10 @@ pub record Choosing (l : ℕ) (image next : List ℕ) (n first wanted : ℕ) (p 
   pub slots-size : length (p .slots) ≡ 8
   pub prevs-size : length (p .prevs) ≡ 8
   pub known : KnownTop (word image) n (p .top) (p .exact)
+  pub chosen-in : (j : ℕ) → j < p .got → Slot n (getD (p .slots) j 0)
   pub rest : withAll (takensFrom (p .slots) (p .prevs) 0 (p .got))
-      (takeWalk (mayTake (contentsOf l image) n) next n (p .left) (wanted - p .got) (p .prev) (p .at)) ≡ takingOf l image next n first wanted
+      (takeWalk (mayTakeAfter (contentsOf l image) n) next n (p .left) (wanted - p .got) (p .prev) (p .at) (chosenOf (p .slots) (p .got)))
+      ≡ choiceOf l image next n first wanted
   pub zeros : (j : ℕ) → p .got ≤ j → getD (p .slots) j 0 ≡ 0
 
 all-zero : (n j : ℕ) → _≡_ {A = ℕ} (getD (replicate n 0) j 0) 0
@@ -171,8 +152,8 @@ all-zero (suc n) zero = refl
 all-zero (suc n) (suc j) = all-zero n j
 
 module _ (l : ℕ) (image next : List ℕ) (n first wanted : ℕ) where
-  abbrev may : ℕ → Bool
-  may = mayTake (contentsOf l image) n
+  abbrev may : List ℕ → ℕ → Bool
+  may = mayTakeAfter (contentsOf l image) n
 
   pub choosing-starts : (top : ℕ) → first < 2 ^ 32 → top ≤ greatest (slotVersion (word image)) n
       → Choosing l image next n first wanted
@@ -186,7 +167,7 @@ module _ (l : ℕ) (image next : List ℕ) (n first wanted : ℕ) where
         slots = replicate 8 0;
         prevs = replicate 8 0;
       })
-  unfolding takingOf takeFrom takensFrom
+  unfolding choiceOf takeFrom takensFrom chosenOf
   choosing-starts top h b =
       let d : wanted - 0 ≡ wanted = omega arith in
       record {
@@ -195,72 +176,76 @@ module _ (l : ℕ) (image next : List ℕ) (n first wanted : ℕ) where
         slots-size = refl;
         prevs-size = refl;
         known = record { bounded = b; exactly = λ q. absurd (true≢false (sym q)) };
-        rest = ap (λ (k : ℕ). takeWalk may next n n k 0 first) d;
+        chosen-in = λ j q. absurd (omega arith);
+        rest = ap (λ (k : ℕ). takeWalk may next n n k 0 first []) d;
         zeros = λ j q. all-zero 8 j;
       }
 
   module _ (p : Progress) (w : Choosing l image next n first wanted p) where
-    abbrev chosen : List Taken
-    chosen = takensFrom (p .slots) (p .prevs) 0 (p .got)
+    abbrev taken-so-far : List Taken
+    taken-so-far = takensFrom (p .slots) (p .prevs) 0 (p .got)
 
-    abbrev whole : Taking
-    whole = takingOf l image next n first wanted
+    abbrev chosen : List ℕ
+    chosen = chosenOf (p .slots) (p .got)
 
-    fails : (t : Taking) → takeWalk may next n (p .left) (wanted - p .got) (p .prev) (p .at) ≡ t → takeFault t ≡ takeFault whole
-    fails t e = sym (all-fault chosen t) ∙ ap (λ (x : Taking). takeFault (withAll chosen x)) (sym e) ∙ ap takeFault (w .rest)
+    -- the whole choice is not refused, so neither is what is left of it
+    module _ (fine : takeFault (choiceOf l image next n first wanted) ≡ 0) where
+      left-fine : takeFault (takeWalk may next n (p .left) (wanted - p .got) (p .prev) (p .at) chosen) ≡ 0
+      left-fine = sym (all-fault taken-so-far _) ∙ ap takeFault (w .rest) ∙ fine
 
-    refuses : (c : Choice) (k : ℕ) → c .fault ≡ k → 0 < k → k ≡ takeFault whole → Chosen whole wanted c
-    refuses c k e h f =
-        record {
-          fault-is = e ∙ f;
-          slots-are = λ z. absurd (omega (arith, e, z));
-          zeros = λ z. absurd (omega (arith, e, z));
-        }
+      refuses : (t : Taking) → takeWalk may next n (p .left) (wanted - p .got) (p .prev) (p .at) chosen ≡ t → takeFault t ≡ 0
+      refuses t e = ap takeFault (sym e) ∙ left-fine
 
-    -- the chain ends
-    pub choice-ended : (c : Choice) → c .fault ≡ 28 → p .got < wanted → p .at ≡ 0 → Chosen whole wanted c
-    unfolding takeFault linkFault fewFault orElse
-    choice-ended c e h z =
-        refuses c 28 e (omega arith) (fails tooFew (take-ended may next n (p .left) (wanted - p .got) (p .prev) (p .at) z (omega arith)))
+      -- a slot can be met
+      pub meetable : wanted ≤ 8 → p .got < wanted → Meetable n p
+      unfolding takeFault linkFault fewFault orElse
+      meetable few more =
+          record {
+            low = positive (p .at) on-chain;
+            high = high (ltb n (p .at)) refl;
+            some = positive (p .left) (λ z. omega (arith, refuses badLink (take-over may next n (p .left) (wanted - p .got) (p .prev) (p .at) chosen z on-chain)));
+            few = omega arith;
+            chosen-in = w .chosen-in;
+          }
+        where
+          positive : (x : ℕ) → (x ≡ 0 → ⊥) → 0 < x
+          positive zero ne = absurd (ne refl)
+          positive (suc x) ne = omega arith
 
-    -- a link above n
-    pub choice-above : (c : Choice) → c .fault ≡ 11 → n < p .at → Chosen whole wanted c
-    unfolding takeFault linkFault fewFault orElse
-    choice-above c e h =
-        refuses c 11 e (omega arith) (fails badLink (take-above may next n (p .left) (wanted - p .got) (p .prev) (p .at) h))
+          on-chain : p .at ≡ 0 → ⊥
+          on-chain z = omega (arith, refuses tooFew (take-ended may next n (p .left) (wanted - p .got) (p .prev) (p .at) chosen z (omega arith)))
 
-    -- no more slots may be met
-    pub choice-over : (c : Choice) → c .fault ≡ 11 → p .left ≡ 0 → (p .at ≡ 0 → ⊥) → Chosen whole wanted c
-    unfolding takeFault linkFault fewFault orElse
-    choice-over c e z ne =
-        refuses c 11 e (omega arith) (fails badLink (take-over may next n (p .left) (wanted - p .got) (p .prev) (p .at) z ne))
+          high : (b : Bool) → ltb n (p .at) ≡ b → p .at ≤ n
+          high true q =
+              absurd (omega (arith, refuses badLink (take-above may next n (p .left) (wanted - p .got) (p .prev) (p .at) chosen (ltb-true n (p .at) q))))
+          high false q = ltb-false n (p .at) q
 
-    -- as many as are wanted
-    pub choice-ends : wanted ≤ p .got → (k : ℕ) → k ≡ endFault n (p .left) (p .at)
-        → Chosen whole wanted (record { fault = k; slots = p .slots; prevs = p .prevs })
-    choice-ends h k e =
-        let d : wanted - p .got ≡ 0 = omega (arith, w .within) in
-        let g : p .got ≡ wanted = omega (arith, w .within) in
-        let last = ap (λ (x : ℕ). takeWalk may next n (p .left) x (p .prev) (p .at)) d in
-        record {
-          fault-is = e ∙ sym (end-fault may next n (p .left) (p .prev) (p .at)) ∙ fails _ last;
-          slots-are =
-              λ z.
-              sym (w .rest)
-              ∙ ap (withAll chosen) (last ∙ take-none may next n (p .left) (p .prev) (p .at) (sym e ∙ z))
-              ∙ all-taken chosen
-              ∙ ap (λ (x : ℕ). taken (takensFrom (p .slots) (p .prevs) 0 x)) g;
-          zeros = λ z j q. w .zeros j (omega (arith, g));
-        }
+      -- as many as are wanted
+      pub choice-ends : (t : Taking) → takeFault t ≡ 0 → wanted ≤ p .got
+          → Chosen t (choiceOf l image next n first wanted) wanted (record { fault = 0; slots = p .slots; prevs = p .prevs })
+      choice-ends t z h =
+          let d : wanted - p .got ≡ 0 = omega (arith, w .within) in
+          let g : p .got ≡ wanted = omega (arith, w .within) in
+          let last = ap (λ (x : ℕ). takeWalk may next n (p .left) x (p .prev) (p .at) chosen) d in
+          record {
+            fault-is = sym z;
+            slots-are =
+                λ q.
+                sym (w .rest)
+                ∙ ap (withAll taken-so-far) (last ∙ take-none may next n (p .left) (p .prev) (p .at) chosen (ap takeFault (sym last) ∙ left-fine))
+                ∙ all-taken taken-so-far
+                ∙ ap (λ (x : ℕ). taken (takensFrom (p .slots) (p .prevs) 0 x)) g;
+            zeros = λ q j i. w .zeros j (omega (arith, g));
+          }
 
     -- one slot was met
-    module _ (few : wanted ≤ 8) (more : p .got < wanted) (low : 0 < p .at) (high : p .at ≤ n) (some : 0 < p .left) (fits : getD next (p .at) 0 < 2 ^ 32) where
-      turn : takeWalk may next n (p .left) (wanted - p .got) (p .prev) (p .at)
-          ≡ cond (may (p .at)) (withTaken (p .at) (p .prev) (takeWalk may next n (p .left - 1) (wanted - p .got - 1) (p .prev) (getD next (p .at) 0)))
-          (takeWalk may next n (p .left - 1) (wanted - p .got) (p .at) (getD next (p .at) 0))
-      turn = take-turn may next n (p .left) (wanted - p .got) (p .prev) (p .at) some low high (omega arith)
+    module _ (few : wanted ≤ 8) (more : p .got < wanted) (m : Meetable n p) (fits : getD next (p .at) 0 < 2 ^ 32) where
+      turn : takeWalk may next n (p .left) (wanted - p .got) (p .prev) (p .at) chosen
+          ≡ cond (may chosen (p .at)) (withTaken (p .at) (p .prev) (takeWalk may next n (p .left - 1) (wanted - p .got - 1) (p .prev) (getD next (p .at) 0) (p .at ∷ chosen)))
+          (takeWalk may next n (p .left - 1) (wanted - p .got) (p .at) (getD next (p .at) 0) chosen)
+      turn = take-turn may next n (p .left) (wanted - p .got) (p .prev) (p .at) chosen (m .some) (m .low) (m .high) (omega arith)
 
-      took : may (p .at) ≡ true → (top : ℕ) (exact : Bool) → KnownTop (word image) n top exact
+      took : may chosen (p .at) ≡ true → (top : ℕ) (exact : Bool) → KnownTop (word image) n top exact
           → Choosing l image next n first wanted (withSlot next p top exact)
       unfolding withSlot
       took b top exact k =
@@ -271,17 +256,29 @@ module _ (l : ℕ) (image next : List ℕ) (n first wanted : ℕ) where
             slots-size = length-set (p .slots) (p .got) (p .at) ∙ w .slots-size;
             prevs-size = length-set (p .prevs) (p .got) (p .prev) ∙ w .prevs-size;
             known = k;
+            chosen-in = λ j q. slot-at j q (eqb j (p .got)) refl;
             rest =
                 ap₂ withAll
                 (takens-set (p .slots) (p .prevs) (p .got) (p .at) (p .prev) (omega (arith, w .slots-size)) (omega (arith, w .prevs-size)))
-                (ap (λ (x : ℕ). takeWalk may next n (p .left - 1) x (p .prev) (getD next (p .at) 0)) (sym d))
-                ∙ all-more chosen (record { slot = p .at; prev = p .prev }) _
-                ∙ ap (withAll chosen) (sym (turn ∙ pick-true (may (p .at)) _ _ b))
+                (ap₂ (λ (x : ℕ) (c : List ℕ). takeWalk may next n (p .left - 1) x (p .prev) (getD next (p .at) 0) c) (sym d)
+                (chosen-more (p .slots) (p .got) (p .at) (omega (arith, w .slots-size))))
+                ∙ all-more taken-so-far (record { slot = p .at; prev = p .prev }) _
+                ∙ ap (withAll taken-so-far) (sym (turn ∙ pick-true (may chosen (p .at)) _ _ b))
                 ∙ w .rest;
             zeros = λ j q. getD-set-other (p .slots) (p .got) j (p .at) 0 (λ e. omega arith) ∙ w .zeros j (omega arith);
           }
+        where
+          slot-at : (j : ℕ) → j < p .got + 1 → (b : Bool) → eqb j (p .got) ≡ b → Slot n (getD (set (p .slots) (p .got) (p .at)) j 0)
+          slot-at j q true e =
+              subst (Slot n)
+              (sym (ap (λ (i : ℕ). getD (set (p .slots) (p .got) (p .at)) i 0) (eqb-true j (p .got) e)
+              ∙ getD-set-same (p .slots) (p .got) (p .at) 0 (omega (arith, w .slots-size))))
+              (omega (arith, m .low), m .high)
+          slot-at j q false e =
+              let ne = eqb-false j (p .got) e in
+              subst (Slot n) (sym (getD-set-other (p .slots) (p .got) j (p .at) 0 (λ z. ne z))) (w .chosen-in j (omega (arith, ne)))
 
-      passed : may (p .at) ≡ false → (top : ℕ) (exact : Bool) → KnownTop (word image) n top exact
+      passed : may chosen (p .at) ≡ false → (top : ℕ) (exact : Bool) → KnownTop (word image) n top exact
           → Choosing l image next n first wanted (pastSlot next p top exact)
       unfolding pastSlot
       passed b top exact k =
@@ -291,34 +288,92 @@ module _ (l : ℕ) (image next : List ℕ) (n first wanted : ℕ) where
             slots-size = w .slots-size;
             prevs-size = w .prevs-size;
             known = k;
-            rest = ap (withAll chosen) (sym (turn ∙ pick-false (may (p .at)) _ _ b)) ∙ w .rest;
+            chosen-in = w .chosen-in;
+            rest = ap (withAll taken-so-far) (sym (turn ∙ pick-false (may chosen (p .at)) _ _ b)) ∙ w .rest;
             zeros = w .zeros;
           }
 
       pub choosing-on : (r : Progress) → Met l image next n p r → Choosing l image next n first wanted r
-      choosing-on r m = subst (Choosing l image next n first wanted) (sym (m .is)) (go (may (p .at)) refl)
+      choosing-on r t = subst (Choosing l image next n first wanted) (sym (t .is)) (go (may chosen (p .at)) refl)
         where
-          go : (b : Bool) → may (p .at) ≡ b
+          go : (b : Bool) → may chosen (p .at) ≡ b
               → Choosing l image next n first wanted (cond b (withSlot next p (r .top) (r .exact)) (pastSlot next p (r .top) (r .exact)))
-          go true e = took e (r .top) (r .exact) (m .known)
-          go false e = passed e (r .top) (r .exact) (m .known)
+          go true e = took e (r .top) (r .exact) (t .known)
+          go false e = passed e (r .top) (r .exact) (t .known)
 
 -- ---- one slot is met: b tells whether it may be taken
 
 module _ (l : ℕ) (image next : List ℕ) (n : ℕ) (p : Progress) (top : ℕ) (exact b : Bool) (known : KnownTop (word image) n top exact)
-    (told : Decided image n top (p .at)) (e : b ≡ takeable (contentsOf l image) n top true (p .at)) where
+    (told : Decided image n top (p .at))
+    (e : b ≡ takeableIf top (anyIn (older (contentsOf l image) (p .at)) (chosenOf (p .slots) (p .got))) (contentsOf l image (p .at))) where
+  tells : b ≡ mayTakeAfter (contentsOf l image) n (chosenOf (p .slots) (p .got)) (p .at)
+  unfolding mayTakeAfter takeableIf
+  tells = e ∙ told l _
+
   pub met-taken : b ≡ true → Met l image next n p (withSlot next p top exact)
   unfolding withSlot
-  met-taken q = record { known = known; is = sym (pick-true (mayTake (contentsOf l image) n (p .at)) _ _ (sym (told l) ∙ sym e ∙ q)) }
+  met-taken q = record { known = known; is = sym (pick-true _ _ _ (sym tells ∙ q)) }
 
   pub met-passed : b ≡ false → Met l image next n p (pastSlot next p top exact)
   unfolding pastSlot
-  met-passed q = record { known = known; is = sym (pick-false (mayTake (contentsOf l image) n (p .at)) _ _ (sym (told l) ∙ sym e ∙ q)) }
+  met-passed q = record { known = known; is = sym (pick-false _ _ _ (sym tells ∙ q)) }
 
 pub met-left : (l : ℕ) (image next : List ℕ) (n : ℕ) (p r : Progress) → Met l image next n p r → r .left ≡ p .left - 1
 unfolding withSlot pastSlot
-met-left l image next n p r m = ap (λ (x : Progress). x .left) (m .is) ∙ go (mayTake (contentsOf l image) n (p .at))
+met-left l image next n p r m = ap (λ (x : Progress). x .left) (m .is) ∙ go (mayTakeAfter (contentsOf l image) n (chosenOf (p .slots) (p .got)) (p .at))
   where
     go : (b : Bool) → cond b (withSlot next p (r .top) (r .exact)) (pastSlot next p (r .top) (r .exact)) .left ≡ p .left - 1
     go true = refl
     go false = refl
+
+-- ---- the slots of an index that is the image's own
+
+module _ (f : Table) (n : ℕ) where
+  -- each slot that may be taken is chosen or still in the list
+  along : (xs chosen : List ℕ) → ((t : ℕ) → In t chosen → Slot n t) → ((t : ℕ) → In t xs → Slot n t)
+      → ((t : ℕ) → Slot n t → live f n t ≡ false → mayTake f n t ≡ true → In t chosen ⊎ In t xs) → OlderFirst f xs
+      → AgreeAlong (mayTakeAfter f n) (λ c. mayTake f n) chosen xs
+  along [] chosen in-chosen in-list either o = tt
+  along (x ∷ xs) chosen in-chosen in-list either o = (
+    after-same f n chosen x in-chosen (in-list x (inl refl)) covers,
+    go (mayTake f n x) refl
+        (λ c a b. along xs c a (λ t i. in-list t (inr i)) b (o .1)),
+  )
+    where
+      covers : (t : ℕ) → Slot n t → older f x t ≡ true → mayTake f n t ≡ true → isRemove (f x) ≡ true → In t chosen
+      covers t i q m r = pick (either t i (older-idle f n x t (in-list x (inl refl)) (remove-is-record (f x) r) q) m)
+        where
+          pick : In t chosen ⊎ In t (x ∷ xs) → In t chosen
+          pick (inl j) = j
+          pick (inr (inl e)) = absurd (omega (arith, older-below f x t q, ap (λ (y : ℕ). topOf (f y)) e))
+          pick (inr (inr j)) = absurd (o .0 t j r q)
+
+      go : (b : Bool) → mayTake f n x ≡ b
+          → ((c : List ℕ) → ((t : ℕ) → In t c → Slot n t) → ((t : ℕ) → Slot n t → live f n t ≡ false → mayTake f n t ≡ true → In t c ⊎ In t xs)
+          → AgreeAlong (mayTakeAfter f n) (λ c. mayTake f n) c xs)
+          → AgreeAlong (mayTakeAfter f n) (λ c. mayTake f n) (cond b (x ∷ chosen) chosen) xs
+      go true e ih = ih (x ∷ chosen) within (λ t i d m. move (either t i d m))
+        where
+          within : (t : ℕ) → In t (x ∷ chosen) → Slot n t
+          within t (inl q) = rw q (in-list x (inl refl))
+          within t (inr j) = in-chosen t j
+
+          move : {t : ℕ} → In t chosen ⊎ In t (x ∷ xs) → In t (x ∷ chosen) ⊎ In t xs
+          move (inl j) = inl (inr j)
+          move (inr (inl q)) = inl (inl q)
+          move (inr (inr j)) = inr j
+      go false e ih = ih chosen in-chosen (λ t i d m. move t m (either t i d m))
+        where
+          move : (t : ℕ) → mayTake f n t ≡ true → In t chosen ⊎ In t (x ∷ xs) → In t chosen ⊎ In t xs
+          move t m (inl j) = inl j
+          move t m (inr (inl q)) = absurd (true≢false (sym m ∙ ap (mayTake f n) q ∙ e))
+          move t m (inr (inr j)) = inr j
+
+-- THE SLOTS that a basket takes are those of the rule
+pub choice-own : (l : ℕ) (image heads next : List ℕ) (s : State) (n b : ℕ) (place : ℕ → Chain) (chains : Chain → List ℕ) (wanted : ℕ)
+    → Sits n b place (indexOf heads next s) chains → Spares (contentsOf l image) n (chains reuse) → OlderFirst (contentsOf l image) (chains reuse)
+    → choiceOf l image next n (s .first) wanted ≡ takingOf l image next n (s .first) wanted
+unfolding choiceOf takingOf
+choice-own l image heads next s n b place chains wanted g sp o =
+    sits-alike n b place (indexOf heads next s) chains g (mayTakeAfter (contentsOf l image) n) (λ c. mayTake (contentsOf l image) n) wanted
+    (along (contentsOf l image) n (chains reuse) [] (λ t i. absurd i) (sp .slot) (λ t i d m. inr (sp .all t i d)) o)

@@ -99,7 +99,7 @@ module _ (f : Table) (s kind key v : ℕ) (h : Holds kind key v (f s)) where
   -- ---- may it be taken? `b` tells whether an older record of its key may remain
 
   module _ (top : ℕ) (b : Bool) where
-    if-none : v ≡ 0 → true ≡ takeableIf top b (f s)
+    pub if-none : v ≡ 0 → true ≡ takeableIf top b (f s)
     unfolding takeableIf
     if-none z = sym (go h)
       where
@@ -109,7 +109,7 @@ module _ (f : Table) (s kind key v : ℕ) (h : Holds kind key v (f s)) where
         go (holds-remove ne k e) = absurd (ne z)
 
     module _ (some : v ≡ 0 → ⊥) where
-      if-high : top ≤ v → false ≡ takeableIf top b (f s)
+      pub if-high : top ≤ v → false ≡ takeableIf top b (f s)
       unfolding takeableIf isRecord topOf isRemove
       if-high q = sym (go h)
         where
@@ -118,7 +118,7 @@ module _ (f : Table) (s kind key v : ℕ) (h : Holds kind key v (f s)) where
           go (holds-put value ne k e) = ap (takeableIf top b) e ∙ ap (λ (x : Bool). x && not (false && b)) (le-ltb v top q)
           go (holds-remove ne k e) = ap (takeableIf top b) e ∙ ap (λ (x : Bool). x && not (true && b)) (le-ltb v top q)
 
-      if-put : v < top → (kind ≡ 2 → ⊥) → true ≡ takeableIf top b (f s)
+      pub if-put : v < top → (kind ≡ 2 → ⊥) → true ≡ takeableIf top b (f s)
       unfolding takeableIf isRecord topOf isRemove
       if-put q put = sym (go h)
         where
@@ -127,7 +127,7 @@ module _ (f : Table) (s kind key v : ℕ) (h : Holds kind key v (f s)) where
           go (holds-put value ne k e) = ap (takeableIf top b) e ∙ ap (λ (x : Bool). x && not (false && b)) (lt-ltb v top q)
           go (holds-remove ne k e) = absurd (put k)
 
-      if-remove : v < top → kind ≡ 2 → takeableIf top b (f s) ≡ not b
+      pub if-remove : v < top → kind ≡ 2 → takeableIf top b (f s) ≡ not b
       unfolding takeableIf isRecord topOf isRemove
       if-remove q remove = go h
         where
@@ -155,7 +155,7 @@ module _ (f : Table) (s kind key v : ℕ) (h : Holds kind key v (f s)) where
       unfolding takeable
       take-blind q remove e = sym (if-remove top _ some q remove ∙ ap (λ (x : Bool). not (cond x (anyOf (older f s) 1 n) true)) e)
 
-      older-here : kind ≡ 2 → (t : ℕ) → olderThan f key v t ≡ older f s t
+      pub older-here : kind ≡ 2 → (t : ℕ) → olderThan f key v t ≡ older f s t
       unfolding older olderThan keyIn topOf
       older-here remove t = sym (go h)
         where

@@ -1,7 +1,7 @@
--- The refusal of a call that wants one slot, from walks by what is known of the highest valid version. Assumes nothing.
+-- The refusal of a call by the slots that it takes, from walks by what is known of the highest valid version. Assumes nothing.
 use mathlib.Core.Path.{_≡_, refl, sym, ap, ap₂, _∙_, fun-ext}
 use mathlib.Core.Bool.{Bool, true, false, cond, not, _&&_, true≢false}
-use mathlib.Core.List.{List}
+use mathlib.Core.List.{List, []}
 use Prim.Native.Nat.{ℕ, _+_, _-_, _≤_, _<_}
 use native.Mathlib.Omega.{arith}
 use lib.Dec.{ltb}
@@ -16,8 +16,9 @@ use Rattle.layout.specs.Record.{kindOf, keyOf}
 use Rattle.layout.specs.Content.{topOf, Table, content, contentsOf}
 use Rattle.index.specs.Taking.{takeFrom}
 use Rattle.table.specs.Table.{isRecord}
-use Rattle.table.specs.Taking.{validVersion, highestValid, isRemove, older, mayTake}
-use Rattle.taking.specs.Taking.{takingOf}
+use Rattle.table.specs.Taking.{validVersion, highestValid, isRemove, older, mayTake, mayTakeAfter}
+use Rattle.table.proofs.TakingAfter.{may-after}
+use Rattle.taking.specs.Taking.{takingOf, choiceOf}
 use Rattle.taking.specs.inner.Walk.{takeFault, walkFault}
 use Rattle.taking.specs.inner.Takeable.{slotVersion, takeableIf, takeable, OpenFirst}
 use Rattle.taking.proofs.Walks.{walk-fault, walk-taken, end-good, still-fine}
@@ -57,32 +58,42 @@ module _ (f : Table) (n : ℕ) where
 -- ---- the refusal
 
 module _ (l : ℕ) (image next : List ℕ) (n first : ℕ) where
-  walked : walkFault (mayTake (contentsOf l image) n) next n n first ≡ takeFault (takingOf l image next n first 1)
+  pub walked : (wanted : ℕ) → 0 < wanted → walkFault (mayTake (contentsOf l image) n) next n n wanted first ≡ takeFault (takingOf l image next n first wanted)
   unfolding takingOf takeFrom
-  walked = sym (walk-fault (mayTake (contentsOf l image) n) next n n 0 first)
+  walked wanted some = sym (walk-fault (mayTake (contentsOf l image) n) next n n wanted 0 first [] some)
 
   -- the first slot may be taken, by a version that is none above the highest
   pub taken-first : (top : ℕ) → top ≤ greatest (slotVersion (word image)) n → 2 ≤ n → OpenFirst l (word image) next n top first
       → 0 ≡ takeFault (takingOf l image next n first 1)
   taken-first top h some o =
       sym
-      (sym walked
-      ∙ walk-taken (mayTake (contentsOf l image) n) next n n first (omega arith) (o .low) (o .high)
+      (sym (walked 1 (omega arith))
+      ∙ walk-taken (mayTake (contentsOf l image) n) next n n 1 first (omega arith) (o .low) (o .high)
       (surely (contentsOf l image) n top first (omega (arith, highest-is l (word image) n)) (sym (may-low l (word image) n top false first _ refl (o .put))))
+      refl
       ∙ end-good n (n - 1) _ (omega arith) (o .link))
 
-  -- a walk among the first slots, by a version that is none above the highest: not refused
-  pub taken-ahead : (top few k : ℕ) → top ≤ greatest (slotVersion (word image)) n → few ≤ n
-      → k ≡ walkFault (takeable (contentsOf l image) n top false) next n few first → k ≡ 0 → k ≡ takeFault (takingOf l image next n first 1)
-  taken-ahead top few k h q e z =
-      z ∙ sym
-      (sym walked
-      ∙ still-fine (takeable (contentsOf l image) n top false) (mayTake (contentsOf l image) n) next n
-      (λ s. surely (contentsOf l image) n top s (omega (arith, highest-is l (word image) n))) few n first q (sym e ∙ z))
+  module _ (wanted : ℕ) (some : 0 < wanted) where
+    -- a walk among the first slots, by a version that is none above the highest: not refused
+    pub taken-ahead : (top few k : ℕ) → top ≤ greatest (slotVersion (word image)) n → few ≤ n
+        → k ≡ walkFault (takeable (contentsOf l image) n top false) next n few wanted first → k ≡ 0 → k ≡ takeFault (takingOf l image next n first wanted)
+    unfolding takingOf takeFrom
+    taken-ahead top few k h q e z =
+        z ∙ sym
+        (still-fine (takeable (contentsOf l image) n top false) (λ c. mayTake (contentsOf l image) n) next n
+        (λ c w s. surely (contentsOf l image) n top s (omega (arith, highest-is l (word image) n))) few n wanted wanted 0 first [] (λ t i. absurd i) q some
+        (omega arith) (sym e ∙ z))
 
-  -- a walk along the chain, by the highest version
-  pub taken-by-all : (top r : ℕ) → top ≡ greatest (slotVersion (word image)) n
-      → r ≡ walkFault (takeable (contentsOf l image) n top true) next n n first → r ≡ takeFault (takingOf l image next n first 1)
-  taken-by-all top r h e =
-      e ∙ ap (λ (t : ℕ). walkFault (takeable (contentsOf l image) n t true) next n n first) (h ∙ highest-is l (word image) n)
-      ∙ ap (λ (may : ℕ → Bool). walkFault may next n n first) (exactly (contentsOf l image) n) ∙ walked
+    -- a walk along the chain, by the highest version
+    pub taken-by-all : (top r : ℕ) → top ≡ greatest (slotVersion (word image)) n
+        → r ≡ walkFault (takeable (contentsOf l image) n top true) next n n wanted first → r ≡ takeFault (takingOf l image next n first wanted)
+    taken-by-all top r h e =
+        e ∙ ap (λ (t : ℕ). walkFault (takeable (contentsOf l image) n t true) next n n wanted first) (h ∙ highest-is l (word image) n)
+        ∙ ap (λ (may : ℕ → Bool). walkFault may next n n wanted first) (exactly (contentsOf l image) n) ∙ walked wanted some
+
+    -- the slots of a basket that the rule does not refuse
+    pub choice-fine : takeFault (takingOf l image next n first wanted) ≡ 0 → takeFault (choiceOf l image next n first wanted) ≡ 0
+    unfolding choiceOf takeFrom
+    choice-fine z =
+        still-fine (mayTake (contentsOf l image) n) (mayTakeAfter (contentsOf l image) n) next n (may-after (contentsOf l image) n) n n wanted wanted 0 first []
+        (λ t i. absurd i) (omega arith) some (omega arith) (walked wanted some ∙ z)

@@ -1,22 +1,28 @@
 -- What the functions that test slots answer: a slot's version, the highest of all, an older record of a key, and whether a slot may be taken. Assumes nothing.
-use mathlib.Core.Path.{_≡_, refl, sym, ap, ap₂, _∙_, subst}
+use mathlib.Core.Path.{_≡_, refl, sym, ap, ap₂, _∙_, subst, fun-ext}
 use mathlib.Core.Bool.{Bool, true, false, cond, not, _&&_, true≢false}
-use Prim.Native.Nat.{ℕ, suc, _+_, _-_, _*_, _/_, _≤_, _<_, max}
+use mathlib.Core.List.{List}
+use Prim.Native.Nat.{ℕ, zero, suc, _+_, _-_, _*_, _/_, _≤_, _<_, max}
 use native.Mathlib.Omega.{arith}
 use lib.Dec.{eqb, ltb}
+use lib.ListN.{getD}
 use borrow.Author.Tests.{lt-ltb, le-ltb, eq-eqb, eqb-true, eqb-false, ltb-true}
 use Rattle.prelude.specs.Range.{anyOf, greatest}
-use Rattle.prelude.proofs.Choice.{both-left, both-right}
+use Rattle.prelude.specs.Filter.{anyIn}
+use Rattle.prelude.proofs.Choice.{both-left, both-right, pick-true, pick-false}
 use Rattle.layout.specs.Line.{lineA, lineB, versionOf}
 use Rattle.layout.specs.Slot.{paired, verdictOf, lineVerdict, slotVerdict}
 use Rattle.layout.specs.Record.{Layout, kindOf, keyOf}
-use Rattle.layout.specs.Content.{content}
+use Rattle.layout.specs.Content.{topOf, content}
 use Rattle.layout.specs.inner.Key.{keyWith, highWord}
 use Rattle.layout.specs.declared.Verdict.{Verdict}
 use Rattle.layout.specs.declared.Verdict.the-variants.{Valid, Empty, Broken}
 use Rattle.layout.proofs.KeyWords.{key-parts}
-use Rattle.taking.specs.inner.Takeable.{versionIn, slotVersion, olderThan, takeable, lowPut}
-use Rattle.taking.proofs.Contents.{Holds, slot-holds, older-none, older-other, older-same, take-none, take-high, take-put, take-blind, take-looked}
+use Rattle.table.specs.Table.{isRecord}
+use Rattle.table.specs.Taking.{isRemove, older}
+use Rattle.taking.specs.inner.Takeable.{versionIn, slotVersion, olderThan, takeableIf, takeable, lowPut}
+use Rattle.taking.specs.inner.Choice.{chosenOf}
+use Rattle.taking.proofs.Contents.{Holds, slot-holds, older-none, older-other, older-same, take-none, take-high, take-put, take-blind, take-looked, if-high, if-remove, older-here}
 
 -- ---- valid_version
 
@@ -144,3 +150,72 @@ may-low l m n top scan s b e q = go (eqb (slotVersion m s) 0) refl
     go true z = may-invalid l m n top scan s _ refl (eqb-true (slotVersion m s) 0 z)
     go false z =
         may-put l m n top scan s _ refl (eqb-false (slotVersion m s) 0 z) (omega (arith, version-on-line m s, low)) _ refl put
+
+-- ---- may_take_after: `sure` tells whether slot s may be taken whatever older records remain, `chosen` are the slots taken before
+
+module _ (l : ℕ) (m : ℕ → ℕ) (n top s : ℕ) (chosen : List ℕ) (sure : Bool) (e : sure ≡ takeable (content l m) n top false s) where
+  abbrev answer : Bool
+  answer = takeableIf top (anyIn (older (content l m) s) chosen) (content l m s)
+
+  pub after-sure : sure ≡ true → true ≡ answer
+  unfolding takeable takeableIf
+  after-sure q = sym (go (isRecord (content l m s)) (ltb (topOf (content l m s)) top) (isRemove (content l m s)) (anyIn (older (content l m) s) chosen) (sym e ∙ q))
+    where
+      go : (a b c d : Bool) → cond a (b && not (c && true)) true ≡ true → cond a (b && not (c && d)) true ≡ true
+      go false b c d h = refl
+      go true false c d h = h
+      go true true false d h = h
+      go true true true d h = absurd (true≢false (sym h))
+
+  module _ (unsure : sure ≡ false) (v : ℕ) (g : v ≡ slotVersion m s) where
+    holds : Holds (kindOf (lineA m s (l + 1))) (keyOf l (lineA m s)) v (content l m s)
+    holds = held l m n top false s v g
+
+    valid : v ≡ 0 → ⊥
+    valid z = true≢false (may-invalid l m n top false s v g z ∙ sym e ∙ unsure)
+
+    pub after-high : top ≤ v → false ≡ answer
+    after-high h = if-high (content l m) s _ _ _ holds top _ valid h
+
+    module _ (low : v < top) where
+      remove : kindOf (lineA m s (l + 1)) ≡ 2
+      remove = go (eqb (kindOf (lineA m s (l + 1))) 2) refl
+        where
+          go : (b : Bool) → eqb (kindOf (lineA m s (l + 1))) 2 ≡ b → kindOf (lineA m s (l + 1)) ≡ 2
+          go true q = eqb-true _ _ q
+          go false q = absurd (true≢false (may-put l m n top false s v g valid low _ refl (eqb-false _ _ q) ∙ sym e ∙ unsure))
+
+      pub after-looked : Layout l → (x y : ℕ) → x ≡ lineA m s 1 → y ≡ highWord l (lineA m s) → (b : Bool)
+          → b ≡ anyIn (olderThan (content l m) (keyWith x y) v) chosen → not b ≡ answer
+      after-looked lay x y p w b a =
+          ap not
+          (a ∙ ap (λ (key : ℕ). anyIn (olderThan (content l m) key v) chosen) (ap₂ keyWith p w ∙ sym (key-parts l (lineA m s) lay))
+          ∙ ap (λ (t : ℕ → Bool). anyIn t chosen) (fun-ext (older-here (content l m) s _ _ _ holds n top false valid remove)))
+          ∙ sym (if-remove (content l m) s _ _ _ holds top _ valid low remove)
+
+-- ---- chosen_older: a search of the slots chosen, from the last on
+
+pub record Looking (p : ℕ → Bool) (slots : List ℕ) (k j : ℕ) : Type 0 where
+  pub position : j ≤ k
+  pub rest : anyIn p (chosenOf slots j) ≡ anyIn p (chosenOf slots k)
+
+module _ (p : ℕ → Bool) (slots : List ℕ) (k j : ℕ) (w : Looking p slots k j) where
+  looked : 0 < j → anyIn p (chosenOf slots j) ≡ cond (p (getD slots (j - 1) 0)) true (anyIn p (chosenOf slots (j - 1)))
+  unfolding anyIn chosenOf
+  looked h = go j h
+    where
+      go : (i : ℕ) → 0 < i → anyIn p (chosenOf slots i) ≡ cond (p (getD slots (i - 1) 0)) true (anyIn p (chosenOf slots (i - 1)))
+      go zero q = absurd (omega arith)
+      go (suc i) q =
+          let d : i ≡ suc i - 1 = omega arith in ap (λ (x : ℕ). cond (p (getD slots x 0)) true (anyIn p (chosenOf slots x))) d
+
+  pub looking-hit : 0 < j → p (getD slots (j - 1) 0) ≡ true → true ≡ anyIn p (chosenOf slots k)
+  looking-hit h e = sym (looked h ∙ pick-true (p (getD slots (j - 1) 0)) _ _ e) ∙ w .rest
+
+  pub looking-on : 0 < j → p (getD slots (j - 1) 0) ≡ false → Looking p slots k (j - 1)
+  looking-on h e =
+      record { position = omega (arith, w .position); rest = sym (looked h ∙ pick-false (p (getD slots (j - 1) 0)) _ _ e) ∙ w .rest }
+
+  pub looking-ends : j ≤ 0 → false ≡ anyIn p (chosenOf slots k)
+  unfolding anyIn chosenOf
+  looking-ends h = let z : j ≡ 0 = omega arith in ap (λ (i : ℕ). anyIn p (chosenOf slots i)) (sym z) ∙ w .rest

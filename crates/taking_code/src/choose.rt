@@ -1,16 +1,27 @@
-// The slots that a basket takes: the first of the reuse chain that may be taken. `l` is the layout.
+// The slots that a basket takes. `l` is the layout.
 ghost use mathlib.Core.Path.{_≡_};
-ghost use Prim.Native.Nat.{_+_, _*_, _≤_};
+ghost use Prim.Native.Nat.{_+_, _*_, _≤_, _<_};
 ghost use lib.ListN.{length};
 ghost use Rattle.words.specs.Word.{word};
-ghost use Rattle.taking.specs.Taking.{takingOf};
-ghost use Rattle.taking.specs.inner.Takeable.{Walkable};
-ghost use Rattle.taking.specs.inner.Choice.{KnownTop, Decided, Meetable, Met, Chosen};
+ghost use Rattle.prelude.specs.Filter.{anyIn};
+ghost use Rattle.prelude.specs.Range.{greatest};
+ghost use Rattle.layout.specs.Record.{Layout};
+ghost use Rattle.layout.specs.Content.{contentsOf};
+ghost use Rattle.layout.specs.inner.Inside.{SlotInside};
+ghost use Rattle.layout.specs.inner.Key.{keyWith};
+ghost use Rattle.table.specs.Taking.{older};
+ghost use Rattle.taking.specs.Taking.{takingOf, choiceOf};
+ghost use Rattle.taking.specs.inner.Walk.{takeFault};
+ghost use Rattle.taking.specs.inner.Takeable.{slotVersion, olderThan, takeableIf, Walkable};
+ghost use Rattle.taking.specs.inner.Choice.{KnownTop, Decided, chosenOf, ChosenInside, Meetable, Met, Chosen};
 use crate::slot::highest_valid;
+use crate::slot::is_older;
 use crate::slot::may_take;
 use crate::slot::valid_version;
-use crate::take::end_fault;
+use crate::take::chain_fault;
 use crate::take::newest_version;
+use layout_code::fields::slot_high;
+use layout_code::fields::slot_low;
 use taking::Choice;
 use taking::Known;
 use taking::Progress;
@@ -36,6 +47,55 @@ fn known_for(image: &[u8], n: usize, top: u64, exact: bool, s: usize) -> Known
     }
 }
 
+// Does one of the first `got` slots have a valid record of this key that is older than this version?
+fn is_older_chosen(
+    image: &[u8],
+    l: usize,
+    slots: [u32; 8],
+    got: usize,
+    low: u64,
+    high: u64,
+    version: u64,
+) -> bool
+    requires { ⌜ Layout l × ChosenInside (now image) slots got ⌝ }
+    ensures { λ r. ⌜ r ≡ anyIn (olderThan (contentsOf l (now (image .entry))) (keyWith low high) version) (chosenOf slots got) ⌝ }
+{
+    let mut j = got;
+    while 0 < j {
+        j -= 1;
+        let t = slots[j] as usize;
+        if is_older(image, l, t, low, high, version) {
+            return true;
+        }
+    }
+    false
+}
+
+// May slot s be taken after the first `got` slots, by a version below which no valid one is the highest? An older record of its key is looked for in them alone.
+fn may_take_after(
+    image: &[u8],
+    l: usize,
+    n: usize,
+    top: u64,
+    slots: [u32; 8],
+    got: usize,
+    s: usize,
+) -> bool
+    requires { ⌜ SlotInside (now image) l s × (128 * (n + 1) ≤ length (now image)) × ChosenInside (now image) slots got ⌝ }
+    ensures { λ r. ⌜ r ≡ takeableIf top (anyIn (older (contentsOf l (now (image .entry))) s) (chosenOf slots got)) (contentsOf l (now (image .entry)) s) ⌝ }
+{
+    if may_take(image, l, n, top, false, s) {
+        return true;
+    }
+    let version = valid_version(image, s);
+    if top <= version {
+        return false;
+    }
+    let low = slot_low(image, s);
+    let high = slot_high(image, l, s);
+    !is_older_chosen(image, l, slots, got, low, high, version)
+}
+
 // The slot is taken or passed over.
 fn meet(image: &[u8], l: usize, next: &[u32], n: usize, p: Progress) -> Progress
     requires { ⌜ Walkable (now image) (now next) l n × Meetable n p × KnownTop (word (now image)) n (p .top) (p .exact) ⌝ }
@@ -46,8 +106,8 @@ fn meet(image: &[u8], l: usize, next: &[u32], n: usize, p: Progress) -> Progress
     let link = next[slot];
     let mut slots = p.slots;
     let mut prevs = p.prevs;
-    if may_take(image, l, n, known.top, true, slot) {
-        let got = p.got;
+    let got = p.got;
+    if may_take_after(image, l, n, known.top, slots, got, slot) {
         slots[got] = p.at;
         prevs[got] = p.prev;
         return Progress {
@@ -65,7 +125,7 @@ fn meet(image: &[u8], l: usize, next: &[u32], n: usize, p: Progress) -> Progress
         at: link,
         prev: p.at,
         left: p.left - 1,
-        got: p.got,
+        got,
         top: known.top,
         exact: known.exact,
         slots,
@@ -84,7 +144,42 @@ pub fn none_chosen(fault: u32) -> Choice
     }
 }
 
-// The first slots of the reuse chain that may be taken, so many as are wanted, or 11 by a link, or 28 where there are too few.
+// The slots of a basket that is not refused by them.
+fn choose_unrefused(
+    image: &[u8],
+    l: usize,
+    next: &[u32],
+    n: usize,
+    first: u32,
+    wanted: usize,
+    known: u64,
+) -> Choice
+    requires { ⌜ Walkable (now image) (now next) l n × (0 < wanted) × (wanted ≤ 8) × (known ≤ greatest (slotVersion (word (now image))) n) × (takeFault (takingOf l (now image) (now next) n first wanted) ≡ 0) ⌝ }
+    ensures { λ r. ⌜ Chosen (takingOf l (now (image .entry)) (now (next .entry)) n first wanted) (choiceOf l (now (image .entry)) (now (next .entry)) n first wanted) wanted r ⌝ }
+{
+    let mut p = Progress {
+        at: first,
+        prev: 0,
+        left: n,
+        got: 0,
+        top: known,
+        exact: false,
+        slots: [0; 8],
+        prevs: [0; 8],
+    };
+    while p.got < wanted {
+        p = meet(image, l, next, n, p);
+    }
+    let slots = p.slots;
+    let prevs = p.prevs;
+    Choice {
+        fault: 0,
+        slots,
+        prevs,
+    }
+}
+
+// The slots that a basket takes, so many as are wanted, by the slot that the last call took; or 11 by a link, or 28 where too few may be taken.
 pub fn choose(
     image: &[u8],
     l: usize,
@@ -94,36 +189,13 @@ pub fn choose(
     newest: u32,
     wanted: usize,
 ) -> Choice
-    requires { ⌜ Walkable (now image) (now next) l n × (wanted ≤ 8) ⌝ }
-    ensures { λ r. ⌜ Chosen (takingOf l (now (image .entry)) (now (next .entry)) n first wanted) wanted r ⌝ }
+    requires { ⌜ Walkable (now image) (now next) l n × (0 < wanted) × (wanted ≤ 8) ⌝ }
+    ensures { λ r. ⌜ Chosen (takingOf l (now (image .entry)) (now (next .entry)) n first wanted) (choiceOf l (now (image .entry)) (now (next .entry)) n first wanted) wanted r ⌝ }
 {
-    let mut p = Progress {
-        at: first,
-        prev: 0,
-        left: n,
-        got: 0,
-        top: newest_version(image, n, newest),
-        exact: false,
-        slots: [0; 8],
-        prevs: [0; 8],
-    };
-    while p.got < wanted {
-        if p.at == 0 {
-            return none_chosen(28);
-        }
-        if n < p.at as usize {
-            return none_chosen(11);
-        }
-        if p.left == 0 {
-            return none_chosen(11);
-        }
-        p = meet(image, l, next, n, p);
+    let known = newest_version(image, n, newest);
+    let fault = chain_fault(image, l, next, n, first, wanted, known);
+    if fault != 0 {
+        return none_chosen(fault);
     }
-    let slots = p.slots;
-    let prevs = p.prevs;
-    Choice {
-        fault: end_fault(n, p.left, p.at),
-        slots,
-        prevs,
-    }
+    choose_unrefused(image, l, next, n, first, wanted, known)
 }

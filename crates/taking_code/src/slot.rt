@@ -45,7 +45,7 @@ pub fn highest_valid(image: &[u8], n: usize) -> u64
 }
 
 // Does slot t have a valid record of this key that is older than this version?
-fn is_older(image: &[u8], l: usize, t: usize, low: u64, high: u64, version: u64) -> bool
+pub fn is_older(image: &[u8], l: usize, t: usize, low: u64, high: u64, version: u64) -> bool
     requires { ⌜ SlotInside (now image) l t ⌝ }
     ensures { λ r. ⌜ r ≡ olderThan (contentsOf l (now (image .entry))) (keyWith low high) version t ⌝ }
 {

@@ -1,7 +1,7 @@
-// The refusal of a call that wants one slot: 11 by the links, 28 where no slot may be taken.
+// The refusal of a call by the slots that it takes: 11 by the links, 28 where too few may be taken.
 ghost use mathlib.Core.Path.{_≡_};
 ghost use mathlib.Core.Bool.{true};
-ghost use Prim.Native.Nat.{_+_, _*_, _≤_};
+ghost use Prim.Native.Nat.{_+_, _*_, _≤_, _<_};
 ghost use lib.ListN.{length};
 ghost use Rattle.words.specs.Word.{word};
 ghost use Rattle.prelude.specs.Range.{greatest};
@@ -25,7 +25,7 @@ fn few_of(n: usize) -> usize
 }
 
 // 11 by the link of the slot that is taken, else 0; so many slots may still be met.
-pub fn end_fault(n: usize, left: usize, link: u32) -> u32
+fn end_fault(n: usize, left: usize, link: u32) -> u32
     ensures { λ r. ⌜ r ≡ endFault n left link ⌝ }
 {
     if link == 0 {
@@ -40,7 +40,7 @@ pub fn end_fault(n: usize, left: usize, link: u32) -> u32
     0
 }
 
-// Follows the reuse chain, so many slots at most, up to the first slot that may be taken: 11, 28 or 0.
+// Follows the reuse chain, so many slots at most, up to the last of the slots that are wanted: 11, 28 or 0.
 fn walk_fault(
     image: &[u8],
     l: usize,
@@ -48,14 +48,16 @@ fn walk_fault(
     n: usize,
     first: u32,
     most: usize,
+    wanted: usize,
     top: u64,
     scan: bool,
 ) -> u32
-    requires { ⌜ Walkable (now image) (now next) l n ⌝ }
-    ensures { λ r. ⌜ r ≡ walkFault (takeable (contentsOf l (now (image .entry))) n top scan) (now (next .entry)) n most first ⌝ }
+    requires { ⌜ Walkable (now image) (now next) l n × (0 < wanted) ⌝ }
+    ensures { λ r. ⌜ r ≡ walkFault (takeable (contentsOf l (now (image .entry))) n top scan) (now (next .entry)) n most wanted first ⌝ }
 {
     let mut at = first;
     let mut left = most;
+    let mut need = wanted;
     while 0 < left {
         if at == 0 {
             return 28;
@@ -67,7 +69,10 @@ fn walk_fault(
         left -= 1;
         at = next[slot];
         if may_take(image, l, n, top, scan, slot) {
-            return end_fault(n, left, at);
+            if need == 1 {
+                return end_fault(n, left, at);
+            }
+            need -= 1;
         }
     }
     if at == 0 {
@@ -109,30 +114,38 @@ fn is_open(image: &[u8], l: usize, next: &[u32], n: usize, first: u32, known: u6
     is_low(image, l, s, known)
 }
 
-// 11 or 28 by the slots of the chain that may be taken, else 0: a few slots below this version tell mostly that there is one; if not, the whole image does.
-fn chain_fault(image: &[u8], l: usize, next: &[u32], n: usize, first: u32, known: u64) -> u32
-    requires { ⌜ Walkable (now image) (now next) l n × (known ≤ greatest (slotVersion (word (now image))) n) ⌝ }
-    ensures { λ r. ⌜ r ≡ takeFault (takingOf l (now (image .entry)) (now (next .entry)) n first 1) ⌝ }
+// 11 or 28 by the slots of the chain that may be taken, else 0: a few slots below this version tell mostly that there are enough; if not, the whole image does.
+pub fn chain_fault(
+    image: &[u8],
+    l: usize,
+    next: &[u32],
+    n: usize,
+    first: u32,
+    wanted: usize,
+    known: u64,
+) -> u32
+    requires { ⌜ Walkable (now image) (now next) l n × (0 < wanted) × (known ≤ greatest (slotVersion (word (now image))) n) ⌝ }
+    ensures { λ r. ⌜ r ≡ takeFault (takingOf l (now (image .entry)) (now (next .entry)) n first wanted) ⌝ }
 {
-    let ahead = walk_fault(image, l, next, n, first, few_of(n), known, false);
+    let ahead = walk_fault(image, l, next, n, first, few_of(n), wanted, known, false);
     if ahead == 0 {
         return ahead;
     }
     let top = highest_valid(image, n);
-    walk_fault(image, l, next, n, first, n, top, true)
+    walk_fault(image, l, next, n, first, n, wanted, top, true)
 }
 
-// 11 or 28 by the slots that may be taken, else 0, by the slot that the last call took.
+// The same of a call that wants one slot, by the slot that the last call took.
 pub fn take_fault(image: &[u8], l: usize, next: &[u32], n: usize, first: u32, newest: u32) -> u32
     requires { ⌜ Walkable (now image) (now next) l n ⌝ }
     ensures { λ r. ⌜ r ≡ takeFault (takingOf l (now (image .entry)) (now (next .entry)) n first 1) ⌝ }
 {
     if newest == 0 {
-        return chain_fault(image, l, next, n, first, 0);
+        return chain_fault(image, l, next, n, first, 1, 0);
     }
     let known = newest_version(image, n, newest);
     if is_open(image, l, next, n, first, known) {
         return 0;
     }
-    chain_fault(image, l, next, n, first, known)
+    chain_fault(image, l, next, n, first, 1, known)
 }

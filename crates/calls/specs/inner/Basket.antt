@@ -20,7 +20,7 @@ use Rattle.index.specs.declared.State.{State}
 use Rattle.index.specs.declared.Action.{Action}
 use Rattle.index.specs.declared.Action.the-variants.{Insert, Replace, Remove}
 use Rattle.index.specs.declared.Found.{Found}
-use Rattle.taking.specs.Taking.{takingOf}
+use Rattle.taking.specs.Taking.{takingOf, choiceOf}
 use Rattle.taking.specs.declared.Choice.{Choice}
 use Rattle.calls.specs.Change.{storeFault}
 use Rattle.calls.specs.Basket.{KeyChange, itemKey, itemAt, valueAt, changesFrom, changesOf, firstFault, actionFault, keysFault, basketFault, kindBy, oldIn, sumOver, insertsBy, removesBy}
@@ -84,10 +84,10 @@ pub record TotalsOf (l count : ℕ) (items : List BasketItem) (t : Totals) : Typ
   pub inserts-few : t .inserts ≤ count
   pub removes-few : t .removes ≤ count
 
--- c is the slots taken by a call that wants so many, or its refusal after those for its keys
-pub record StoreChoice (taking : Taking) (n : ℕ) (s : State) (wanted inserts removes : ℕ) (c : Choice) : Type 0 where
+-- c is the slots `choice` of a call that wants so many, or its refusal by the slots `taking` after those for its keys
+pub record StoreChoice (taking choice : Taking) (n : ℕ) (s : State) (wanted inserts removes : ℕ) (c : Choice) : Type 0 where
   pub fault-is : c .fault ≡ storeFault taking n s inserts removes
-  pub slots-are : c .fault ≡ 0 → taking ≡ taken (takensFrom (c .slots) (c .prevs) 0 wanted)
+  pub slots-are : c .fault ≡ 0 → choice ≡ taken (takensFrom (c .slots) (c .prevs) 0 wanted)
   pub zeros : c .fault ≡ 0 → (j : ℕ) → wanted ≤ j → getD (c .slots) j 0 ≡ 0
 
 -- p is what a basket reads that is not refused by what is given and lent
@@ -97,7 +97,7 @@ pub record KeysPlanned (l : ℕ) (image heads next : List ℕ) (n : ℕ) (s : St
       (storeFault (takingOf l image next n (s .first) count) n s (sumOver insertsBy (changesOf l count items values))
       (sumOver removesBy (changesOf l count items values)))
   pub olds-are : p .fault ≡ 0 → (j : ℕ) → j < count → getD (p .olds) j 0 ≡ oldIn (search l image heads next (keyAt l items j))
-  pub taking-is : p .fault ≡ 0 → takingOf l image next n (s .first) count ≡ taken (takensFrom (p .slots) (p .prevs) 0 count)
+  pub choice-is : p .fault ≡ 0 → choiceOf l image next n (s .first) count ≡ taken (takensFrom (p .slots) (p .prevs) 0 count)
   pub zeros : p .fault ≡ 0 → (j : ℕ) → count ≤ j → getD (p .slots) j 0 ≡ 0
 
 -- a basket that is not refused can be written by p; at and words are the lengths of the lent lists
@@ -109,7 +109,7 @@ pub record Ready (l : ℕ) (image heads next : List ℕ) (n : ℕ) (s : State) (
   pub words-room : 16 * count ≤ words
   pub size-fits : (j : ℕ) → j < count → sizeAt items j ≤ limit l
   pub olds-are : (j : ℕ) → j < count → getD (p .olds) j 0 ≡ oldIn (search l image heads next (keyAt l items j))
-  pub taking-is : takingOf l image next n (s .first) count ≡ taken (takensFrom (p .slots) (p .prevs) 0 count)
+  pub choice-is : choiceOf l image next n (s .first) count ≡ taken (takensFrom (p .slots) (p .prevs) 0 count)
   pub zeros : (j : ℕ) → count ≤ j → getD (p .slots) j 0 ≡ 0
   pub last-in : s .last ≤ n
   pub version-fits : s .version < 2 ^ 63

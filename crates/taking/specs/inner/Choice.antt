@@ -1,17 +1,18 @@
 -- The choice of several slots, as the functions make it.
 use mathlib.Core.Path.{_≡_}
 use mathlib.Core.Bool.{Bool, true, cond}
-use mathlib.Core.List.{List}
-use Prim.Native.Nat.{ℕ, _+_, _-_, _≤_, _<_}
+use mathlib.Core.List.{List, [], _∷_}
+use Prim.Native.Nat.{ℕ, zero, suc, _+_, _-_, _*_, _≤_, _<_}
 use lib.ListN.{length, getD, set}
 use Rattle.prelude.specs.Range.{greatest}
+use Rattle.prelude.specs.Members.{Slot}
 use Rattle.words.specs.Word.{word}
 use Rattle.layout.specs.Content.{contentsOf}
-use Rattle.table.specs.Taking.{mayTake}
+use Rattle.table.specs.Taking.{highestValid, mayTakeAfter}
 use Rattle.index.specs.Taking.{Taking, taken}
 use Rattle.index.specs.inner.Basket.{takensFrom}
 use Rattle.taking.specs.inner.Walk.{takeFault}
-use Rattle.taking.specs.inner.Takeable.{slotVersion, takeable}
+use Rattle.taking.specs.inner.Takeable.{slotVersion, takeableIf}
 use Rattle.taking.specs.declared.Progress.{Progress}
 use Rattle.taking.specs.declared.Choice.{Choice}
 
@@ -20,9 +21,20 @@ pub record KnownTop (m : ℕ → ℕ) (n top : ℕ) (exact : Bool) : Type 0 wher
   pub bounded : top ≤ greatest (slotVersion m) n
   pub exactly : exact ≡ true → top ≡ greatest (slotVersion m) n
 
--- by this version the test of slot s is that of the rule
+-- by this version the test of slot s is that by the highest one, whether or not an older record of its key may remain
 abbrev pub Decided : (image : List ℕ) → (n top s : ℕ) → Type 0
-Decided image n top s = (l : ℕ) → takeable (contentsOf l image) n top true s ≡ mayTake (contentsOf l image) n s
+Decided image n top s =
+    (l : ℕ) (older : Bool) → takeableIf top older (contentsOf l image s) ≡ takeableIf (highestValid (contentsOf l image) n) older (contentsOf l image s)
+
+-- the first k slots of an array, the last one first
+unfoldable pub chosenOf : (slots : List ℕ) → (k : ℕ) → List ℕ
+chosenOf slots zero = []
+chosenOf slots (suc k) = getD slots k 0 ∷ chosenOf slots k
+
+-- they are few, and are slots of the image
+pub record ChosenInside (image slots : List ℕ) (k : ℕ) : Type 0 where
+  pub few : k ≤ 8
+  pub inside : (j : ℕ) → j < k → 128 * (getD slots j 0 + 1) ≤ length image
 
 -- the slot at which p is can be met
 pub record Meetable (n : ℕ) (p : Progress) : Type 0 where
@@ -30,6 +42,7 @@ pub record Meetable (n : ℕ) (p : Progress) : Type 0 where
   pub high : p .at ≤ n
   pub some : 0 < p .left
   pub few : p .got < 8
+  pub chosen-in : (j : ℕ) → j < p .got → Slot n (getD (p .slots) j 0)
 
 -- it is taken
 unfoldable pub withSlot : (next : List ℕ) → Progress → (top : ℕ) → (exact : Bool) → Progress
@@ -59,13 +72,15 @@ pastSlot next p top exact =
       prevs = p .prevs;
     }
 
--- r is p after the slot was met, by whether it may be taken
+-- r is p after the slot was met, by whether it may be taken after those chosen
 pub record Met (l : ℕ) (image next : List ℕ) (n : ℕ) (p r : Progress) : Type 0 where
   pub known : KnownTop (word image) n (r .top) (r .exact)
-  pub is : r ≡ cond (mayTake (contentsOf l image) n (p .at)) (withSlot next p (r .top) (r .exact)) (pastSlot next p (r .top) (r .exact))
+  pub is : r
+      ≡ cond (mayTakeAfter (contentsOf l image) n (chosenOf (p .slots) (p .got)) (p .at)) (withSlot next p (r .top) (r .exact))
+      (pastSlot next p (r .top) (r .exact))
 
--- c is the choice of the slots that following the chain gives
-pub record Chosen (t : Taking) (wanted : ℕ) (c : Choice) : Type 0 where
-  pub fault-is : c .fault ≡ takeFault t
-  pub slots-are : c .fault ≡ 0 → t ≡ taken (takensFrom (c .slots) (c .prevs) 0 wanted)
-  pub zeros : c .fault ≡ 0 → (j : ℕ) → wanted ≤ j → getD (c .slots) j 0 ≡ 0
+-- r is the refusal by the slots t, or the slots c
+pub record Chosen (t c : Taking) (wanted : ℕ) (r : Choice) : Type 0 where
+  pub fault-is : r .fault ≡ takeFault t
+  pub slots-are : r .fault ≡ 0 → c ≡ taken (takensFrom (r .slots) (r .prevs) 0 wanted)
+  pub zeros : r .fault ≡ 0 → (j : ℕ) → wanted ≤ j → getD (r .slots) j 0 ≡ 0

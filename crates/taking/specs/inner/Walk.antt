@@ -1,7 +1,7 @@
--- The refusal of a call that wants one slot, by the links and by a test that tells which slots may be taken; 0 for none.
+-- The refusal of a call by the links and by a test that tells which slots may be taken; 0 for none.
 use mathlib.Core.Bool.{Bool, cond}
 use mathlib.Core.List.{List}
-use Prim.Native.Nat.{ℕ, zero, suc}
+use Prim.Native.Nat.{ℕ, zero, suc, _-_}
 use lib.Dec.{eqb, ltb}
 use lib.ListN.{getD}
 use Rattle.prelude.specs.Refusal.{say, orElse}
@@ -11,14 +11,15 @@ use Rattle.index.specs.Taking.{Taking, linkFault, fewFault}
 unfoldable pub takeFault : Taking → ℕ
 takeFault t = orElse (linkFault t) (fewFault t)
 
--- by the link of the slot that is taken, where `left` slots may still be met
+-- by the link of the last slot that is taken, where `left` slots may still be met
 unfoldable pub endFault : (n left link : ℕ) → ℕ
 endFault n left link = say (eqb link 0) 0 (say (ltb n link) 11 (say (eqb left 0) 11 0))
 
--- from the link `at` on
-unfoldable pub walkFault : (may : ℕ → Bool) → (next : List ℕ) → (n left at : ℕ) → ℕ
-walkFault may next n zero at = say (eqb at 0) 28 11
-walkFault may next n (suc left) at =
+-- from the link `at` on, where `wanted` slots are to be taken, one or more
+unfoldable pub walkFault : (may : ℕ → Bool) → (next : List ℕ) → (n left wanted at : ℕ) → ℕ
+walkFault may next n zero wanted at = say (eqb at 0) 28 11
+walkFault may next n (suc left) wanted at =
     say (eqb at 0) 28
     (say (ltb n at) 11
-    (cond (may at) (endFault n left (getD next at 0)) (walkFault may next n left (getD next at 0))))
+    (cond (may at) (cond (eqb wanted 1) (endFault n left (getD next at 0)) (walkFault may next n left (wanted - 1) (getD next at 0)))
+    (walkFault may next n left wanted (getD next at 0))))

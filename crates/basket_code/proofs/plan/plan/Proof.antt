@@ -1,5 +1,5 @@
 -- `basket_code::plan::plan` meets its contract. Assumes nothing.
-use Rattle.calls.proofs.BasketPlans.{plan-given, given-few, plan-lent, plan-sized, plan-slots, plan-keys}
+use Rattle.calls.proofs.BasketPlans.{plan-given, given-some, given-few, plan-lent, plan-sized, plan-slots, plan-keys}
 use borrow.Author.Needs.{needs}
 use Rattle.basket_code.proofs.plan.plan.Statement.{statement}
 use Rattle.basket_code.proofs.plan.plan.Tie as tie
@@ -18,6 +18,7 @@ plan-keys-requires : tie.Need-plan-keys-requires
 plan-keys-requires c κs = (
   c .before .before .before .before .before .before .before .before .pre,
   plan-sized _ _ _ _ (c .before .before .before .before .before .before .before .before .args .state) _ _ _ _ _ (c .before .before .before .before .given-fault .ensures) (c .before .before .before .if1 .left) _ (c .before .before .basket-lent-fault .ensures) (c .before .if2 .left) _ (c .slot-count .ensures),
+  given-some _ _ _ _ _ _ (c .before .before .before .before .given-fault .ensures) (c .before .before .before .if1 .left),
   given-few _ _ _ _ _ _ (c .before .before .before .before .given-fault .ensures) (c .before .before .before .if1 .left),
   plan-slots _ _ (c .before .before .before .before .before .before .before .before .args .heads .now) (c .before .before .before .before .before .before .before .before .args .next .now) (c .before .before .before .before .before .before .before .before .args .state) _ _ _ _ _ (c .before .before .before .before .given-fault .ensures) (c .before .before .before .if1 .left) _ (c .before .before .basket-lent-fault .ensures) (c .before .if2 .left) _ (c .slot-count .ensures),
 )

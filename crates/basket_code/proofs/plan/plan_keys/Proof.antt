@@ -14,7 +14,7 @@ returns-2 c =
     keys-held _ _ _ _ _ (c .before .before .before .before .before .before .before .before .before .before .args .state) _ _ _ (c .before .before .before .before .before .before .find-olds .ensures) (c .before .before .before .before .if1 .left) (c .before .before .before .before .before .before .before .before .before .before .pre .1) _ (c .before .before .actions-fault .ensures) _ (c .refused-plan2 .ensures) (c .before .if2 .taken)
 
 choose-slots-requires : tie.Need-choose-slots-requires
-choose-slots-requires c κs = (sized-walkable _ _ _ _ _ (c .before .before .before .before .before .before .before .before .before .before .pre .1) (c .before .before .before .before .before .before .before .before .before .before .pre .3) (c .before .before .before .before .before .before .before .before .before .before .pre .0), c .before .before .before .before .before .before .before .before .before .before .pre .2)
+choose-slots-requires c κs = (sized-walkable _ _ _ _ _ (c .before .before .before .before .before .before .before .before .before .before .pre .1) (c .before .before .before .before .before .before .before .before .before .before .pre .4) (c .before .before .before .before .before .before .before .before .before .before .pre .0), c .before .before .before .before .before .before .before .before .before .before .pre .2, c .before .before .before .before .before .before .before .before .before .before .pre .3)
 
 returns-3 : tie.Need-returns-3
 returns-3 c =

@@ -15,9 +15,12 @@ mul-link c = omega (arith, c .before .before .before .before .pre .0 .few, c .be
 shared-slice-read-link : tie.Need-shared-slice-read-link
 shared-slice-read-link c = omega (arith, c .before .before .before .before .before .pre .0 .next-size, c .before .before .before .before .before .pre .1 .high)
 
-may-take-requires : tie.Need-may-take-requires
-may-take-requires c κs =
-    (record { layout = c .before .before .before .before .before .before .before .pre .0 .layout; room = omega (arith, c .before .before .before .before .before .before .before .pre .0 .image-size, c .before .before .before .before .before .before .before .pre .1 .high) }, omega (arith, c .before .before .before .before .before .before .before .pre .0 .image-size))
+may-take-after-requires : tie.Need-may-take-after-requires
+may-take-after-requires c κs = (
+  record { layout = c .before .before .before .before .before .before .before .pre .0 .layout; room = omega (arith, c .before .before .before .before .before .before .before .pre .0 .image-size, c .before .before .before .before .before .before .before .pre .1 .high) },
+  omega (arith, c .before .before .before .before .before .before .before .pre .0 .image-size),
+  record { few = omega (arith, c .before .before .before .before .before .before .before .pre .1 .few); inside = λ j h. omega (arith, c .before .before .before .before .before .before .before .pre .1 .chosen-in j h .1, c .before .before .before .before .before .before .before .pre .0 .image-size) },
+)
 
 array-write-slots : tie.Need-array-write-slots
 array-write-slots c = c .before .before .before .before .before .before .before .before .before .pre .1 .few
@@ -25,22 +28,22 @@ array-write-slots c = c .before .before .before .before .before .before .before 
 array-write-prevs : tie.Need-array-write-prevs
 array-write-prevs c = c .before .before .before .before .before .before .before .before .before .pre .1 .few
 
-sub-t16 : tie.Need-sub-t16
-sub-t16 c = omega (arith, c .before .before .before .before .before .before .before .before .before .before .pre .1 .some)
+sub-t17 : tie.Need-sub-t17
+sub-t17 c = omega (arith, c .before .before .before .before .before .before .before .before .before .before .pre .1 .some)
 
-add-t21 : tie.Need-add-t21
-add-t21 c = omega (arith, c .before .before .before .before .before .before .before .before .before .before .pre .1 .few)
+add-t22 : tie.Need-add-t22
+add-t22 c = omega (arith, c .before .before .before .before .before .before .before .before .before .before .pre .1 .few)
 
 returns : tie.Need-returns
 unfolding withSlot
-returns c = met-taken _ _ _ _ _ _ _ _ (c .before .before .before .before .before .before .known-for .ensures .0) (c .before .before .before .before .before .before .known-for .ensures .1) (c .before .before .may-take .ensures) (c .before .if1 .taken)
+returns c = met-taken _ _ _ _ _ _ _ _ (c .before .before .before .before .before .before .known-for .ensures .0) (c .before .before .before .before .before .before .known-for .ensures .1) (c .before .before .may-take-after .ensures) (c .before .if1 .taken)
 
 sub-t12 : tie.Need-sub-t12
 sub-t12 c = omega (arith, c .before .before .before .before .before .before .before .before .before .before .pre .1 .some)
 
 returns-2 : tie.Need-returns-2
 unfolding pastSlot
-returns-2 c = met-passed _ _ _ _ _ _ _ _ (c .before .before .before .before .before .before .known-for .ensures .0) (c .before .before .before .before .before .before .known-for .ensures .1) (c .before .before .may-take .ensures) (c .before .if1 .left)
+returns-2 c = met-passed _ _ _ _ _ _ _ _ (c .before .before .before .before .before .before .known-for .ensures .0) (c .before .before .before .before .before .before .known-for .ensures .1) (c .before .before .may-take-after .ensures) (c .before .if1 .left)
 
 pub meet-spec : {M : Type 1} → statement M
 meet-spec =
@@ -50,13 +53,13 @@ meet-spec =
     known-for-requires
     mul-link
     shared-slice-read-link
-    may-take-requires
+    may-take-after-requires
     (λ c. search needs)
     array-write-slots
     (λ c. search needs)
     array-write-prevs
-    sub-t16
-    add-t21
+    sub-t17
+    add-t22
     returns
     sub-t12
     returns-2)
