@@ -6,9 +6,9 @@
  * once, and any other key of that head has their number. In histories that are book steps only, total ordered is total
  * filled plus total withdrawn plus what is open. In the other histories there are baskets too, whose stores are made, all
  * of them or as a cut leaves them: recovery must give all of the basket or nothing of it, also after cuts among the
- * stores that open void slots. With an index that is not the image's own, of a basket the refusal, the slots and the
- * stores are compared, and of a single call whose slot is not the reuse chain's first the refusal alone. Ends with
- * status 1 at the first difference and prints the case.
+ * stores that open void slots. With an index that is not the image's own, the slots of a basket and the index that it
+ * leaves are free, and of a single call whose slot is not the reuse chain's first all but the refusal. Ends with status
+ * 1 at the first difference and prints the case.
  *
  *     differential [SEED [CALLS]]
  *     differential SEED CALLS damaged    recovers damaged images alone, one a call
@@ -503,11 +503,23 @@ static void compare_lists(const struct set *s, const struct basket *b, const uin
         differ("outside the lists lent to a basket");
 }
 
-/* Its answer, and the index that it left. With an index that is not the image's own the model goes on with the latter. */
+/* With an index that is not the image's own "only refusals are fixed": the model goes on with the archive's slots. */
+static void take_slots(struct set *s, const struct basket *b, const uint64_t *answer) {
+    for (size_t i = 0; i < b->count; i++) {
+        if (answer[ORDERSET_BASKET_SLOTS + i] - 1 >= s->n)
+            differ("in the slots of a basket: slot %" PRIu64, answer[ORDERSET_BASKET_SLOTS + i]);
+        s->basket.slot[i] = (uint32_t)answer[ORDERSET_BASKET_SLOTS + i];
+    }
+    m_basket_stores(s->model_image, b->item, b->count, &s->basket);
+}
+
+/* Its answer, and the index that it left. */
 static unsigned compare_basket(struct set *s, const struct basket *b, uint32_t code, const uint64_t *answer,
                                const uint64_t *lent) {
     uint64_t expected[ORDERSET_BASKET_ANSWER] = {s->basket.version};
     const unsigned answered = same_code(code, s->basket.refusal, DONE);
+    if (answered == DONE && !s->own)
+        take_slots(s, b, answer);
     for (size_t i = 0; i < ORDERSET_BASKET; i++)
         expected[ORDERSET_BASKET_SLOTS + i] = s->basket.slot[i];
     same_bytes("the answer", answer, s->basket.refusal ? lent : expected, sizeof expected);

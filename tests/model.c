@@ -455,8 +455,15 @@ static int refuse_keys(const uint8_t *image, uint32_t n, const struct m_index *i
     return 0;
 }
 
-/* "Its records share one version, and bits 16 to 23 of the kind word hold their number; a single record, or a basket of one, has 0 there". "It answers its version
- * and slots" */
+/* "Its records share one version, and bits 16 to 23 of the kind word hold their number; a single record, or a basket of one, has 0 there" */
+void m_basket_stores(const uint8_t *image, const struct m_item item[8], size_t count, struct m_basket *b) {
+    for (size_t i = 0; i < count; i++) {
+        const struct m_record r = {item[i].kind == 3 ? 2 : 1, item[i].key, item[i].bytes, item[i].kind == 3 ? 0 : item[i].size};
+        write_record(image, b->slot[i], b->version, &r, count > 1 ? count : 0, b->store + 16 * i);
+    }
+}
+
+/* "It answers its version and slots" */
 struct m_basket m_basket(const uint8_t *image, size_t length, const struct m_index *index, const struct m_item item[8], size_t count, size_t places, size_t values) {
     const uint32_t n = m_slots(length);
     struct m_basket b = {.refusal = refuse_given(item, count, places, values)};
@@ -474,10 +481,7 @@ struct m_basket m_basket(const uint8_t *image, size_t length, const struct m_ind
     if (b.refusal)
         return (struct m_basket){.refusal = b.refusal};
     b.version = index->state.version;
-    for (size_t i = 0; i < count; i++) {
-        const struct m_record r = {item[i].kind == 3 ? 2 : 1, item[i].key, item[i].bytes, item[i].kind == 3 ? 0 : item[i].size};
-        write_record(image, b.slot[i], b.version, &r, count > 1 ? count : 0, b.store + 16 * i);
-    }
+    m_basket_stores(image, item, count, &b);
     return b;
 }
 

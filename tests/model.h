@@ -102,6 +102,9 @@ int m_may_take(const uint8_t *image, uint32_t n, uint32_t slot);
 /* A basket of the first `count` of eight items; places and values: the lengths of the two lists that it is lent. The index stays as it is. */
 struct m_basket m_basket(const uint8_t *image, size_t length, const struct m_index *index, const struct m_item item[8], size_t count, size_t places, size_t values);
 
+/* Its stores, by its version and slots. */
+void m_basket_stores(const uint8_t *image, const struct m_item item[8], size_t count, struct m_basket *basket);
+
 /* Its changes of an index that is the image's own, where it is not refused. */
 void m_basket_index(const uint8_t *image, size_t length, struct m_index *index, const struct m_item item[8], uint32_t count, const struct m_basket *basket);
 

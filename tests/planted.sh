@@ -379,10 +379,10 @@ fault differential 'the removes of a basket make no room' tests/model.c 's/remov
     'DIFFERENCE in the code: archive (0|11), model'
 fault differential 'the inserts of a basket take no room' tests/model.c 's/inserts \+= item\[i\].kind == 1;/inserts += 0;/' \
     'DIFFERENCE in the code: archive 28, model'
-fault differential 'a basket of one has the number 1' tests/model.c 's/count > 1 \? count : 0, b.store/count, b.store/' \
+fault differential 'a basket of one has the number 1' tests/model.c 's/count > 1 \? count : 0, b->store/count, b->store/' \
     "DIFFERENCE in a basket's values"
 fault differential 'the records of a basket have versions of their own' tests/model.c \
-    's/b.slot\[i\], b.version, &r/b.slot[i], b.version + i, \&r/' 'DIFFERENCE in'
+    's/b->slot\[i\], b->version, &r/b->slot[i], b->version + i, \&r/' 'DIFFERENCE in'
 fault differential 'a record of a remove in a basket has a value' tests/model.c 's/item\[i\].kind == 3 \? 0 :/item[i].kind == 3 \&\& item[i].size > 80 ? 0 :/' \
     "DIFFERENCE in a basket's values"
 index='/^void m_basket_index/,/^}/'
