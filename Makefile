@@ -47,8 +47,8 @@ $(OUT)/persist: tests/persist.c tests/chance.c $(LOG_ARCHIVE)
 $(OUT)/guard: tests/guard.c tests/pieces.c tests/images.c tests/model.c tests/chance.c
 $(OUT)/differential: tests/differential.c tests/images.c tests/model.c tests/chance.c
 $(OUT)/storm: tests/storm.c tests/cache.c tests/model.c tests/chance.c
-$(OUT)/lock $(OUT)/heads: $(OUT)/%: tests/%.c tests/child.c tests/chance.c
-$(OUT)/kills $(OUT)/watch: $(OUT)/%: tests/%.c tests/model.c tests/child.c tests/chance.c
+$(OUT)/lock $(OUT)/heads $(OUT)/kills: $(OUT)/%: tests/%.c tests/child.c tests/chance.c
+$(OUT)/watch: tests/watch.c tests/model.c tests/child.c tests/chance.c
 
 $(TESTS:%=$(OUT)/%): $(wildcard tests/*.h) $(HEADERS) $(ARCHIVE) | $(OUT)
 	$(C) -Itests $(filter %.c,$^) $(filter %.a,$^) -o $@
@@ -113,7 +113,7 @@ gateway: $(OUT)/gateway
 	rm -f $(OUT)/orders.img $(OUT)/orders.img.new
 	$(OUT)/gateway $(OUT)/orders.img make 1000
 	$(OUT)/gateway $(OUT)/orders.img new 7 100 acknowledge 7 acknowledge 7 fill 7 40 new 8 5 fill 8 5 new 9 3 \
-		withdraw 9 new 10 2 list
+		withdraw 9 new 10 2 basket 3 new 11 4 new 12 4 withdraw 10 list
 	$(OUT)/gateway $(OUT)/orders.img list
 
 heads: $(ARCHIVE)

@@ -10,6 +10,8 @@
  *     acknowledge KEY            the exchange has acknowledged it; once is enough, and again stores nothing
  *     fill KEY QUANTITY          so much of it is filled; when nothing is open, the order is gone
  *     withdraw KEY               the rest of it is withdrawn, and the order is gone
+ *     basket N ITEM...           N items, 1 to 8, each `new KEY QUANTITY` or `withdraw KEY`: all of them or none, also
+ *                                after a power cut, with one fence
  *     show KEY, list             an order, all orders
  *
  * KEY and QUANTITY are 64-bit numbers in decimal digits. Each command is answered on standard output, and what it
@@ -17,10 +19,10 @@
  * words, and the next one is read; of commands that are arguments, none is carried out after a refused one. Status 0:
  * all done. 1: something was refused or failed. 2: the arguments are no commands, and nothing was done.
  *
- * On a file system on non-volatile memory (DAX) a write is two line flushes and one fence; on any other it is msync,
- * the fallback. One gateway writes at a time, alone; those that only read (heads, and show and list as arguments) open
- * the file read-only, and several of them may run. What they show was perhaps not durable yet if the last writer was
- * killed.
+ * On a file system on non-volatile memory (DAX) a write is two line flushes, in a basket two for each item, and one
+ * fence; on any other it is msync, the fallback. One gateway writes at a time, alone; those that only read (heads, and
+ * show and list as arguments) open the file read-only, and several of them may run. What they show was perhaps not
+ * durable yet if the last writer was killed.
  *
  * The calls of the archive are proved; this program, the headers and what lies below them are not. It is made so that a
  * power cut, a kill, a full disk and a failed msync lose nothing that was answered. Each start that writes makes
@@ -58,22 +60,30 @@ struct set {
     enum orderset_flush flush;
 };
 
-enum kind { NEW, ACKNOWLEDGE, FILL, WITHDRAW, SHOW, LIST, KINDS };
-enum { KEY, QUANTITY, NUMBERS };
+enum kind { NEW, ACKNOWLEDGE, FILL, WITHDRAW, BASKET, SHOW, LIST, KINDS };
+enum { KEY, QUANTITY, NUMBERS, ITEMS = KEY };
 
 static const struct {
     const char *name;
     int numbers; /* that follow the name */
     int writes;
 } forms[KINDS] = {
-    {"new", 2, 1}, {"acknowledge", 1, 1}, {"fill", 2, 1}, {"withdraw", 1, 1}, {"show", 1, 0}, {"list", 0, 0},
+    {"new", 2, 1},    {"acknowledge", 1, 1}, {"fill", 2, 1}, {"withdraw", 1, 1},
+    {"basket", 1, 1}, {"show", 1, 0},        {"list", 0, 0},
 };
 
 static const char *const numbers[NUMBERS] = {"key", "quantity"};
 
+/* of a basket: NEW or WITHDRAW */
+struct item {
+    enum kind kind;
+    uint64_t key, quantity;
+};
+
 struct command {
     enum kind kind;
     uint64_t number[NUMBERS];
+    struct item item[ORDERSET_BASKET];
 };
 
 /* ---- what is said */
@@ -106,9 +116,9 @@ static const char *const refusals[] = {
     "a value byte past its length is not zero",
     "more than eight slots are broken or void; no power cut leaves that: look at the memory, and whether all was made "
     "durable",
-    NULL,
-    NULL,
-    "no slot may be taken, or the key is new and only one slot is spare",
+    "the basket has no key, or more than eight",
+    "a key comes twice in the basket",
+    "too few slots may be taken, or with the new keys no slot would be spare",
 };
 
 static const char *words_of(uint32_t number) {
@@ -252,6 +262,12 @@ static uint64_t recover(struct set *s) {
                             s->version, s->voids, s->open_at, s->open_value);
 }
 
+/* Makes a list of stores durable: each line is flushed once, and there is one fence. */
+static int persist_list(const struct set *s, const uint32_t *at, const uint64_t *value, size_t count) {
+    return s->flushes ? orderset_persist_list(s->image, s->length, at, value, count, s->flush)
+                      : orderset_persist_list_file(s->image, s->length, at, value, count);
+}
+
 /* What is left of a basket that a cut struck is opened, before any other call. A reader does so in its copy. */
 static void open_voids(const struct set *s, const char *path, int writing) {
     const uint32_t count = s->voids[0];
@@ -261,8 +277,7 @@ static void open_voids(const struct set *s, const char *path, int writing) {
             stop(FAILED, "%s: play says no %" PRIu32 ": %s", path, number, words_of(number));
         return;
     }
-    if (s->flushes ? orderset_persist_list(s->image, s->length, s->open_at, s->open_value, count, s->flush)
-                   : orderset_persist_list_file(s->image, s->length, s->open_at, s->open_value, count))
+    if (persist_list(s, s->open_at, s->open_value, count))
         stop(FAILED, "%s: %s; void slots could not be opened, and no order was changed. The next start does so again",
              path, strerror(errno));
 }
@@ -357,15 +372,19 @@ static void make(const char *path, uint64_t slots) {
 
 /* ---- the commands; each answers 0, or the number of its refusal, and then nothing was changed */
 
-/* Without this a change is not answered. */
+/* A change that could not be made durable is not answered. */
+static _Noreturn void not_answered(const struct command *c) {
+    stop(FAILED,
+         "%s %" PRIu64 ": %s; this is not answered. The next start writes the whole image again, and then it is there "
+         "or not",
+         forms[c->kind].name, c->number[KEY], strerror(errno));
+}
+
 static void persist(const struct set *s, const struct command *c, const uint32_t at[ORDERSET_STORES],
                     const uint64_t value[ORDERSET_STORES]) {
     if (s->flushes ? orderset_persist(s->image, s->length, at, value, s->flush)
                    : orderset_persist_file(s->image, s->length, at, value))
-        stop(FAILED,
-             "%s %" PRIu64 ": %s; this is not answered. The next start writes the whole image again, and then it is "
-             "there or not",
-             forms[c->kind].name, c->number[KEY], strerror(errno));
+        not_answered(c);
 }
 
 static void print_change(const struct command *c, const uint64_t answer[ORDERSET_STEP_ANSWER]) {
@@ -412,13 +431,22 @@ static uint64_t word_of(const uint8_t *bytes) {
     return word;
 }
 
+static void set_word(uint8_t *bytes, uint64_t word) {
+    for (int i = 0; i < 8; i++, word >>= 8)
+        bytes[i] = (uint8_t)word;
+}
+
 /* A value that no step wrote is perhaps no order. */
+static int is_order(const uint8_t *bytes, uint64_t length) {
+    const uint64_t state = word_of(bytes);
+    return length == ORDERSET_ORDER_BYTES && (state == ORDERSET_SENT || state == ORDERSET_ACKNOWLEDGED) &&
+           word_of(bytes + 16) < word_of(bytes + 8);
+}
+
 static void print_order(const uint8_t *bytes, uint64_t length) {
-    const uint64_t state = word_of(bytes), ordered = word_of(bytes + 8), filled = word_of(bytes + 16);
-    const int known = state == ORDERSET_SENT || state == ORDERSET_ACKNOWLEDGED;
-    if (length == ORDERSET_ORDER_BYTES && known && filled < ordered)
-        printf("%s, ordered %" PRIu64 ", filled %" PRIu64, state == ORDERSET_SENT ? "sent" : "acknowledged", ordered,
-               filled);
+    if (is_order(bytes, length))
+        printf("%s, ordered %" PRIu64 ", filled %" PRIu64,
+               word_of(bytes) == ORDERSET_SENT ? "sent" : "acknowledged", word_of(bytes + 8), word_of(bytes + 16));
     else
         printf("no order: %" PRIu64 " bytes", length);
 }
@@ -458,8 +486,68 @@ static uint32_t list(const struct set *s) {
     return 0;
 }
 
+/* ---- a basket of new and withdrawn orders */
+
+static int key_twice(const struct command *c) {
+    for (uint64_t i = 0; i < c->number[ITEMS]; i++)
+        for (uint64_t j = 0; j < i; j++)
+            if (c->item[i].key == c->item[j].key)
+                return 1;
+    return 0;
+}
+
+/* The book's rules for an item, 17, 18 and 19: the set knows keys and bytes, and no orders. */
+static uint32_t item_fault(const struct set *s, const struct item *item) {
+    uint8_t bytes[ORDERSET_VALUE_MAX] = {0};
+    uint64_t answer[ORDERSET_ANSWER];
+    uint64_t returned = orderset_get(s->image, s->length, s->heads, s->heads_length, s->next, s->next_length, item->key,
+                                     bytes, sizeof bytes, answer);
+    if (returned)
+        return ORDERSET_REFUSAL(returned);
+    const int held = answer[0] == ORDERSET_GIVEN;
+    if (item->kind == WITHDRAW)
+        return held && is_order(bytes, answer[ORDERSET_LENGTH]) ? ORDERSET_OK : ORDERSET_NO_ORDER;
+    return held ? ORDERSET_KEY_HELD : item->quantity ? ORDERSET_OK : ORDERSET_BAD_QUANTITY;
+}
+
+static void print_basket(uint64_t items, const uint64_t answer[ORDERSET_BASKET_ANSWER]) {
+    printf("basket %" PRIu64 ": slots", items);
+    for (uint64_t i = 0; i < items; i++)
+        printf(" %" PRIu64, answer[ORDERSET_BASKET_SLOTS + i]);
+    printf(" version %" PRIu64 "\n", answer[ORDERSET_BASKET_VERSION]);
+}
+
+/* All items or none: one call of the set, and one fence. */
+static uint32_t basket(struct set *s, const struct command *c) {
+    enum { ROOM = ORDERSET_BASKET_STORES(ORDERSET_BASKET) };
+    uint32_t kinds[ORDERSET_BASKET] = {0}, at[ROOM], number = key_twice(c) ? ORDERSET_KEY_TWICE : ORDERSET_OK;
+    uint64_t keys[ORDERSET_BASKET] = {0}, value[ROOM], answer[ORDERSET_BASKET_ANSWER];
+    size_t lengths[ORDERSET_BASKET] = {0}, items = (size_t)c->number[ITEMS];
+    uint8_t values[ORDERSET_BASKET_VALUES] = {0};
+    for (size_t i = 0; i < items && !number; i++) {
+        uint8_t *order = values + ORDERSET_VALUE_MAX * i;
+        kinds[i] = c->item[i].kind == NEW ? ORDERSET_INSERT : ORDERSET_REMOVE;
+        keys[i] = c->item[i].key;
+        lengths[i] = ORDERSET_ORDER_BYTES; /* not read of a remove */
+        set_word(order, ORDERSET_SENT);
+        set_word(order + 8, c->item[i].quantity);
+        number = item_fault(s, &c->item[i]);
+    }
+    if (!number)
+        number = orderset_basket(s->image, s->length, s->heads, s->heads_length, s->next, s->next_length, s->state,
+                                 s->version, items, kinds, keys, lengths, values, at, ROOM, value, ROOM, answer);
+    if (number)
+        return number;
+    if (persist_list(s, at, value, ORDERSET_BASKET_STORES(items)))
+        not_answered(c);
+    print_basket(items, answer);
+    return 0;
+}
+
 static uint32_t carry_out(struct set *s, const struct command *c) {
     switch (c->kind) {
+    case BASKET:
+        return basket(s, c);
     case SHOW:
         return show(s, c->number[KEY]);
     case LIST:
@@ -526,6 +614,18 @@ static int number_of(const char *word, size_t length, uint64_t *number) {
     return length ? 0 : -1;
 }
 
+static int in_basket(const struct command *item) {
+    return item->kind == NEW || item->kind == WITHDRAW;
+}
+
+static struct item item_of(const struct command *c) {
+    return (struct item){c->kind, c->number[KEY], c->number[QUANTITY]};
+}
+
+static int good_count(const struct command *c) {
+    return c->kind != BASKET || (c->number[ITEMS] > 0 && c->number[ITEMS] <= ORDERSET_BASKET);
+}
+
 /* The command at the front of the words; answers how many words it has. */
 static int command_of_words(char **word, int count, struct command *c) {
     int kind = kind_of(word[0], strlen(word[0]));
@@ -535,9 +635,20 @@ static int command_of_words(char **word, int count, struct command *c) {
         stop(USAGE, "not a command, words are missing: %s", word[0]);
     *c = (struct command){.kind = (enum kind)kind};
     for (int i = 0; i < forms[kind].numbers; i++)
-        if (number_of(word[1 + i], strlen(word[1 + i]), &c->number[i]))
-            stop(USAGE, "not a %s: %s", numbers[i], word[1 + i]);
-    return 1 + forms[kind].numbers;
+        if (number_of(word[1 + i], strlen(word[1 + i]), &c->number[i]) || !good_count(c))
+            stop(USAGE, "not a %s: %s", kind == BASKET ? "number of items" : numbers[i], word[1 + i]);
+    int used = 1 + forms[kind].numbers;
+    for (uint64_t i = 0; kind == BASKET && i < c->number[ITEMS]; i++) {
+        struct command item;
+        if (used == count)
+            stop(USAGE, "not a command, words are missing: %s", word[0]);
+        const char *name = word[used];
+        used += command_of_words(word + used, count - used, &item);
+        if (!in_basket(&item))
+            stop(USAGE, "not an item of a basket: %s", name);
+        c->item[i] = item_of(&item);
+    }
+    return used;
 }
 
 /* The word at the front of a line, without the space after it; NULL where no word is left. */
@@ -548,20 +659,34 @@ static const char *next_word(const char **line, const char *end, size_t *length)
     return word;
 }
 
-/* One space between the words of a line and none after them. Answers 0, or -1. */
-static int command_of_line(const char *line, size_t length, struct command *c) {
-    const char *end = line + length;
-    const char *word = next_word(&line, end, &length);
-    int kind = kind_of(word, length);
+/* The command at the front of a line, one space between its words. Answers 0, or -1. */
+static int front_command(const char **line, const char *end, struct command *c) {
+    size_t length;
+    const char *word = next_word(line, end, &length);
+    int kind = word ? kind_of(word, length) : KINDS;
     if (kind == KINDS)
         return -1;
     *c = (struct command){.kind = (enum kind)kind};
     for (int i = 0; i < forms[kind].numbers; i++) {
-        word = next_word(&line, end, &length);
+        word = next_word(line, end, &length);
         if (!word || number_of(word, length, &c->number[i]))
             return -1;
     }
-    return line ? -1 : 0;
+    if (!good_count(c))
+        return -1;
+    for (uint64_t i = 0; kind == BASKET && i < c->number[ITEMS]; i++) {
+        struct command item;
+        if (front_command(line, end, &item) || !in_basket(&item))
+            return -1;
+        c->item[i] = item_of(&item);
+    }
+    return 0;
+}
+
+/* Nothing after its words. Answers 0, or -1. */
+static int command_of_line(const char *line, size_t length, struct command *c) {
+    const char *end = line + length;
+    return front_command(&line, end, c) || line ? -1 : 0;
 }
 
 /* ---- the ways to be called */
@@ -667,7 +792,7 @@ int main(int count, char **word) {
     hold_streams();
     if (count < 2)
         stop(USAGE, "usage: gateway FILE [make N | heads [B] | new KEY QUANTITY | acknowledge KEY | "
-                    "fill KEY QUANTITY | withdraw KEY | show KEY | list]...");
+                    "fill KEY QUANTITY | withdraw KEY | basket N ITEM... | show KEY | list]...");
     if (count == 2)
         return run_lines(word[1]);
     if (!strcmp(word[2], "make"))

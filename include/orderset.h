@@ -8,17 +8,18 @@
  *   image    ORDERSET_IMAGE_BYTES(N) bytes; 64-byte aligned if its stores are to be persisted (orderset_persist.h)
  *   heads    B numbers, B from 1 to ORDERSET_HEADS_MAX; key k belongs to head k % B
  *   next     N + 1 numbers
- *   state    four numbers: the reuse chain's first and last slot, the live count, and the slot that the last call took,
- *            0 for none since recovery (ORDERSET_FIRST, ORDERSET_LAST, ORDERSET_LIVE, ORDERSET_NEWEST)
+ *   state    four numbers: the reuse chain's first and last slot, the live count, and the (first) slot that the last
+ *            call took, 0 for none since recovery (ORDERSET_FIRST, ORDERSET_LAST, ORDERSET_LIVE, ORDERSET_NEWEST)
  *   version  one number: the next version
- * heads, next, state and version are the index. orderset_recover fills them; insert, replace, remove and the book's
- * steps keep them up to date. They are never persisted. state[ORDERSET_NEWEST] is a hint that makes calls faster:
+ * heads, next, state and version are the index. orderset_recover fills them; insert, replace, remove, baskets and the
+ * book's steps keep them up to date. They are never persisted. state[ORDERSET_NEWEST] is a hint that makes calls faster:
  * whatever stands there, no answer and no store is another.
  *
  * How to write: orderset_insert, orderset_replace, orderset_remove and the book's steps change the index and hand out
  * 16 stores, eight for each of two lines, and leave the image as it is. The caller makes all 16, in order within each
  * line, flushes both lines and fences once (orderset_persist), or makes them with orderset_play(..., 8, 8). Only then
- * may the next call follow. If that was not finished, orderset_recover comes next.
+ * may the next call follow. If that was not finished, orderset_recover comes next. orderset_basket does the same for up
+ * to eight keys at once, with 16 stores for each of them in a lent list and still one fence (orderset_persist_list).
  *
  * Insert or replace: insert is for a key that is not held and replace for one that is, and each refuses the other kind,
  * so that a key that is used again by mistake overwrites nothing. A caller who means either asks orderset_locate first,
@@ -30,24 +31,31 @@
  * power cut can take an order that was answered. Do so at every start that will write.
  *
  * After recovery: it hands out at most ORDERSET_OPENINGS stores, one for each void record, a record of a basket that a
- * cut left incomplete (below). They are made, their lines are flushed and a fence is passed before any other call: with
- * orderset_play_list(image, image_length, at, count[0], value, count[0]) and a flush of each line, or by whatever
- * persists stores. If that was not finished, orderset_recover comes next: it gives the same map and hands out what is
- * left. Where count[0] is 0 there is nothing to do.
+ * cut left incomplete (below). They are made, their lines are flushed and a fence is passed before any other call:
+ * orderset_persist_list(image, image_length, at, value, count[0], flush), or orderset_play_list and a flush of each
+ * line. If that was not finished, orderset_recover comes next: it gives the same map and hands out what is left. Where
+ * count[0] is 0 there is nothing to do. What they are for: a void record is a whole one, and only its missing companions
+ * tell that it does not count. A later call with a higher version would hide that, and half of the basket would be there
+ * after all; with an open line the record is gone for good.
  *
- * Baskets: records that were written together have one version, and each tells in bits 16 to 23 of its kind word how
- * many they are, from 2 to 8; a record that was written alone has 0 there. Of valid slots the highest version counts if
- * as many of them have it as its records tell. Otherwise these records are void, and the next version down is judged in
- * turn. A void record holds nothing for its key, and its slot is spare.
+ * Baskets: orderset_basket inserts, replaces and removes 1 to ORDERSET_BASKET distinct keys, all or none: after a cut
+ * that left any number of first stores on each of its up to sixteen lines, recovery gives all of its changes where all
+ * stores stand, and else none of them. The records that it writes have one version, and each tells in bits 16 to 23 of
+ * its kind word how many they are, from 2 to 8; a record that was written alone, also by a basket of one key, has 0
+ * there. Of valid slots the highest version counts if as many of them have it as its records tell. Otherwise these
+ * records are void, and the next version down is judged in turn. A void record holds nothing for its key, and its slot
+ * is spare.
  *
- * Which slot a call takes: the first of the reuse chain that may be taken. No call takes a slot of the highest version
- * among valid slots, nor a record of a remove while an older valid record of its key is in the image. 28 says that no
- * slot may be taken, or that a new key would leave no spare slot. In a set that was formatted and then changed by these
- * calls alone, an insert is refused with 28 only where one slot is spare, and a replace or a remove never is. An image
- * from elsewhere that recovery accepts may have no slot to take; there they are refused with 28 too.
+ * Which slots a call takes: the first of the reuse chain that may be taken, one for each key. No call takes a slot of
+ * the highest version among valid slots, nor a record of a remove while an older valid record of its key is in the
+ * image. 28 says that too few slots may be taken, or that new keys would leave no spare slot. In a set that was
+ * formatted and then changed by these calls alone, an insert is refused with 28 only where one slot is spare, and a
+ * replace or a remove never is; a basket may be refused with 28 at any live count, since it needs a slot for each key.
+ * An image from elsewhere that recovery accepts may have no slot to take; there they are refused with 28 too.
  *
  * What a call returns: 0 where it is not refused. A refused call leaves everything that it was lent as it was. Format,
- * play, the book's steps and the questions about a line return the number of the refusal (enum orderset_refusal).
+ * play, baskets, the book's steps and the questions about a line return the number of the refusal (enum
+ * orderset_refusal).
  * Recover, insert, replace, remove, get and locate return 64 bits: that number in the low 32, read by ORDERSET_REFUSAL,
  * and above them the slot that recover names (ORDERSET_FAULT_SLOT), or the count of slots that the other calls compared
  * (below). So compare ORDERSET_REFUSAL of the result with a number, and the result itself with 0 alone. In get, locate
@@ -58,7 +66,7 @@
  * from recovery and the calls since, that is never above the number of held keys that have the key's head. It is the
  * last word of the answer (ORDERSET_COMPARED; in get ORDERSET_GET_COMPARED), also of absent. Of a refused call it is
  * the high 32 bits of the result (ORDERSET_REFUSED_COMPARED): 0 where the refusal is 1, 2, 3, 4, 10 or 11 of the chain,
- * since then no search was finished. The steps of the book do not report it.
+ * since then no search was finished. Baskets and the steps of the book do not report it.
  *
  * The order book is a layer above the set: orders in the place of bytes. An order is a value of 24 bytes, three words
  * of 8 bytes, low byte first: its state (ORDERSET_SENT or ORDERSET_ACKNOWLEDGED), the ordered quantity and the filled
@@ -77,11 +85,13 @@
  * So in every call image, heads, next, state, version, the value or the output, count, at, value and answer are
  * separate pieces of memory.
  *
+ * Stack: recovery needs up to 2.24 MB (see there). Of the other calls, measured: a basket 2.4 KB, any other below 1 KB.
+ *
  * Threads: the set has no locks. Gets and locates may run beside each other, each with an output and an answer of its
- * own, and beside nothing else: from the start of an insert, a replace, a remove, a step of the book, a recovery or a
- * play until its stores are made, no other call runs. The questions about a line may run at any time on a copy of the
- * line; a copy that is taken while another thread or process stores is taken from word 7 down to word 0 (see
- * examples/sender.c).
+ * own, and beside nothing else: from the start of an insert, a replace, a remove, a basket, a step of the book, a
+ * recovery or a play until its stores are made, no other call runs. The questions about a line may run at any time on a
+ * copy of the line; a copy that is taken while another thread or process stores is taken from word 7 down to word 0
+ * (see examples/sender.c).
  *
  * How many heads: a call walks along the chain of its key's head, so with B near N chains are short. Keys k * B all
  * have one head, and are one chain: with N = 65,535, B = 65,536 and 60,000 keys k * 65,536 a get took 280 microseconds,
@@ -118,6 +128,16 @@ extern "C" {
 #define ORDERSET_LINE_STORES 8u
 #define ORDERSET_OPENINGS 8u /* the most stores that recovery hands out */
 
+/* a basket: its keys, at the most; the bytes of its values, 80 for each key; and the stores of one of so many keys */
+#define ORDERSET_BASKET 8u
+#define ORDERSET_BASKET_VALUES 640u
+#define ORDERSET_BASKET_STORES(keys) ((size_t)ORDERSET_STORES * (size_t)(keys))
+
+/* what a basket does with a key */
+#define ORDERSET_INSERT 1u
+#define ORDERSET_REPLACE 2u
+#define ORDERSET_REMOVE 3u
+
 /* the bytes of an image of n slots, and the numbers of its next */
 #define ORDERSET_IMAGE_BYTES(n) ((size_t)ORDERSET_SLOT_BYTES * ((size_t)(n) + 1u))
 #define ORDERSET_NEXT_LENGTH(n) ((size_t)(n) + 1u)
@@ -146,6 +166,11 @@ extern "C" {
 #define ORDERSET_LENGTH 1
 #define ORDERSET_GET_COMPARED 2
 #define ORDERSET_ANSWER 3
+
+/* the same of a basket: the version, and from there on the slots; it has no ORDERSET_GIVEN */
+#define ORDERSET_BASKET_VERSION 0
+#define ORDERSET_BASKET_SLOTS 1
+#define ORDERSET_BASKET_ANSWER 9
 
 /* the same of format */
 #define ORDERSET_SLOTS 1
@@ -182,8 +207,9 @@ enum orderset_refusal {
     ORDERSET_NO_VERSION = 9,        /* the next version is 2^63 or more */
     ORDERSET_VALUE_TOO_LONG = 10,   /* the value exceeds 80 bytes */
     ORDERSET_BAD_INDEX = 11,        /* the key's chain or the reuse chain is not one of this image, or the live count is
-                                       zero where a key is removed */
-    ORDERSET_OUTPUT_TOO_SHORT = 13, /* the output is shorter than the value */
+                                       below the number of keys that are removed */
+    ORDERSET_OUTPUT_TOO_SHORT = 13, /* the output is shorter than the value; in a basket: a list is shorter than its
+                                       stores */
     ORDERSET_BAD_COUNT = 14,        /* a count exceeds 8 */
     ORDERSET_BAD_STORES = 15,       /* the stores are not those of two lines of the image; in play_list: a word is
                                        outside, or the lengths differ */
@@ -191,14 +217,16 @@ enum orderset_refusal {
     ORDERSET_NO_ORDER = 18,         /* the key is not held, or holds no order */
     ORDERSET_BAD_QUANTITY = 19,     /* the quantity of a new order is zero; in fill: it is zero or more than is open */
     ORDERSET_INSERT_HELD = 20,      /* in insert: the key is held */
-    ORDERSET_NOT_HELD = 21,         /* in replace: the key is not held */
+    ORDERSET_NOT_HELD = 21,         /* in replace: the key is not held; in a basket also in remove */
     ORDERSET_BAD_KIND = 22,         /* the kind of a valid slot is neither put nor remove */
     ORDERSET_BAD_LENGTH = 23,       /* the length of a valid slot is over 80, or a remove's is not 0; in get: over 80 */
     ORDERSET_BAD_TAIL = 24,         /* a value byte of a valid slot past its length is not zero */
     ORDERSET_BROKEN_SLOTS = 25,     /* more than eight slots are broken or void: no power cut leaves that; look at the
                                        memory, and whether every start made the image durable */
-    ORDERSET_NO_ROOM = 28,          /* no slot of the reuse chain may be taken, or the key is new and only one slot is
-                                       spare */
+    ORDERSET_NO_BASKET = 26,        /* the basket has 0 or more than 8 keys, or an item of a kind that there is not */
+    ORDERSET_KEY_TWICE = 27,        /* a key comes twice in the basket */
+    ORDERSET_NO_ROOM = 28,          /* too few slots of the reuse chain may be taken, or with the new keys no slot would
+                                       be spare */
     ORDERSET_NO_LINE_LENGTH = 33    /* a line has not 64 bytes, or the answer about it not 8 */
 };
 
@@ -249,6 +277,24 @@ ORDERSET_CALL uint64_t orderset_remove(const uint8_t *image, size_t image_length
                                        uint32_t *next, size_t next_length, uint32_t state[ORDERSET_STATE],
                                        uint64_t version[1], uint64_t key, uint32_t at[ORDERSET_STORES],
                                        uint64_t value[ORDERSET_STORES], uint64_t answer[ORDERSET_CHANGE_ANSWER]);
+
+/* Changes count keys, 1 to ORDERSET_BASKET, all or none. Item i is kinds[i] (ORDERSET_INSERT, ORDERSET_REPLACE or
+ * ORDERSET_REMOVE), keys[i] and, where it is not removed, the first lengths[i] bytes of values from byte 80 * i on; the
+ * items from number count on are not looked at. answer: {version, slots}: answer[ORDERSET_BASKET_SLOTS + i] is the slot
+ * of item i, and zeros follow. The stores, ORDERSET_BASKET_STORES(count), are at[i] and value[i], sixteen for each item
+ * in order; the entries past them stay as they were. They are made in order within each line, each of the 2 * count
+ * lines is flushed and one fence is passed (orderset_persist_list), or orderset_play_list makes them.
+ *
+ * Refusals: 26 where count is 0 or above 8 or one of the first count kinds is none of the three; 27; 13 where at or
+ * value has fewer than ORDERSET_BASKET_STORES(count) entries; 1, 2, 3, 4; 10 of an insert or a replace; 11 (chain); 20
+ * of an insert or 21 of a replace or a remove, whichever comes first; 11 (reuse, or a live count below the number of
+ * removes), 28, 9. Each is tested for all keys before the next. */
+ORDERSET_CALL uint32_t orderset_basket(const uint8_t *image, size_t image_length, uint32_t *heads, size_t heads_length,
+                                       uint32_t *next, size_t next_length, uint32_t state[ORDERSET_STATE],
+                                       uint64_t version[1], size_t count, const uint32_t kinds[ORDERSET_BASKET],
+                                       const uint64_t keys[ORDERSET_BASKET], const size_t lengths[ORDERSET_BASKET],
+                                       const uint8_t values[ORDERSET_BASKET_VALUES], uint32_t *at, size_t at_length,
+                                       uint64_t *value, size_t value_length, uint64_t answer[ORDERSET_BASKET_ANSWER]);
 
 /* Copies the key's value to the front of the output; the bytes after it stay as they were. answer: {ORDERSET_GIVEN,
  * length, slots compared} or {ORDERSET_ABSENT, 0, slots compared}. An output of ORDERSET_VALUE_MAX bytes is always long

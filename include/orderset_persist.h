@@ -1,14 +1,18 @@
 /* orderset_persist.h: makes an image durable. orderset_persist makes the 16 stores that a call handed out on mapped
- * memory, flushes both lines and fences once; orderset_persist_list does the same with a list of any length, as the
- * message log hands it out (orderset_log.h); orderset_persist_image makes a whole image, or a log's area, durable at a
- * start. C11 and C++11, GCC or Clang, x86-64. No part of the proved archives: nothing here is proved, and what it
- * relies on is said here.
+ * memory, flushes both lines and fences once; orderset_persist_list does the same with a list of any length, as a
+ * basket, recovery and the message log (orderset_log.h) hand it out; orderset_persist_image makes a whole image, or a
+ * log's area, durable at a start. C11 and C++11, GCC or Clang, x86-64. No part of the proved archives: nothing here is
+ * proved, and what it relies on is said here.
  *
  *     flush = orderset_best_flush();                                                  once
  *     if (orderset_persist_image(image, length, flush)) ...stop                       every start, before recovery
- *     if (orderset_recover(image, length, ...)) ...stop
+ *     if (orderset_recover(image, length, ..., count, open_at, open_value)) ...stop
+ *     if (orderset_persist_list(image, length, open_at, open_value, count[0], flush)) ...stop
  *     if (orderset_insert(image, length, ..., at, value, answer) == ORDERSET_OK &&
  *         orderset_persist(image, length, at, value, flush) == 0)
+ *         ...answer the client
+ *     if (orderset_basket(image, length, ..., keys, ..., at, room, value, room, answer) == ORDERSET_OK &&
+ *         orderset_persist_list(image, length, at, value, ORDERSET_BASKET_STORES(keys), flush) == 0)
  *         ...answer the client
  *
  * The image is mapped from non-volatile memory and 64-byte aligned, so that the eight words of a line are one cache
@@ -19,8 +23,8 @@
  * The order (section 2 of Cohen, Friedman and Larus, Efficient Logging in Non-Volatile Memory by Exploiting Coherency
  * Protocols, OOPSLA 2017). Each store is one aligned word, atomic and with release order: no compiler and no processor
  * lets it reach the cache before the stores ahead of it. A cache line goes to memory whole. So whenever power fails,
- * each line holds some number of its stores, counted from the first. Between the two lines there is no order and none
- * is needed. A flush begins to write its line back, and the fence is the one wait: every store after it, so also the
+ * each line holds some number of its stores, counted from the first. Between two lines there is no order and none is
+ * needed. A flush begins to write its line back, and the fence is the one wait: every store after it, so also the
  * one that sends an answer, comes after the call is durable.
  *
  * Why a start makes the whole image durable. Recovery has to read what stands in the memory. After a power cut it does.

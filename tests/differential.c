@@ -4,11 +4,11 @@
  * line of the images in histories; and what they say will be stored first and last with what each call hands out. There
  * the counts are those of a chain for each head: the held keys of a head have the counts from 1 to their number, each
  * once, and any other key of that head has their number. In histories that are book steps only, total ordered is total
- * filled plus total withdrawn plus what is open. The archive has no call for a basket: in the other histories the test
- * makes the model's stores of one, all of them or as a cut leaves them, and recovery must give all of the basket or
- * nothing of it, also after cuts among the stores that open void slots. With an index that is not the image's own only
- * refusals are compared where the reuse chain's first slot may not be taken. Ends with status 1 at the first difference
- * and prints the case.
+ * filled plus total withdrawn plus what is open. In the other histories there are baskets too, whose stores are made, all
+ * of them or as a cut leaves them: recovery must give all of the basket or nothing of it, also after cuts among the
+ * stores that open void slots. With an index that is not the image's own, the slots of a basket and the index that it
+ * leaves are free, and of a single call whose slot is not the reuse chain's first all but the refusal. Ends with status
+ * 1 at the first difference and prints the case.
  *
  *     differential [SEED [CALLS]]
  *     differential SEED CALLS damaged    recovers damaged images alone, one a call
@@ -64,17 +64,18 @@ struct set {
     uint64_t *value;
     uint32_t *count, *open_at; /* what recovery hands out */
     uint64_t *open_value;
+    struct m_basket basket; /* what the last basket hands out */
     int own;        /* the index is the image's own */
     uint64_t since; /* calls since everything was compared */
 };
 
 enum which {
-    FORMAT, RECOVER, INSERT, REPLACE, REMOVE, GET, LOCATE, NEW, ACKNOWLEDGE, FILL, WITHDRAW, PLAY, PLAY_LIST,
+    FORMAT, RECOVER, INSERT, REPLACE, REMOVE, GET, LOCATE, NEW, ACKNOWLEDGE, FILL, WITHDRAW, PLAY, PLAY_LIST, BASKET,
     LINE_WHOLE, LINE_VERSION, LINE_FIRST, LINE_LAST, WHICH
 };
-static const char *const name[WHICH] = {"format",    "recover",    "insert",       "replace",    "remove",   "get",
-                                        "locate",    "new",        "acknowledge",  "fill",       "withdraw", "play",
-                                        "play_list", "line_whole", "line_version", "line_first", "line_last"};
+static const char *const name[WHICH] = {"format",    "recover", "insert",      "replace",      "remove",     "get",
+                                        "locate",    "new",     "acknowledge", "fill",         "withdraw",   "play",
+                                        "play_list", "basket",  "line_whole",  "line_version", "line_first", "line_last"};
 
 enum { DONE = 0, ABSENT = 100, ALREADY = 101, ANSWERS };  /* answers that are no refusal */
 static uint64_t baskets, half_baskets, openings; /* whole, struck by a cut, stores that open void slots */
@@ -454,6 +455,108 @@ static unsigned try_change(struct set *s, const struct request *r) {
     return compare_change(s, code, answer, answer_lent, at_lent, value_lent, c);
 }
 
+enum { PLACES = ORDERSET_BASKET * ORDERSET_STORES }; /* the stores of a basket, at the most */
+
+/* A basket: how many of the items are asked, and the lengths of the two lists that are lent. */
+struct basket {
+    size_t count, places, values;
+    struct m_item item[ORDERSET_BASKET];
+};
+
+static uint32_t archive_basket(const struct set *s, const struct basket *b, uint32_t *at, uint64_t *value,
+                               uint64_t answer[ORDERSET_BASKET_ANSWER]) {
+    uint32_t kinds[ORDERSET_BASKET];
+    uint64_t keys[ORDERSET_BASKET];
+    size_t lengths[ORDERSET_BASKET];
+    uint8_t values[ORDERSET_BASKET_VALUES];
+    fill(values, sizeof values);
+    for (size_t i = 0; i < ORDERSET_BASKET; i++) {
+        const struct m_item *item = &b->item[i];
+        kinds[i] = item->kind;
+        keys[i] = item->key;
+        lengths[i] = item->size;
+        if (item->bytes && item->size <= ORDERSET_VALUE_MAX)
+            memcpy(values + ORDERSET_VALUE_MAX * i, item->bytes, item->size);
+    }
+    return orderset_basket(s->image, s->length, s->heads, s->model.heads_length, s->next, s->model.next_length,
+                           s->state, s->version, b->count, kinds, keys, lengths, values, at, b->places, value,
+                           b->values, answer);
+}
+
+/* The stores of item i of the last basket become those that are played. */
+static void stores_of_item(struct set *s, size_t i) {
+    for (size_t k = 0; k < ORDERSET_STORES; k++) {
+        s->at[k] = s->basket.store[ORDERSET_STORES * i + k].at;
+        s->value[k] = s->basket.store[ORDERSET_STORES * i + k].value;
+    }
+}
+
+/* The two lists: the stores, and past them, or of a refused basket, what was lent. */
+static void compare_lists(const struct set *s, const struct basket *b, const uint32_t *at, const uint64_t *value,
+                          const uint32_t *at_lent, const uint64_t *value_lent) {
+    const size_t stores = s->basket.refusal ? 0 : ORDERSET_STORES * b->count;
+    for (size_t i = 0; i < b->places; i++)
+        same_number("a basket's word numbers", at[i], i < stores ? s->basket.store[i].at : at_lent[i]);
+    for (size_t i = 0; i < b->values; i++)
+        same_number("a basket's values", value[i], i < stores ? s->basket.store[i].value : value_lent[i]);
+    if (!guarded(at, 4 * b->places) || !guarded(value, 8 * b->values))
+        differ("outside the lists lent to a basket");
+}
+
+/* With an index that is not the image's own "only refusals are fixed": the model goes on with the archive's slots. */
+static void take_slots(struct set *s, const struct basket *b, const uint64_t *answer) {
+    for (size_t i = 0; i < b->count; i++) {
+        if (answer[ORDERSET_BASKET_SLOTS + i] - 1 >= s->n)
+            differ("in the slots of a basket: slot %" PRIu64, answer[ORDERSET_BASKET_SLOTS + i]);
+        s->basket.slot[i] = (uint32_t)answer[ORDERSET_BASKET_SLOTS + i];
+    }
+    m_basket_stores(s->model_image, b->item, b->count, &s->basket);
+}
+
+/* Its answer, and the index that it left. */
+static unsigned compare_basket(struct set *s, const struct basket *b, uint32_t code, const uint64_t *answer,
+                               const uint64_t *lent) {
+    uint64_t expected[ORDERSET_BASKET_ANSWER] = {s->basket.version};
+    const unsigned answered = same_code(code, s->basket.refusal, DONE);
+    if (answered == DONE && !s->own)
+        take_slots(s, b, answer);
+    for (size_t i = 0; i < ORDERSET_BASKET; i++)
+        expected[ORDERSET_BASKET_SLOTS + i] = s->basket.slot[i];
+    same_bytes("the answer", answer, s->basket.refusal ? lent : expected, sizeof expected);
+    if (answered == DONE && s->own)
+        m_basket_index(s->model_image, s->length, &s->model, b->item, (uint32_t)b->count, &s->basket);
+    else if (answered == DONE)
+        take_over(s);
+    for (size_t i = 0; answered == DONE && i < b->count; i++) {
+        stores_of_item(s, i);
+        framed(s, s->basket.slot[i], s->basket.version);
+    }
+    compare(s);
+    return answered;
+}
+
+static unsigned try_basket(struct set *s, const struct basket *b) {
+    uint64_t answer[ORDERSET_BASKET_ANSWER], answer_lent[ORDERSET_BASKET_ANSWER];
+    uint32_t *at = lend(4 * b->places), *at_lent = lend(4 * b->places);
+    uint64_t *value = lend(8 * b->values), *value_lent = lend(8 * b->values);
+    fill(answer_lent, sizeof answer_lent);
+    memcpy(answer, answer_lent, sizeof answer);
+    fill(at_lent, 4 * b->places);
+    fill(value_lent, 8 * b->values);
+    memcpy(at, at_lent, 4 * b->places);
+    memcpy(value, value_lent, 8 * b->values);
+    begin(s, BASKET, b->item[0].key, b->item[0].size, b->count, b->places);
+    uint32_t code = archive_basket(s, b, at, value, answer);
+    s->basket = m_basket(s->model_image, s->length, &s->model, b->item, b->count, b->places, b->values);
+    unsigned answered = compare_basket(s, b, code, answer, answer_lent);
+    compare_lists(s, b, at, value, at_lent, value_lent);
+    give_back(at);
+    give_back(at_lent);
+    give_back(value);
+    give_back(value_lent);
+    return answered;
+}
+
 static unsigned try_locate(struct set *s, uint64_t key) {
     uint64_t answer[ORDERSET_CHANGE_ANSWER], expected[ORDERSET_CHANGE_ANSWER];
     fill(answer, sizeof answer);
@@ -547,7 +650,7 @@ struct plain {
     uint8_t (*bytes)[ORDERSET_VALUE_MAX];
     int16_t *size; /* -1: absent */
     uint32_t held;
-    int grown;                       /* from a formatted image, by single calls */
+    int grown;                       /* from a formatted image */
     int book_only;                   /* nothing but book steps since it was empty */
     total ordered, filled, withdrawn; /* by the accepted steps that no cut made absent */
 };
@@ -823,56 +926,90 @@ static struct set *finish(struct set *s, struct plain *p, const struct effect *e
     return cut ? recover_again(s, p) : s;
 }
 
-/* ---- baskets: their stores are the model's */
+/* ---- baskets */
 
-/* Distinct keys of the plain map, each to be inserted, replaced or removed, and what that does. */
-static uint32_t any_basket(const struct plain *p, struct m_record *record, struct effect *e) {
-    uint32_t count = 0, wanted = 2 + (uint32_t)below(7), first = (uint32_t)below(p->keys);
-    for (uint32_t k = 0; k < p->keys && count < wanted; k++) {
-        const uint32_t i = (first + k) % p->keys;
-        const int removes = p->size[i] >= 0 && below(2);
-        if (below(3) == 0)
-            continue;
-        e[count] = (struct effect){.i = i, .holds = !removes, .size = removes ? 0 : below(ORDERSET_VALUE_MAX + 1)};
-        fill(e[count].bytes, e[count].size);
-        record[count] = (struct m_record){removes ? 2 : 1, p->key[i], e[count].bytes, e[count].size};
-        count++;
-    }
-    return count;
+/* What is asked for a key: mostly what it asks for. */
+static uint32_t any_kind(int held) {
+    if (below(40) == 0)
+        return 1 + (uint32_t)below(3);
+    return held ? 2 + (uint32_t)below(2) : ORDERSET_INSERT;
 }
 
-/* Makes the stores of a basket: all, or so many on each line as a cut leaves. Answers whether all were made. */
-static int make_basket(struct set *s, const struct m_store *store, uint32_t count) {
-    const uint64_t cut = below(4); /* 0: none; 1: mostly whole lines; else: any number on each line */
+/* As long as the stores or longer; sometimes too short. */
+static size_t any_places(size_t count) {
+    return below(60) ? ORDERSET_STORES * count + below(2) * below(9) : below(ORDERSET_STORES * count + 1);
+}
+
+/* Distinct keys of the plain map, each to be inserted, replaced or removed, and what that does. */
+static struct basket any_basket(const struct plain *p, struct effect *e) {
+    const uint32_t wanted = 1 + (uint32_t)below(ORDERSET_BASKET), first = (uint32_t)below(p->keys);
+    struct basket b = {0};
+    for (uint32_t k = 0; k < p->keys && b.count < wanted; k++) {
+        const uint32_t i = (first + k) % p->keys, kind = any_kind(p->size[i] >= 0);
+        if (below(3) == 0)
+            continue;
+        e[b.count] = (struct effect){.i = i, .holds = kind != ORDERSET_REMOVE, .size = below(ORDERSET_VALUE_MAX + 1)};
+        fill(e[b.count].bytes, e[b.count].size);
+        b.item[b.count] = (struct m_item){kind, p->key[i], e[b.count].bytes, below(200) ? e[b.count].size : 81};
+        b.count++;
+    }
+    b.places = any_places(b.count);
+    b.values = any_places(b.count);
+    return b;
+}
+
+/* The rules' answer by the plain map alone. */
+static unsigned plain_basket(const struct set *s, const struct plain *p, const struct basket *b, const struct effect *e) {
+    const size_t stores = ORDERSET_STORES * b->count;
+    uint32_t held = p->held;
+    if (b->count == 0)
+        return ORDERSET_NO_BASKET;
+    if (b->places < stores || b->values < stores)
+        return ORDERSET_OUTPUT_TOO_SHORT;
+    for (size_t i = 0; i < b->count; i++)
+        if (b->item[i].kind != ORDERSET_REMOVE && b->item[i].size > ORDERSET_VALUE_MAX)
+            return ORDERSET_VALUE_TOO_LONG;
+    for (size_t i = 0; i < b->count; i++) {
+        const int is_held = p->size[e[i].i] >= 0;
+        if (is_held == (b->item[i].kind == ORDERSET_INSERT))
+            return is_held ? ORDERSET_INSERT_HELD : ORDERSET_NOT_HELD;
+        held += (uint32_t)(b->item[i].kind == ORDERSET_INSERT) - (uint32_t)(b->item[i].kind == ORDERSET_REMOVE);
+    }
+    return held >= s->n ? ORDERSET_NO_ROOM : s->version[0] >> 63 ? ORDERSET_NO_VERSION : DONE;
+}
+
+/* Makes the stores of the basket: all, or so many on each line as a cut leaves. Answers whether all were made. */
+static int make_basket(struct set *s, size_t count, int struck) {
+    const uint64_t cut = struck ? 1 + below(3) : 0; /* 1: mostly whole lines; else: any number on each line */
     int whole = 1;
-    for (uint32_t i = 0; i < count; i++) {
+    for (size_t i = 0; i < count; i++) {
         size_t a = cut > 1 || (cut == 1 && below(count) == 0) ? below(9) : 8,
                b = cut > 1 || (cut == 1 && below(count) == 0) ? below(9) : 8;
-        for (size_t k = 0; k < ORDERSET_STORES; k++) {
-            s->at[k] = store[ORDERSET_STORES * i + k].at;
-            s->value[k] = store[ORDERSET_STORES * i + k].value;
-        }
+        stores_of_item(s, i);
         same_number("play", (uint64_t)try_play(s, a, b), 0);
         whole &= a == 8 && b == 8;
     }
     return whole;
 }
 
-/* A basket and recovery after it: all of it is there, or nothing. */
-static struct set *basket(struct set *s, struct plain *p) {
-    struct m_record record[8];
-    struct effect e[8];
-    struct m_store store[8 * ORDERSET_STORES];
-    uint32_t count = any_basket(p, record, e);
-    if (count < 2 || m_basket_stores(s->model_image, s->length, &s->model, record, count, store))
+/* A basket: refused exactly where the rules refuse it, but for 28 by the slots that may be taken, which the model tells.
+ * All of it is there, or after a cut perhaps nothing. */
+static struct set *basket(struct set *s, struct plain *p, unsigned cuts) {
+    struct effect e[ORDERSET_BASKET];
+    const struct basket b = any_basket(p, e);
+    const int struck = cuts && below(s->n > 3000 ? 200 : 4) == 0;
+    unsigned want = plain_basket(s, p, &b, e), got = try_basket(s, &b);
+    if (got == ORDERSET_NO_ROOM && (want == DONE || want == ORDERSET_NO_VERSION))
+        want = got;
+    same_number("a basket's answer by the plain map", got, want);
+    if (got != DONE)
         return s;
-    p->grown = 0;
-    int whole = make_basket(s, store, count);
-    for (uint32_t i = 0; whole && i < count; i++)
+    int whole = make_basket(s, b.count, struck);
+    for (size_t i = 0; whole && i < b.count; i++)
         plain_take(p, &e[i]);
     baskets += (uint64_t)whole;
     half_baskets += (uint64_t)!whole;
-    return recover_again(s, p);
+    return struck ? recover_again(s, p) : s;
 }
 
 /* A quantity: of what is open, or around it, or any. */
@@ -901,8 +1038,8 @@ static struct set *step(struct set *s, struct plain *p, unsigned cuts) {
     struct effect e = {.i = (uint32_t)below(p->keys)};
     struct request r = {(p->book_only ? book : any)[below(16)], p->key[e.i], 0, e.bytes, any_size()};
     const int size = p->size[e.i];
-    if (!p->book_only && cuts && below(cuts) == 0)
-        return basket(s, p);
+    if (!p->book_only && below(s->n > 3000 ? 100 : 12) == 0)
+        return basket(s, p, cuts);
     if (r.which == GET) {
         size_t room = below(3) ? ORDERSET_VALUE_MAX : below(ORDERSET_VALUE_MAX + 1);
         unsigned want = size < 0 ? ABSENT : room < (size_t)size ? 13 : 200u + (unsigned)size;
@@ -990,13 +1127,52 @@ static void play_some(struct set *s) {
     s->own &= below(4) && !try_play(s, a, b) && a == 8 && b == 8;
 }
 
+/* A key of the image, or near one. */
+static uint64_t key_near(const struct set *s, uint64_t keys) {
+    return below(4) ? any_key(keys) : m_word(s->model_image, s->n ? 16 * (1 + below(s->n)) + 1 : 0);
+}
+
+/* What is asked of a key, mostly what it asks for by the image and the index; seldom a kind that there is not. */
+static uint32_t kind_near(const struct set *s, uint64_t key) {
+    struct m_place place = m_locate(s->model_image, s->length, &s->model, key);
+    if (below(100) == 0)
+        return below(2) ? (uint32_t)below(5) : (uint32_t)chance();
+    return any_kind(!place.refusal && !place.absent);
+}
+
+/* Mostly a basket that is not refused for what is given, with an index that is the image's own. */
+static struct basket basket_near(const struct set *s, uint64_t keys, const uint8_t *bytes) {
+    struct basket b = {.count = below(40) ? 1 + below(below(2) ? 2 : 8) : below(2) ? below(11) : (size_t)chance()};
+    const size_t few = b.count <= ORDERSET_BASKET ? b.count : ORDERSET_BASKET;
+    for (size_t i = 0; i < ORDERSET_BASKET; i++) {
+        const uint64_t key = key_near(s, keys);
+        b.item[i] = (struct m_item){i < few ? kind_near(s, key) : (uint32_t)chance(), key, bytes,
+                                    below(20) ? below(ORDERSET_VALUE_MAX + 1) : any_size()};
+    }
+    b.places = any_places(few);
+    b.values = any_places(few);
+    return b;
+}
+
+/* All stores of a basket, or some, or none. */
+static void play_basket(struct set *s, size_t count) {
+    const uint64_t most = below(8);
+    int whole = most > 1;
+    for (size_t i = 0; i < count && most > 0; i++) {
+        const size_t a = most > 1 ? 8 : below(9), b = most > 1 ? 8 : below(9);
+        stores_of_item(s, i);
+        whole &= !try_play(s, a, b);
+    }
+    s->own &= whole;
+}
+
 /* Calls on whatever stands there, with whatever index. */
 static void any_calls(struct set *s, uint64_t keys, unsigned count) {
-    static const enum which any[] = {GET,     GET,    GET,    LOCATE, INSERT,      INSERT, REPLACE,
-                                     REPLACE, REMOVE, REMOVE, NEW,    ACKNOWLEDGE, FILL,   WITHDRAW};
+    static const enum which any[] = {GET,     GET,    GET,    LOCATE, INSERT,      INSERT, REPLACE,  BASKET,
+                                     REPLACE, REMOVE, REMOVE, NEW,    ACKNOWLEDGE, FILL,   WITHDRAW, BASKET};
     uint8_t bytes[128], out[96];
     for (unsigned k = 0; k < count; k++) {
-        uint64_t key = below(4) ? any_key(keys) : m_word(s->model_image, s->n ? 16 * (1 + below(s->n)) + 1 : 0);
+        uint64_t key = key_near(s, keys);
         struct request r = {any[below(sizeof any / sizeof *any)], key, any_quantity(), bytes, any_size()};
         fill(bytes, sizeof bytes);
         fill(out, sizeof out);
@@ -1004,7 +1180,11 @@ static void any_calls(struct set *s, uint64_t keys, unsigned count) {
             try_get(s, key, out, below(sizeof out + 1));
         else if (r.which == LOCATE)
             try_locate(s, key);
-        else if (try_change(s, &r) == DONE)
+        else if (r.which == BASKET) {
+            const struct basket b = basket_near(s, keys, bytes);
+            if (try_basket(s, &b) == DONE)
+                play_basket(s, b.count);
+        } else if (try_change(s, &r) == DONE)
             play_some(s);
     }
 }
@@ -1135,7 +1315,7 @@ enum fault {
     OUTSIDE, ONE_LINE, TWO_LENGTHS, OTHER_STATE, ALL_FILLED, OTHER_SIZE, LARGE_ORDER, ALL_SLOTS, ALL_BUT_ONE, LONG_LAST,
     BAD_BITS, BAD_TAIL, REMOVE_LENGTH, BITS_AND_KIND, KIND_AND_LENGTH, LENGTH_AND_TAIL, TAIL_THEN_BITS, ONE_BROKEN,
     TWO_BROKEN, SAME_AND_BROKEN, NONE_TO_TAKE, KEPT_REMOVE, LATER_LINK, ROUND_REUSE, NONE_AND_VERSION, FULL_AND_VERSION,
-    NONE_AND_NO_LIVE, LIVE_N, LIVE_ABOVE, FAULTS
+    NONE_AND_NO_LIVE, LIVE_N, LIVE_ABOVE, ONE_LIVE, LAST_LINK, FAULTS
 };
 
 /* the slot that recovery names */
@@ -1427,6 +1607,8 @@ static void plant(struct set *s, enum fault fault) {
     case FULL_AND_VERSION: index->state.live = 5, index->state.version = 1ull << 63; break;
     case NONE_AND_NO_LIVE: none_to_take(image), index->state.live = 0; break;
     case LIVE_N: index->state.live = 6; break;
+    case ONE_LIVE: index->state.live = 1; break;
+    case LAST_LINK: index->next[6] = 7 + (uint32_t)below(1000); break;
     case LIVE_ABOVE: index->state.live = 7 + (uint32_t)below(UINT32_MAX - 6u); break;
     case TAIL_THEN_BITS: set_tail(image), set_kind_word(image, 3, 81, bits); break;
     default: break;
@@ -1488,6 +1670,101 @@ static void directed(const struct directed *c, enum which which) {
         same_number("a directed case's slots compared", compared, slots_due(c));
     if (which == RECOVER && named != slot_at_fault[c->fault])
         differ("in directed case %td: the slot named is not %" PRIu32, c - cases, slot_at_fault[c->fault]);
+    close_set(s);
+}
+
+/* ---- directed cases of a basket, on the same six slots; of these 5 and 6 are spare */
+
+enum { I = ORDERSET_INSERT, R = ORDERSET_REPLACE, D = ORDERSET_REMOVE };
+
+/* less: how many entries the lists are short of, the first and the second */
+static const struct basket_case {
+    unsigned answer;
+    enum fault fault;
+    size_t count, less[2];
+    struct {
+        uint32_t kind;
+        uint64_t key;
+        size_t size;
+    } item[ORDERSET_BASKET];
+} basket_cases[] = {
+    {DONE, SOUND, 1, {0, 0}, {{R, 7, 80}}},
+    {DONE, SOUND, 1, {0, 0}, {{I, 10, 0}}},
+    {DONE, SOUND, 1, {0, 0}, {{D, 8, 81}}},
+    {DONE, SOUND, 2, {0, 0}, {{R, 7, 5}, {D, 8, SIZE_MAX}, {9, 7, 81}}},
+    {DONE, SOUND, 2, {0, 0}, {{I, 10, 80}, {D, 12, 0}}},
+    {DONE, SOUND, 2, {0, 0}, {{D, 11, 0}, {D, 8, 0}}},
+    {DONE, SOUND, 2, {0, 0}, {{I, 14, 7}, {R, 8, 9}}},
+    {DONE, SOUND, 2, {0, 0}, {{R, 8, 9}, {I, 14, 7}}},
+    {DONE, LAST_LINK, 1, {0, 0}, {{R, 7, 5}}},
+    {DONE, FULL, 2, {0, 0}, {{I, 10, 5}, {D, 7, 0}}},
+    {DONE, NO_LIVE, 2, {0, 0}, {{I, 10, 5}, {R, 7, 0}}},
+    {26, SOUND, 0, {0, 0}, {{0}}},
+    {26, SOUND, 9, {0, 0}, {{R, 7, 5}}},
+    {26, SOUND, SIZE_MAX, {0, 0}, {{R, 7, 5}}},
+    {26, BAD_LENGTH, 0, {0, 0}, {{0}}},
+    {26, SOUND, 1, {0, 0}, {{0, 7, 5}}},
+    {26, SOUND, 2, {0, 0}, {{R, 7, 5}, {4, 8, 5}}},
+    {26, SOUND, 2, {0, 0}, {{R, 7, 5}, {UINT32_MAX, 7, 81}}},
+    {26, BAD_LENGTH, 2, {1, 1}, {{R, 7, 5}, {257, 8, 5}}},
+    {27, SOUND, 2, {0, 0}, {{R, 7, 5}, {D, 7, 5}}},
+    {27, SOUND, 3, {0, 0}, {{I, 7, 81}, {R, 10, 5}, {I, 10, 5}}},
+    {27, BAD_LENGTH, 8, {1, 1}, {{I, 1, 5}, {I, 2, 5}, {I, 3, 5}, {I, 4, 5}, {I, 5, 5}, {I, 6, 5}, {I, 7, 5}, {I, 1, 5}}},
+    {13, SOUND, 1, {1, 0}, {{R, 7, 5}}},
+    {13, SOUND, 2, {0, 1}, {{R, 7, 5}, {D, 8, 0}}},
+    {13, BAD_LENGTH, 2, {32, 32}, {{R, 7, 5}, {D, 8, 0}}},
+    {1, BAD_LENGTH, 2, {0, 0}, {{R, 7, 81}, {D, 8, 0}}},
+    {2, UNFORMATTED, 2, {0, 0}, {{R, 7, 81}, {D, 8, 0}}},
+    {3, BAD_HEADER, 2, {0, 0}, {{R, 7, 81}, {D, 8, 0}}},
+    {4, NO_HEADS, 2, {0, 0}, {{R, 7, 81}, {D, 8, 0}}},
+    {4, MANY_HEADS, 2, {0, 0}, {{R, 7, 81}, {D, 8, 0}}},
+    {4, BAD_NEXT, 2, {0, 0}, {{R, 7, 81}, {D, 8, 0}}},
+    {10, SOUND, 1, {0, 0}, {{I, 10, 81}}},
+    {10, ABOVE_N, 2, {0, 0}, {{R, 7, 5}, {R, 8, SIZE_MAX}}},
+    {10, SOUND, 3, {0, 0}, {{R, 10, 5}, {I, 7, 5}, {I, 9, 81}}},
+    {11, ABOVE_N, 2, {0, 0}, {{I, 8, 5}, {R, 7, 5}}},
+    {11, ROUND, 2, {0, 0}, {{D, 14, 5}, {I, 10, 5}}},
+    {11, ALL_SLOTS, 1, {0, 0}, {{I, 10, 5}}},
+    {20, SOUND, 2, {0, 0}, {{I, 10, 5}, {I, 7, 5}}},
+    {20, NO_FIRST, 2, {0, 0}, {{I, 7, 5}, {R, 10, 5}}},
+    {20, LAST_VERSION, 3, {0, 0}, {{R, 8, 5}, {I, 7, 5}, {D, 14, 5}}},
+    {21, SOUND, 2, {0, 0}, {{I, 10, 5}, {R, 9, 5}}},
+    {21, SOUND, 2, {0, 0}, {{D, 10, 0}, {I, 7, 5}}},
+    {21, NO_LIVE, 1, {0, 0}, {{D, 14, 0}}},
+    {21, FULL, 2, {0, 0}, {{I, 10, 5}, {D, 9, 0}}},
+    {11, NO_FIRST, 2, {0, 0}, {{R, 7, 5}, {I, 10, 5}}},
+    {11, NO_LAST, 2, {0, 0}, {{R, 7, 5}, {I, 10, 5}}},
+    {11, FIRST_NEXT, 1, {0, 0}, {{R, 7, 5}}},
+    {11, LAST_LINK, 2, {0, 0}, {{R, 7, 5}, {D, 8, 0}}},
+    {11, LATER_LINK, 1, {0, 0}, {{R, 7, 5}}},
+    {11, ROUND_REUSE, 1, {0, 0}, {{I, 10, 5}}},
+    {11, NO_LIVE, 1, {0, 0}, {{D, 7, 0}}},
+    {11, ONE_LIVE, 2, {0, 0}, {{D, 7, 0}, {D, 8, 0}}},
+    {11, NONE_AND_NO_LIVE, 3, {0, 0}, {{D, 7, 0}, {R, 8, 5}, {I, 10, 5}}},
+    {28, SOUND, 3, {0, 0}, {{R, 7, 5}, {R, 8, 5}, {D, 12, 0}}},
+    {28, SOUND, 2, {0, 0}, {{I, 10, 5}, {I, 9, 5}}},
+    {28, FULL, 1, {0, 0}, {{I, 10, 5}}},
+    {28, LIVE_N, 2, {0, 0}, {{R, 7, 5}, {R, 8, 5}}},
+    {28, NONE_TO_TAKE, 1, {0, 0}, {{D, 7, 0}}},
+    {28, KEPT_REMOVE, 2, {0, 0}, {{R, 7, 5}, {D, 12, 0}}},
+    {28, NONE_AND_VERSION, 1, {0, 0}, {{R, 7, 5}}},
+    {28, FULL_AND_VERSION, 2, {0, 0}, {{I, 10, 5}, {R, 7, 5}}},
+    {9, LAST_VERSION, 2, {0, 0}, {{I, 10, 5}, {D, 7, 0}}},
+};
+
+static void directed_basket(const struct basket_case *c) {
+    struct set *s = directed_set(c->fault);
+    uint8_t bytes[ORDERSET_VALUE_MAX];
+    const size_t stores = ORDERSET_STORES * (c->count > ORDERSET_BASKET ? 1 : c->count);
+    struct basket b = {.count = c->count, .places = stores - c->less[0], .values = stores - c->less[1]};
+    const uint64_t before = met[BASKET][c->answer];
+    fill(bytes, sizeof bytes);
+    for (size_t i = 0; i < ORDERSET_BASKET; i++)
+        b.item[i] = (struct m_item){c->item[i].kind, c->item[i].key, bytes, c->item[i].size};
+    s->own = c->fault == SOUND;
+    try_basket(s, &b);
+    if (met[BASKET][c->answer] != before + 1)
+        differ("in directed basket %td: the answer is not %u", c - basket_cases, c->answer);
     close_set(s);
 }
 
@@ -1633,6 +1910,8 @@ static void all_directed(void) {
     phase = "directed cases";
     directed_lines();
     directed_groups();
+    for (size_t i = 0; i < sizeof basket_cases / sizeof *basket_cases; i++)
+        directed_basket(&basket_cases[i]);
     for (size_t i = 0; i < sizeof cases / sizeof *cases; i++)
         for (unsigned which = 0; which < WHICH; which++)
             if (cases[i].calls >> which & 1)
@@ -1664,6 +1943,7 @@ static const char *const answers[WHICH] = {
     [WITHDRAW] = "0 1 2 3 4 9 11 18 28",
     [PLAY] = "0 1 14 15",
     [PLAY_LIST] = "0 15",
+    [BASKET] = "0 1 2 3 4 9 10 11 13 20 21 26 27 28",
     [LINE_WHOLE] = "0 33",
     [LINE_VERSION] = "0 33",
     [LINE_FIRST] = "0 9 33",

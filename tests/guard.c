@@ -15,12 +15,12 @@
 
 enum { CALLS = 5000000 };
 enum which {
-    FORMAT, RECOVER, INSERT, REPLACE, REMOVE, NEW, ACKNOWLEDGE, FILL, WITHDRAW, GET, LOCATE, PLAY, PLAY_LIST,
+    FORMAT, RECOVER, INSERT, REPLACE, REMOVE, NEW, ACKNOWLEDGE, FILL, WITHDRAW, GET, LOCATE, PLAY, PLAY_LIST, BASKET,
     LINE_WHOLE, LINE_VERSION, LINE_FIRST, LINE_LAST, WHICH
 };
-static const char *const name[WHICH] = {"format",      "recover",      "insert",     "replace",  "remove", "new",
-                                        "acknowledge", "fill",         "withdraw",   "get",      "locate", "play",
-                                        "play_list",   "line_whole",   "line_version", "line_first", "line_last"};
+static const char *const name[WHICH] = {"format",      "recover", "insert",     "replace",      "remove",     "new",
+                                        "acknowledge", "fill",    "withdraw",   "get",          "locate",     "play",
+                                        "play_list",   "basket",  "line_whole", "line_version", "line_first", "line_last"};
 
 static uint64_t already, opened;   /* second acknowledges, stores that open void slots */
 static uint64_t answers[WHICH][2]; /* [0] not refused, [1] refused */
@@ -28,7 +28,10 @@ static enum which call;
 
 /* ---- pieces of memory */
 
-enum what { IMAGE, HEADS, NEXT, STATE, VERSION, BYTES, OUTPUT, AT, VALUE, ANSWER, COUNT, OPEN_AT, OPEN_VALUE, PIECES };
+enum what {
+    IMAGE, HEADS, NEXT, STATE, VERSION, BYTES, OUTPUT, AT, VALUE, ANSWER, COUNT, OPEN_AT, OPEN_VALUE, KINDS, KEYS, LENGTHS,
+    VALUES, PIECES
+};
 
 struct piece piece[PIECES] = {
     {"image", ORDERSET_IMAGE_BYTES(ORDERSET_SLOTS_MAX) + PAGE, NULL, NULL, NULL, 0, 0},
@@ -44,6 +47,10 @@ struct piece piece[PIECES] = {
     {"count", PAGE, NULL, NULL, NULL, 0, 0},
     {"the opening stores' words", PAGE, NULL, NULL, NULL, 0, 0},
     {"the opening stores' values", PAGE, NULL, NULL, NULL, 0, 0},
+    {"kinds", PAGE, NULL, NULL, NULL, 0, 0},
+    {"keys", PAGE, NULL, NULL, NULL, 0, 0},
+    {"lengths", PAGE, NULL, NULL, NULL, 0, 0},
+    {"values", PAGE, NULL, NULL, NULL, 0, 0},
 };
 
 const int pieces = PIECES;
@@ -155,6 +162,58 @@ static int call_change(uint64_t key) {
     return code == 0 && answer == ORDERSET_GIVEN;
 }
 
+static uint64_t key_of_image(uint64_t keys) {
+    uint64_t key;
+    if (slots == 0 || below(2))
+        return any_key(keys);
+    memcpy(&key, (const uint8_t *)w(IMAGE) + 128 * (1 + below(slots)) + 8, sizeof key);
+    return key;
+}
+
+/* The items of a basket, the first `count` of them mostly as the rules ask for. */
+static void place_items(uint64_t keys, size_t count) {
+    place(KINDS, 4 * ORDERSET_BASKET);
+    place(KEYS, 8 * ORDERSET_BASKET);
+    place(LENGTHS, sizeof(size_t) * ORDERSET_BASKET);
+    place(VALUES, ORDERSET_BASKET_VALUES);
+    fill(w(VALUES), ORDERSET_BASKET_VALUES);
+    for (size_t i = 0; i < ORDERSET_BASKET; i++) {
+        uint32_t kind = i < count && below(100) ? 1 + (uint32_t)below(3) : (uint32_t)chance();
+        uint64_t key = key_of_image(keys), answer[ORDERSET_CHANGE_ANSWER] = {0};
+        size_t length = below(100) ? below(ORDERSET_VALUE_MAX + 1) : (size_t)chance();
+        if (i < count && below(8)
+            && !orderset_locate(r(IMAGE), piece[IMAGE].length, r(HEADS), heads_length, r(NEXT), next_length, key, answer))
+            kind = answer[0] == ORDERSET_ABSENT ? ORDERSET_INSERT : ORDERSET_REPLACE + (uint32_t)below(2);
+        memcpy((uint8_t *)w(KINDS) + 4 * i, &kind, sizeof kind);
+        memcpy((uint8_t *)w(KEYS) + 8 * i, &key, sizeof key);
+        memcpy((uint8_t *)w(LENGTHS) + sizeof length * i, &length, sizeof length);
+    }
+}
+
+/* A basket, whose lists are as long as its stores, or longer, or shorter. Entries past the stores are kept. */
+static void call_basket(uint64_t keys) {
+    static const int writable[] = {HEADS, NEXT, STATE, VERSION, AT, VALUE, ANSWER, NONE};
+    const size_t count = below(20) ? 1 + below(below(2) ? 2 : 8) : below(2) ? below(12) : (size_t)chance(),
+                 stores = ORDERSET_BASKET_STORES(count > 9 ? 9 : count);
+    place_items(keys, count);
+    place(AT, 4 * (below(20) ? stores + below(2) * below(9) : below(stores + 1)));
+    place(VALUE, 8 * (below(20) ? stores + below(2) * below(9) : below(stores + 1)));
+    fill(w(AT), piece[AT].length);
+    fill(w(VALUE), piece[VALUE].length);
+    begin(BASKET, writable);
+    if (end(orderset_basket(r(IMAGE), piece[IMAGE].length, w(HEADS), heads_length, w(NEXT), next_length, w(STATE),
+                            w(VERSION), count, r(KINDS), r(KEYS), r(LENGTHS), r(VALUES), w(AT), piece[AT].length / 4,
+                            w(VALUE), piece[VALUE].length / 8, w(ANSWER)),
+            writable))
+        return;
+    same(&piece[AT], piece[AT].at + 4 * stores, piece[AT].at + piece[AT].length, "past the stores");
+    same(&piece[VALUE], piece[VALUE].at + 8 * stores, piece[VALUE].at + piece[VALUE].length, "past the stores");
+    if (below(4) && orderset_play_list(w(IMAGE), piece[IMAGE].length, r(AT), stores, r(VALUE), stores)) {
+        show("the stores of a basket are not played");
+        exit(1);
+    }
+}
+
 static void call_get(uint64_t key) {
     static const int writable[] = {OUTPUT, ANSWER, NONE};
     const struct piece *out = &piece[OUTPUT];
@@ -247,14 +306,6 @@ static uint64_t make_set(void) {
     return keys;
 }
 
-static uint64_t key_of_image(uint64_t keys) {
-    uint64_t key;
-    if (slots == 0 || below(2))
-        return any_key(keys);
-    memcpy(&key, (const uint8_t *)w(IMAGE) + 128 * (1 + below(slots)) + 8, sizeof key);
-    return key;
-}
-
 /* at and value as no call hands them out, or nearly as one does */
 static void any_stores(void) {
     uint32_t first = 8 * (uint32_t)below(piece[IMAGE].length / 64 + 2), second = below(8) ? first ^ 8 : first;
@@ -268,6 +319,7 @@ static size_t answer_length(void) {
     case FORMAT: return ORDERSET_FORMAT_ANSWER;
     case GET: return ORDERSET_ANSWER;
     case NEW: case ACKNOWLEDGE: case FILL: case WITHDRAW: return ORDERSET_STEP_ANSWER;
+    case BASKET: return ORDERSET_BASKET_ANSWER;
     default: return ORDERSET_CHANGE_ANSWER;
     }
 }
@@ -303,7 +355,7 @@ static void any_call(uint64_t keys) {
     static const enum which often[] = {RECOVER, RECOVER, INSERT,      INSERT,      INSERT, REPLACE, REPLACE, REPLACE,
                                        REMOVE,  REMOVE,  NEW,         NEW,         FILL,   FILL,    FILL,    WITHDRAW,
                                        GET,     GET,     ACKNOWLEDGE, ACKNOWLEDGE, GET,    LOCATE,  PLAY,    PLAY_LIST,
-                                       LINE_WHOLE, LINE_VERSION, LINE_FIRST, LINE_LAST};
+                                       LINE_WHOLE, LINE_VERSION, LINE_FIRST, LINE_LAST, BASKET, BASKET, BASKET, BASKET};
     call = below(40) ? often[below(sizeof often / sizeof *often)] : FORMAT;
     lend_for_one_call();
     switch (call) {
@@ -313,6 +365,7 @@ static void any_call(uint64_t keys) {
     case LOCATE: call_locate(key_of_image(keys)); break;
     case PLAY: any_stores(), call_play(below(10), below(10)); break;
     case PLAY_LIST: call_play_list(); break;
+    case BASKET: call_basket(keys); break;
     case LINE_WHOLE: case LINE_VERSION: case LINE_FIRST: case LINE_LAST: call_line(); break;
     default:
         if (call_change(key_of_image(keys)) && below(4))

@@ -1,7 +1,8 @@
 // The headers in C++: an image is made durable, a value is inserted, made durable, found, replaced, found, removed and
 // not found; an insert of a held key, a replace of one that is not held and a value that is too long are refused and
 // store nothing; the slots compared are read from answers and from refusals; an order is sent, acknowledged,
-// acknowledged again and filled; a record of a basket that a cut left is opened. Before the stores of a call are made, and after that, its lines are asked about.
+// acknowledged again and filled; a record of a basket that a cut left is opened; a basket is made durable and found, and
+// baskets are refused. Before the stores of a call are made, and after that, its lines are asked about.
 #include <cstdio>
 #include <cstring>
 #include <vector>
@@ -16,6 +17,8 @@ alignas(64) uint8_t image[ORDERSET_IMAGE_BYTES(slots)];
 std::vector<uint32_t> heads(3), next(ORDERSET_NEXT_LENGTH(slots));
 uint32_t state[ORDERSET_STATE], at[ORDERSET_STORES], count[1], open_at[ORDERSET_OPENINGS];
 uint64_t open_value[ORDERSET_OPENINGS];
+uint32_t list_at[ORDERSET_BASKET_STORES(4)];
+uint64_t list_value[ORDERSET_BASKET_STORES(4)], given[ORDERSET_BASKET_ANSWER];
 uint64_t version[1], value[ORDERSET_STORES], answer[ORDERSET_CHANGE_ANSWER], found[ORDERSET_ANSWER];
 uint8_t out[ORDERSET_VALUE_MAX];
 const enum orderset_flush best = orderset_best_flush();
@@ -126,6 +129,46 @@ bool counts_slots() {
            && answer[0] == ORDERSET_ABSENT && answer[ORDERSET_COMPARED] == 1;
 }
 
+// Two keys at once, in a list of two baskets' length.
+uint32_t basket(size_t keys, uint32_t first_kind, uint64_t first, uint32_t second_kind, uint64_t second, size_t room) {
+    const uint32_t kinds[ORDERSET_BASKET] = {first_kind, second_kind};
+    const uint64_t key[ORDERSET_BASKET] = {first, second};
+    const size_t lengths[ORDERSET_BASKET] = {4, 6};
+    uint8_t values[ORDERSET_BASKET_VALUES] = "twin";
+    std::memcpy(values + ORDERSET_VALUE_MAX, "second", 6);
+    std::memset(list_at, 1, sizeof list_at);
+    return orderset_basket(image, sizeof image, heads.data(), heads.size(), next.data(), next.size(), state, version,
+                           keys, kinds, key, lengths, values, list_at, room, list_value, room, given);
+}
+
+bool basket_refused(uint32_t code, uint32_t number) {
+    return code == number && list_at[0] == 0x01010101u;
+}
+
+bool basket_durable(uint32_t code, size_t keys) {
+    const size_t stores = ORDERSET_BASKET_STORES(keys);
+    return code == ORDERSET_OK && list_at[stores] == 0x01010101u
+           && orderset_persist_list(image, sizeof image, list_at, list_value, stores, best) == 0;
+}
+
+// Nothing is held before it and after it.
+bool keeps_basket() {
+    const size_t room = ORDERSET_BASKET_STORES(2);
+    return basket_refused(basket(0, 1, 30, 1, 31, room), ORDERSET_NO_BASKET)
+           && basket_refused(basket(9, 1, 30, 1, 31, room), ORDERSET_NO_BASKET)
+           && basket_refused(basket(2, 1, 30, 4, 31, room), ORDERSET_NO_BASKET)
+           && basket_refused(basket(2, 1, 30, 2, 30, room), ORDERSET_KEY_TWICE)
+           && basket_refused(basket(2, 1, 30, 1, 31, room - 1), ORDERSET_OUTPUT_TOO_SHORT)
+           && basket_refused(basket(2, 1, 30, 3, 31, room), ORDERSET_NOT_HELD)
+           && basket_durable(basket(2, ORDERSET_INSERT, 30, ORDERSET_INSERT, 31, room + 1), 2)
+           && given[ORDERSET_BASKET_VERSION] + 1 == version[0]
+           && given[ORDERSET_BASKET_SLOTS] != given[ORDERSET_BASKET_SLOTS + 1] && given[ORDERSET_BASKET_SLOTS + 2] == 0
+           && finds(30, "twin") && finds(31, "second") && recover(0) && finds(30, "twin") && finds(31, "second")
+           && basket_refused(basket(2, 1, 32, 1, 33, room), ORDERSET_NO_ROOM)
+           && basket_durable(basket(1, ORDERSET_REMOVE, 30, 0, 0, room), 1) && finds(30, nullptr)
+           && basket_durable(basket(1, ORDERSET_REMOVE, 31, 0, 0, room), 1) && finds(31, nullptr);
+}
+
 uint32_t acknowledge(uint64_t key) {
     return orderset_book_acknowledge(image, sizeof image, heads.data(), heads.size(), next.data(), next.size(), state,
                                      version, key, at, value, answer);
@@ -152,11 +195,12 @@ bool keeps_book(uint64_t key) {
 }
 
 int main() {
-    const bool good = start() && opens_void() && start() && made_durable(insert(7, "buy", 3)) && finds(7, "buy") && refused_stores_nothing("buy")
+    const bool good = start() && opens_void() && start() && made_durable(insert(7, "buy", 3)) && finds(7, "buy")
+                      && refused_stores_nothing("buy")
                       && replace(7, "sell", 4) == ORDERSET_OK && lines_foretell() && made_durable(ORDERSET_OK)
                       && lines_tell() && finds(7, "sell") && refused_stores_nothing("sell")
                       && counts_slots() && made_durable(drop(7)) && finds(7, nullptr) && drop(7) == ORDERSET_OK
-                      && answer[0] == ORDERSET_ABSENT && keeps_book(9);
+                      && answer[0] == ORDERSET_ABSENT && keeps_book(9) && keeps_basket();
     std::printf("header: a set through the headers in C++: %s\n", good ? "as it should be" : "NOT SO");
     return good ? 0 : 1;
 }

@@ -2,8 +2,8 @@
  * commands left it, the command that was under way is there wholly or not at all, and nothing else is. Twice: with the
  * gateway as it is, on the disk of this machine; and with the gateway on the simulated disk of disk.c, where syncs fail
  * and power cuts strike too. A cut leaves in the file what was synced, and of what was not each line keeps some number
- * of its words, counted from the first. Between two runs the test writes some stores of a basket to the file, as a cut
- * leaves them: nothing of it may ever be there.
+ * of its words, counted from the first. Some commands are baskets of orders: all of one is there, or nothing. Between
+ * two runs the test writes some stores of a basket to the file, as a cut leaves them: nothing of it may ever be there.
  *
  *     kills GATEWAY GATEWAY_ON_DISK FILE [SEED]
  */
@@ -17,7 +17,6 @@
 
 #include "chance.h"
 #include "child.h"
-#include "model.h"
 #include "orderset.h"
 
 enum { KILLS = 200, STRIKES = 400, SLOTS = 12, KEYS = 15, BATCH = 40, TEXT = 80, PATH = 1024, BASKET = 4 };
@@ -25,7 +24,7 @@ enum { KILLS = 200, STRIKES = 400, SLOTS = 12, KEYS = 15, BATCH = 40, TEXT = 80,
 static const char *gateway, *file;
 static char shadow[PATH], log_file[PATH];
 static uint64_t stored, cuts, kills, failures, unanswered, in_start; /* stored: changes that were answered */
-static uint64_t baskets;                                             /* that a cut struck */
+static uint64_t baskets, struck_baskets, half_baskets; /* answered; not answered; made by this test, as a cut leaves them */
 static int failing; /* the syncs of this run will fail */
 
 /* ---- the orders by what was answered, and the commands of one run */
@@ -35,10 +34,15 @@ static struct order {
     uint64_t ordered, filled;
 } map[KEYS];
 
+/* of a basket the items, each NEW or WITHDRAW; of any other command item[0] */
 static struct command {
-    enum { NEW, ACKNOWLEDGE, FILL, WITHDRAW, SHOW } kind;
-    int key;
-    uint64_t quantity;
+    enum kind { NEW, ACKNOWLEDGE, FILL, WITHDRAW, SHOW, BASKETS } kind;
+    int count;
+    struct item {
+        enum kind kind;
+        int key;
+        uint64_t quantity;
+    } item[BASKET];
 } batch[BATCH];
 static int sent, done; /* commands of the batch that were sent, and that were answered */
 
@@ -46,10 +50,10 @@ static uint64_t number_of(int key) {
     return key % 3 ? (uint64_t)key : UINT64_MAX - (uint64_t)key;
 }
 
-static int held(void) {
+static int held(const struct order *orders) {
     int count = 0;
     for (int i = 0; i < KEYS; i++)
-        count += map[i].state != 0;
+        count += orders[i].state != 0;
     return count;
 }
 
@@ -60,16 +64,14 @@ static const char *text_of(const struct order *o, char text[TEXT]) {
     return o->state ? text : "absent";
 }
 
-/* The order after the command. Answers its refusal, or 0. */
-static int carry_out(const struct command *c, struct order *o) {
+/* The order after an item. Answers its refusal but for 28, or 0. */
+static int carry_out(const struct item *c, struct order *o) {
     uint64_t open = o->ordered - o->filled;
     if (c->kind == NEW ? o->state != 0 : c->kind != SHOW && o->state == 0)
         return c->kind == NEW ? 17 : 18;
     if (c->kind == NEW || c->kind == FILL)
         if (c->quantity == 0 || (c->kind == FILL && c->quantity > open))
             return 19;
-    if (c->kind == NEW && held() + 1 >= SLOTS)
-        return 28;
     if (c->kind == NEW)
         *o = (struct order){ORDERSET_SENT, c->quantity, 0};
     else if (c->kind == ACKNOWLEDGE)
@@ -81,26 +83,54 @@ static int carry_out(const struct command *c, struct order *o) {
     return 0;
 }
 
-static const char *const name[] = {"new", "acknowledge", "fill", "withdraw", "show"};
+/* The orders after the command. Answers its refusal, or 0; a basket can also be refused with 28 by the slots. */
+static int carry_out_all(const struct command *c, struct order later[KEYS]) {
+    memcpy(later, map, sizeof map);
+    for (int i = 0; i < c->count; i++)
+        for (int j = 0; j < i; j++)
+            if (c->item[i].key == c->item[j].key)
+                return 27;
+    for (int i = 0; i < c->count; i++) {
+        int refusal = carry_out(&c->item[i], &later[c->item[i].key]);
+        if (refusal)
+            return refusal;
+    }
+    return held(later) >= SLOTS ? 28 : 0;
+}
+
+static const char *const name[] = {"new", "acknowledge", "fill", "withdraw", "show", "basket"};
+
+/* What the command is to be answered, or its beginning. */
+static void answer_due(const struct command *c, int refusal, const struct order *later, char wanted[LINE]) {
+    char text[TEXT];
+    const uint64_t key = number_of(c->item[0].key);
+    if (c->kind == SHOW)
+        snprintf(wanted, LINE, "%" PRIu64 ": %s", key, text_of(&later[c->item[0].key], text));
+    else if (refusal)
+        snprintf(wanted, LINE, "no %d: ", refusal);
+    else if (c->kind == BASKETS)
+        snprintf(wanted, LINE, "basket %d: slots ", c->count);
+    else
+        snprintf(wanted, LINE, "%s %" PRIu64 ": slot ", name[c->kind], key);
+}
 
 /* A command is answered as the map asks for, and the map takes its step. */
 static void take(const struct command *c, const char *answer) {
-    char wanted[LINE], text[TEXT];
-    struct order later = map[c->key];
-    uint64_t key = number_of(c->key);
-    int refusal = carry_out(c, &later), again = c->kind == ACKNOWLEDGE && map[c->key].state == ORDERSET_ACKNOWLEDGED;
-    if (c->kind == SHOW)
-        snprintf(wanted, sizeof wanted, "%" PRIu64 ": %s", key, text_of(&later, text));
-    else if (refusal)
-        snprintf(wanted, sizeof wanted, "no %d: ", refusal);
-    else
-        snprintf(wanted, sizeof wanted, "%s %" PRIu64 ": slot ", name[c->kind], key);
+    char wanted[LINE];
+    struct order later[KEYS];
+    int refusal = carry_out_all(c, later),
+        again = c->kind == ACKNOWLEDGE && map[c->item[0].key].state == ORDERSET_ACKNOWLEDGED;
+    if (c->kind == BASKETS && !refusal && !strncmp(answer, "no 28: ", 7))
+        refusal = 28;
+    answer_due(c, refusal, later, wanted);
     expect(c->kind == SHOW ? !strcmp(answer, wanted) : !strncmp(answer, wanted, strlen(wanted)),
            "the answer is '%s': '%s'", wanted, answer);
     expect(again == (strstr(answer, ", already") != NULL), "a second acknowledge says so, and nothing else: '%s'",
            answer);
     stored += c->kind != SHOW && !refusal && !again;
-    map[c->key] = later;
+    baskets += c->kind == BASKETS && c->count > 1 && !refusal;
+    if (!refusal)
+        memcpy(map, later, sizeof map);
 }
 
 /* ---- one run of the gateway */
@@ -109,22 +139,49 @@ static uint64_t any_quantity(void) {
     return below(8) ? below(5) : UINT64_MAX - below(3);
 }
 
+static char *write_item(char *end, const struct item *c) {
+    end += sprintf(end, "%s %" PRIu64, name[c->kind], number_of(c->key));
+    if (c->kind == NEW || c->kind == FILL)
+        end += sprintf(end, " %" PRIu64, c->quantity);
+    return end;
+}
+
+/* Items that are mostly as the orders ask for, but for the commands of the batch before it. */
+static void any_basket(struct command *c) {
+    c->count = 1 + (int)below(BASKET);
+    for (int i = 0, key = (int)below(KEYS); i < c->count; i++, key = (key + 1 + (int)below(3)) % KEYS)
+        c->item[i] = (struct item){below(20) ? map[key].state ? WITHDRAW : NEW : below(2) ? WITHDRAW : NEW, key,
+                                   below(20) ? 1 + below(5) : any_quantity()};
+}
+
+static void any_command(struct command *c) {
+    unsigned kind = (unsigned)below(20);
+    *c = (struct command){.kind = kind < 7    ? NEW
+                                  : kind < 9  ? ACKNOWLEDGE
+                                  : kind < 12 ? FILL
+                                  : kind < 15 ? WITHDRAW
+                                  : kind < 16 ? SHOW
+                                              : BASKETS,
+                          .count = 1};
+    c->item[0] = (struct item){c->kind, (int)below(KEYS), any_quantity()};
+    if (c->kind == BASKETS)
+        any_basket(c);
+}
+
 static void send_batch(struct child *child) {
-    char all[BATCH * LINE] = "", *end = all;
+    static char all[BATCH * LINE];
+    char *end = all;
     sent = 1 + (int)below(BATCH);
     for (done = 0; done < sent; done++) {
         struct command *c = &batch[done];
-        unsigned kind = (unsigned)below(16);
-        *c = (struct command){.kind = kind < 7    ? NEW
-                                      : kind < 9  ? ACKNOWLEDGE
-                                      : kind < 12 ? FILL
-                                      : kind < 15 ? WITHDRAW
-                                                  : SHOW,
-                              .key = (int)below(KEYS),
-                              .quantity = any_quantity()};
-        end += sprintf(end, "%s %" PRIu64, name[c->kind], number_of(c->key));
-        if (c->kind == NEW || c->kind == FILL)
-            end += sprintf(end, " %" PRIu64, c->quantity);
+        any_command(c);
+        if (c->kind == BASKETS)
+            end += sprintf(end, "basket %d", c->count);
+        for (int i = 0; i < c->count; i++) {
+            if (c->kind == BASKETS)
+                *end++ = ' ';
+            end = write_item(end, &c->item[i]);
+        }
         end += sprintf(end, "\n");
     }
     done = 0;
@@ -138,10 +195,9 @@ static int key_of(uint64_t number) {
     return key;
 }
 
-/* What the gateway lists after its start against what was answered. The map goes on with what the command that was
- * under way left. */
-static void check(struct child *child) {
-    char found[KEYS][LINE], line[LINE], earlier[TEXT], later[TEXT], *text;
+/* What the gateway lists. */
+static void hear_list(struct child *child, char found[KEYS][LINE]) {
+    char line[LINE], *text;
     int count = 0;
     for (int i = 0; i < KEYS; i++)
         strcpy(found[i], "absent");
@@ -154,18 +210,34 @@ static void check(struct child *child) {
         count++;
     }
     expect(atoi(line) == count && strstr(line, " held"), "%d orders listed, '%s'", count, line);
+}
+
+/* The first key that is not listed as the order is, or KEYS. */
+static int first_other(char found[KEYS][LINE], const struct order *orders) {
+    char text[TEXT];
+    int i = 0;
+    while (i < KEYS && !strcmp(found[i], text_of(&orders[i], text)))
+        i++;
+    return i;
+}
+
+/* What is listed after a start: all as the answered commands left it, or all as the command that was under way left it
+ * too. The map goes on with that. */
+static void check(struct child *child) {
+    char found[KEYS][LINE], text[TEXT];
+    struct order later[KEYS];
+    hear_list(child, found);
     const struct command *c = done < sent && batch[done].kind != SHOW ? &batch[done] : NULL;
-    for (int i = 0; i < KEYS; i++) {
-        struct order after = map[i];
-        int struck = c && i == c->key && carry_out(c, &after) == 0;
-        int is_earlier = !strcmp(found[i], text_of(&map[i], earlier));
-        expect(is_earlier || (struck && !strcmp(found[i], text_of(&after, later))),
-               "key %" PRIu64 " after %" PRIu64 " kills and %" PRIu64 " cuts: answered '%s', found '%s'", number_of(i),
-               kills, cuts, text_of(&map[i], earlier), found[i]);
-        if (!is_earlier)
-            map[i] = after;
-    }
+    const int other = first_other(found, map),
+              is_later = c && carry_out_all(c, later) == 0 && first_other(found, later) == KEYS;
+    expect(other == KEYS || is_later,
+           "key %" PRIu64 " after %" PRIu64 " kills and %" PRIu64 " cuts: answered '%s', found '%s'%s",
+           number_of(other % KEYS), kills, cuts, text_of(&map[other % KEYS], text), found[other % KEYS],
+           c && c->kind == BASKETS ? ", in a basket or beside it" : "");
+    if (other < KEYS)
+        memcpy(map, later, sizeof map);
     unanswered += c != NULL;
+    struck_baskets += c && c->kind == BASKETS && c->count > 1;
     sent = done = 0;
 }
 
@@ -246,31 +318,40 @@ static void write_all(const char *path, const uint64_t *words, size_t length) {
 }
 
 /* Some stores on each line of a basket's records, and not all. */
-static void make_some(uint64_t *words, const struct m_store *store, uint32_t count) {
+static void make_some(uint64_t *words, const uint32_t *at, const uint64_t *value, uint32_t count) {
     const uint64_t open = below(2 * count); /* this line has not all its stores */
     for (uint64_t line = 0; line < 2 * count; line++) {
         uint64_t made = line == open ? below(8) : below(2) ? 8 : below(9);
         for (uint64_t i = 8 * line; i < 8 * line + made; i++)
-            words[store[i].at] = store[i].value;
+            words[at[i]] = value[i];
     }
 }
 
-/* What a cut leaves of a basket of orders, where the image has no void slot and there is room for it. */
+/* What a cut leaves of a basket of orders, where the image has no void slot and the basket is not refused. */
 static void half_basket(uint64_t *words, size_t length) {
-    uint32_t heads[1], next[SLOTS + 1], count = 2 + (uint32_t)below(BASKET - 1), first = (uint32_t)below(KEYS);
-    struct m_index index = {heads, 1, next, SLOTS + 1, {0, 0, 0, 0, 0}};
-    struct m_record record[BASKET];
-    struct m_store store[16 * BASKET];
-    uint8_t order[ORDERSET_ORDER_BYTES] = {ORDERSET_SENT, [8] = 200, [16] = 100};
+    enum { ROOM = BASKET * ORDERSET_STORES };
+    uint32_t heads[1], next[SLOTS + 1], state[ORDERSET_STATE], voids[1], open_at[ORDERSET_OPENINGS], at[ROOM],
+        kinds[ORDERSET_BASKET], count = 2 + (uint32_t)below(BASKET - 1), first = (uint32_t)below(KEYS);
+    uint64_t version[1], open_value[ORDERSET_OPENINGS], value[ROOM], keys[ORDERSET_BASKET] = {0},
+        answer[ORDERSET_BASKET_ANSWER];
+    size_t lengths[ORDERSET_BASKET];
+    uint8_t values[ORDERSET_BASKET_VALUES] = {0};
     const uint8_t *image = (const uint8_t *)words;
-    struct m_recovered recovered = m_recover(image, length, &index);
-    expect(recovered.refusal == 0, "recovery takes the file; refusal %d", recovered.refusal);
-    for (uint32_t i = 0; i < count; i++)
-        record[i] = (struct m_record){1, number_of((int)((first + i) % KEYS)), order, sizeof order};
-    if (recovered.count || m_basket_stores(image, length, &index, record, count, store))
+    uint64_t refusal = orderset_recover(image, length, heads, 1, next, SLOTS + 1, state, version, voids, open_at,
+                                        open_value);
+    expect(refusal == 0, "recovery takes the file; refusal %" PRIu32, ORDERSET_REFUSAL(refusal));
+    for (uint32_t i = 0; i < ORDERSET_BASKET; i++) {
+        const int key = (int)((first + i) % KEYS);
+        kinds[i] = map[key].state ? ORDERSET_REPLACE : ORDERSET_INSERT;
+        keys[i] = number_of(key);
+        lengths[i] = ORDERSET_ORDER_BYTES;
+        memcpy(values + ORDERSET_VALUE_MAX * i, (const uint64_t[]){ORDERSET_SENT, 200, 100}, ORDERSET_ORDER_BYTES);
+    }
+    if (voids[0] || orderset_basket(image, length, heads, 1, next, SLOTS + 1, state, version, count, kinds, keys,
+                                    lengths, values, at, ROOM, value, ROOM, answer))
         return;
-    make_some(words, store, count);
-    baskets++;
+    make_some(words, at, value, count);
+    half_baskets++;
 }
 
 static void half_basket_in_file(void) {
@@ -355,8 +436,9 @@ int main(int count, char **word) {
     expect(finish() == 0, "the last run ends with status 0");
     on_simulated_disk(word[2]);
     printf("%" PRIu64 " kills, %" PRIu64 " cuts and %" PRIu64 " failed syncs, %" PRIu64 " in a start and %" PRIu64
-           " before a command was answered, %" PRIu64 " baskets that a cut struck, %" PRIu64
-           " changes answered: nothing lost (%.0f s)\n",
-           kills, cuts, failures, in_start, unanswered, baskets, stored, seconds());
-    return baskets == 0;
+           " before a command was answered, %" PRIu64 " of these baskets, %" PRIu64
+           " halves of a basket in the file, %" PRIu64 " changes answered, %" PRIu64
+           " of them baskets: nothing lost (%.0f s)\n",
+           kills, cuts, failures, in_start, unanswered, struck_baskets, half_baskets, stored, baskets, seconds());
+    return half_baskets == 0 || struck_baskets == 0 || baskets == 0;
 }

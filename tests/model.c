@@ -392,6 +392,14 @@ static void link_after(struct m_index *index, uint64_t key, uint32_t before, uin
 
 /* ---- "How a call writes" */
 
+/* A record that is to be written: kind 1 put, 2 remove. */
+struct m_record {
+    unsigned kind;
+    uint64_t key;
+    const uint8_t *bytes;
+    size_t size;
+};
+
 /* "Let c be the close bit now in that line. The first store makes the mark 1 − c; the last makes the stamp version × 2 + (1 − c)" */
 static void write_record(const uint8_t *image, uint32_t slot, uint64_t version, const struct m_record *r, uint64_t number, struct m_store store[16]) {
     uint8_t padded[80] = {0};
@@ -412,17 +420,113 @@ static void write_record(const uint8_t *image, uint32_t slot, uint64_t version, 
     }
 }
 
-/* "Its records share one version, and bits 16 to 23 of the kind word hold their number; a single record, or a basket of one, has 0 there" */
-int m_basket_stores(const uint8_t *image, size_t length, const struct m_index *index, const struct m_record *record, uint32_t count, struct m_store *store) {
-    uint32_t taken[GROUP], inserts = 0, removes = 0;
-    for (uint32_t i = 0; i < count; i++) {
-        removes += record[i].kind == 2;
-        inserts += record[i].kind == 1 && !follow(image, m_slots(length), index, record[i].key).slot;
+/* ---- a basket */
+
+/* "26 when the basket has 0 or more than 8 keys, first of all; 27 when a key comes twice, next", "13 when the lent list is too short follows 27". The papers have
+ * no number for a kind that is none of the three: 26 */
+static int refuse_given(const struct m_item *item, size_t count, size_t places, size_t values) {
+    if (count == 0 || count > GROUP)
+        return 26;
+    for (size_t i = 0; i < count; i++)
+        if (item[i].kind < 1 || item[i].kind > 3)
+            return 26;
+    for (size_t i = 0; i < count; i++)
+        for (size_t j = i + 1; j < count; j++)
+            if (item[i].key == item[j].key)
+                return 27;
+    return places < 16 * count || values < 16 * count ? 13 : 0;
+}
+
+/* "Each later check goes over all keys before the next, 20 and 21 being one", "In a basket, removing an unheld key gives 21" */
+static int refuse_keys(const uint8_t *image, uint32_t n, const struct m_index *index, const struct m_item *item, size_t count) {
+    for (size_t i = 0; i < count; i++)
+        if (item[i].kind != 3 && item[i].size > 80)
+            return 10;
+    for (size_t i = 0; i < count; i++)
+        if (follow(image, n, index, item[i].key).refusal)
+            return 11;
+    for (size_t i = 0; i < count; i++) {
+        uint32_t held = follow(image, n, index, item[i].key).slot;
+        if (held && item[i].kind == 1)
+            return 20;
+        if (!held && item[i].kind != 1)
+            return 21;
     }
-    int refusal = refuse_slots(image, m_slots(length), index, inserts, removes, count, taken);
-    for (uint32_t i = 0; !refusal && i < count; i++)
-        write_record(image, taken[i], index->state.version, &record[i], count > 1 ? count : 0, store + 16 * i);
-    return refusal;
+    return 0;
+}
+
+/* "Its records share one version, and bits 16 to 23 of the kind word hold their number; a single record, or a basket of one, has 0 there" */
+void m_basket_stores(const uint8_t *image, const struct m_item item[8], size_t count, struct m_basket *b) {
+    for (size_t i = 0; i < count; i++) {
+        const struct m_record r = {item[i].kind == 3 ? 2 : 1, item[i].key, item[i].bytes, item[i].kind == 3 ? 0 : item[i].size};
+        write_record(image, b->slot[i], b->version, &r, count > 1 ? count : 0, b->store + 16 * i);
+    }
+}
+
+/* "It answers its version and slots" */
+struct m_basket m_basket(const uint8_t *image, size_t length, const struct m_index *index, const struct m_item item[8], size_t count, size_t places, size_t values) {
+    const uint32_t n = m_slots(length);
+    struct m_basket b = {.refusal = refuse_given(item, count, places, values)};
+    uint32_t inserts = 0, removes = 0;
+    if (!b.refusal)
+        b.refusal = refuse_lent(image, length, index->heads_length, index->next_length);
+    if (!b.refusal)
+        b.refusal = refuse_keys(image, n, index, item, count);
+    for (size_t i = 0; !b.refusal && i < count; i++) {
+        inserts += item[i].kind == 1;
+        removes += item[i].kind == 3;
+    }
+    if (!b.refusal)
+        b.refusal = refuse_slots(image, n, index, inserts, removes, (uint32_t)count, b.slot);
+    if (b.refusal)
+        return (struct m_basket){.refusal = b.refusal};
+    b.version = index->state.version;
+    m_basket_stores(image, item, count, &b);
+    return b;
+}
+
+/* The slot leaves the reuse chain, wherever it stands there. */
+static void leave_reuse(struct m_index *index, uint32_t slot) {
+    uint32_t before = 0;
+    for (uint32_t at = index->state.first; at != slot; at = index->next[at])
+        before = at;
+    if (before)
+        index->next[before] = index->next[slot];
+    else
+        index->state.first = index->next[slot];
+    if (index->state.last == slot)
+        index->state.last = before;
+}
+
+/* The slot before `slot` in the chain of the key's head, or the chain's last slot where that is 0; 0: the head. */
+static uint32_t before_in_chain(const struct m_index *index, uint64_t key, uint32_t slot) {
+    uint32_t before = 0;
+    for (uint32_t at = index->heads[key % index->heads_length]; at != slot; at = index->next[at])
+        before = at;
+    return before;
+}
+
+/* "A basket takes all its slots before any other index change, then links and appends key by key" */
+void m_basket_index(const uint8_t *image, size_t length, struct m_index *index, const struct m_item item[8], uint32_t count, const struct m_basket *basket) {
+    uint32_t old[GROUP];
+    for (uint32_t i = 0; i < count; i++) {
+        old[i] = follow(image, m_slots(length), index, item[i].key).slot;
+        index->state.live += (uint32_t)(item[i].kind == 1) - (uint32_t)(item[i].kind == 3);
+    }
+    for (uint32_t i = 0; i < count; i++)
+        leave_reuse(index, basket->slot[i]);
+    for (uint32_t i = 0; i < count; i++) {
+        uint32_t slot = basket->slot[i], before = before_in_chain(index, item[i].key, old[i]);
+        if (item[i].kind != 3)
+            index->next[slot] = old[i] ? index->next[old[i]] : 0;
+        link_after(index, item[i].key, before, item[i].kind == 3 ? index->next[old[i]] : slot);
+        if (old[i])
+            append(index, old[i]);
+        if (item[i].kind == 3)
+            append(index, slot);
+    }
+    index->state.newest = basket->slot[0];
+    index->state.version++;
 }
 
 static struct m_change refuse(int number, uint32_t compared) {

@@ -24,14 +24,6 @@ struct m_store {
     uint64_t value;
 };
 
-/* A record that is to be written: kind 1 put, 2 remove. */
-struct m_record {
-    unsigned kind;
-    uint64_t key;
-    const uint8_t *bytes;
-    size_t size;
-};
-
 /* What insert, replace, remove and the book's steps answer: a refusal, or absent, or slot, version and stores; of an order that was acknowledged already no
  * stores. With each of them the slots compared, which the book's steps do not report. */
 struct m_change {
@@ -43,6 +35,22 @@ struct m_change {
     uint64_t version;
     struct m_store store[16];
     uint32_t compared;
+};
+
+/* One of a basket's keys: kind 1 insert, 2 replace, 3 remove; a remove has no value. */
+struct m_item {
+    uint32_t kind;
+    uint64_t key;
+    const uint8_t *bytes;
+    size_t size;
+};
+
+/* What a basket answers: a refusal, or its version, slots and stores, sixteen for each key. */
+struct m_basket {
+    int refusal;
+    uint64_t version;
+    uint32_t slot[8];
+    struct m_store store[128];
 };
 
 struct m_got {
@@ -91,8 +99,14 @@ int m_play_list(uint8_t *bytes, size_t length, const uint32_t *at, size_t places
 /* May a call take the slot? */
 int m_may_take(const uint8_t *image, uint32_t n, uint32_t slot);
 
-/* The stores of a basket, sixteen for each of its 1 to 8 records, or its refusal by the slots (11, 28, 9). The index stays as it is: recovery comes next. */
-int m_basket_stores(const uint8_t *image, size_t length, const struct m_index *index, const struct m_record *record, uint32_t count, struct m_store *store);
+/* A basket of the first `count` of eight items; places and values: the lengths of the two lists that it is lent. The index stays as it is. */
+struct m_basket m_basket(const uint8_t *image, size_t length, const struct m_index *index, const struct m_item item[8], size_t count, size_t places, size_t values);
+
+/* Its stores, by its version and slots. */
+void m_basket_stores(const uint8_t *image, const struct m_item item[8], size_t count, struct m_basket *basket);
+
+/* Its changes of an index that is the image's own, where it is not refused. */
+void m_basket_index(const uint8_t *image, size_t length, struct m_index *index, const struct m_item item[8], uint32_t count, const struct m_basket *basket);
 
 uint64_t m_word(const uint8_t *image, size_t i);
 void m_set_word(uint8_t *image, size_t i, uint64_t value);

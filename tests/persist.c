@@ -2,7 +2,7 @@
  * then come the flushes of both lines and one fence, for each accepted insert, replace and remove, and none for get,
  * absent and refusals. Some calls are watched instruction by instruction, so that the flushes and the fence are those
  * that the processor executes, and not only the header's hooks. Stores that are no call's are refused. So it is with
- * lists of stores, of recovery, of the message log and random ones, each line of which is flushed. A start flushes
+ * lists of stores, of recovery, of baskets, of the message log and random ones, each line of which is flushed. A start flushes
  * every line and fences once. The fallback stores to every page again and syncs it, and the file is as the image. Ends
  * with status 1 at the first thing that is otherwise.
  *
@@ -63,7 +63,7 @@ enum {
     WATCHED = 2000,
     LISTS = 5000,
     LISTS_WATCHED = 50,
-    LIST = 64, /* stores of a list at the most */
+    LIST = 128, /* stores of a list at the most */
     CELLS = LENGTH / ORDERSET_LOG_CELL_BYTES,
     TRAP_FLAG = 0x100,
     PAGE = 4096
@@ -381,6 +381,27 @@ static void open_voids(uint32_t voids, enum orderset_flush flush, int watching) 
            "then no slot is void");
 }
 
+/* A basket of 1 to 8 keys: sixteen stores for each key, two lines, each flushed once, and one fence for all. */
+static void basket(enum orderset_flush flush, int watching) {
+    uint32_t kinds[ORDERSET_BASKET] = {0};
+    uint64_t keys[ORDERSET_BASKET] = {0}, given[ORDERSET_BASKET_ANSWER];
+    size_t lengths[ORDERSET_BASKET] = {0}, count = 1 + below(ORDERSET_BASKET), first = below(N);
+    uint8_t values[ORDERSET_BASKET_VALUES];
+    fill(values, sizeof values);
+    for (size_t i = 0; i < count; i++) {
+        keys[i] = (first + i) % (N / 2);
+        lengths[i] = below(ORDERSET_VALUE_MAX + 1);
+        expect(orderset_locate(image, LENGTH, heads, HEADS, next, N + 1, keys[i], answer) == ORDERSET_OK, "locate");
+        kinds[i] = answer[0] == ORDERSET_ABSENT ? ORDERSET_INSERT : ORDERSET_REPLACE + (uint32_t)below(2);
+    }
+    expect(orderset_basket(image, LENGTH, heads, HEADS, next, N + 1, state, version, count, kinds, keys, lengths, values,
+                           list_at, LIST, list_value, LIST, given)
+               == ORDERSET_OK,
+           "a basket is taken");
+    expect(persist_list(ORDERSET_BASKET_STORES(count), flush, watching) == 2 * count,
+           "of a basket two lines are flushed for each key");
+}
+
 static unsigned lines_of(size_t count) {
     uint8_t has[LINES] = {0};
     unsigned lines = 0;
@@ -441,6 +462,9 @@ static void all_lists(enum orderset_flush flush) {
         outside(below(2) ? LENGTH : LENGTH - 1 - below(63), flush);
     for (uint32_t voids = 0; voids < 8; voids++)
         open_voids(voids, flush, 1);
+    make(image);
+    for (int i = 0; i < LISTS; i++)
+        basket(flush, i < LISTS_WATCHED);
     memset(image, 0, LENGTH);
     for (int i = 0; i < LISTS; i++)
         append(flush, i < LISTS_WATCHED);

@@ -59,6 +59,12 @@ fault header 'the result is kept in 32 bits' tests/header.cc 's/refused\(uint64_
 
 fault header 'the opening stores are not made' tests/header.cc \
     's/orderset_persist_list\((.*), count\[0\], best\)/orderset_persist_list(\1, 0, best)/' 'NOT SO'
+fault header 'a store of a basket is not made' tests/header.cc 's/list_value, stores, best\)/list_value, stores - 1, best)/' \
+    'NOT SO'
+fault header 'a basket with an item of kind 4 is to be taken' tests/header.cc \
+    's/(basket\(2, 1, 30, 4, 31, room\)), ORDERSET_NO_BASKET/\1, ORDERSET_OK/' 'NOT SO'
+fault header 'the version of a basket is looked for among its slots' tests/header.cc \
+    's/given\[ORDERSET_BASKET_VERSION\] \+ 1 == /given[ORDERSET_BASKET_VERSION + 1] + 1 == /' 'NOT SO'
 fault header 'the lines are asked about after the stores' tests/header.cc \
     's/lines_foretell\(\) \&\& made_durable\(ORDERSET_OK\)/made_durable(ORDERSET_OK) \&\& lines_foretell()/' 'NOT SO'
 fault header 'a line of 63 bytes is to be taken' tests/header.cc \
@@ -154,12 +160,24 @@ fault storm 'void slots are not opened' tests/storm.c '/^static void recover\(/,
 fault storm 'void slots are opened and not flushed' tests/storm.c \
     's/if \(orderset_persist_list\(.*, voids\[0\], flush\)\)/if (orderset_store_list(visible, list_at, list_value, voids[0]), 0)/' \
     'LOST (key|recovery refuses)'
-fault storm 'a basket has its number in no record' tests/model.c 's/count > 1 \? count : 0, store/0, store/' \
+handed='s/^    call_begins\(asked.count\);/    for (uint32_t k = 0; k < asked.count; k++)\n        '
+fault storm 'a basket has its number in no record' tests/storm.c "${handed}list_value[16 * k + 2] \&= 0xffff;\n&/" \
     'LOST (key|recovery refuses)'
-fault storm 'a basket says one record less' tests/model.c 's/count > 1 \? count : 0, store/count - (count > 2), store/' \
-    'LOST (key|recovery refuses)'
-fault storm 'a basket takes any slot' tests/model.c \
-    '/^int m_may_take/,/^}/s/if \(version == 0\)/if (n > 0)/' 'LOST (key|recovery refuses|a call of key)'
+fault storm 'a basket says one record less' tests/storm.c \
+    "${handed}list_value[16 * k + 2] -= asked.count > 2 ? 65536 : 0;\n&/" 'LOST (key|recovery refuses)'
+fault storm 'the records of a basket have versions of their own' tests/storm.c \
+    "${handed}list_value[16 * k + 7] += 2 * k, list_value[16 * k + 15] += 2 * k;\n&/" 'LOST (key|recovery refuses)'
+fault storm 'a basket is acknowledged before it is persisted' tests/storm.c \
+    's/^    call_begins\(asked.count\);/&\n    for (uint32_t k = 0; k < call.count; k++)\n        map[call.key[k]] = call.later[k];/' \
+    'LOST (key|a basket)'
+fault storm 'the stores of the last key of a basket are not made' tests/storm.c \
+    's/list_value, call.stores, flush\)/list_value, call.stores - 16, flush)/' 'LOST persist'
+fault storm 'a basket that inserts a held key should be done' tests/storm.c \
+    's/return is_held \? ORDERSET_INSERT_HELD/return is_held ? ORDERSET_OK/' 'LOST a basket of [0-9]+ keys answers 20'
+fault storm 'too few slots that may be taken are not looked at' tests/storm.c 's/to_take\(\) < asked.count \|\| //' \
+    'LOST a basket of [0-9]+ keys answers 28'
+fault storm 'every slot may be taken' tests/model.c '/^int m_may_take/,/^}/s/if \(version == 0\)/if (n > 0)/' \
+    'LOST a basket of [0-9]+ keys answers 28'
 fault storm 'one line of a basket is not flushed' $header "${list}s/if \(i == 0 \|\|/if (i > 0 \&\&/" 'LOST key'
 fault storm 'an insert of a held key should be done' tests/storm.c \
     's/return ORDERSET_INSERT_HELD;/return ORDERSET_OK;/' 'LOST a call of key [0-9]+ answers 20'
@@ -182,6 +200,15 @@ fault kills 'a call is not synced' $header 's/if \(msync\(\(void \*\)a, page, MS
 fault kills 'a failed sync is answered' $gateway \
     's/(: orderset_persist_file\(s->image, s->length, at, value\))\)/\1 \&\& 0)/' \
     'NOT SO: (key|the gateway (recovers|runs))'
+fault kills 'a basket is answered before it is durable' $gateway \
+    '/^static uint32_t basket/,/^}/{s/^ +print_basket\(items, answer\);//
+     s/^    if \(persist_list/    print_basket(items, answer), answered(), usleep(3000);\n&/}' 'NOT SO: key'
+fault kills 'half of a basket is made durable' $gateway \
+    's/persist_list\(s, at, value, ORDERSET_BASKET_STORES\(items\)\)/persist_list(s, at, value, 16 * ((items + 1) \/ 2))/' \
+    'NOT SO: (key|the answer is|the gateway (recovers|runs))'
+fault kills 'a basket with a refused item is carried out' $gateway \
+    's/^        number = item_fault\(s, &c->item\[i\]\);/        number = c->item[i].quantity \&\& item_fault(s, \&c->item[i]) == 9;/' \
+    "NOT SO: the answer is 'no 1[789]: '"
 fault kills 'void slots are not opened' $gateway 's/^ +open_voids\(s, path, writing\);//' \
     'NOT SO: (key|an order that was never sent|the answer is|the gateway (recovers|runs)|recovery takes)'
 fault kills 'the directory of a new file is not synced' $gateway '/^static void make\(/,/^}/s/sync_name\(path\);//' \
@@ -215,6 +242,23 @@ fault guard 'a refused insert changes the version' tests/guard.c \
 fault guard 'a refused replace changes the version' tests/guard.c \
     's/return orderset_replace\(/return (++*(uint8_t *)w(VERSION), orderset_replace)(/' \
     'NOT SO: version changed, by a refused'
+
+fault guard 'in a basket word numbers one longer than lent' tests/guard.c \
+    's/w\(AT\), piece\[AT\].length \/ 4,/w(AT), piece[AT].length \/ 4 + 1,/' \
+    'NOT SO: (signal 11: at is touched|at changed, after what was lent)'
+fault guard 'in a basket values one longer than lent' tests/guard.c \
+    's/w\(VALUE\), piece\[VALUE\].length \/ 8,/w(VALUE), piece[VALUE].length \/ 8 + 1,/' \
+    'NOT SO: (signal 11: value is touched|value changed, after what was lent)'
+fault guard 'seven keys for a basket' tests/guard.c 's/place\(KEYS, 8 \* ORDERSET_BASKET\)/place(KEYS, 56)/' \
+    'NOT SO: signal 11: keys is touched'
+fault guard 'the answer of a basket one word shorter' tests/guard.c 's/return ORDERSET_BASKET_ANSWER;/return 8;/' \
+    'NOT SO: (signal 11: answer is touched|answer changed, after what was lent)'
+fault guard 'a refused basket changes the version' tests/guard.c \
+    's/if \(end\(orderset_basket\(/if ((++*(uint8_t *)w(VERSION), end)(orderset_basket(/' \
+    'NOT SO: version changed, by a refused'
+fault guard 'an entry past the stores of a basket changes' tests/guard.c \
+    's/^    same\(&piece\[AT\], .* "past the stores"\);/    if (piece[AT].length > 4 * stores)\n        ++((uint8_t *)w(AT))[piece[AT].length - 1];\n&/' \
+    'NOT SO: at changed, past the stores'
 
 for call in LINE_WHOLE LINE_VERSION LINE_LAST; do
     fault guard "in $call a line one byte longer than lent" tests/guard.c \
@@ -288,6 +332,72 @@ fault differential 'the opening stores are by falling slot' tests/model.c \
 fault differential 'void slots are not opened' tests/differential.c 's/^    open_voids\(s, UINT_MAX\);$//' 'DIFFERENCE'
 fault differential 'a basket with an open line is to be there' tests/differential.c \
     's/whole \&= a == 8 \&\& b == 8;/whole \&= a == 8 \&\& b > 6;/' 'DIFFERENCE in the plain map'
+
+fault differential 'the plain map takes half a basket' tests/differential.c \
+    's/size_t i = 0; whole \&\& i < b.count/size_t i = 0; i < b.count/' 'DIFFERENCE in the plain map'
+fault differential 'the plain map lets a basket insert a held key' tests/differential.c \
+    's/if \(is_held == \(b->item\[i\].kind == ORDERSET_INSERT\)\)/if (!is_held \&\& b->item[i].kind != ORDERSET_INSERT)/' \
+    "DIFFERENCE in a basket's answer by the plain map: archive 20"
+fault differential 'the entries past the stores of a basket are to be cleared' tests/differential.c \
+    's/s->basket.store\[i\].at : at_lent\[i\]/s->basket.store[i].at : s->basket.refusal ? at_lent[i] : 0/' \
+    "DIFFERENCE in a basket's word numbers"
+given='/^static int refuse_given/,/^}/'
+keys='/^static int refuse_keys/,/^}/'
+fault differential 'a basket of eight keys is refused' tests/model.c "${given}s/count > GROUP/count >= GROUP/" \
+    'DIFFERENCE in the code: archive [0-9]+, model 26'
+fault differential 'an item of kind 4 is taken' tests/model.c "${given}s/kind > 3/kind > 4/" \
+    'DIFFERENCE in the code: archive 26, model'
+fault differential 'the kinds past the count are looked at' tests/model.c \
+    "${given}s/i < count; i\+\+\)\$/i < (places % 2 ? GROUP : count); i++)/" 'DIFFERENCE in the code: archive [0-9]+, model 26'
+fault differential '27 is tested before 26 of a kind' tests/model.c \
+    "${given}s/if \(item\[i\].kind < 1 (.*)\)\$/if (!(i \&\& item[i].key == item[i - 1].key) \&\& (item[i].kind < 1 \1))/" \
+    'DIFFERENCE in the code: archive 26, model 27'
+fault differential '13 is tested before 27' tests/model.c \
+    "${given}s/if \(item\[i\].key == item\[j\].key\)/if (places < 16 * count)\n                return 13;\n            else &/" \
+    'DIFFERENCE in the code: archive 27, model 13'
+fault differential '1 is tested before 26, 27 and 13' tests/model.c \
+    's/= refuse_given\(item, count, places, values\)/= m_slots(length) ? refuse_given(item, count, places, values) : 1/' \
+    'DIFFERENCE in the code: archive 26, model 1'
+fault differential '13 of a basket by the word numbers alone' tests/model.c "${given}s/ \|\| values < 16 \* count//" \
+    'DIFFERENCE in the code: archive 13, model'
+fault differential '13 where the list of a basket is just long enough' tests/model.c \
+    "${given}s/places < 16 \* count/places <= 16 * count/" 'DIFFERENCE in the code: archive [0-9]+, model 13'
+fault differential '10 of a remove in a basket' tests/model.c "${keys}s/item\[i\].kind != 3 \&\& //" \
+    'DIFFERENCE in the code: archive [0-9]+, model 10'
+fault differential '11 of the first chain is tested before 10 of the second key' tests/model.c \
+    "${keys}s/return 10;/return follow(image, n, index, item[0].key).refusal ? 11 : 10;/" \
+    'DIFFERENCE in the code: archive 10, model 11'
+fault differential '20 of the first key is tested before 11 of the second chain' tests/model.c \
+    "${keys}s/if \(follow\(image, n, index, item\[i\].key\).refusal\)/if (item[i].kind == 1 \&\& follow(image, n, index, item[i].key).slot)\n            return 20;\n        else &/" \
+    'DIFFERENCE in the code: archive (10|11|21), model 20'
+fault differential '21 is tested before 20 of an earlier key' tests/model.c \
+    "${keys}s/if \(held \&\& item\[i\].kind == 1\)/for (size_t j = 0; j < count; j++)\n            if (item[j].kind != 1 \&\& !follow(image, n, index, item[j].key).slot)\n                return 21;\n        &/" \
+    'DIFFERENCE in the code: archive 20, model 21'
+fault differential 'a basket removes a key that is not held' tests/model.c \
+    "${keys}s/!held \&\& item\[i\].kind != 1/!held \&\& item[i].kind == 2/" 'DIFFERENCE in the code: archive 21, model'
+fault differential 'the removes of a basket make no room' tests/model.c 's/removes \+= item\[i\].kind == 3;/removes += 0;/' \
+    'DIFFERENCE in the code: archive (0|11), model'
+fault differential 'the inserts of a basket take no room' tests/model.c 's/inserts \+= item\[i\].kind == 1;/inserts += 0;/' \
+    'DIFFERENCE in the code: archive 28, model'
+fault differential 'a basket of one has the number 1' tests/model.c 's/count > 1 \? count : 0, b->store/count, b->store/' \
+    "DIFFERENCE in a basket's values"
+fault differential 'the records of a basket have versions of their own' tests/model.c \
+    's/b->slot\[i\], b->version, &r/b->slot[i], b->version + i, \&r/' 'DIFFERENCE in'
+fault differential 'a record of a remove in a basket has a value' tests/model.c 's/item\[i\].kind == 3 \? 0 :/item[i].kind == 3 \&\& item[i].size > 80 ? 0 :/' \
+    "DIFFERENCE in a basket's values"
+index='/^void m_basket_index/,/^}/'
+fault differential 'the keys of a basket are linked from the last one on' tests/model.c \
+    "${index}s/^    for \(uint32_t i = 0; i < count; i\+\+\) \{\$/    for (uint32_t i = count; i-- > 0;) {/" 'DIFFERENCE in (the|next|heads)'
+fault differential 'a remove of a basket does not queue its record' tests/model.c "${index}s/append\(index, slot\);/;/" \
+    'DIFFERENCE in the (first|last) slot'
+fault differential 'the slots of a basket stay in the reuse chain' tests/model.c \
+    "${index}s/leave_reuse\(index, basket->slot\[i\]\);/;/" 'DIFFERENCE in the (first|last) slot'
+fault differential 'a slot that a basket passes over is lost' tests/model.c \
+    's/index->next\[before\] = index->next\[slot\];/index->state.first = index->next[slot];/' 'DIFFERENCE in the first slot'
+fault differential 'the newest slot of a basket is its last' tests/model.c \
+    "${index}s/basket->slot\[0\]/basket->slot[count - 1]/" 'DIFFERENCE in the newest slot'
+fault differential 'a basket counts its keys as versions' tests/model.c \
+    "${index}s/state.version\+\+/state.version += count/" 'DIFFERENCE in the next version'
 
 take='/^int m_may_take/,/^}/'
 fault differential 'a slot of the highest version is taken' tests/model.c "${take}s/if \(t > n\)/if (t > n + 1)/" \

@@ -1,10 +1,9 @@
-/* A storm of power cuts and kills. The program under test inserts, replaces, removes and gets with the archive and
- * makes its stores durable with orderset_persist.h, over a simulated cache: what a process sees and what is durable are
- * apart, and each line has a list of the stores that are not durable yet. Baskets are made too, with the stores of the
- * model, since the archive has no call for them; after a basket the program recovers. Whenever something strikes, the
- * program starts again, makes the image durable, recovers and makes the stores that recovery hands out, and there it
- * may be struck again. Then every acknowledged order must be there, the call or the basket that was struck must be
- * there wholly or not at all, and nothing else may be there.
+/* A storm of power cuts and kills. The program under test inserts, replaces, removes and gets with the archive, alone
+ * and in baskets of up to eight keys, and makes its stores durable with orderset_persist.h, over a simulated cache: what
+ * a process sees and what is durable are apart, and each line has a list of the stores that are not durable yet.
+ * Whenever something strikes, the program starts again, makes the image durable, recovers and makes the stores that
+ * recovery hands out, and there it may be struck again. Then every acknowledged order must be there, the call or the
+ * basket that was struck must be there wholly or not at all, and nothing else may be there.
  *
  *     storm [SEED [STRIKES]]
  */
@@ -22,9 +21,10 @@
 #include "model.h"
 
 enum { MAX_N = 300, MAX_HEADS = 40, MAX_KEYS = MAX_N + 3, STRIKES = 1000000 };
-enum { BASKET = 8 }; /* keys of a basket, at the most */
+enum { BASKET = ORDERSET_BASKET };
 
-static uint64_t strikes, cuts, kills, in_start, in_call, in_basket, in_opening, acknowledged, baskets, opened;
+static uint64_t strikes, cuts, kills, in_start, in_call, in_basket, in_opening, acknowledged, baskets, opened,
+    refused_baskets;
 
 static uint32_t n;
 
@@ -47,7 +47,6 @@ static struct {
     uint32_t key[BASKET];
     struct value later[BASKET];
 } call;
-static int made_basket; /* in this set: it is not grown by single calls alone */
 
 static void __attribute__((noreturn, format(printf, 1, 2))) lost(const char *what, ...) {
     va_list list;
@@ -78,7 +77,7 @@ static size_t heads_length;
 static uint32_t heads[MAX_HEADS], next[MAX_N + 1], state[ORDERSET_STATE], at[ORDERSET_STORES];
 static uint64_t version[1], value[ORDERSET_STORES], answer[ORDERSET_CHANGE_ANSWER];
 static uint32_t voids[1], list_at[BASKET * ORDERSET_STORES];
-static uint64_t list_value[BASKET * ORDERSET_STORES];
+static uint64_t list_value[BASKET * ORDERSET_STORES], basket_answer[ORDERSET_BASKET_ANSWER];
 static enum orderset_flush flush;
 static int after_kill, opening; /* opening: void slots are being opened */
 
@@ -180,14 +179,15 @@ static enum kind any_write(uint32_t i) {
     return map[i].held ? REPLACE : INSERT;
 }
 
-static int none_to_take(void) {
+/* how many slots of the reuse chain may be taken */
+static uint32_t to_take(void) {
+    uint32_t count = 0;
     for (uint32_t slot = state[ORDERSET_FIRST]; slot; slot = next[slot])
-        if (m_may_take(visible, n, slot))
-            return 0;
-    return 1;
+        count += (uint32_t)m_may_take(visible, n, slot);
+    return count;
 }
 
-/* What the rules answer. */
+/* What the rules answer. The set grew from a formatted image, so there is a slot to take. */
 static uint32_t due(enum kind kind, uint32_t i) {
     if (kind == REPLACE && !map[i].held)
         return ORDERSET_NOT_HELD;
@@ -195,11 +195,6 @@ static uint32_t due(enum kind kind, uint32_t i) {
         return ORDERSET_INSERT_HELD;
     if (kind == REMOVE && !map[i].held)
         return ORDERSET_OK;
-    if (none_to_take()) {
-        if (!made_basket)
-            lost("a slot to take");
-        return ORDERSET_NO_ROOM;
-    }
     return kind == INSERT && held() + 1 >= n ? ORDERSET_NO_ROOM : ORDERSET_OK;
 }
 
@@ -259,35 +254,65 @@ static void change(uint32_t i, enum kind kind) {
     call_ends();
 }
 
-/* A basket of several keys, if there is room for it. The index is not kept up to date: recovery comes next. */
+/* ---- baskets */
+
+static struct {
+    uint32_t count, kinds[BASKET];
+    uint64_t keys[BASKET];
+    size_t lengths[BASKET];
+    uint8_t values[ORDERSET_BASKET_VALUES];
+} asked;
+
+/* Distinct keys, each with a kind that is mostly the one that it asks for. */
+static void ask_basket(void) {
+    const uint32_t wanted = 1 + (uint32_t)below(BASKET), first = (uint32_t)below(keys);
+    asked.count = 0;
+    for (uint32_t k = 0; k < keys && asked.count < wanted; k++) {
+        const uint32_t i = (first + k) % keys, here = asked.count;
+        if (below(3) == 0)
+            continue;
+        asked.kinds[here] = below(100) == 0 ? 1 + (uint32_t)below(3)
+                            : map[i].held   ? ORDERSET_REPLACE + (uint32_t)below(2)
+                                            : ORDERSET_INSERT;
+        const struct value *later = later_of(here, i, asked.kinds[here] != ORDERSET_REMOVE);
+        asked.keys[here] = key_of[i];
+        asked.lengths[here] = later->size;
+        memcpy(asked.values + ORDERSET_VALUE_MAX * here, later->bytes, later->size);
+        asked.count++;
+    }
+}
+
+/* What the rules answer. */
+static uint32_t due_of_basket(void) {
+    uint32_t live = held();
+    if (asked.count == 0)
+        return ORDERSET_NO_BASKET;
+    for (uint32_t k = 0; k < asked.count; k++) {
+        const int is_held = map[call.key[k]].held;
+        if (is_held == (asked.kinds[k] == ORDERSET_INSERT))
+            return is_held ? ORDERSET_INSERT_HELD : ORDERSET_NOT_HELD;
+        live += (uint32_t)(asked.kinds[k] == ORDERSET_INSERT) - (uint32_t)(asked.kinds[k] == ORDERSET_REMOVE);
+    }
+    return to_take() < asked.count || live >= n ? ORDERSET_NO_ROOM : ORDERSET_OK;
+}
+
+/* A basket of up to eight keys, with one fence. */
 static void basket(void) {
-    const struct m_index index = {heads, heads_length, next, n + 1,
-                                  {state[ORDERSET_FIRST], state[ORDERSET_LAST], state[ORDERSET_LIVE],
-                                   state[ORDERSET_NEWEST], version[0]}};
-    struct m_record record[BASKET];
-    struct m_store store[BASKET * ORDERSET_STORES];
-    uint32_t count = 0, wanted = 2 + (uint32_t)below(BASKET - 1), first = (uint32_t)below(keys);
-    for (uint32_t k = 0; k < keys && count < wanted; k++) {
-        const uint32_t i = (first + k) % keys;
-        if (below(3)) {
-            const struct value *later = later_of(count, i, !map[i].held || below(2));
-            record[count++] = (struct m_record){later->held ? 1 : 2, key_of[i], later->bytes, later->size};
-        }
-    }
-    if (count < 2 || m_basket_stores(visible, length, &index, record, count, store))
+    ask_basket();
+    const uint32_t wanted = due_of_basket();
+    uint32_t code = orderset_basket(visible, length, heads, heads_length, next, n + 1, state, version, asked.count,
+                                    asked.kinds, asked.keys, asked.lengths, asked.values, list_at,
+                                    BASKET * ORDERSET_STORES, list_value, BASKET * ORDERSET_STORES, basket_answer);
+    if (code != wanted)
+        lost("a basket of %" PRIu32 " keys answers %" PRIu32 ", due is %" PRIu32, asked.count, code, wanted);
+    refused_baskets += code != 0;
+    if (code)
         return;
-    for (uint32_t k = 0; k < count * ORDERSET_STORES; k++) {
-        list_at[k] = store[k].at;
-        list_value[k] = store[k].value;
-    }
-    made_basket = 1;
-    call_begins(count);
+    call_begins(asked.count);
     if (orderset_persist_list(visible, length, list_at, list_value, call.stores, flush))
         lost("persist_list");
     call_ends();
     baskets++;
-    calling = 0;
-    recover();
 }
 
 static void run_until_struck(void) {
@@ -298,7 +323,7 @@ static void run_until_struck(void) {
     start();
     in_start--;
     for (;;) {
-        uint32_t i = (uint32_t)below(keys), kind = (uint32_t)below(9);
+        uint32_t i = (uint32_t)below(keys), kind = (uint32_t)below(10);
         struct value found;
         if (kind > 7)
             basket();
@@ -341,7 +366,7 @@ static void make(void) {
     if (orderset_format(visible, length, answer))
         lost("format");
     all_durable();
-    call.under_way = after_kill = made_basket = 0;
+    call.under_way = after_kill = 0;
 }
 
 int main(int count, char **word) {
@@ -358,8 +383,8 @@ int main(int count, char **word) {
     }
     printf("%" PRIu64 " cuts and %" PRIu64 " kills, %" PRIu64 " of them in a start, %" PRIu64 " in a call, %" PRIu64
            " in a basket and %" PRIu64 " while %" PRIu64 " void slots were opened, %" PRIu64 " calls and %" PRIu64
-           " baskets acknowledged: nothing lost (%.0f s)\n",
+           " baskets acknowledged, %" PRIu64 " baskets refused: nothing lost (%.0f s)\n",
            cuts, kills, in_start, in_call - in_basket, in_basket, in_opening, opened, acknowledged - baskets, baskets,
-           seconds());
-    return in_basket == 0 || in_opening == 0;
+           refused_baskets, seconds());
+    return in_basket == 0 || in_opening == 0 || refused_baskets == 0;
 }

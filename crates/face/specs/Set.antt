@@ -53,6 +53,11 @@ unfoldable pub use Rattle.plainmap.specs.Plain.{updates, updated, plainNext, pl
 pub use Rattle.plainmap.specs.Accepted.{RightSize}
 pub use Rattle.plainmap.specs.Claims.{Typed, write-typed, remove-typed, get-typed, locate-typed, slotsMap, dueFault, dueAnswer, Untouched, Right, Reads}
 -- baskets
-pub use Rattle.calls.specs.Basket.{KeyChange}
+pub use Rattle.index.specs.declared.Action.{Action}
+pub use Rattle.index.specs.declared.Action.the-variants.{Insert as Inserting, Replace as Replacing, Remove as Removing}
+pub use Rattle.calls.specs.declared.BasketItem.{BasketItem}
+pub use Rattle.calls.specs.declared.BasketAnswer.{BasketAnswer}
+pub use Rattle.calls.specs.Basket.{KeyChange, BasketLeft, basketEnd, changesOf, basketResult}
+unfoldable pub use Rattle.calls.specs.Basket.{basketSays, leftInLists}
 pub use Rattle.plainmap.specs.Baskets.{Basket, BasketRight, TypedChange, basketDue}
 unfoldable pub use Rattle.plainmap.specs.Baskets.{basketCalled, basketUpdates}

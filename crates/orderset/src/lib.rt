@@ -1,6 +1,12 @@
-// The public calls of the set, with the types that they take and answer. None has a `requires`; each contract is one equation. A call whose name ends in 2 is layout 2's, the
-// one of that name without 2 layout 1's; format and the plays serve both.
-mod layouts;
+// The public calls of the set, with the types that they take and answer. None has a `requires`; each contract is one equation. A call whose name ends in 2 is layout 2's and
+// the one of that name without it layout 1's; format and the plays serve both.
+pub mod layouts;
+
+pub use basket_code::basket::basket;
+pub use basket_code::basket::basket2;
+pub use calls::BasketAnswer;
+pub use calls::BasketItem;
+pub use calls::BasketOutcome;
 pub use calls::Change;
 pub use calls::Formatted;
 pub use calls::GetAnswer;
@@ -21,6 +27,7 @@ pub use get_code::locate::locate2;
 pub use image_code::format::format;
 pub use image_code::play::play;
 pub use image_code::play::play_list;
+pub use index::Action;
 pub use index::Mode;
 pub use index::State;
 pub use recover_code::recover;

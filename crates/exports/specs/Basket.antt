@@ -1,0 +1,78 @@
+-- What the exported basket asks, by the lent numbers, and what it returns and leaves in them. Document 02, A.7.
+use mathlib.Core.Bool.{Bool, true, cond, not}
+use mathlib.Core.List.{List, [], _∷_}
+use Prim.Native.Nat.{ℕ}
+use lib.Dec.{eqb, ltb}
+use lib.ListN.{getD}
+use Rattle.prelude.specs.Answer.{Answer, gives, absent, refused, refusalIn}
+use Rattle.prelude.specs.Range.{anyOf}
+use Rattle.face.specs.Set.{State, Action, Inserting, Replacing, Removing, BasketItem, BasketLeft}
+
+-- ---- what is asked
+
+-- "each to be inserted, replaced or removed": the kind of an item is 1, 2 or 3
+unfoldable pub isKind : (kind : ℕ) → Bool
+isKind kind = cond (eqb kind 1) true (cond (eqb kind 2) true (eqb kind 3))
+
+unfoldable pub actionOf : (kind : ℕ) → Action
+actionOf kind = cond (eqb kind 1) Inserting (cond (eqb kind 2) Replacing Removing)
+
+unfoldable pub unknownKind : (kinds : List ℕ) → (count : ℕ) → Bool
+unknownKind kinds count = anyOf (λ i. not (isKind (getD kinds i 0))) 0 count
+
+-- the papers have no number for a kind that is none of the three: such a basket, and one of more than 8 keys, counts as one of none, so that 26 comes "first of all"
+unfoldable pub keysAsked : (count : ℕ) → (kinds : List ℕ) → ℕ
+keysAsked count kinds = cond (ltb 8 count) 0 (cond (unknownKind kinds count) 0 count)
+
+-- the item with number i, by three lists of eight numbers
+unfoldable pub givenItem : (kinds keys lengths : List ℕ) → ℕ → BasketItem
+givenItem kinds keys lengths i =
+    record { action = actionOf (getD kinds i 0); low = getD keys i 0; high = 0; length = getD lengths i 0 }
+
+unfoldable pub givenItems : (kinds keys lengths : List ℕ) → List BasketItem
+givenItems kinds keys lengths =
+    givenItem kinds keys lengths 0
+    ∷ givenItem kinds keys lengths 1
+    ∷ givenItem kinds keys lengths 2
+    ∷ givenItem kinds keys lengths 3
+    ∷ givenItem kinds keys lengths 4
+    ∷ givenItem kinds keys lengths 5
+    ∷ givenItem kinds keys lengths 6
+    ∷ givenItem kinds keys lengths 7
+    ∷ []
+
+-- ---- what is returned and left
+
+-- what a basket returns, 0 or a refusal's number, and the lent answer, state, lists and index after it
+pub record BasketCall : Type 0 where
+  pub returns : ℕ
+  pub answer : List ℕ
+  pub state : State
+  pub at : List ℕ
+  pub words : List ℕ
+  pub heads : List ℕ
+  pub next : List ℕ
+
+-- what a basket left, with this code
+abbrev pub basketCallLeft : (code : ℕ) → (answer : List ℕ) → State → (at words heads next : List ℕ) → BasketCall
+basketCallLeft code answer s at words heads next =
+    record { returns = code; answer = answer; state = s; at = at; words = words; heads = heads; next = next }
+
+-- "It answers its version and slots": the lent answer is the version and eight slots, zeros after those taken; a refusal changes nothing lent
+unfoldable pub basketAnswered : Answer → (slots lent : List ℕ) → List ℕ
+basketAnswered (gives values) slots lent = getD values 0 0 ∷ slots
+basketAnswered absent slots lent = lent
+basketAnswered (refused number) slots lent = lent
+
+-- the same, by what the basket leaves and the lent answer
+unfoldable pub basketCall : BasketLeft → (answer : List ℕ) → BasketCall
+basketCall r answer =
+    record {
+      returns = refusalIn (r .answer);
+      answer = basketAnswered (r .answer) (r .slots) answer;
+      state = r .state;
+      at = r .at;
+      words = r .words;
+      heads = r .heads;
+      next = r .next;
+    }
