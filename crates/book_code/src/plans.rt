@@ -1,7 +1,7 @@
-// What each step is to do, by what it reads. Nothing is written here.
+// What each step is to do, by what it reads. Nothing is written here. `l` is the layout; a key is two words, the high one 0 in layout 1.
 ghost use mathlib.Core.Path.{_≡_};
 ghost use Prim.Native.Nat.{_<_};
-ghost use Rattle.face.specs.Set.{locateSays, locateResult};
+ghost use Rattle.face.specs.Set.{Layout, keyWith, locateSays, locateResult};
 ghost use Rattle.book.specs.Steps.{seek};
 ghost use Rattle.book.specs.inner.Courses.{seekSays, soughtNumber, planSays, newCourse, alreadyCourse, acknowledgeCourse, fillOrder, fillCourse, withdrawCourse};
 use crate::orders::order_in;
@@ -11,8 +11,8 @@ use book::Seek;
 use orderset::Got;
 use orderset::Located;
 use orderset::Mode;
-use orderset::get;
-use orderset::locate;
+use orderset::layouts::get_in;
+use orderset::layouts::locate_in;
 
 // The number of a get's refusal, as a step says it.
 fn sought_number(number: u32) -> u32
@@ -25,14 +25,23 @@ fn sought_number(number: u32) -> u32
 }
 
 // The order of the key, or a refusal.
-fn seek_order(image: &[u8], heads: &[u32], next: &[u32], key: u64) -> Seek
-    ensures { λ r. ⌜ seekSays r ≡ seek 1 (now (image .entry)) (now (heads .entry)) (now (next .entry)) key ⌝ }
+fn seek_order(
+    image: &[u8],
+    l: usize,
+    heads: &[u32],
+    next: &[u32],
+    low: u64,
+    high: u64,
+) -> Seek
+    requires { ⌜ Layout l ⌝ }
+    ensures { λ r. ⌜ seekSays r ≡ seek l (now (image .entry)) (now (heads .entry)) (now (next .entry)) (keyWith low high) ⌝ }
 {
-    let mut out = [0u8; 80];
-    let answer = get(image, heads, next, key, &mut out);
+    let mut room = [0u8; 80];
+    let out = &mut room[..88 - 8 * l];
+    let answer = get_in(image, l, heads, next, low, high, out);
     let got = answer.got;
     match got {
-        Got::Length(n) => order_in(&out, n),
+        Got::Length(n) => order_in(out, n),
         Got::Absent => Seek::Missing(18),
         Got::Refused(number) => Seek::Missing(sought_number(number)),
     }
@@ -65,10 +74,19 @@ fn new_located(located: Located, quantity: u64) -> Plan
 }
 
 // A new order.
-pub fn new_plan(image: &[u8], heads: &[u32], next: &[u32], key: u64, quantity: u64) -> Plan
-    ensures { λ r. ⌜ planSays r ≡ newCourse quantity (locateResult 1 (now (image .entry)) (now (heads .entry)) (now (next .entry)) key) ⌝ }
+pub fn new_plan(
+    image: &[u8],
+    l: usize,
+    heads: &[u32],
+    next: &[u32],
+    low: u64,
+    high: u64,
+    quantity: u64,
+) -> Plan
+    requires { ⌜ Layout l ⌝ }
+    ensures { λ r. ⌜ planSays r ≡ newCourse quantity (locateResult l (now (image .entry)) (now (heads .entry)) (now (next .entry)) (keyWith low high)) ⌝ }
 {
-    let answer = locate(image, heads, next, key);
+    let answer = locate_in(image, l, heads, next, low, high);
     let located = answer.located;
     new_located(located, quantity)
 }
@@ -85,14 +103,22 @@ fn already_located(located: Located) -> Plan
 }
 
 // An acknowledge.
-pub fn acknowledge_plan(image: &[u8], heads: &[u32], next: &[u32], key: u64) -> Plan
-    ensures { λ r. ⌜ planSays r ≡ acknowledgeCourse (locateResult 1 (now (image .entry)) (now (heads .entry)) (now (next .entry)) key) (seek 1 (now (image .entry)) (now (heads .entry)) (now (next .entry)) key) ⌝ }
+pub fn acknowledge_plan(
+    image: &[u8],
+    l: usize,
+    heads: &[u32],
+    next: &[u32],
+    low: u64,
+    high: u64,
+) -> Plan
+    requires { ⌜ Layout l ⌝ }
+    ensures { λ r. ⌜ planSays r ≡ acknowledgeCourse (locateResult l (now (image .entry)) (now (heads .entry)) (now (next .entry)) (keyWith low high)) (seek l (now (image .entry)) (now (heads .entry)) (now (next .entry)) (keyWith low high)) ⌝ }
 {
-    let sought = seek_order(image, heads, next, key);
+    let sought = seek_order(image, l, heads, next, low, high);
     match sought {
         Seek::Found(order) => {
             if order.state == 2 {
-                let answer = locate(image, heads, next, key);
+                let answer = locate_in(image, l, heads, next, low, high);
                 let located = answer.located;
                 return already_located(located);
             }
@@ -135,10 +161,19 @@ fn fill_order(order: Order, quantity: u64) -> Plan
 }
 
 // A fill.
-pub fn fill_plan(image: &[u8], heads: &[u32], next: &[u32], key: u64, quantity: u64) -> Plan
-    ensures { λ r. ⌜ planSays r ≡ fillCourse quantity (seek 1 (now (image .entry)) (now (heads .entry)) (now (next .entry)) key) ⌝ }
+pub fn fill_plan(
+    image: &[u8],
+    l: usize,
+    heads: &[u32],
+    next: &[u32],
+    low: u64,
+    high: u64,
+    quantity: u64,
+) -> Plan
+    requires { ⌜ Layout l ⌝ }
+    ensures { λ r. ⌜ planSays r ≡ fillCourse quantity (seek l (now (image .entry)) (now (heads .entry)) (now (next .entry)) (keyWith low high)) ⌝ }
 {
-    let sought = seek_order(image, heads, next, key);
+    let sought = seek_order(image, l, heads, next, low, high);
     match sought {
         Seek::Found(order) => fill_order(order, quantity),
         Seek::Missing(number) => Plan::Refused(number),
@@ -146,10 +181,18 @@ pub fn fill_plan(image: &[u8], heads: &[u32], next: &[u32], key: u64, quantity: 
 }
 
 // A withdraw.
-pub fn withdraw_plan(image: &[u8], heads: &[u32], next: &[u32], key: u64) -> Plan
-    ensures { λ r. ⌜ planSays r ≡ withdrawCourse (seek 1 (now (image .entry)) (now (heads .entry)) (now (next .entry)) key) ⌝ }
+pub fn withdraw_plan(
+    image: &[u8],
+    l: usize,
+    heads: &[u32],
+    next: &[u32],
+    low: u64,
+    high: u64,
+) -> Plan
+    requires { ⌜ Layout l ⌝ }
+    ensures { λ r. ⌜ planSays r ≡ withdrawCourse (seek l (now (image .entry)) (now (heads .entry)) (now (next .entry)) (keyWith low high)) ⌝ }
 {
-    let sought = seek_order(image, heads, next, key);
+    let sought = seek_order(image, l, heads, next, low, high);
     match sought {
         Seek::Found(_) => Plan::Remove,
         Seek::Missing(number) => Plan::Refused(number),

@@ -1,8 +1,8 @@
-// The steps: each reads, and then makes at most one call that writes.
+// The steps: each reads, and then makes at most one call that writes. A step whose name ends in 2 is layout 2's.
 ghost use mathlib.Core.Path.{_≡_};
 ghost use mathlib.Core.List.{List};
 ghost use Prim.Native.Nat.{ℕ};
-ghost use Rattle.face.specs.Set.{zipped, leftIn, changeSays, changeEnd, writeResult};
+ghost use Rattle.face.specs.Set.{Layout, keyWith, zipped, changeSays, changeEnd};
 ghost use Rattle.book.specs.Steps.{bookSays, bookEnd, bookLeftIn, changeAnswers, asChange, newResult, acknowledgeResult, fillResult, withdrawResult};
 ghost use Rattle.book.specs.inner.Courses.{planSays, courseResult};
 use crate::orders::order_bytes;
@@ -14,12 +14,10 @@ use book::BookChange;
 use book::BookOutcome;
 use book::Plan;
 use orderset::Change;
-use orderset::Mode;
 use orderset::Outcome;
 use orderset::State;
-use orderset::insert;
-use orderset::remove;
-use orderset::replace;
+use orderset::layouts::remove_in;
+use orderset::layouts::write_in;
 
 // A step's answer by the answer of its call; no step makes the call of a key that is not held.
 fn outcome_of(outcome: Outcome) -> BookOutcome
@@ -44,45 +42,32 @@ fn by_change(change: Change) -> BookChange
     }
 }
 
-// An insert of the key or a replace, by the mode.
-fn write(
-    image: &[u8],
-    heads: &mut [u32],
-    next: &mut [u32],
-    state: State,
-    mode: Mode,
-    key: u64,
-    value: &[u8],
-    at: &mut [u32; 16],
-    words: &mut [u64; 16],
-) -> Change
-    ensures { λ r. ⌜ changeEnd r (now (at .exit)) (now (words .exit)) (now (heads .exit)) (now (next .exit)) .left ≡ leftIn (zipped (now (at .entry)) (now (words .entry))) (writeResult 1 (now (image .entry)) (now (heads .entry)) (now (next .entry)) state mode key (now (value .entry))) ⌝ }
-{
-    match mode {
-        Mode::Insert => insert(image, heads, next, state, key, value, at, words),
-        Mode::Replace => replace(image, heads, next, state, key, value, at, words),
-    }
-}
-
-// Carries a plan out.
+// Carries a plan out, in layout l.
 fn carry_out(
     image: &[u8],
+    l: usize,
     heads: &mut [u32],
     next: &mut [u32],
     state: State,
-    key: u64,
+    low: u64,
+    high: u64,
     plan: Plan,
     at: &mut [u32; 16],
     words: &mut [u64; 16],
 ) -> BookChange
-    ensures { λ r. ⌜ bookEnd r (now (at .exit)) (now (words .exit)) (now (heads .exit)) (now (next .exit)) ≡ bookLeftIn (zipped (now (at .entry)) (now (words .entry))) (courseResult 1 (now (image .entry)) (now (heads .entry)) (now (next .entry)) state key (planSays plan)) ⌝ }
+    requires { ⌜ Layout l ⌝ }
+    ensures { λ r. ⌜ bookEnd r (now (at .exit)) (now (words .exit)) (now (heads .exit)) (now (next .exit)) ≡ bookLeftIn (zipped (now (at .entry)) (now (words .entry))) (courseResult l (now (image .entry)) (now (heads .entry)) (now (next .entry)) state (keyWith low high) (planSays plan)) ⌝ }
 {
     match plan {
         Plan::Write { mode, order } => {
             let bytes = order_bytes(order);
-            by_change(write(image, heads, next, state, mode, key, &bytes, at, words))
+            by_change(write_in(
+                image, l, heads, next, state, mode, low, high, &bytes, at, words,
+            ))
         }
-        Plan::Remove => by_change(remove(image, heads, next, state, key, at, words)),
+        Plan::Remove => by_change(remove_in(
+            image, l, heads, next, state, low, high, at, words,
+        )),
         Plan::Already { slot, version } => BookChange {
             outcome: BookOutcome::Already { slot, version },
             state,
@@ -107,8 +92,8 @@ pub fn new(
 ) -> BookChange
     ensures { λ r. ⌜ bookEnd r (now (at .exit)) (now (words .exit)) (now (heads .exit)) (now (next .exit)) ≡ bookLeftIn (zipped (now (at .entry)) (now (words .entry))) (newResult 1 (now (image .entry)) (now (heads .entry)) (now (next .entry)) state key quantity) ⌝ }
 {
-    let plan = new_plan(image, heads, next, key, quantity);
-    carry_out(image, heads, next, state, key, plan, at, words)
+    let plan = new_plan(image, 1, heads, next, key, 0, quantity);
+    carry_out(image, 1, heads, next, state, key, 0, plan, at, words)
 }
 
 // The order is acknowledged: as above; or, of an order that was acknowledged before, its slot and version, which changes nothing.
@@ -123,8 +108,8 @@ pub fn acknowledge(
 ) -> BookChange
     ensures { λ r. ⌜ bookEnd r (now (at .exit)) (now (words .exit)) (now (heads .exit)) (now (next .exit)) ≡ bookLeftIn (zipped (now (at .entry)) (now (words .entry))) (acknowledgeResult 1 (now (image .entry)) (now (heads .entry)) (now (next .entry)) state key) ⌝ }
 {
-    let plan = acknowledge_plan(image, heads, next, key);
-    carry_out(image, heads, next, state, key, plan, at, words)
+    let plan = acknowledge_plan(image, 1, heads, next, key, 0);
+    carry_out(image, 1, heads, next, state, key, 0, plan, at, words)
 }
 
 // This quantity of the order is filled: an order that is filled fully is removed.
@@ -140,8 +125,8 @@ pub fn fill(
 ) -> BookChange
     ensures { λ r. ⌜ bookEnd r (now (at .exit)) (now (words .exit)) (now (heads .exit)) (now (next .exit)) ≡ bookLeftIn (zipped (now (at .entry)) (now (words .entry))) (fillResult 1 (now (image .entry)) (now (heads .entry)) (now (next .entry)) state key quantity) ⌝ }
 {
-    let plan = fill_plan(image, heads, next, key, quantity);
-    carry_out(image, heads, next, state, key, plan, at, words)
+    let plan = fill_plan(image, 1, heads, next, key, 0, quantity);
+    carry_out(image, 1, heads, next, state, key, 0, plan, at, words)
 }
 
 // The order is removed, with all that is open.
@@ -156,6 +141,76 @@ pub fn withdraw(
 ) -> BookChange
     ensures { λ r. ⌜ bookEnd r (now (at .exit)) (now (words .exit)) (now (heads .exit)) (now (next .exit)) ≡ bookLeftIn (zipped (now (at .entry)) (now (words .entry))) (withdrawResult 1 (now (image .entry)) (now (heads .entry)) (now (next .entry)) state key) ⌝ }
 {
-    let plan = withdraw_plan(image, heads, next, key);
-    carry_out(image, heads, next, state, key, plan, at, words)
+    let plan = withdraw_plan(image, 1, heads, next, key, 0);
+    carry_out(image, 1, heads, next, state, key, 0, plan, at, words)
+}
+
+// A new order in layout 2: a key of two words.
+pub fn new2(
+    image: &[u8],
+    heads: &mut [u32],
+    next: &mut [u32],
+    state: State,
+    low: u64,
+    high: u64,
+    quantity: u64,
+    at: &mut [u32; 16],
+    words: &mut [u64; 16],
+) -> BookChange
+    ensures { λ r. ⌜ bookEnd r (now (at .exit)) (now (words .exit)) (now (heads .exit)) (now (next .exit)) ≡ bookLeftIn (zipped (now (at .entry)) (now (words .entry))) (newResult 2 (now (image .entry)) (now (heads .entry)) (now (next .entry)) state (keyWith low high) quantity) ⌝ }
+{
+    let plan = new_plan(image, 2, heads, next, low, high, quantity);
+    carry_out(image, 2, heads, next, state, low, high, plan, at, words)
+}
+
+// An acknowledge in layout 2.
+pub fn acknowledge2(
+    image: &[u8],
+    heads: &mut [u32],
+    next: &mut [u32],
+    state: State,
+    low: u64,
+    high: u64,
+    at: &mut [u32; 16],
+    words: &mut [u64; 16],
+) -> BookChange
+    ensures { λ r. ⌜ bookEnd r (now (at .exit)) (now (words .exit)) (now (heads .exit)) (now (next .exit)) ≡ bookLeftIn (zipped (now (at .entry)) (now (words .entry))) (acknowledgeResult 2 (now (image .entry)) (now (heads .entry)) (now (next .entry)) state (keyWith low high)) ⌝ }
+{
+    let plan = acknowledge_plan(image, 2, heads, next, low, high);
+    carry_out(image, 2, heads, next, state, low, high, plan, at, words)
+}
+
+// A fill in layout 2.
+pub fn fill2(
+    image: &[u8],
+    heads: &mut [u32],
+    next: &mut [u32],
+    state: State,
+    low: u64,
+    high: u64,
+    quantity: u64,
+    at: &mut [u32; 16],
+    words: &mut [u64; 16],
+) -> BookChange
+    ensures { λ r. ⌜ bookEnd r (now (at .exit)) (now (words .exit)) (now (heads .exit)) (now (next .exit)) ≡ bookLeftIn (zipped (now (at .entry)) (now (words .entry))) (fillResult 2 (now (image .entry)) (now (heads .entry)) (now (next .entry)) state (keyWith low high) quantity) ⌝ }
+{
+    let plan = fill_plan(image, 2, heads, next, low, high, quantity);
+    carry_out(image, 2, heads, next, state, low, high, plan, at, words)
+}
+
+// A withdraw in layout 2.
+pub fn withdraw2(
+    image: &[u8],
+    heads: &mut [u32],
+    next: &mut [u32],
+    state: State,
+    low: u64,
+    high: u64,
+    at: &mut [u32; 16],
+    words: &mut [u64; 16],
+) -> BookChange
+    ensures { λ r. ⌜ bookEnd r (now (at .exit)) (now (words .exit)) (now (heads .exit)) (now (next .exit)) ≡ bookLeftIn (zipped (now (at .entry)) (now (words .entry))) (withdrawResult 2 (now (image .entry)) (now (heads .entry)) (now (next .entry)) state (keyWith low high)) ⌝ }
+{
+    let plan = withdraw_plan(image, 2, heads, next, low, high);
+    carry_out(image, 2, heads, next, state, low, high, plan, at, words)
 }

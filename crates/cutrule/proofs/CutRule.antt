@@ -4,10 +4,10 @@ use mathlib.Core.List.{List}
 use Prim.Native.Nat.{ℕ}
 use Rattle.prelude.specs.Members.{All}
 use Rattle.prelude.proofs.Histories.{throughout}
-use Rattle.face.specs.Set.{World, PlainMap, Layout, slotsIn, restarted}
+use Rattle.face.specs.Set.{World, PlainMap, slotsIn, restarted}
 use Rattle.face.specs.Event.{Event, done, struck, requestOf, stepBy, isWhole, FitsBy, done-fits, struck-fits}
 use Rattle.face.specs.Laws.{CallLaws, SetLaws}
-use Rattle.face.proofs.SetLaws.{layout-1, call-laws, set-laws}
+use Rattle.face.proofs.SetLaws.{call-laws, set-laws}
 use Rattle.book.proofs.Steps.{step-right}
 use Rattle.book.proofs.StepEvents.{step-event-keeps, step-event-slots, step-along}
 use Rattle.cutrule.specs.Request.{Request, a-call, a-basket, a-step, requestLeaves, requestFault, requestUpdates, RequestRight, TypedRequest, worldAfterRequest, mapAfterRequest}
@@ -88,10 +88,6 @@ module _ (l : ℕ) (Inv : World → PlainMap → Type 0) (laws : SetLaws l Inv) 
         (subst (λ (n : ℕ). All (FitsBy (TypedRequest l) n) events) (sym (calls .restart-slots image start)) fit),
   )
 
--- THE CUT RULE in layout l
-pub cut-rule-in : (l : ℕ) → Layout l → CutRuleIn l
-cut-rule-in l layout = from-recovery l _ (set-laws l layout) (call-laws l layout)
-
 -- THE CUT RULE
 pub cut-rule : CutRule
-cut-rule = cut-rule-in 1 layout-1
+cut-rule l layout = from-recovery l _ (set-laws l layout) (call-laws l layout)

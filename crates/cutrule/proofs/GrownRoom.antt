@@ -9,7 +9,7 @@ use Rattle.face.specs.Set.{World, PlainMap, Layout, slotsIn, slotsOf, formatted
 use Rattle.face.specs.Event.{Event, done, struck, requestOf, stepBy, RestartFits, FitsBy, done-fits, struck-fits}
 use Rattle.face.specs.Laws.{CallLaws, SetLaws}
 use Rattle.face.proofs.defs.RoomLaws.{RoomLaws}
-use Rattle.face.proofs.SetLaws.{layout-1, call-laws, set-laws}
+use Rattle.face.proofs.SetLaws.{call-laws, set-laws}
 use Rattle.face.proofs.Rooms.{room-laws}
 use Rattle.book.proofs.StepRoom.{step-room, step-event-room}
 use Rattle.cutrule.specs.Request.{Request, a-call, a-basket, a-step, requestLeaves, TypedRequest, worldAfterRequest}
@@ -57,10 +57,6 @@ module _ (l : ℕ) (lay : Layout l) (Inv : World → PlainMap → Type 0) (Room 
       (laws .after-recovery (formatted l len) start z fits, calls .restart-slots (formatted l len) start ∙ same)
       (rooms .restart-room (formatted l len) start z fits (rooms .fresh-room len some)) fit
 
--- ROOM ON A GROWN SET in layout l
-pub grown-room-in : (l : ℕ) → Layout l → GrownRoomIn l
-grown-room-in l layout = from-format l layout _ _ (set-laws l layout) (room-laws l layout) (call-laws l layout)
-
 -- ROOM ON A GROWN SET
 pub grown-room : GrownRoom
-grown-room = grown-room-in 1 layout-1
+grown-room l layout = from-format l layout _ _ (set-laws l layout) (room-laws l layout) (call-laws l layout)

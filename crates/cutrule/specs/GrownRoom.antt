@@ -5,7 +5,7 @@ use mathlib.Core.List.{List}
 use Prim.Native.Nat.{ℕ}
 use Rattle.prelude.specs.Members.{All}
 use Rattle.prelude.specs.History.{Throughout}
-use Rattle.face.specs.Set.{World, PlainMap, Restart, restarted, formatted, slotsOf, slotsMap, dueFault}
+use Rattle.face.specs.Set.{Layout, World, PlainMap, Restart, restarted, formatted, slotsOf, slotsMap, dueFault}
 use Rattle.face.specs.Event.{Event, requestOf, RestartFits, FitsBy}
 use Rattle.face.specs.Room.{SomeTakeable, InsertsNew, RoomRight}
 use Rattle.book.specs.Plain.{stepFault, NewOrder}
@@ -31,6 +31,6 @@ GrownRoomIn l =
     → (events : List (Event Request)) → All (FitsBy (TypedRequest l) (slotsOf len)) events
     → RoomThroughout l (restarted l (formatted l len) start) (slotsMap l (formatted l len)) events
 
--- for the layout of document 01
+-- for both layouts
 abbrev pub GrownRoom : Type 0
-GrownRoom = GrownRoomIn 1
+GrownRoom = (l : ℕ) → Layout l → GrownRoomIn l

@@ -5,7 +5,7 @@ use Prim.Native.Nat.{ℕ}
 use lib.ListN.{length}
 use Rattle.prelude.specs.Members.{All}
 use Rattle.prelude.specs.History.{Throughout}
-use Rattle.face.specs.Set.{World, PlainMap, recoverFault, Restart, restarted, slotsIn, slotsMap}
+use Rattle.face.specs.Set.{Layout, World, PlainMap, recoverFault, Restart, restarted, slotsIn, slotsMap}
 use Rattle.face.specs.Event.{Event, done, struck, imageCut, requestOf, RestartFits, FitsBy}
 use Rattle.face.specs.Recovers.{Recovers, RecoversAlong}
 use Rattle.cutrule.specs.Request.{Request, requestLeaves, RequestRight, TypedRequest, worldAfterRequest, mapAfterRequest}
@@ -31,6 +31,6 @@ CutRuleIn l =
     → (events : List (Event Request)) → All (FitsBy (TypedRequest l) (slotsIn image)) events
     → RecoversAlong l image (slotsMap l image) (start .rounds) × AllRight l (restarted l image start) (slotsMap l image) events
 
--- for the layout of document 01
+-- for both layouts. Document 02, A.11: "All rules are shown once with the layout as a parameter."
 abbrev pub CutRule : Type 0
-CutRule = CutRuleIn 1
+CutRule = (l : ℕ) → Layout l → CutRuleIn l

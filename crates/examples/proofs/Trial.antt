@@ -12,7 +12,7 @@ use Rattle.prelude.proofs.Fills.{zeros}
 use Rattle.layout.specs.Size.{slotsOf, slotsIn}
 use Rattle.layout.specs.Line.{lineTop, versionFault}
 use Rattle.layout.specs.Slot.{paired, slotTop, verdictOf, lineVerdict, isValid}
-use Rattle.layout.specs.Record.{keyFrom, keyOf, valuePlace, slotWord, valueWord, valueByte, valueFront, valueOf}
+use Rattle.layout.specs.Record.{Layout, keyFrom, keyOf, valuePlace, slotWord, valueWord, valueByte, valueFront, valueOf}
 use Rattle.layout.specs.Content.{made, contentBy, contentOf, content, topOf, top}
 use Rattle.layout.specs.Header.{headerWord, headerFault, imageFault, indexFault, lentFault}
 use Rattle.layout.specs.Fault.{markFault, kindFault, longest, wordFault, tailFault, faultOf, recordFault, bitsFault}
@@ -42,22 +42,31 @@ use Rattle.calls.specs.Locate.{locateFault, locateDone, locateResult}
 use Rattle.plainmap.specs.World.{write, calledChange, calledGet, called, worldAfter, calledLocate, afterRound, afterRounds, openedWorld, restarted}
 use Rattle.plainmap.specs.Claims.{Typed, write-typed, remove-typed, get-typed, slotsMap}
 use Rattle.face.specs.Event.{RestartFits, done-fits, struck-fits, FitsBy, stepBy, imageCut}
+use Rattle.face.proofs.SetLaws.{layout-1, layout-2}
 use Rattle.cutrule.specs.Request.{TypedRequest}
 use Rattle.cutrule.specs.Rule.{AllRight}
 use Rattle.cutrule.proofs.CutRule.{cut-rule}
-use Rattle.examples.specs.Trial.{answers, outputs, small, oneHead, twoSlots, recovering, cutAt, fresh, session, asRequests, expected, expectedOutputs}
+use Rattle.examples.specs.Trial.{answers, outputs, small, oneHead, twoSlots, recovering, cutAt, fresh, sessionOf, session, secondSession, asRequests, expected, expectedOutputs}
 
--- THE SESSION answers as document 01 says, with the outputs of its gets; recovery accepts its formatted image, which has two slots
-session-computed : (answers 1 fresh session ≡ expected) × (outputs 1 fresh session ≡ expectedOutputs)
+-- THE SESSION answers as document 01 says, with the outputs of its gets, in both layouts; recovery accepts its formatted image, which has two slots
+session-computed : (answers 1 (fresh 1) session ≡ expected) × (outputs 1 (fresh 1) session ≡ expectedOutputs)
     × (recoverFault 1 (formatted 1 384) (length oneHead) (length twoSlots) ≡ 0) × (slotsIn (formatted 1 384) ≡ 2)
-unfolding word setBytes setWord filter slotNumbers anyOf tabulate greatest topmost lowest atLowest count say orElse unlessRefused made contentBy contentOf content top topOf markFault kindFault longest bitsFault wordFault tailFault faultOf recordFault headerWord headerFault imageFault indexFault lentFault lineTop versionFault keyFrom keyOf valuePlace slotWord valueWord valueByte valueFront valueOf slotsOf paired slotTop verdictOf lineVerdict isValid insert sorted openingStore openingStores wordNumbers values zipped played less standing marked placedWord bodyA bodyB run lineStores recordStores said hasVersion sharers complete versionIfComplete highestComplete isVoid settled rankOf ordered chainOf reuseOf clashes sharersFault isRecord isBroken keyIn weight nextVersion decider decidingPut live spare liveCount brokenCount brokenLimit manyBroken allLive validVersion highestValid isRemove older mayTake firstOf lastOf after nextIn chained takeFirst linkNew append insertAt replaceAt removeAt insertNew replaceHeld removeHeld keyFault isFound setNext setStart setLast link withTaken atEnd takeWalk takeFrom endsFault linkFault fewFault reuseFault roomFault walk search chainFault takingOf voidSlots openingsOf storesIn noState settledFault slotsFault slotsNamed recoverFault recoverSlot chainsOf placeOf recoveredIndex recoveredState recovered recoverResult unchanged storeFault changed writeLentFault insertsOf writeLaterFault writeFault writeDone writeResult removeLaterFault removeFault removeDone removeResult formatted lengthFault getLaterFault getFault getDone getResult locateFault locateDone locateResult calledChange calledGet calledLocate called worldAfter afterRound afterRounds openedWorld restarted imageCut stepBy answers outputs small oneHead twoSlots recovering cutAt fresh session expected expectedOutputs
-session-computed = (refl, refl, refl, refl)
+    × (answers 2 (fresh 2) secondSession ≡ expected) × (outputs 2 (fresh 2) secondSession ≡ expectedOutputs)
+    × (recoverFault 2 (formatted 2 384) (length oneHead) (length twoSlots) ≡ 0) × (slotsIn (formatted 2 384) ≡ 2)
+unfolding word setBytes setWord filter slotNumbers anyOf tabulate greatest topmost lowest atLowest count say orElse unlessRefused made contentBy contentOf content top topOf markFault kindFault longest bitsFault wordFault tailFault faultOf recordFault headerWord headerFault imageFault indexFault lentFault lineTop versionFault keyFrom keyOf valuePlace slotWord valueWord valueByte valueFront valueOf slotsOf paired slotTop verdictOf lineVerdict isValid insert sorted openingStore openingStores wordNumbers values zipped played less standing marked placedWord bodyA bodyB run lineStores recordStores said hasVersion sharers complete versionIfComplete highestComplete isVoid settled rankOf ordered chainOf reuseOf clashes sharersFault isRecord isBroken keyIn weight nextVersion decider decidingPut live spare liveCount brokenCount brokenLimit manyBroken allLive validVersion highestValid isRemove older mayTake firstOf lastOf after nextIn chained takeFirst linkNew append insertAt replaceAt removeAt insertNew replaceHeld removeHeld keyFault isFound setNext setStart setLast link withTaken atEnd takeWalk takeFrom endsFault linkFault fewFault reuseFault roomFault walk search chainFault takingOf voidSlots openingsOf storesIn noState settledFault slotsFault slotsNamed recoverFault recoverSlot chainsOf placeOf recoveredIndex recoveredState recovered recoverResult unchanged storeFault changed writeLentFault insertsOf writeLaterFault writeFault writeDone writeResult removeLaterFault removeFault removeDone removeResult formatted lengthFault getLaterFault getFault getDone getResult locateFault locateDone locateResult calledChange calledGet calledLocate called worldAfter afterRound afterRounds openedWorld restarted imageCut stepBy answers outputs small oneHead twoSlots recovering cutAt fresh sessionOf expected expectedOutputs
+session-computed = (refl, refl, refl, refl, refl, refl, refl, refl)
 
-pub session-answers : answers 1 fresh session ≡ expected
+pub session-answers : answers 1 (fresh 1) session ≡ expected
 session-answers = session-computed .0
 
-pub session-outputs : outputs 1 fresh session ≡ expectedOutputs
+pub session-outputs : outputs 1 (fresh 1) session ≡ expectedOutputs
 session-outputs = session-computed .1
+
+pub second-answers : answers 2 (fresh 2) secondSession ≡ expected
+second-answers = session-computed .4
+
+pub second-outputs : outputs 2 (fresh 2) secondSession ≡ expectedOutputs
+second-outputs = session-computed .5
 
 -- ---- the hypotheses of the cut rule
 
@@ -70,28 +79,32 @@ unfolding small
 small-bytes n h zero = h
 small-bytes n h (suc k) = omega (arith, zeros 7 k)
 
-key-sized : (key : ℕ) → key < 256 → key < (2 ^ 64) ^ 1
-key-sized key h = omega arith
-
-sized : {mode : Mode} (key value : ℕ) → key < 256 → value < 256 → Typed 1 (write mode key (small value))
-sized key value k v = write-typed (key-sized key k) (small-bytes value v)
-
 restart-fits : RestartFits 2 (recovering twoSlots)
 unfolding recovering
 restart-fits = record { rounds = none-left; size = right-size }
 
-session-fits : All (FitsBy (TypedRequest 1) 2) (asRequests session)
-unfolding session asRequests cutAt
-session-fits =
-    one-more (done-fits (sized 7 100 (omega arith) (omega arith))) (one-more (done-fits (sized 8 5 (omega arith) (omega arith)))
-    (one-more (done-fits (sized 7 101 (omega arith) (omega arith)))
-    (one-more (struck-fits (sized 7 102 (omega arith) (omega arith)) restart-fits)
-    (one-more (done-fits get-typed) (one-more (done-fits (remove-typed (key-sized 7 (omega arith)))) (one-more (done-fits get-typed)
-    (one-more (done-fits (sized 8 5 (omega arith) (omega arith))) none-left)))))))
+module _ (l a b : ℕ) (a-sized : a < (2 ^ 64) ^ l) (b-sized : b < (2 ^ 64) ^ l) where
+  sized : {mode : Mode} (key value : ℕ) → key < (2 ^ 64) ^ l → value < 256 → Typed l (write mode key (small value))
+  sized key value k v = write-typed k (small-bytes value v)
 
--- AN INSTANCE of the cut rule
-pub session-holds : AllRight 1 fresh (slotsMap 1 (formatted 1 384)) (asRequests session)
-unfolding fresh recovering
-session-holds =
-    cut-rule (formatted 1 384) (recovering twoSlots) (session-computed .2) (rw (session-computed .3) restart-fits) (asRequests session)
-    (rw (session-computed .3) session-fits) .1
+  session-fits : All (FitsBy (TypedRequest l) 2) (asRequests (sessionOf a b))
+  unfolding sessionOf asRequests cutAt
+  session-fits =
+      one-more (done-fits (sized a 100 a-sized (omega arith))) (one-more (done-fits (sized b 5 b-sized (omega arith)))
+      (one-more (done-fits (sized a 101 a-sized (omega arith)))
+      (one-more (struck-fits (sized a 102 a-sized (omega arith)) restart-fits)
+      (one-more (done-fits get-typed) (one-more (done-fits (remove-typed a-sized)) (one-more (done-fits get-typed)
+      (one-more (done-fits (sized b 5 b-sized (omega arith))) none-left)))))))
+
+  -- AN INSTANCE of the cut rule
+  holds : Layout l → recoverFault l (formatted l 384) (length oneHead) (length twoSlots) ≡ 0 → slotsIn (formatted l 384) ≡ 2
+      → AllRight l (fresh l) (slotsMap l (formatted l 384)) (asRequests (sessionOf a b))
+  unfolding fresh recovering
+  holds layout accepted slots =
+      cut-rule l layout (formatted l 384) (recovering twoSlots) accepted (rw slots restart-fits) (asRequests (sessionOf a b)) (rw slots session-fits) .1
+
+pub session-holds : AllRight 1 (fresh 1) (slotsMap 1 (formatted 1 384)) (asRequests session)
+session-holds = holds 1 7 8 (omega arith) (omega arith) layout-1 (session-computed .2) (session-computed .3)
+
+pub second-holds : AllRight 2 (fresh 2) (slotsMap 2 (formatted 2 384)) (asRequests secondSession)
+second-holds = holds 2 _ _ (omega arith) (omega arith) layout-2 (session-computed .6) (session-computed .7)

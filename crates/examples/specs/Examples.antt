@@ -1,4 +1,4 @@
--- Examples E1 to E12 of document 01: one or more rows for each, with what the definitions give and what document 01 says, as lists of numbers.
+-- Examples E1 to E12 of document 01 and examples of layout 2: one or more rows for each, with what the definitions give and what the documents say, as lists of numbers.
 use mathlib.Core.Bool.{Bool, true, false, cond, _&&_}
 use mathlib.Core.Option.{Option, some, none}
 use mathlib.Core.List.{List, [], _∷_, _++_}
@@ -9,6 +9,7 @@ use Rattle.words.specs.Word.{word}
 use Rattle.prelude.specs.Answer.{Answer, gives, absent, refused}
 use Rattle.layout.specs.Line.{whole, versionOf}
 use Rattle.layout.specs.Slot.{verdictOf, slotVerdict}
+use Rattle.layout.specs.Record.{keyWith}
 use Rattle.layout.specs.Content.{content}
 use Rattle.table.specs.Complete.{tableOf}
 use Rattle.layout.specs.declared.Verdict.{Verdict}
@@ -18,6 +19,7 @@ use Rattle.stores.specs.Play.{values}
 use Rattle.stores.specs.Written.{recordStores}
 use Rattle.table.specs.Table.{nextVersion, liveCount, mapOf}
 use Rattle.calls.specs.Format.{FormatResult, formatResult}
+use Rattle.index.specs.Index.{headOf}
 use Rattle.index.specs.declared.Mode.the-variants.{Insert, Replace}
 use Rattle.plainmap.specs.World.{World, Call, write, remove, get, called, finished, openedWorld}
 use Rattle.layout.specs.Size.{slotsIn}
@@ -72,19 +74,25 @@ leftover = words (18 ∷ 1 ∷ 23 ∷ 4 ∷ 31 ∷ 4 ∷ 39 ∷ 6 ∷ 47 ∷ 1 �
 
 -- ---- sets of three slots
 
--- an image with the index, of one head, and the state that recovery leaves, its opening stores played
-unfoldable pub recoveredSet : (image : List ℕ) → World
-recoveredSet image = openedWorld 1 image (0 ∷ []) (replicate 4 0)
+-- an image with the index, of one head, and the state that recovery in layout l leaves, its opening stores played
+unfoldable pub recoveredIn : (l : ℕ) → (image : List ℕ) → World
+recoveredIn l image = openedWorld l image (0 ∷ []) (replicate 4 0)
 
--- the set after these calls, all their stores played
+abbrev pub recoveredSet : (image : List ℕ) → World
+recoveredSet image = recoveredIn 1 image
+
+-- the set after these calls of layout 1, all their stores played
 unfoldable pub afterCalls : World → List Call → World
 afterCalls w [] = w
 afterCalls w (call ∷ calls) = afterCalls (finished 1 w call) calls
 
--- and what they answer, one after the other
-unfoldable pub callAnswers : World → List Call → List ℕ
-callAnswers w [] = []
-callAnswers w (call ∷ calls) = answer (called 1 w call .answer) ++ callAnswers (finished 1 w call) calls
+-- what calls of layout l answer, one after the other
+unfoldable pub answersIn : (l : ℕ) → World → List Call → List ℕ
+answersIn l w [] = []
+answersIn l w (call ∷ calls) = answer (called l w call .answer) ++ answersIn l (finished l w call) calls
+
+abbrev pub callAnswers : World → List Call → List ℕ
+callAnswers w calls = answersIn 1 w calls
 
 -- the live count by the state and by the slots
 unfoldable pub liveCounts : World → List ℕ
@@ -113,6 +121,19 @@ removedSet = afterCalls emptySet removal
 -- a get of key 7 with 80 bytes of output
 unfoldable pub get7 : List Call
 get7 = get 7 (replicate 80 0) ∷ []
+
+-- ---- layout 2
+
+-- an empty set of three slots
+unfoldable pub secondSet : World
+secondSet = recoveredIn 2 (formatResult 2 (replicate 512 9) .bytes)
+
+-- two keys that share their low word
+unfoldable pub keyA : ℕ
+keyA = keyWith 7 1
+
+unfoldable pub keyB : ℕ
+keyB = keyWith 7 2
 
 -- ---- the table
 
@@ -159,6 +180,24 @@ examples =
     ∷ row (callAnswers emptySet removal) (0 ∷ 1 ∷ 1 ∷ 0 ∷ 2 ∷ 2 ∷ 0 ∷ 3 ∷ 3 ∷ 0 ∷ 1 ∷ 4 ∷ [])
     ∷ row (held (mapOf (tableOf 1 (removedSet .image)) 3 7)) (1 ∷ [])
     ∷ row (callAnswers removedSet get7 ++ callAnswers (recoveredSet (removedSet .image)) get7) (1 ∷ 1 ∷ [])
+    -- document 02, A.11: "format is told which to write"; "32 when format is asked for a layout other than 1 or 2, after 1"
+    ∷ row (formatNumbers (formatResult 2 (replicate 384 9))) ((0 ∷ 2 ∷ 2 ∷ replicate 7 0) ++ (2 ∷ replicate 375 0))
+    ∷ row (formatNumbers (formatResult 0 (replicate 384 9))) (2 ∷ 32 ∷ replicate 384 9)
+    ∷ row (formatNumbers (formatResult 3 (replicate 384 9))) (2 ∷ 32 ∷ replicate 384 9)
+    ∷ row (formatNumbers (formatResult 3 (replicate 383 9))) (2 ∷ 1 ∷ replicate 383 9)
+    -- "the key in words 1 and 2 of line A, the kind word in word 3, and a value .. from word 4 on": a value of 25 bytes
+    ∷ row (values (recordStores 2 (words []) 1 keyB 1 0 (replicate 24 0 ++ (5 ∷ [])) 4))
+    (1 ∷ 7 ∷ 2 ∷ 6401 ∷ 0 ∷ 0 ∷ 0 ∷ 9 ∷ 1 ∷ 5 ∷ 0 ∷ 0 ∷ 0 ∷ 0 ∷ 0 ∷ 9 ∷ [])
+    -- "a value of at most 72 bytes"; two keys with one low word are two
+    ∷ row (answersIn 2 secondSet (write Insert keyA (replicate 72 5) ∷ write Replace keyA (replicate 73 5) ∷ write Insert keyB [] ∷ write Insert keyA [] ∷ []))
+    (0 ∷ 1 ∷ 1 ∷ 2 ∷ 10 ∷ 0 ∷ 2 ∷ 2 ∷ 2 ∷ 20 ∷ [])
+    ∷ row (answersIn 2 secondSet (write Insert keyA (replicate 72 5) ∷ get keyA (replicate 72 0) ∷ get keyB [] ∷ remove keyB ∷ remove keyA ∷ []))
+    (0 ∷ 1 ∷ 1 ∷ 0 ∷ 72 ∷ 1 ∷ 1 ∷ 0 ∷ 2 ∷ 2 ∷ [])
+    -- "Its head is word 1 mod B"
+    ∷ row (headOf (keyWith 6 1) 3 ∷ []) (0 ∷ [])
+    -- "Each layout has its own calls .. which give 3 on the other's images"
+    ∷ row (callAnswers secondSet (write Insert 7 [] ∷ remove 7 ∷ get 7 [] ∷ [])) (2 ∷ 3 ∷ 2 ∷ 3 ∷ 2 ∷ 3 ∷ [])
+    ∷ row (answersIn 2 emptySet (write Insert keyA [] ∷ remove keyA ∷ get keyA [] ∷ [])) (2 ∷ 3 ∷ 2 ∷ 3 ∷ 2 ∷ 3 ∷ [])
     ∷ []
 
 -- ---- the test

@@ -1,10 +1,11 @@
--- Document 01's trial session as a list of events, with the answers that it gives there.
+-- Document 01's trial session as a list of events, with the answers that it gives there; in layout 2 they are the same.
 use mathlib.Core.Bool.{cond}
 use mathlib.Core.List.{List, [], _∷_}
 use Prim.Native.Nat.{ℕ, _%_}
 use lib.Dec.{eqb}
 use lib.ListN.{replicate}
 use Rattle.prelude.specs.Answer.{Answer, gives, absent, refused}
+use Rattle.layout.specs.Record.{keyWith}
 use Rattle.calls.specs.Format.{formatted}
 use Rattle.index.specs.declared.Mode.the-variants.{Insert, Replace}
 use Rattle.plainmap.specs.World.{World, Call, write, remove, get, called, Restart, restarted}
@@ -41,16 +42,23 @@ recovering next = record { rounds = []; heads = oneHead; next = next }
 unfoldable pub cutAt : (a b : ℕ) → (next : List ℕ) → Cut
 cutAt a b next = record { counts = λ n. cond (eqb (n % 2) 0) a b; restart = recovering next }
 
--- "n 2": format and recover
-unfoldable pub fresh : World
-fresh = restarted 1 (formatted 1 384) (recovering twoSlots)
+-- "n 2": format and recover, in layout l
+unfoldable pub fresh : (l : ℕ) → World
+fresh l = restarted l (formatted l 384) (recovering twoSlots)
 
--- "p 7 100 / p 8 5 / p 7 101 / c 8 3 / p 7 102 / g 7 / r 7 / g 7 / p 8 5"
-unfoldable pub session : List (Event Call)
-session =
-    done (write Insert 7 (small 100)) ∷ done (write Insert 8 (small 5)) ∷ done (write Replace 7 (small 101))
-    ∷ struck (write Replace 7 (small 102)) (cutAt 8 3 twoSlots)
-    ∷ done (get 7 (replicate 8 0)) ∷ done (remove 7) ∷ done (get 7 (replicate 8 0)) ∷ done (write Insert 8 (small 5)) ∷ []
+-- "p 7 100 / p 8 5 / p 7 101 / c 8 3 / p 7 102 / g 7 / r 7 / g 7 / p 8 5", with these keys for 7 and 8
+unfoldable pub sessionOf : (a b : ℕ) → List (Event Call)
+sessionOf a b =
+    done (write Insert a (small 100)) ∷ done (write Insert b (small 5)) ∷ done (write Replace a (small 101))
+    ∷ struck (write Replace a (small 102)) (cutAt 8 3 twoSlots)
+    ∷ done (get a (replicate 8 0)) ∷ done (remove a) ∷ done (get a (replicate 8 0)) ∷ done (write Insert b (small 5)) ∷ []
+
+abbrev pub session : List (Event Call)
+session = sessionOf 7 8
+
+-- of layout 2: the keys have two words, of which they share the low one
+abbrev pub secondSession : List (Event Call)
+secondSession = sessionOf (keyWith 7 1) (keyWith 7 2)
 
 -- the same as requests of the cut rule
 unfoldable pub asRequests : List (Event Call) → List (Event Request)

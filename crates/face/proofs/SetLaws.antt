@@ -31,6 +31,7 @@ use Rattle.face.proofs.Images.{accepted-gives, state-answered}
 use Rattle.face.proofs.Events.{gives-along, restarted-slots, event-agrees, event-along, event-slots, basket-answers, basket-agrees, basket-along, basket-keeps-slots, basket-played}
 use Rattle.face.proofs.Stored.{few-given, hands-out, OneStored, none-stored, one-stored, stored-one, some-stores}
 use Rattle.face.proofs.Heads.{called-heads, recovered-heads}
+pub use Rattle.calls.proofs.Changes.{key-alone}
 
 module _ (l : ℕ) (lay : Layout l) where
   passed : (image heads next : List ℕ) → recoverFault l image (length heads) (length next) ≡ 0 → Accepted l image
@@ -143,3 +144,7 @@ module _ (l : ℕ) (lay : Layout l) where
 -- the layout of document 01
 pub layout-1 : Layout 1
 layout-1 = record { low = omega arith; high = omega arith }
+
+-- and of document 02, A.11
+pub layout-2 : Layout 2
+layout-2 = record { low = omega arith; high = omega arith }

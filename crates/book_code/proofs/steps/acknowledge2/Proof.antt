@@ -1,0 +1,13 @@
+-- `book_code::steps::acknowledge2` meets its contract. Assumes nothing.
+use borrow.Author.Needs.{needs}
+use Rattle.book.proofs.Courses.{acknowledge-result}
+use Rattle.book_code.proofs.steps.acknowledge2.Statement.{statement}
+use Rattle.book_code.proofs.steps.acknowledge2.Tie as tie
+
+returns : tie.Need-returns
+returns c = acknowledge-result _ _ _ _ _ _ _ _ _ (@carry-out .ensures) (@acknowledge-plan .ensures)
+
+pub acknowledge2-spec : {M : Type 1} → statement M
+acknowledge2-spec =
+    tie.close
+    (tie.spec (λ c κs. search needs) (λ c κs. search needs) (λ c. search needs) (λ c. search needs) returns)
