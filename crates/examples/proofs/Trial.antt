@@ -3,6 +3,7 @@ use mathlib.Core.Path.{_≡_, refl}
 use Prim.Native.Nat.{ℕ, zero, suc, _^_, _<_}
 use native.Mathlib.Omega.{arith}
 use lib.ListN.{length}
+use borrow.Author.Tests.{ltb-true}
 use Rattle.words.specs.Word.{AreBytes, word, setBytes, setWord}
 use Rattle.prelude.specs.Members.{All, none-left, one-more, slotNumbers}
 use Rattle.prelude.specs.Refusal.{say, orElse, unlessRefused}
@@ -12,7 +13,7 @@ use Rattle.prelude.proofs.Fills.{zeros}
 use Rattle.layout.specs.Size.{slotsOf, slotsIn}
 use Rattle.layout.specs.Line.{lineTop, versionFault}
 use Rattle.layout.specs.Slot.{paired, slotTop, verdictOf, lineVerdict, isValid}
-use Rattle.layout.specs.Record.{Layout, keyFrom, keyOf, valuePlace, slotWord, valueWord, valueByte, valueFront, valueOf}
+use Rattle.layout.specs.Record.{Layout, keyFrom, keyOf, keyWith, valuePlace, slotWord, valueWord, valueByte, valueFront, valueOf}
 use Rattle.layout.specs.Content.{made, contentBy, contentOf, content, topOf, top}
 use Rattle.layout.specs.Header.{headerWord, headerFault, imageFault, indexFault, lentFault}
 use Rattle.layout.specs.Fault.{markFault, kindFault, longest, wordFault, tailFault, faultOf, recordFault, bitsFault}
@@ -107,4 +108,6 @@ pub session-holds : AllRight 1 (fresh 1) (slotsMap 1 (formatted 1 384)) (asReque
 session-holds = holds 1 7 8 (omega arith) (omega arith) layout-1 (session-computed .2) (session-computed .3)
 
 pub second-holds : AllRight 2 (fresh 2) (slotsMap 2 (formatted 2 384)) (asRequests secondSession)
-second-holds = holds 2 _ _ (omega arith) (omega arith) layout-2 (session-computed .6) (session-computed .7)
+second-holds =
+    holds 2 _ _ (ltb-true (keyWith 7 1) ((2 ^ 64) ^ 2) refl) (ltb-true (keyWith 7 2) ((2 ^ 64) ^ 2) refl) layout-2 (session-computed .6)
+    (session-computed .7)
