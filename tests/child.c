@@ -9,6 +9,7 @@
 #include <stdio.h>
 #include <stdlib.h>
 #include <string.h>
+#include <sys/prctl.h>
 #include <sys/wait.h>
 #include <unistd.h>
 
@@ -35,6 +36,7 @@ struct child start_child(const char *const words[]) {
     c.pid = fork();
     expect(c.pid >= 0, "a process");
     if (c.pid == 0) {
+        prctl(PR_SET_PDEATHSIG, SIGKILL); /* a test that fails leaves no child behind */
         dup2(in[0], 0);
         dup2(out[1], 1);
         dup2(out[1], 2);

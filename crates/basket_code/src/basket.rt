@@ -5,7 +5,7 @@ ghost use Rattle.layout.specs.Record.{Layout};
 ghost use Rattle.layout.specs.Size.{slotsIn};
 ghost use Rattle.taking.specs.Taking.{choiceOf};
 ghost use Rattle.calls.specs.Basket.{changesOf, basketDone, basketResult, basketEnd, leftInLists};
-ghost use Rattle.calls.specs.inner.Basket.{Ready};
+ghost use Rattle.calls.specs.inner.Basket.{BasketReady};
 use crate::links::change_index;
 use crate::plan::plan;
 use crate::records::put_stores;
@@ -32,7 +32,7 @@ fn store_basket(
     at: &mut [u32],
     words: &mut [u64],
 ) -> BasketAnswer
-    requires { ⌜ Layout l × Ready l (now image) (now heads) (now next) (slotsIn (now image)) state count items (length (now at)) (length (now words)) (record { fault = 0; olds = olds; slots = slots; prevs = prevs }) ⌝ }
+    requires { ⌜ Layout l × BasketReady l (now image) (now heads) (now next) (slotsIn (now image)) state count items (length (now at)) (length (now words)) (record { fault = 0; olds = olds; slots = slots; prevs = prevs }) ⌝ }
     ensures { λ r. ⌜ basketEnd count r (now (at .exit)) (now (words .exit)) (now (heads .exit)) (now (next .exit)) ≡ leftInLists (now (at .entry)) (now (words .entry)) (basketDone l (now (image .entry)) (now (heads .entry)) (now (next .entry)) state (changesOf l count items values) (choiceOf l (now (image .entry)) (now (next .entry)) (slotsIn (now (image .entry))) (state .first) count)) ⌝ }
 {
     let n = slot_count(image.len());

@@ -1,5 +1,4 @@
 // A basket's changes of the index.
-ghost use mathlib.Core.Path.{_≡_};
 ghost use Prim.Native.Nat.{ℕ};
 ghost use lib.ListN.{length};
 ghost use Rattle.index.specs.Index.{indexOf};

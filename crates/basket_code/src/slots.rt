@@ -1,5 +1,4 @@
 // The slots that a basket takes, and the refusals by them, by the live count and by the next version.
-ghost use mathlib.Core.Path.{_≡_};
 ghost use Prim.Native.Nat.{_≤_, _<_};
 ghost use Rattle.taking.specs.Taking.{takingOf, choiceOf};
 ghost use Rattle.taking.specs.inner.Takeable.{Walkable};

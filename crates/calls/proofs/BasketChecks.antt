@@ -3,10 +3,10 @@ use mathlib.Core.Path.{_≡_, refl, sym, ap, ap₂, _∙_}
 use mathlib.Core.Bool.{Bool, true, false, cond, not}
 use mathlib.Core.Logic.{by-cases}
 use mathlib.Core.List.{List, [], _∷_}
-use Prim.Native.Nat.{ℕ, zero, suc, _+_, _-_, _*_, _^_, _≤_, _<_}
+use Prim.Native.Nat.{ℕ, zero, suc, _+_, _-_, _^_, _≤_, _<_}
 use native.Mathlib.Decide.{decLt}
 use native.Mathlib.Omega.{arith}
-use lib.Dec.{eqb, ltb}
+use lib.Dec.{eqb}
 use lib.ListN.{length, getD, set, replicate, length-set}
 use lib.Seq.{getD-set-same, getD-set-other}
 use borrow.Author.Tests.{eq-eqb, ne-eqb, eqb-true, eqb-false, ltb-false, lt-ltb, le-ltb}
@@ -21,11 +21,9 @@ use Rattle.index.specs.Change.{isFound}
 use Rattle.index.specs.declared.Action.{Action}
 use Rattle.index.specs.declared.Action.the-variants.{Insert, Replace, Remove}
 use Rattle.index.specs.declared.Found.{Found}
-use Rattle.calls.specs.Basket.{KeyChange, highIn, itemKey, itemAt, valueAt, changeAt, changesFrom, changesOf, keyCountFault, among, anyTwice, listsFault, givenFault, firstFault, valueFault, actionFault, insertsBy, removesBy, sumOver, oldIn}
-use Rattle.calls.specs.inner.Basket.{keyAt, sizeBy, sizeAt, OldsOf, ActionsFault, TotalsOf}
+use Rattle.calls.specs.Basket.{KeyChange, highIn, itemKey, itemAt, itemValue, changeAt, changesFrom, changesOf, keyCountFault, among, anyTwice, listsFault, givenFault, firstFault, valueFault, actionFault, insertsBy, removesBy, sumOver, oldIn}
+use Rattle.calls.specs.inner.Basket.{itemKeyAt, sizeBy, sizeAt, OldsOf, ActionsFault, TotalsOf}
 use Rattle.calls.specs.declared.BasketItem.{BasketItem}
-use Rattle.calls.specs.declared.Olds.{Olds}
-use Rattle.calls.specs.declared.Totals.{Totals}
 
 -- ---- what is asked, from one item on
 
@@ -57,7 +55,7 @@ module _ (l : ℕ) (items : List BasketItem) (values : List ℕ) where
   so-many count = changes-length 0 count
 
 -- an item's key, by its words
-pub key-at : (l : ℕ) (items : List BasketItem) (i high : ℕ) → high ≡ highIn l (itemAt items i .high) → keyWith (itemAt items i .low) high ≡ keyAt l items i
+pub key-at : (l : ℕ) (items : List BasketItem) (i high : ℕ) → high ≡ highIn l (itemAt items i .high) → keyWith (itemAt items i .low) high ≡ itemKeyAt l items i
 unfolding itemKey
 key-at l items i high e = ap (keyWith (itemAt items i .low)) e
 
@@ -111,7 +109,7 @@ module _ (fault : KeyChange → ℕ) (l : ℕ) (items : List BasketItem) (values
 
 pub size-at : (l : ℕ) (items : List BasketItem) (i k : ℕ) → k ≡ valueFault l (itemAt items i .action) (itemAt items i .length)
     → (values : List ℕ) → k ≡ valueFault l (changeAt l items values i .action) (length (changeAt l items values i .value))
-unfolding changeAt valueAt
+unfolding changeAt itemValue
 size-at l items i k e values = e ∙ ap (valueFault l (itemAt items i .action)) (sym (tabulate-length _ 0 (itemAt items i .length)))
 
 -- by what is asked; m is the greatest length that the layout has
@@ -170,18 +168,18 @@ pub record Seeking (l : ℕ) (items : List BasketItem) (count key from j : ℕ) 
   pub rest : (values : List ℕ) → among key (changesFrom l items values j (count - j)) ≡ among key (changesFrom l items values from (count - from))
 
 module _ (l : ℕ) (items : List BasketItem) (count key from j : ℕ) (w : Seeking l items count key from j) where
-  module _ (h : j < count) (b : Bool) (e : b ≡ eqb (keyAt l items j) key) where
+  module _ (h : j < count) (b : Bool) (e : b ≡ eqb (itemKeyAt l items j) key) where
     look : (values : List ℕ) → among key (changesFrom l items values j (count - j))
-        ≡ cond (eqb (keyAt l items j) key) true (among key (changesFrom l items values (j + 1) (count - (j + 1))))
+        ≡ cond (eqb (itemKeyAt l items j) key) true (among key (changesFrom l items values (j + 1) (count - (j + 1))))
     unfolding among changeAt
     look values = ap (among key) (changes-step l items values count j h)
 
     pub seek-hit : b ≡ true → (values : List ℕ) → true ≡ among key (changesFrom l items values from (count - from))
-    seek-hit q values = sym (pick-true (eqb (keyAt l items j) key) _ _ (sym e ∙ q)) ∙ sym (look values) ∙ w .rest values
+    seek-hit q values = sym (pick-true (eqb (itemKeyAt l items j) key) _ _ (sym e ∙ q)) ∙ sym (look values) ∙ w .rest values
 
     pub seek-on : b ≡ false → Seeking l items count key from (j + 1)
     seek-on q =
-        record { rest = λ values. sym (pick-false (eqb (keyAt l items j) key) _ _ (sym e ∙ q)) ∙ sym (look values) ∙ w .rest values }
+        record { rest = λ values. sym (pick-false (eqb (itemKeyAt l items j) key) _ _ (sym e ∙ q)) ∙ sym (look values) ∙ w .rest values }
 
   pub seek-end : count ≤ j → (values : List ℕ) → false ≡ among key (changesFrom l items values from (count - from))
   unfolding among
@@ -202,20 +200,20 @@ module _ (l : ℕ) (items : List BasketItem) (count : ℕ) where
     module _ (h : i < count) (high : ℕ) (eh : high ≡ highIn l (itemAt items i .high)) (b : Bool)
         (e : (values : List ℕ) → b ≡ among (keyWith (itemAt items i .low) high) (changesFrom l items values (i + 1) (count - (i + 1)))) where
       pair : (values : List ℕ) → anyTwice (changesFrom l items values i (count - i))
-          ≡ cond (among (keyAt l items i) (changesFrom l items values (i + 1) (count - (i + 1)))) true
+          ≡ cond (among (itemKeyAt l items i) (changesFrom l items values (i + 1) (count - (i + 1)))) true
           (anyTwice (changesFrom l items values (i + 1) (count - (i + 1))))
       unfolding anyTwice changeAt
       pair values = ap anyTwice (changes-step l items values count i h)
 
-      there : (values : List ℕ) → b ≡ among (keyAt l items i) (changesFrom l items values (i + 1) (count - (i + 1)))
+      there : (values : List ℕ) → b ≡ among (itemKeyAt l items i) (changesFrom l items values (i + 1) (count - (i + 1)))
       there values = e values ∙ ap (λ (k : ℕ). among k (changesFrom l items values (i + 1) (count - (i + 1)))) (key-at l items i high eh)
 
       pub pair-hit : b ≡ true → (values : List ℕ) → true ≡ anyTwice (changesOf l count items values)
-      pair-hit q values = sym (pick-true (among (keyAt l items i) _) _ _ (sym (there values) ∙ q)) ∙ sym (pair values) ∙ w .rest values
+      pair-hit q values = sym (pick-true (among (itemKeyAt l items i) _) _ _ (sym (there values) ∙ q)) ∙ sym (pair values) ∙ w .rest values
 
       pub pair-on : b ≡ false → Pairing l items count (i + 1)
       pair-on q =
-          record { rest = λ values. sym (pick-false (among (keyAt l items i) _) _ _ (sym (there values) ∙ q)) ∙ sym (pair values) ∙ w .rest values }
+          record { rest = λ values. sym (pick-false (among (itemKeyAt l items i) _) _ _ (sym (there values) ∙ q)) ∙ sym (pair values) ∙ w .rest values }
 
     pub pair-end : count ≤ i → (values : List ℕ) → false ≡ anyTwice (changesOf l count items values)
     unfolding anyTwice
@@ -257,7 +255,7 @@ module _ (l : ℕ) (items : List BasketItem) (count at words k : ℕ) (e : k ≡
 pub record Finding (found : ℕ → Found) (l : ℕ) (items : List BasketItem) (count : ℕ) (slots : List ℕ) (i : ℕ) : Type 0 where
   pub size : length slots ≡ 8
   pub checking : Checking (λ c. chainFault (found (c .key))) l items count i
-  pub olds : (j : ℕ) → j < i → getD slots j 0 ≡ oldIn (found (keyAt l items j))
+  pub olds : (j : ℕ) → j < i → getD slots j 0 ≡ oldIn (found (itemKeyAt l items j))
 
 module _ (found : ℕ → Found) (l : ℕ) (items : List BasketItem) (count : ℕ) where
   abbrev chains : KeyChange → ℕ
@@ -269,7 +267,7 @@ module _ (found : ℕ → Found) (l : ℕ) (items : List BasketItem) (count : �
   module _ (slots : List ℕ) (i : ℕ) (w : Finding found l items count slots i) where
     module _ (h : i < count) (high : ℕ) (eh : high ≡ highIn l (itemAt items i .high)) (d : Found) (ed : d ≡ found (keyWith (itemAt items i .low) high))
         (k : ℕ) (e : k ≡ chainFault d) where
-      met : d ≡ found (keyAt l items i)
+      met : d ≡ found (itemKeyAt l items i)
       met = ed ∙ ap found (key-at l items i high eh)
 
       by-chain : (values : List ℕ) → k ≡ chains (changeAt l items values i)
@@ -291,7 +289,7 @@ module _ (found : ℕ → Found) (l : ℕ) (items : List BasketItem) (count : �
                 (λ p.
                 let y : j ≡ i = omega arith in
                 ap (λ (x : ℕ). getD (set slots i s) x 0) y ∙ getD-set-same slots i s 0 (omega (arith, w .size)) ∙ f ∙ ap oldIn met
-                ∙ ap (λ (x : ℕ). oldIn (found (keyAt l items x))) (sym y));
+                ∙ ap (λ (x : ℕ). oldIn (found (itemKeyAt l items x))) (sym y));
           }
 
     pub finding-ends : count ≤ i → OldsOf found l count items (record { fault = 0; slots = slots })
@@ -327,7 +325,7 @@ module _ (a : Action) (old : ℕ) where
   remove-held q ne = sym (ap₂ actionFault q (ap not (ne-eqb old 0 ne)))
 
 pub record Acting (items : List BasketItem) (count : ℕ) (olds : List ℕ) (i : ℕ) : Type 0 where
-  pub checking : (l : ℕ) (found : ℕ → Found) → ((j : ℕ) → j < count → isFound (found (keyAt l items j)) ≡ not (eqb (getD olds j 0) 0))
+  pub checking : (l : ℕ) (found : ℕ → Found) → ((j : ℕ) → j < count → isFound (found (itemKeyAt l items j)) ≡ not (eqb (getD olds j 0) 0))
       → Checking (λ c. actionFault (c .action) (isFound (found (c .key)))) l items count i
 
 module _ (items : List BasketItem) (count : ℕ) (olds : List ℕ) where
@@ -336,7 +334,7 @@ module _ (items : List BasketItem) (count : ℕ) (olds : List ℕ) where
 
   module _ (i : ℕ) (w : Acting items count olds i) where
     module _ (h : i < count) (k : ℕ) (e : k ≡ actionFault (itemAt items i .action) (not (eqb (getD olds i 0) 0))) where
-      by-action : (l : ℕ) (found : ℕ → Found) → ((j : ℕ) → j < count → isFound (found (keyAt l items j)) ≡ not (eqb (getD olds j 0) 0))
+      by-action : (l : ℕ) (found : ℕ → Found) → ((j : ℕ) → j < count → isFound (found (itemKeyAt l items j)) ≡ not (eqb (getD olds j 0) 0))
           → (values : List ℕ) → k ≡ actionFault (changeAt l items values i .action) (isFound (found (changeAt l items values i .key)))
       unfolding changeAt
       by-action l found g values = e ∙ ap (actionFault (itemAt items i .action)) (sym (g i h))

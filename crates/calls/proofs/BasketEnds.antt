@@ -1,13 +1,12 @@
 -- What a basket leaves, refused or written. Assumes nothing.
 use mathlib.Core.Path.{_≡_, refl, sym, ap, ap₂, _∙_, subst}
 use mathlib.Core.List.{List, [], _∷_, _++_}
-use Prim.Native.Nat.{ℕ, zero, suc, _+_, _-_, _*_, _^_, _≤_, _<_}
+use Prim.Native.Nat.{ℕ, zero, suc, _+_, _-_, _^_, _≤_, _<_}
 use native.Mathlib.Omega.{arith}
 use lib.ListN.{length, getD, take, drop, replicate, length-drop, length-replicate, getD-replicate, take-append-drop}
 use lib.Seq.{length-take-le, drop-cons, getD-take, getD-drop, ext-getD}
 use Rattle.words.specs.Word.{word}
 use Rattle.prelude.specs.Answer.{Answer, gives, refused}
-use Rattle.prelude.specs.Refusal.{unlessRefused}
 use Rattle.prelude.specs.Members.{All}
 use Rattle.prelude.proofs.Refusals.{taken-leaves, refused-keeps}
 use Rattle.layout.specs.Record.{Layout}
@@ -16,9 +15,9 @@ use Rattle.stores.specs.Store.{Store}
 use Rattle.stores.specs.Play.{wordNumbers, values}
 use Rattle.stores.specs.Basket.{BasketRecord, basketStores}
 use Rattle.table.specs.Complete.{numberFor}
-use Rattle.index.specs.Index.{Index, indexOf, stateOf}
+use Rattle.index.specs.Index.{Index, indexOf}
 use Rattle.index.specs.Walk.{search}
-use Rattle.index.specs.Taking.{Taken, Taking, taken, takeFrom}
+use Rattle.index.specs.Taking.{Taken, Taking}
 use Rattle.index.specs.Basket.{takenSlots, basketIndex, Item}
 use Rattle.index.specs.inner.Parts.{PartsOf}
 use Rattle.index.specs.inner.Basket.{takensFrom, TakensInside}
@@ -29,11 +28,10 @@ use Rattle.index.proofs.BasketInside.{TakenInside, taking-inside}
 use Rattle.index.proofs.Takens.{takens-each}
 use Rattle.index.proofs.Walks.{at-inside}
 use Rattle.taking.specs.Taking.{choiceOf}
-use Rattle.calls.specs.Change.{ChangeResult, unchanged}
-use Rattle.calls.specs.Basket.{KeyChange, changesOf, changesFrom, sumOver, insertsBy, removesBy, basketFault, recordsFor, oldIn, itemsFor, indexAfter, basketMade, basketDone, basketBy, basketResult, BasketLeft, basketSays, basketEnd, eightSlots, atFront, leftInLists}
-use Rattle.calls.specs.inner.Basket.{keyAt, itemsFrom, recordsFrom, TotalsOf, Ready, StoresInside, ItemsInside}
+use Rattle.calls.specs.Change.{unchanged}
+use Rattle.calls.specs.Basket.{KeyChange, changesOf, sumOver, insertsBy, removesBy, basketFault, recordsFor, oldIn, indexAfter, basketMade, basketDone, basketBy, basketResult, BasketLeft, basketSays, basketEnd, eightSlots, atFront, leftInLists}
+use Rattle.calls.specs.inner.Basket.{itemKeyAt, itemsFrom, recordsFrom, TotalsOf, BasketReady, StoresInside, ItemsInside}
 use Rattle.calls.specs.declared.BasketItem.{BasketItem}
-use Rattle.calls.specs.declared.BasketAnswer.{BasketAnswer}
 use Rattle.calls.specs.declared.BasketOutcome.the-variants.{Stored, Refused}
 use Rattle.calls.specs.declared.Totals.{Totals}
 use Rattle.calls.specs.declared.Plan.{Plan}
@@ -90,18 +88,18 @@ basket-taken l image heads next s count items bytes at words k e z r h =
 
 -- m is the slots of the image
 pub ready-at : (l : ℕ) (image heads next : List ℕ) (s : State) (count : ℕ) (items : List BasketItem) (at words : ℕ) (p : Plan) (m : ℕ) → m ≡ slotsIn image
-    → Ready l image heads next (slotsIn image) s count items at words p → Ready l image heads next m s count items at words p
-ready-at l image heads next s count items at words p m e w = subst (λ (x : ℕ). Ready l image heads next x s count items at words p) (sym e) w
+    → BasketReady l image heads next (slotsIn image) s count items at words p → BasketReady l image heads next m s count items at words p
+ready-at l image heads next s count items at words p m e w = subst (λ (x : ℕ). BasketReady l image heads next x s count items at words p) (sym e) w
 
 -- what a plan without a refusal has
 pub ready-plan : (l : ℕ) (image heads next : List ℕ) (n : ℕ) (s : State) (count : ℕ) (items : List BasketItem) (at words : ℕ) (p : Plan) → p .fault ≡ 0
-    → Ready l image heads next n s count items at words p
-    → Ready l image heads next n s count items at words (record { fault = 0; olds = p .olds; slots = p .slots; prevs = p .prevs })
+    → BasketReady l image heads next n s count items at words p
+    → BasketReady l image heads next n s count items at words (record { fault = 0; olds = p .olds; slots = p .slots; prevs = p .prevs })
 ready-plan l image heads next n s count items at words p z w =
-    subst (λ (x : ℕ). Ready l image heads next n s count items at words (record { fault = x; olds = p .olds; slots = p .slots; prevs = p .prevs })) z w
+    subst (λ (x : ℕ). BasketReady l image heads next n s count items at words (record { fault = x; olds = p .olds; slots = p .slots; prevs = p .prevs })) z w
 
 module _ (l : ℕ) (image heads next : List ℕ) (n : ℕ) (s : State) (count : ℕ) (items : List BasketItem) (at words : ℕ) (p : Plan)
-    (w : Ready l image heads next n s count items at words p) where
+    (w : BasketReady l image heads next n s count items at words p) where
   abbrev ts : List Taken
   ts = takensFrom (p .slots) (p .prevs) 0 count
 
@@ -137,7 +135,7 @@ module _ (l : ℕ) (image heads next : List ℕ) (n : ℕ) (s : State) (count : 
         size = w .sized .next-size;
         last-in = w .last-in;
         few = w .few;
-        old-in = λ j h. omega (arith, w .olds-are j h, old-high (keyAt l items j));
+        old-in = λ j h. omega (arith, w .olds-are j h, old-high (itemKeyAt l items j));
         slot-in = λ j h. each j h .slot-high;
       }
 

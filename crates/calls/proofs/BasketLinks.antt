@@ -1,22 +1,21 @@
 -- A basket's changes of the index: the loop over its keys, and the items by what was found. Assumes nothing.
 use mathlib.Core.Path.{_≡_, refl, sym, ap, ap₂, _∙_}
 use mathlib.Core.Bool.{Bool, true, false, cond}
-use mathlib.Core.List.{List, [], _∷_}
+use mathlib.Core.List.{List, _∷_}
 use Prim.Native.Nat.{ℕ, zero, suc, _+_, _-_, _≤_, _<_}
 use native.Mathlib.Omega.{arith}
 use lib.Dec.{eqb}
 use lib.ListN.{length, getD}
 use Rattle.layout.specs.Record.{keyWith}
 use Rattle.index.specs.Index.{Index, indexOf, headOf, setLast}
-use Rattle.index.specs.Taking.{Taken}
 use Rattle.index.specs.Basket.{takeSlot, takeAll, Item, linkBy, linkItem, linkAll, basketIndex}
 use Rattle.index.specs.inner.Parts.{PartsOf}
 use Rattle.index.specs.inner.Basket.{takensFrom, TakensInside}
 use Rattle.index.specs.declared.State.{State}
 use Rattle.index.specs.declared.Found.{Found}
 use Rattle.index.proofs.BasketInside.{link-item-last}
-use Rattle.calls.specs.Basket.{highIn, itemKey, itemAt, changeAt, changesFrom, changesOf, oldIn, itemsFor}
-use Rattle.calls.specs.inner.Basket.{keyAt, itemsFrom, ItemsInside}
+use Rattle.calls.specs.Basket.{highIn, itemKey, itemAt, changeAt, changesFrom, oldIn, itemsFor}
+use Rattle.calls.specs.inner.Basket.{itemKeyAt, itemsFrom, ItemsInside}
 use Rattle.calls.specs.declared.BasketItem.{BasketItem}
 
 -- ---- link_all
@@ -52,7 +51,7 @@ module _ (n : ℕ) (items : List BasketItem) (count : ℕ) (olds slots heads₀ 
       }
 
   module _ (heads next : List ℕ) (s : State) (j : ℕ) (w : Linking n items count olds slots heads₀ next₀ s₀ heads next s j) where
-    one : (l h : ℕ) → j < count → h ≡ headOf (keyAt l items j) (length heads₀)
+    one : (l h : ℕ) → j < count → h ≡ headOf (itemKeyAt l items j) (length heads₀)
         → linkAll n (indexOf heads next s) (itemsFrom l (length heads₀) items olds slots j (count - j))
         ≡ linkAll n (linkBy n (indexOf heads next s) (itemAt items j .action) h (getD olds j 0) (getD slots j 0))
         (itemsFrom l (length heads₀) items olds slots (j + 1) (count - (j + 1)))
@@ -86,7 +85,7 @@ module _ (n : ℕ) (items : List BasketItem) (count : ℕ) (olds slots heads₀ 
           rest =
               λ l.
               ap (λ (i : Index). linkAll n i (itemsFrom l (length heads₀) items olds slots (j + 1) (count - (j + 1)))) (p .index)
-              ∙ sym (one l h q (eh (highIn l (itemAt items j .high)) ∙ ap (headOf (keyAt l items j)) (w .heads-size))) ∙ w .rest l;
+              ∙ sym (one l h q (eh (highIn l (itemAt items j .high)) ∙ ap (headOf (itemKeyAt l items j)) (w .heads-size))) ∙ w .rest l;
           live-count = p .live-count ∙ w .live-count;
           next-version = p .next-version ∙ w .next-version;
           newest-slot = p .newest-slot ∙ w .newest-slot;
@@ -152,10 +151,10 @@ module _ (n : ℕ) (items : List BasketItem) (count : ℕ) (olds slots prevs hea
 -- ---- the items by what was found
 
 pub items-found : (found : ℕ → Found) (l b : ℕ) (items : List BasketItem) (values olds slots prevs : List ℕ) (i n : ℕ)
-    → ((j : ℕ) → i ≤ j → j < i + n → getD olds j 0 ≡ oldIn (found (keyAt l items j)))
+    → ((j : ℕ) → i ≤ j → j < i + n → getD olds j 0 ≡ oldIn (found (itemKeyAt l items j)))
     → itemsFrom l b items olds slots i n ≡ itemsFor found b (changesFrom l items values i n) (takensFrom slots prevs i n)
 unfolding itemsFrom itemsFor changesFrom changeAt takensFrom
 items-found found l b items values olds slots prevs i zero e = refl
 items-found found l b items values olds slots prevs i (suc n) e =
-    ap₂ (λ (o : ℕ) (ks : List Item). record { action = itemAt items i .action; key-head = headOf (keyAt l items i) b; old = o; slot = getD slots i 0 } ∷ ks)
+    ap₂ (λ (o : ℕ) (ks : List Item). record { action = itemAt items i .action; key-head = headOf (itemKeyAt l items i) b; old = o; slot = getD slots i 0 } ∷ ks)
     (e i (omega arith) (omega arith)) (items-found found l b items values olds slots prevs (suc i) n (λ j p q. e j (omega arith) (omega arith)))

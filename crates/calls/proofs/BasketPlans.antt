@@ -1,23 +1,21 @@
 -- What a basket reads before it writes: the refusals in order, and what the writes need. Assumes nothing.
 use mathlib.Core.Path.{_≡_, refl, sym, ap, ap₂, _∙_, subst}
-use mathlib.Core.Bool.{Bool, true, false, not}
+use mathlib.Core.Bool.{not}
 use mathlib.Core.List.{List, []}
-use Prim.Native.Nat.{ℕ, _+_, _*_, _^_, _≤_, _<_}
+use Prim.Native.Nat.{ℕ, _*_, _≤_, _<_}
 use native.Mathlib.Omega.{arith}
-use lib.Dec.{eqb, ltb}
-use lib.ListN.{length, getD}
+use lib.Dec.{eqb}
+use lib.ListN.{length}
 use borrow.Author.Tests.{ne-eqb, ltb-false}
-use Rattle.prelude.specs.Refusal.{say, orElse}
+use Rattle.prelude.specs.Refusal.{orElse}
 use Rattle.prelude.proofs.Refusals.{say-zero, orElse-zero}
 use Rattle.layout.specs.Size.{slotsIn}
-use Rattle.layout.specs.Record.{Layout, limit}
 use Rattle.layout.specs.Header.{lentFault}
 use Rattle.layout.specs.inner.Sized.{Sized}
 use Rattle.layout.proofs.Lents.{version-fine, lent-sized, lent-slots}
-use Rattle.index.specs.Walk.{search, chainFault}
+use Rattle.index.specs.Walk.{search}
 use Rattle.index.specs.Change.{isFound}
-use Rattle.index.specs.Taking.{Taking, taken}
-use Rattle.index.specs.inner.Basket.{takensFrom}
+use Rattle.index.specs.Taking.{Taking}
 use Rattle.index.specs.declared.State.{State}
 use Rattle.index.specs.declared.Found.{Found}
 use Rattle.index.specs.declared.Found.the-variants.{At, Missing, BadChain}
@@ -27,13 +25,13 @@ use Rattle.taking.specs.Taking.{takingOf, choiceOf}
 use Rattle.taking.specs.inner.Choice.{Chosen}
 use Rattle.taking.specs.declared.Choice.{Choice}
 use Rattle.calls.specs.Change.{storeFault}
-use Rattle.calls.specs.Basket.{KeyChange, changesOf, keyCountFault, anyTwice, listsFault, givenFault, firstFault, valueFault, actionFault, basketLentFault, keysFault, sumOver, insertsBy, removesBy, basketFault, oldIn}
-use Rattle.calls.specs.inner.Basket.{keyAt, sizeAt, OldsOf, ActionsFault, TotalsOf, StoreChoice, KeysPlanned, Ready, Planned}
+use Rattle.calls.specs.Basket.{KeyChange, changesOf, keyCountFault, listsFault, givenFault, firstFault, valueFault, actionFault, basketLentFault, keysFault, sumOver, insertsBy, removesBy, basketFault, oldIn}
+use Rattle.calls.specs.inner.Basket.{itemKeyAt, OldsOf, ActionsFault, TotalsOf, StoreChoice, KeysPlanned, BasketReady, Planned}
 use Rattle.calls.specs.declared.BasketItem.{BasketItem}
 use Rattle.calls.specs.declared.Olds.{Olds}
 use Rattle.calls.specs.declared.Totals.{Totals}
 use Rattle.calls.specs.declared.Plan.{Plan}
-use Rattle.calls.proofs.Lookups.{said, passed, store-take, store-version}
+use Rattle.calls.proofs.Lookups.{said, passed}
 use Rattle.calls.proofs.BasketChecks.{so-many, sizes-fit, count-few}
 
 -- ---- choose_slots
@@ -97,7 +95,7 @@ module _ (l : ℕ) (image heads next : List ℕ) (n : ℕ) (s : State) (count : 
       acts values =
           a l (search l image heads next)
           (λ j q.
-          found-held l image heads next n (keyAt l items j) (sized .slot-count)
+          found-held l image heads next n (itemKeyAt l items j) (sized .slot-count)
           ∙ ap (λ (x : ℕ). not (eqb x 0)) (sym (w .slot-is z j q)))
           values
 
@@ -197,7 +195,7 @@ module _ (l : ℕ) (image heads next : List ℕ) (s : State) (count : ℕ) (item
           plan-slots m e = lent-slots l 0 image heads next (sym (lent-fine .0)) refl m e
 
           module _ (p : Plan) (w : KeysPlanned l image heads next n s count items p) where
-            prepared : p .fault ≡ 0 → Ready l image heads next n s count items at words p
+            prepared : p .fault ≡ 0 → BasketReady l image heads next n s count items at words p
             unfolding storeFault
             prepared z =
                 let store : (values : List ℕ) → storeFault (takingOf l image next n (s .first) count) n s (sumOver insertsBy (wanted values)) (sumOver removesBy (wanted values)) ≡ 0 =

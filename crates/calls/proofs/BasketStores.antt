@@ -10,7 +10,7 @@ use lib.Seq.{take-all, length-take-le, getD-take, getD-drop, drop-drop, ext-getD
 use Rattle.words.specs.Word.{word}
 use Rattle.prelude.specs.Range.{tabulate}
 use Rattle.prelude.proofs.Tabulate.{tabulate-length, tabulate-get}
-use Rattle.layout.specs.Record.{Layout, keyWith, limit}
+use Rattle.layout.specs.Record.{keyWith}
 use Rattle.stores.specs.Store.{Store}
 use Rattle.stores.specs.Written.{run, lineStores, recordStores}
 use Rattle.stores.specs.Play.{wordNumbers, values}
@@ -22,8 +22,8 @@ use Rattle.table.specs.Complete.{numberFor}
 use Rattle.index.specs.inner.Basket.{takensFrom}
 use Rattle.index.specs.declared.Action.{Action}
 use Rattle.index.specs.declared.Action.the-variants.{Insert, Replace, Remove}
-use Rattle.calls.specs.Basket.{highIn, itemKey, itemAt, valueAt, changeAt, changesFrom, kindBy, valueBy, recordsFor, atFront}
-use Rattle.calls.specs.inner.Basket.{keyAt, sizeBy, sizeAt, recordsFrom, StoresInside}
+use Rattle.calls.specs.Basket.{highIn, itemAt, itemValue, changeAt, changesFrom, kindBy, valueBy, recordsFor, atFront}
+use Rattle.calls.specs.inner.Basket.{itemKeyAt, sizeBy, sizeAt, recordsFrom, StoresInside}
 use Rattle.calls.specs.declared.BasketItem.{BasketItem}
 use Rattle.calls.proofs.BasketChecks.{key-at}
 
@@ -54,8 +54,8 @@ over-more k ys xs d e h =
 -- ---- the bytes of a value
 
 value-part : (values : List ℕ) (i size from end : ℕ) → from ≡ 80 * i → end ≡ from + size → end ≤ length values
-    → take (end - from) (drop from values) ≡ valueAt values i size
-unfolding valueAt
+    → take (end - from) (drop from values) ≡ itemValue values i size
+unfolding itemValue
 value-part values i size from end e f h =
     let d : end - from ≡ size = omega arith in
     ext-getD 0 _ _ (long ∙ d ∙ sym (tabulate-length _ 0 size))
@@ -91,8 +91,8 @@ size-within l image version count items slots at words inside j h r e =
     omega (arith, e, inside .size-fits j h, inside .few, inside .layout .low, inside .layout .high)
 
 pub value-of : (bytes : List ℕ) (j r size : ℕ) → r ≡ size → 80 * j + r ≤ length bytes
-    → take (80 * j + r - 80 * j) (drop (80 * j) bytes) ≡ valueAt bytes j size
-value-of bytes j r size e h = value-part bytes j r (80 * j) (80 * j + r) refl refl h ∙ ap (valueAt bytes j) e
+    → take (80 * j + r - 80 * j) (drop (80 * j) bytes) ≡ itemValue bytes j size
+value-of bytes j r size e h = value-part bytes j r (80 * j) (80 * j + r) refl refl h ∙ ap (itemValue bytes j) e
 
 -- ---- put_stores
 
@@ -102,8 +102,8 @@ module _ (l : ℕ) (image : List ℕ) (version count : ℕ) (items : List Basket
 
   abbrev of-item : ℕ → List Store
   of-item j =
-      recordStores l (word image) (getD slots j 0) (keyAt l items j) (kindBy (itemAt items j .action)) (numberFor count)
-      (valueAt bytes j (sizeAt items j)) version
+      recordStores l (word image) (getD slots j 0) (itemKeyAt l items j) (kindBy (itemAt items j .action)) (numberFor count)
+      (itemValue bytes j (sizeAt items j)) version
 
   stores-step : (j : ℕ) → j < count → from-item j (count - j) ≡ of-item j ++ from-item (j + 1) (count - (j + 1))
   unfolding recordsFrom basketStores
@@ -149,7 +149,7 @@ module _ (l : ℕ) (image : List ℕ) (version count : ℕ) (items : List Basket
 
         pub storing-on : (at′ words′ : List ℕ) → length at′ ≡ length at → length words′ ≡ length words
             → (high kind number : ℕ) (value : List ℕ) → high ≡ highIn l (itemAt items j .high) → kind ≡ kindBy (itemAt items j .action)
-            → number ≡ numberFor count → value ≡ valueAt bytes j (sizeAt items j)
+            → number ≡ numberFor count → value ≡ itemValue bytes j (sizeAt items j)
             → at′ ≡ pasted at (16 * j) (wordNumbers (recordStores l (word image) (getD slots j 0) (keyWith (itemAt items j .low) high) kind number value version)) 16
             → words′ ≡ pasted words (16 * j) (values (recordStores l (word image) (getD slots j 0) (keyWith (itemAt items j .low) high) kind number value version)) 16
             → Storing at₀ words₀ at′ words′ (j + 1)
@@ -176,11 +176,11 @@ module _ (l : ℕ) (image : List ℕ) (version count : ℕ) (items : List Basket
             made : recordStores l (word image) (getD slots j 0) (keyWith (itemAt items j .low) high) kind number value version ≡ of-item j
             made =
                 ap₂ (λ (x y : ℕ). recordStores l (word image) (getD slots j 0) x y number value version) (key-at l items j high eh) ek
-                ∙ ap₂ (λ (x : ℕ) (v : List ℕ). recordStores l (word image) (getD slots j 0) (keyAt l items j) (kindBy (itemAt items j .action)) x v version) en ev
+                ∙ ap₂ (λ (x : ℕ) (v : List ℕ). recordStores l (word image) (getD slots j 0) (itemKeyAt l items j) (kindBy (itemAt items j .action)) x v version) en ev
 
         pub recordable : (kind number : ℕ) (value : List ℕ) → kind ≡ kindBy (itemAt items j .action) → number ≡ numberFor count
-            → value ≡ valueAt bytes j (sizeAt items j) → Recordable l kind number value version
-        unfolding valueAt
+            → value ≡ itemValue bytes j (sizeAt items j) → Recordable l kind number value version
+        unfolding itemValue
         recordable kind number value ek en ev =
             record {
               layout = inside .layout;
@@ -200,8 +200,8 @@ module _ (l : ℕ) (image : List ℕ) (version count : ℕ) (items : List Basket
 
 -- ---- the records by what is asked
 
-value-by : (a : Action) (bytes : List ℕ) (i size : ℕ) → valueAt bytes i (sizeBy a size) ≡ valueBy a (valueAt bytes i size)
-unfolding valueBy sizeBy valueAt tabulate
+value-by : (a : Action) (bytes : List ℕ) (i size : ℕ) → itemValue bytes i (sizeBy a size) ≡ valueBy a (itemValue bytes i size)
+unfolding valueBy sizeBy itemValue tabulate
 value-by Insert bytes i size = refl
 value-by Replace bytes i size = refl
 value-by Remove bytes i size = refl
@@ -211,5 +211,5 @@ pub records-asked : (l : ℕ) (items : List BasketItem) (bytes slots prevs : Lis
 unfolding recordsFrom recordsFor changesFrom changeAt takensFrom
 records-asked l items bytes slots prevs i zero = refl
 records-asked l items bytes slots prevs i (suc n) =
-    ap₂ (λ (v : List ℕ) (rs : List BasketRecord). record { slot = getD slots i 0; key = keyAt l items i; kind = kindBy (itemAt items i .action); value = v } ∷ rs)
+    ap₂ (λ (v : List ℕ) (rs : List BasketRecord). record { slot = getD slots i 0; key = itemKeyAt l items i; kind = kindBy (itemAt items i .action); value = v } ∷ rs)
     (value-by (itemAt items i .action) bytes i (itemAt items i .length)) (records-asked l items bytes slots prevs (suc i) n)

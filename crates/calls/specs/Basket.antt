@@ -51,15 +51,15 @@ unfoldable pub itemAt : List BasketItem → ℕ → BasketItem
 itemAt items i = getD items i (record { action = Insert; low = 0; high = 0; length = 0 })
 
 -- the bytes of its value: item i's start at byte 80 × i
-unfoldable pub valueAt : (values : List ℕ) → (i size : ℕ) → List ℕ
-valueAt values i size = tabulate (λ k. getD values (80 * i + k) 0) 0 size
+unfoldable pub itemValue : (values : List ℕ) → (i size : ℕ) → List ℕ
+itemValue values i size = tabulate (λ k. getD values (80 * i + k) 0) 0 size
 
 unfoldable pub changeAt : (l : ℕ) → List BasketItem → (values : List ℕ) → ℕ → KeyChange
 changeAt l items values i =
     record {
       action = itemAt items i .action;
       key = itemKey l (itemAt items i);
-      value = valueAt values i (itemAt items i .length);
+      value = itemValue values i (itemAt items i .length);
     }
 
 -- what n items from item i on ask

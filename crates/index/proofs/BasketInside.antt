@@ -11,7 +11,7 @@ use Rattle.prelude.specs.Members.{All, none-left, one-more}
 use Rattle.index.specs.Index.{Index, setLast}
 use Rattle.index.specs.Change.{append, linkNew, insertAt, replaceAt, removeAt}
 use Rattle.index.specs.Taking.{Taken, Taking, taken, tooFew, badLink, withTaken, atEnd, takeWalk, takeFrom}
-use Rattle.index.specs.Basket.{takeSlot, takeAll, slotBefore, beforeIn, Item, linkBy, linkItem}
+use Rattle.index.specs.Basket.{slotBefore, Item, linkBy, linkItem}
 use Rattle.index.specs.declared.Action.{Action}
 use Rattle.index.specs.declared.Action.the-variants.{Insert, Replace, Remove}
 use Rattle.index.proofs.Links.{link-last, set-last}
@@ -77,12 +77,6 @@ choose-high : (n : ℕ) (b : Bool) (x y : ℕ) → x ≤ n → y ≤ n → cond 
 choose-high n true x y a c = a
 choose-high n false x y a c = c
 
-pub take-all-last : (n : ℕ) (i : Index) (ts : List Taken) → All (TakenInside n) ts → i .last ≤ n → takeAll i ts .last ≤ n
-unfolding takeAll takeSlot setLast
-take-all-last n i [] none-left l = l
-take-all-last n i (t ∷ ts) (one-more h hs) l =
-    take-all-last n (takeSlot i t) ts hs (choose-high n (eqb (i .last) (t .slot)) _ _ (h .prev-high) l)
-
 link-by-last : (n : ℕ) (i : Index) (a : Action) (h old s : ℕ) → i .last ≤ n → old ≤ n → s ≤ n → linkBy n i a h old s .last ≤ n
 unfolding linkBy insertAt replaceAt removeAt append linkNew setLast
 link-by-last n i Insert h old s l o k = rw (link-last, set-last) l
@@ -105,7 +99,3 @@ before-high next n (suc left) target prev at p =
         → cond b prev (slotBefore next n left target at (getD next at 0)) ≤ n
     go true e ih = p
     go false e ih = ih (ltb-false n at e)
-
-pub before-inside : (i : Index) (n h target : ℕ) → beforeIn i n h target ≤ n
-unfolding beforeIn
-before-inside i n h target = before-high (i .next) n n target 0 (getD (i .heads) h 0) (omega arith)

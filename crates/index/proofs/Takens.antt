@@ -62,9 +62,3 @@ takens-each P slots prevs i (suc n) (one-more h hs) j low high =
     (λ k.
     let e : i ≡ j = omega arith in
     subst (λ (x : ℕ). P (record { slot = getD slots x 0; prev = getD prevs x 0 })) e h)
-
--- so many
-pub takens-length : (slots prevs : List ℕ) (i n : ℕ) → length (takensFrom slots prevs i n) ≡ n
-unfolding takensFrom
-takens-length slots prevs i zero = refl
-takens-length slots prevs i (suc n) = ap suc (takens-length slots prevs (suc i) n)

@@ -1,5 +1,5 @@
 -- Whether a slot may be taken after others, by those alone. Assumes nothing.
-use mathlib.Core.Path.{_≡_, refl, sym, ap, _∙_}
+use mathlib.Core.Path.{_≡_, refl, ap, _∙_}
 use mathlib.Core.Bool.{Bool, true, false, cond, not, _&&_}
 use mathlib.Core.Logic.{_⊎_, inl, inr}
 use mathlib.Core.List.{List}
@@ -12,7 +12,7 @@ use Rattle.prelude.specs.Members.{In, Slot}
 use Rattle.prelude.proofs.Any.{in-any, any-in, any-none-slot, any-clear-slot, passing, Passing, passes, none-passes}
 use Rattle.prelude.proofs.Choice.{same-test, split, true-false}
 use Rattle.layout.specs.Content.{Table, topOf}
-use Rattle.table.specs.Table.{isRecord, keyIn}
+use Rattle.table.specs.Table.{isRecord}
 use Rattle.table.specs.Taking.{highestValid, isRemove, older, mayTake, mayTakeAfter}
 use Rattle.table.proofs.Taking.{older-record, older-key, older-below, is-older, highest-valid-above, barred, Barred, of-highest, has-older}
 

@@ -35,7 +35,6 @@ use Rattle.taking.specs.inner.Walk.{takeFault}
 use Rattle.taking.specs.inner.Takeable.{slotVersion, takeableIf}
 use Rattle.taking.specs.inner.Choice.{KnownTop, Decided, chosenOf, Meetable, withSlot, pastSlot, Met, Chosen}
 use Rattle.taking.specs.declared.Progress.{Progress}
-use Rattle.taking.specs.declared.Choice.{Choice}
 use Rattle.taking.proofs.Contents.{Holds, holds-none, holds-put, holds-remove, slot-holds, if-none}
 use Rattle.taking.proofs.Walks.{take-ended, take-above, take-over, take-turn, with-fault}
 use Rattle.taking.proofs.Takes.{highest-is}

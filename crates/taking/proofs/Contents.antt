@@ -2,18 +2,16 @@
 use mathlib.Core.Path.{_≡_, refl, sym, ap, _∙_, fun-ext}
 use mathlib.Core.Bool.{Bool, true, false, cond, not, _&&_}
 use mathlib.Core.List.{List}
-use Prim.Native.Nat.{ℕ, zero, suc, _+_, _/_, _≤_, _<_}
+use Prim.Native.Nat.{ℕ, _+_, _≤_, _<_}
 use native.Mathlib.Omega.{arith}
 use lib.Dec.{eqb, ltb}
 use borrow.Author.Tests.{lt-ltb, le-ltb, eqb-true, eqb-false}
 use Rattle.prelude.specs.Range.{anyOf}
-use Rattle.prelude.proofs.Choice.{pick-true, pick-false}
+use Rattle.prelude.proofs.Choice.{pick-false}
 use Rattle.layout.specs.Line.{lineA, lineB, versionOf}
-use Rattle.layout.specs.Slot.{slotTop, lineVerdict, slotVerdict}
+use Rattle.layout.specs.Slot.{lineVerdict, slotVerdict}
 use Rattle.layout.specs.Record.{kindOf, keyOf, valueOf}
 use Rattle.layout.specs.Content.{Content, putRecord, removeRecord, contentOf, content, topOf, Table}
-use Rattle.layout.specs.declared.Verdict.{Verdict}
-use Rattle.layout.specs.declared.Verdict.the-variants.{Valid, Empty, Broken}
 use Rattle.layout.proofs.Content.{ValidAt, Reading, reads-broken, reads-empty, reads-put, reads-remove, reading, verdict-valid, verdict-empty, verdict-broken}
 use Rattle.table.specs.Table.{isRecord, keyIn}
 use Rattle.table.specs.Taking.{validVersion, isRemove, older}

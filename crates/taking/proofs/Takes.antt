@@ -1,22 +1,19 @@
 -- The refusal of a call by the slots that it takes, from walks by what is known of the highest valid version. Assumes nothing.
-use mathlib.Core.Path.{_≡_, refl, sym, ap, ap₂, _∙_, fun-ext}
+use mathlib.Core.Path.{_≡_, refl, sym, ap, _∙_, fun-ext}
 use mathlib.Core.Bool.{Bool, true, false, cond, not, _&&_, true≢false}
 use mathlib.Core.List.{List, []}
-use Prim.Native.Nat.{ℕ, _+_, _-_, _≤_, _<_}
+use Prim.Native.Nat.{ℕ, _-_, _≤_, _<_}
 use native.Mathlib.Omega.{arith}
 use lib.Dec.{ltb}
 use borrow.Author.Tests.{lt-ltb, ltb-true}
 use Rattle.words.specs.Word.{word}
 use Rattle.prelude.specs.Range.{anyOf, greatest}
-use Rattle.prelude.specs.Members.{Slot}
 use Rattle.prelude.proofs.Choice.{both-left, both-right}
 use Rattle.prelude.proofs.Most.{greatest-above}
-use Rattle.layout.specs.Line.{lineA}
-use Rattle.layout.specs.Record.{kindOf, keyOf}
 use Rattle.layout.specs.Content.{topOf, Table, content, contentsOf}
 use Rattle.index.specs.Taking.{takeFrom}
 use Rattle.table.specs.Table.{isRecord}
-use Rattle.table.specs.Taking.{validVersion, highestValid, isRemove, older, mayTake, mayTakeAfter}
+use Rattle.table.specs.Taking.{highestValid, isRemove, older, mayTake, mayTakeAfter}
 use Rattle.table.proofs.TakingAfter.{may-after}
 use Rattle.taking.specs.Taking.{takingOf, choiceOf}
 use Rattle.taking.specs.inner.Walk.{takeFault, walkFault}

@@ -23,15 +23,15 @@ use Rattle.index.specs.declared.Found.{Found}
 use Rattle.taking.specs.Taking.{takingOf, choiceOf}
 use Rattle.taking.specs.declared.Choice.{Choice}
 use Rattle.calls.specs.Change.{storeFault}
-use Rattle.calls.specs.Basket.{KeyChange, itemKey, itemAt, valueAt, changesFrom, changesOf, firstFault, actionFault, keysFault, basketFault, kindBy, oldIn, sumOver, insertsBy, removesBy}
+use Rattle.calls.specs.Basket.{itemKey, itemAt, itemValue, changesOf, firstFault, actionFault, keysFault, basketFault, kindBy, oldIn, sumOver, insertsBy, removesBy}
 use Rattle.calls.specs.declared.BasketItem.{BasketItem}
 use Rattle.calls.specs.declared.Olds.{Olds}
 use Rattle.calls.specs.declared.Totals.{Totals}
 use Rattle.calls.specs.declared.Plan.{Plan}
 
 -- the key of item i
-abbrev pub keyAt : (l : ℕ) → List BasketItem → ℕ → ℕ
-keyAt l items i = itemKey l (itemAt items i)
+abbrev pub itemKeyAt : (l : ℕ) → List BasketItem → ℕ → ℕ
+itemKeyAt l items i = itemKey l (itemAt items i)
 
 -- how many bytes the value in its record has: a remove's has none
 unfoldable pub sizeBy : Action → (size : ℕ) → ℕ
@@ -48,7 +48,7 @@ itemsFrom l b items olds slots i zero = []
 itemsFrom l b items olds slots i (suc n) =
     record {
       action = itemAt items i .action;
-      key-head = headOf (keyAt l items i) b;
+      key-head = headOf (itemKeyAt l items i) b;
       old = getD olds i 0;
       slot = getD slots i 0;
     } ∷ itemsFrom l b items olds slots (suc i) n
@@ -59,9 +59,9 @@ recordsFrom l items values slots i zero = []
 recordsFrom l items values slots i (suc n) =
     record {
       slot = getD slots i 0;
-      key = keyAt l items i;
+      key = itemKeyAt l items i;
       kind = kindBy (itemAt items i .action);
-      value = valueAt values i (sizeAt items i);
+      value = itemValue values i (sizeAt items i);
     } ∷ recordsFrom l items values slots (suc i) n
 
 -- ---- what is read
@@ -69,12 +69,12 @@ recordsFrom l items values slots i (suc n) =
 -- o is the slots of the old records, or the refusal by a chain; `found` gives what following a key's chain finds
 pub record OldsOf (found : ℕ → Found) (l count : ℕ) (items : List BasketItem) (o : Olds) : Type 0 where
   pub fault-is : (values : List ℕ) → o .fault ≡ firstFault (λ c. chainFault (found (c .key))) (changesOf l count items values)
-  pub slot-is : o .fault ≡ 0 → (j : ℕ) → j < count → getD (o .slots) j 0 ≡ oldIn (found (keyAt l items j))
+  pub slot-is : o .fault ≡ 0 → (j : ℕ) → j < count → getD (o .slots) j 0 ≡ oldIn (found (itemKeyAt l items j))
 
 -- r is 20 or 21 for the first key that has one: the old record of a held key stands in a slot, which is not 0
 abbrev pub ActionsFault : List BasketItem → (count : ℕ) → (olds : List ℕ) → ℕ → Type 0
 ActionsFault items count olds r =
-    (l : ℕ) (found : ℕ → Found) → ((j : ℕ) → j < count → isFound (found (keyAt l items j)) ≡ not (eqb (getD olds j 0) 0))
+    (l : ℕ) (found : ℕ → Found) → ((j : ℕ) → j < count → isFound (found (itemKeyAt l items j)) ≡ not (eqb (getD olds j 0) 0))
     → (values : List ℕ) → r ≡ firstFault (λ c. actionFault (c .action) (isFound (found (c .key)))) (changesOf l count items values)
 
 -- t is the counts of the keys inserted and removed
@@ -96,19 +96,19 @@ pub record KeysPlanned (l : ℕ) (image heads next : List ℕ) (n : ℕ) (s : St
       ≡ orElse (keysFault (search l image heads next) (changesOf l count items values))
       (storeFault (takingOf l image next n (s .first) count) n s (sumOver insertsBy (changesOf l count items values))
       (sumOver removesBy (changesOf l count items values)))
-  pub olds-are : p .fault ≡ 0 → (j : ℕ) → j < count → getD (p .olds) j 0 ≡ oldIn (search l image heads next (keyAt l items j))
+  pub olds-are : p .fault ≡ 0 → (j : ℕ) → j < count → getD (p .olds) j 0 ≡ oldIn (search l image heads next (itemKeyAt l items j))
   pub choice-is : p .fault ≡ 0 → choiceOf l image next n (s .first) count ≡ taken (takensFrom (p .slots) (p .prevs) 0 count)
   pub zeros : p .fault ≡ 0 → (j : ℕ) → count ≤ j → getD (p .slots) j 0 ≡ 0
 
 -- a basket that is not refused can be written by p; at and words are the lengths of the lent lists
-pub record Ready (l : ℕ) (image heads next : List ℕ) (n : ℕ) (s : State) (count : ℕ) (items : List BasketItem) (at words : ℕ) (p : Plan) : Type 0 where
+pub record BasketReady (l : ℕ) (image heads next : List ℕ) (n : ℕ) (s : State) (count : ℕ) (items : List BasketItem) (at words : ℕ) (p : Plan) : Type 0 where
   pub sized : Sized image heads next n
   pub some : 0 < count
   pub few : count ≤ 8
   pub at-room : 16 * count ≤ at
   pub words-room : 16 * count ≤ words
   pub size-fits : (j : ℕ) → j < count → sizeAt items j ≤ limit l
-  pub olds-are : (j : ℕ) → j < count → getD (p .olds) j 0 ≡ oldIn (search l image heads next (keyAt l items j))
+  pub olds-are : (j : ℕ) → j < count → getD (p .olds) j 0 ≡ oldIn (search l image heads next (itemKeyAt l items j))
   pub choice-is : choiceOf l image next n (s .first) count ≡ taken (takensFrom (p .slots) (p .prevs) 0 count)
   pub zeros : (j : ℕ) → count ≤ j → getD (p .slots) j 0 ≡ 0
   pub last-in : s .last ≤ n
@@ -119,7 +119,7 @@ pub record Ready (l : ℕ) (image heads next : List ℕ) (n : ℕ) (s : State) (
 -- p is what a basket reads
 pub record Planned (l : ℕ) (image heads next : List ℕ) (n : ℕ) (s : State) (count : ℕ) (items : List BasketItem) (at words : ℕ) (p : Plan) : Type 0 where
   pub fault-is : (values : List ℕ) → p .fault ≡ basketFault l image heads next s (changesOf l count items values) at words
-  pub ready : p .fault ≡ 0 → Ready l image heads next n s count items at words p
+  pub ready : p .fault ≡ 0 → BasketReady l image heads next n s count items at words p
 
 -- ---- what the writes ask
 

@@ -1,5 +1,4 @@
 -- `basket_code::plan::plan_keys` meets its contract. Assumes nothing.
-use native.Mathlib.Omega.{arith}
 use Rattle.calls.proofs.Lookups.{sized-walkable}
 use Rattle.calls.proofs.BasketPlans.{keys-chain, keys-held, keys-planned}
 use borrow.Author.Needs.{needs}

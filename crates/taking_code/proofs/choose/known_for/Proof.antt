@@ -1,5 +1,4 @@
 -- `taking_code::choose::known_for` meets its contract. Assumes nothing.
-use native.Mathlib.Omega.{arith}
 use Rattle.taking.proofs.Choices.{told-exactly, told-invalid, told-below, known-exactly}
 use borrow.Author.Needs.{needs}
 use Rattle.taking_code.proofs.choose.known_for.Statement.{statement}

@@ -1,5 +1,4 @@
 -- `taking_code::choose::may_take_after` meets its contract. Assumes nothing.
-use native.Mathlib.Omega.{arith}
 use borrow.Author.Needs.{needs}
 use Rattle.taking.proofs.Tested.{after-sure, after-high, after-looked}
 use Rattle.taking_code.proofs.choose.may_take_after.Statement.{statement}
