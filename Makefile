@@ -1,5 +1,5 @@
 # The C side: the archive's tests, the example and the measurements. The proofs are checked by .ci/run.
-#   make archive   the libraries, proved and built: target/staticlib/liborderset_c.a and liblog_c.a   (rt)
+#   make archive   the libraries, proved and built: target/staticlib/liborderset_c.a, liborderset2_c.a and liblog_c.a (rt)
 #   make test      the tests of docs/TESTS.md: the archive, the headers and the gateway       (gcc g++ python3)
 #   make planted   that each test fails where a fault is planted                                      (gcc g++)
 #   make gateway   the example: a new file, orders, a restart, and the orders again                   (gcc)
@@ -11,6 +11,7 @@
 RT ?= rt
 OUT := target/c
 ARCHIVE := target/staticlib/liborderset_c.a
+ARCHIVE2 := target/staticlib/liborderset2_c.a
 LOG_ARCHIVE := target/staticlib/liblog_c.a
 # CC, CXX, CFLAGS, CXXFLAGS and LDFLAGS are the caller's, from the environment or the command line
 ifeq ($(origin CC),default)
@@ -23,16 +24,19 @@ CFLAGS ?= -O2
 CXXFLAGS ?= -O2
 C := $(CC) -std=c11 -Wall -Wextra -Iinclude $(CFLAGS) $(LDFLAGS)
 CPLUS := $(CXX) -std=c++11 -Wall -Wextra -Iinclude $(CXXFLAGS) $(LDFLAGS)
-HEADERS := include/orderset.h include/orderset_log.h include/orderset_persist.h
+HEADERS := include/orderset.h include/orderset2.h include/orderset_log.h include/orderset_persist.h
 CRATES := crates.txt $(shell find crates -name '*.rt' -o -name '*.antt')
 
 .PHONY: test planted gateway recorder heads bench archive run-names run-header run-persist run-guard run-storm run-lock \
-	run-watch run-kills run-heads run-differential run-log_header run-log_storm run-log_guard run-log_kills \
+	run-guard2 run-storm2 run-differential2 run-watch run-kills run-heads run-differential run-log_header run-log_storm run-log_guard run-log_kills \
 	run-log_differential
-archive: $(ARCHIVE) $(LOG_ARCHIVE)
+archive: $(ARCHIVE) $(ARCHIVE2) $(LOG_ARCHIVE)
 
 $(ARCHIVE): $(CRATES)
 	$(RT) staticlib orderset_c
+
+$(ARCHIVE2): $(CRATES)
+	$(RT) staticlib orderset2_c
 
 $(LOG_ARCHIVE): $(CRATES)
 	$(RT) staticlib log_c
@@ -42,16 +46,21 @@ $(OUT):
 
 # the tests: docs/TESTS.md; SEED=... repeats a run, and run-storm and the like run one of them
 TESTS := persist guard storm lock kills heads watch differential
+# built for layout 2 too, under these names
+TESTS2 := guard2 storm2 differential2
 LOG_TESTS := log_storm log_guard log_kills log_differential
 $(OUT)/persist: tests/persist.c tests/chance.c $(LOG_ARCHIVE)
-$(OUT)/guard: tests/guard.c tests/pieces.c tests/images.c tests/model.c tests/chance.c
-$(OUT)/differential: tests/differential.c tests/images.c tests/model.c tests/chance.c
-$(OUT)/storm: tests/storm.c tests/cache.c tests/model.c tests/chance.c
+$(OUT)/guard $(OUT)/guard2: tests/guard.c tests/pieces.c tests/images.c tests/model.c tests/chance.c
+$(OUT)/differential $(OUT)/differential2: tests/differential.c tests/images.c tests/model.c tests/chance.c
+$(OUT)/storm $(OUT)/storm2: tests/storm.c tests/cache.c tests/model.c tests/chance.c
 $(OUT)/lock $(OUT)/heads $(OUT)/kills: $(OUT)/%: tests/%.c tests/child.c tests/chance.c
 $(OUT)/watch: tests/watch.c tests/model.c tests/child.c tests/chance.c
 
 $(TESTS:%=$(OUT)/%): $(wildcard tests/*.h) $(HEADERS) $(ARCHIVE) | $(OUT)
 	$(C) -Itests $(filter %.c,$^) $(filter %.a,$^) -o $@
+
+$(TESTS2:%=$(OUT)/%): $(wildcard tests/*.h) $(HEADERS) $(ARCHIVE2) $(ARCHIVE) | $(OUT)
+	$(C) -Itests -DLAYOUT=2 $(filter %.c,$^) $(filter %.a,$^) -o $@
 
 LOG_MODEL := tests/log_areas.c tests/log_model.c tests/model.c tests/chance.c
 $(OUT)/log_storm: tests/log_storm.c tests/cache.c tests/chance.c
@@ -62,24 +71,25 @@ $(OUT)/log_kills: tests/log_kills.c tests/child.c tests/chance.c
 $(LOG_TESTS:%=$(OUT)/%): $(wildcard tests/*.h) $(HEADERS) $(LOG_ARCHIVE) | $(OUT)
 	$(C) -Itests $(filter %.c,$^) $(LOG_ARCHIVE) -o $@
 
-$(OUT)/header: tests/header.cc $(HEADERS) $(ARCHIVE) | $(OUT)
-	$(CPLUS) tests/header.cc $(ARCHIVE) -o $@
+$(OUT)/header: tests/header.cc $(HEADERS) $(ARCHIVE2) $(ARCHIVE) | $(OUT)
+	$(CPLUS) tests/header.cc $(ARCHIVE2) $(ARCHIVE) -o $@
 
 $(OUT)/log_header: tests/log_header.cc $(HEADERS) $(ARCHIVE) $(LOG_ARCHIVE) | $(OUT)
 	$(CPLUS) tests/log_header.cc $(LOG_ARCHIVE) $(ARCHIVE) -o $@
 
 # the gateway on a simulated disk
-$(OUT)/gateway_on_disk: examples/gateway.c tests/disk.c $(HEADERS) $(ARCHIVE) | $(OUT)
-	$(C) examples/gateway.c tests/disk.c $(ARCHIVE) -Wl,--wrap=mmap,--wrap=msync,--wrap=fsync,--wrap=renameat2 -o $@
+$(OUT)/gateway_on_disk: examples/gateway.c tests/disk.c $(HEADERS) $(ARCHIVE2) $(ARCHIVE) | $(OUT)
+	$(C) examples/gateway.c tests/disk.c $(ARCHIVE2) $(ARCHIVE) -Wl,--wrap=mmap,--wrap=msync,--wrap=fsync,--wrap=renameat2 -o $@
 
 .NOTPARALLEL:
-test: run-names run-header run-persist run-lock run-watch run-heads run-storm run-kills run-guard run-differential \
+test: run-names run-header run-persist run-lock run-watch run-heads run-storm run-storm2 run-kills run-guard run-guard2 \
+	run-differential run-differential2 \
 	run-log_header run-log_storm run-log_kills run-log_guard run-log_differential
 run-names:
 	@tests/names
 run-header run-log_header: run-%: $(OUT)/%
 	@$(OUT)/$*
-run-persist run-guard run-storm run-differential run-log_storm run-log_guard run-log_differential: run-%: $(OUT)/%
+run-persist run-guard run-guard2 run-storm run-storm2 run-differential run-differential2 run-log_storm run-log_guard run-log_differential: run-%: $(OUT)/%
 	@$(OUT)/$* $(SEED)
 run-lock run-heads: run-%: $(OUT)/% $(OUT)/gateway
 	@$(OUT)/$* $(OUT)/gateway $(OUT)/$*.img $(SEED)
@@ -91,11 +101,11 @@ run-log_kills: $(OUT)/log_kills $(OUT)/recorder
 	@$(OUT)/log_kills $(OUT)/recorder $(OUT)/log_kills.log $(SEED)
 
 # every test fails where a fault is planted
-planted: $(ARCHIVE) $(LOG_ARCHIVE)
+planted: $(ARCHIVE) $(ARCHIVE2) $(LOG_ARCHIVE)
 	tests/planted.sh
 
-$(OUT)/gateway $(OUT)/sender: $(OUT)/%: examples/%.c $(HEADERS) $(ARCHIVE) | $(OUT)
-	$(C) examples/$*.c $(ARCHIVE) -o $@
+$(OUT)/gateway $(OUT)/sender: $(OUT)/%: examples/%.c $(HEADERS) $(ARCHIVE2) $(ARCHIVE) | $(OUT)
+	$(C) examples/$*.c $(ARCHIVE2) $(ARCHIVE) -o $@
 
 $(OUT)/recorder: examples/recorder.c $(HEADERS) $(LOG_ARCHIVE) | $(OUT)
 	$(C) examples/recorder.c $(LOG_ARCHIVE) -o $@
@@ -115,6 +125,9 @@ gateway: $(OUT)/gateway
 	$(OUT)/gateway $(OUT)/orders.img new 7 100 acknowledge 7 acknowledge 7 fill 7 40 new 8 5 fill 8 5 new 9 3 \
 		withdraw 9 new 10 2 basket 3 new 11 4 new 12 4 withdraw 10 list
 	$(OUT)/gateway $(OUT)/orders.img list
+	rm -f $(OUT)/wide.img $(OUT)/wide.img.new
+	$(OUT)/gateway $(OUT)/wide.img make 1000 2
+	$(OUT)/gateway $(OUT)/wide.img new 0x20261116000000000000000000000007 100 new 0x20261117000000000000000000000007 5 list
 
 heads: $(ARCHIVE)
 	$(MAKE) -f bench/Makefile heads

@@ -116,7 +116,7 @@ int main(int count, char **word) {
                              .next = calloc(next_length, 4), .next_length = next_length};
     flush = ORDERSET_CLFLUSH; /* the flush that valgrind knows; each flush is one instruction */
     bad |= hand_format(hand.image, length) || hand_recover(&hand);
-    bad |= orderset_format(image, length, answer)
+    bad |= orderset_format(image, length, ORDERSET_LAYOUT, answer)
            || orderset_recover(image, length, heads, heads_length, next, next_length, state, version, voids, open_at, open_value);
     uint64_t *key = malloc(sizeof *key * held);
     for (uint32_t i = 0; i < held; i++) {

@@ -29,7 +29,7 @@ static int e_open(const struct config *c) {
     heads = calloc(heads_length, sizeof *heads);
     next = calloc(next_length, sizeof *next);
     flush = orderset_best_flush();
-    return orderset_format(image, length, answer) || e_recover();
+    return orderset_format(image, length, ORDERSET_LAYOUT, answer) || e_recover();
 }
 
 static void e_close(void) {

@@ -4,6 +4,7 @@
 #include <string.h>
 
 #include "hand.h"
+#include "model.h"
 #include "orderset.h"
 
 static struct hand_set lend(const uint8_t *image, size_t length, const uint32_t *heads, size_t heads_length, const uint32_t *next, size_t next_length) {
@@ -44,9 +45,13 @@ static uint64_t answer_change(struct hand_answer a, const struct hand_stores *st
     return 0;
 }
 
-uint32_t orderset_format(uint8_t *image, size_t length, uint64_t answer[ORDERSET_FORMAT_ANSWER]) {
+/* (a) knows layout 1 alone: the other numbers are tested here, and layout 2's is set into its header. */
+uint32_t orderset_format(uint8_t *image, size_t length, uint64_t layout, uint64_t answer[ORDERSET_FORMAT_ANSWER]) {
+    if (m_slots(length) && layout != 1 && layout != 2)
+        return ORDERSET_NO_LAYOUT;
     uint32_t code = hand_format((uint64_t *)image, length);
     if (!code) {
+        m_set_word(image, 1, layout);
         answer[0] = ORDERSET_GIVEN;
         answer[ORDERSET_SLOTS] = length / 128 - 1;
     }

@@ -53,7 +53,7 @@ static void recover(uint32_t b) {
 static void fill(uint32_t step) {
     const uint32_t b = largest_prime(ORDERSET_HEADS_MAX);
     const size_t length = ORDERSET_IMAGE_BYTES(n);
-    must(orderset_format(image, length, answer) == 0, "format");
+    must(orderset_format(image, length, ORDERSET_LAYOUT, answer) == 0, "format");
     recover(b);
     for (uint32_t i = 0; i < n - 1; i++) {
         key[i] = step ? (uint64_t)step * (i + 1) : chance();

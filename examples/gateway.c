@@ -1,6 +1,6 @@
 /* gateway: an order book in a file that is mapped into memory.
  *
- *     gateway FILE make N        a new file of N slots, 2 to 65535: room for N - 1 open orders
+ *     gateway FILE make N [L]    a new file of N slots, 2 to 65535, in layout L, 1 or 2: room for N - 1 open orders
  *     gateway FILE COMMAND...    the commands; all are read before the first is carried out
  *     gateway FILE               the same commands from standard input, one a line
  *     gateway FILE heads [B]     how many held keys are found with each count of slots compared, their average and the
@@ -14,7 +14,8 @@
  *                                after a power cut, with one fence
  *     show KEY, list             an order, all orders
  *
- * KEY and QUANTITY are 64-bit numbers in decimal digits. Each command is answered on standard output, and what it
+ * QUANTITY is a 64-bit number in decimal digits, and so is KEY in a file of layout 1; in a file of layout 2 it is an order
+ * number of 16 bytes: 0x and 32 hexadecimal digits. The file's header tells which layout it has. Each command is answered on standard output, and what it
  * changed is durable before the answer is written. A refused line of standard input is answered by its number and its
  * words, and the next one is read; of commands that are arguments, none is carried out after a refused one. Status 0:
  * all done. 1: something was refused or failed. 2: the arguments are no commands, and nothing was done.
@@ -43,6 +44,7 @@
 #include <unistd.h>
 
 #include "orderset.h"
+#include "orderset2.h"
 #include "orderset_persist.h"
 
 enum { FAILED = 1, USAGE = 2, SHOWN = 80 };
@@ -50,6 +52,7 @@ enum { FAILED = 1, USAGE = 2, SHOWN = 80 };
 struct set {
     uint8_t *image;
     size_t length;
+    uint64_t layout; /* word 1 of the header: 2, or anything else for the calls of layout 1, which refuse it */
     uint32_t *heads, *next;
     size_t heads_length, next_length; /* heads_length 0 before recovery: as many as suit the slots */
     uint32_t state[ORDERSET_STATE];
@@ -61,28 +64,34 @@ struct set {
 };
 
 enum kind { NEW, ACKNOWLEDGE, FILL, WITHDRAW, BASKET, SHOW, LIST, KINDS };
-enum { KEY, QUANTITY, NUMBERS, ITEMS = KEY };
 
 static const struct {
     const char *name;
-    int numbers; /* that follow the name */
+    int key, number; /* whether a key follows the name, and then a number */
     int writes;
 } forms[KINDS] = {
-    {"new", 2, 1},    {"acknowledge", 1, 1}, {"fill", 2, 1}, {"withdraw", 1, 1},
-    {"basket", 1, 1}, {"show", 1, 0},        {"list", 0, 0},
+    {"new", 1, 1, 1},    {"acknowledge", 1, 0, 1}, {"fill", 1, 1, 1}, {"withdraw", 1, 0, 1},
+    {"basket", 0, 1, 1}, {"show", 1, 0, 0},        {"list", 0, 0, 0},
 };
 
-static const char *const numbers[NUMBERS] = {"key", "quantity"};
+/* wide: it was given by all its 16 bytes */
+struct key {
+    int wide;
+    uint64_t low, high;
+};
 
 /* of a basket: NEW or WITHDRAW */
 struct item {
     enum kind kind;
-    uint64_t key, quantity;
+    struct key key;
+    uint64_t quantity;
 };
 
+/* number: the quantity, or how many items a basket has */
 struct command {
     enum kind kind;
-    uint64_t number[NUMBERS];
+    struct key key;
+    uint64_t number;
     struct item item[ORDERSET_BASKET];
 };
 
@@ -92,7 +101,7 @@ static const char *const refusals[] = {
     "accepted",
     "the length is not 128 * (N + 1) with N from 2 to 65,535",
     "word 0 of the header is zero: not formatted",
-    "the header is not the one for this length",
+    "the header is not the one for this length and this layout",
     "heads has 0 or more than 65,536 numbers, or next has not N + 1",
     "a mark is neither 0 nor 1",
     "its kind word has bits above bit 23, or its number of records is 1 or over 8",
@@ -119,6 +128,10 @@ static const char *const refusals[] = {
     "the basket has no key, or more than eight",
     "a key comes twice in the basket",
     "too few slots may be taken, or with the new keys no slot would be spare",
+    NULL,
+    NULL,
+    NULL,
+    "the layout is neither 1 nor 2",
 };
 
 static const char *words_of(uint32_t number) {
@@ -157,6 +170,25 @@ static void print_text(const char *text, size_t length) {
         else
             putchar(byte);
     }
+}
+
+enum { KEY_TEXT = 40 };
+
+/* A key as it is given; answers the text. */
+static const char *key_text(char text[KEY_TEXT], const struct key *key) {
+    if (key->wide)
+        snprintf(text, KEY_TEXT, "0x%016" PRIx64 "%016" PRIx64, key->high, key->low);
+    else
+        snprintf(text, KEY_TEXT, "%" PRIu64, key->low);
+    return text;
+}
+
+/* What follows a command's name: its key, or the number of a basket's items. */
+static const char *command_text(char text[KEY_TEXT], const struct command *c) {
+    if (c->kind != BASKET)
+        return key_text(text, &c->key);
+    snprintf(text, KEY_TEXT, "%" PRIu64, c->number);
+    return text;
 }
 
 /* ---- the file */
@@ -238,6 +270,13 @@ static void make_durable(const struct set *s, int file, const char *path) {
 
 /* ---- the set */
 
+static uint64_t word_of(const uint8_t *bytes) {
+    uint64_t word = 0;
+    for (int i = 7; i >= 0; i--)
+        word = word << 8 | bytes[i];
+    return word;
+}
+
 /* The largest prime up to the number of slots: chains are short, also where keys step by a round number. */
 static size_t heads_for(size_t slots) {
     for (size_t heads = slots;; heads--) {
@@ -249,7 +288,12 @@ static size_t heads_for(size_t slots) {
     }
 }
 
-/* Recovery needs up to 2.3 MB of stack; the main thread has 8 MiB, unless a limit is set (ulimit -s). */
+/* word 1 of the header */
+static uint64_t layout_of(const struct set *s) {
+    return word_of(s->image + 8);
+}
+
+/* Recovery needs up to 2.8 MB of stack; the main thread has 8 MiB, unless a limit is set (ulimit -s). */
 static uint64_t recover(struct set *s) {
     s->next_length = s->length / ORDERSET_SLOT_BYTES;
     if (!s->heads_length)
@@ -258,8 +302,10 @@ static uint64_t recover(struct set *s) {
     s->next = calloc(s->next_length, sizeof *s->next);
     if (!s->heads || !s->next)
         fail("memory");
-    return orderset_recover(s->image, s->length, s->heads, s->heads_length, s->next, s->next_length, s->state,
-                            s->version, s->voids, s->open_at, s->open_value);
+    s->layout = layout_of(s);
+    return (s->layout == ORDERSET2_LAYOUT ? orderset2_recover : orderset_recover)(
+        s->image, s->length, s->heads, s->heads_length, s->next, s->next_length, s->state, s->version, s->voids,
+        s->open_at, s->open_value);
 }
 
 /* Makes a list of stores durable: each line is flushed once, and there is one fence. */
@@ -317,14 +363,14 @@ static void start(struct set *s, const char *path, int writing) {
 /* ---- a new file */
 
 /* A new file is made durable under another name first, so that a cut while it is made leaves no half of it. */
-static int format_file(int file, size_t length) {
+static int format_file(int file, size_t length, uint64_t layout) {
     uint64_t answer[ORDERSET_FORMAT_ANSWER];
     if ((errno = posix_fallocate(file, 0, (off_t)length)))
         return -1;
     uint8_t *image = mmap(NULL, length, PROT_READ | PROT_WRITE, MAP_SHARED, file, 0);
     if (image == MAP_FAILED)
         return -1;
-    uint32_t number = orderset_format(image, length, answer);
+    uint32_t number = orderset_format(image, length, layout, answer);
     if (number)
         stop(FAILED, "format says no %" PRIu32 ": %s", number, words_of(number));
     return msync(image, length, MS_SYNC) || munmap(image, length) || fsync(file) ? -1 : 0;
@@ -346,7 +392,7 @@ static _Noreturn void left_over(const char *fresh, const char *path) {
 }
 
 /* The lock is kept until the name is durable, so that nobody writes orders to a file that a cut could still take. */
-static void make(const char *path, uint64_t slots) {
+static void make(const char *path, uint64_t slots, uint64_t layout) {
     struct stat found;
     char *fresh;
     if (lstat(path, &found) == 0)
@@ -359,14 +405,14 @@ static void make(const char *path, uint64_t slots) {
     if (file < 0)
         fail(fresh);
     lock(file, fresh, LOCK_EX);
-    if (format_file(file, ORDERSET_IMAGE_BYTES(slots)) ||
+    if (format_file(file, ORDERSET_IMAGE_BYTES(slots), layout) ||
         renameat2(AT_FDCWD, fresh, AT_FDCWD, path, RENAME_NOREPLACE)) {
         int error = errno;
         unlink(fresh);
         stop(FAILED, "%s: %s; nothing was made", path, strerror(error));
     }
     sync_name(path);
-    printf("made %s: %" PRIu64 " slots\n", path, slots);
+    printf("made %s: %" PRIu64 " slots%s\n", path, slots, layout == ORDERSET2_LAYOUT ? ", layout 2" : "");
     answered();
 }
 
@@ -374,10 +420,10 @@ static void make(const char *path, uint64_t slots) {
 
 /* A change that could not be made durable is not answered. */
 static _Noreturn void not_answered(const struct command *c) {
+    char text[KEY_TEXT];
     stop(FAILED,
-         "%s %" PRIu64 ": %s; this is not answered. The next start writes the whole image again, and then it is there "
-         "or not",
-         forms[c->kind].name, c->number[KEY], strerror(errno));
+         "%s %s: %s; this is not answered. The next start writes the whole image again, and then it is there or not",
+         forms[c->kind].name, command_text(text, c), strerror(errno));
 }
 
 static void persist(const struct set *s, const struct command *c, const uint32_t at[ORDERSET_STORES],
@@ -388,26 +434,45 @@ static void persist(const struct set *s, const struct command *c, const uint32_t
 }
 
 static void print_change(const struct command *c, const uint64_t answer[ORDERSET_STEP_ANSWER]) {
-    printf("%s %" PRIu64 ": slot %" PRIu64 " version %" PRIu64 "%s\n", forms[c->kind].name, c->number[KEY],
+    char text[KEY_TEXT];
+    printf("%s %s: slot %" PRIu64 " version %" PRIu64 "%s\n", forms[c->kind].name, key_text(text, &c->key),
            answer[ORDERSET_SLOT], answer[ORDERSET_VERSION], answer[0] == ORDERSET_ALREADY ? ", already" : "");
 }
 
 static uint32_t step(struct set *s, const struct command *c, uint32_t at[ORDERSET_STORES],
                      uint64_t value[ORDERSET_STORES], uint64_t answer[ORDERSET_STEP_ANSWER]) {
-    const uint64_t key = c->number[KEY], quantity = c->number[QUANTITY];
     switch (c->kind) {
     case NEW:
         return orderset_book_new(s->image, s->length, s->heads, s->heads_length, s->next, s->next_length, s->state,
-                                 s->version, key, quantity, at, value, answer);
+                                 s->version, c->key.low, c->number, at, value, answer);
     case ACKNOWLEDGE:
         return orderset_book_acknowledge(s->image, s->length, s->heads, s->heads_length, s->next, s->next_length,
-                                         s->state, s->version, key, at, value, answer);
+                                         s->state, s->version, c->key.low, at, value, answer);
     case FILL:
         return orderset_book_fill(s->image, s->length, s->heads, s->heads_length, s->next, s->next_length, s->state,
-                                  s->version, key, quantity, at, value, answer);
+                                  s->version, c->key.low, c->number, at, value, answer);
     default:
-        return orderset_book_withdraw(s->image, s->length, s->heads, s->heads_length, s->next, s->next_length, s->state,
-                                      s->version, key, at, value, answer);
+        return orderset_book_withdraw(s->image, s->length, s->heads, s->heads_length, s->next, s->next_length,
+                                      s->state, s->version, c->key.low, at, value, answer);
+    }
+}
+
+/* the same in layout 2 */
+static uint32_t step2(struct set *s, const struct command *c, uint32_t at[ORDERSET_STORES],
+                      uint64_t value[ORDERSET_STORES], uint64_t answer[ORDERSET_STEP_ANSWER]) {
+    switch (c->kind) {
+    case NEW:
+        return orderset2_book_new(s->image, s->length, s->heads, s->heads_length, s->next, s->next_length, s->state,
+                                  s->version, c->key.low, c->key.high, c->number, at, value, answer);
+    case ACKNOWLEDGE:
+        return orderset2_book_acknowledge(s->image, s->length, s->heads, s->heads_length, s->next, s->next_length,
+                                          s->state, s->version, c->key.low, c->key.high, at, value, answer);
+    case FILL:
+        return orderset2_book_fill(s->image, s->length, s->heads, s->heads_length, s->next, s->next_length, s->state,
+                                   s->version, c->key.low, c->key.high, c->number, at, value, answer);
+    default:
+        return orderset2_book_withdraw(s->image, s->length, s->heads, s->heads_length, s->next, s->next_length,
+                                       s->state, s->version, c->key.low, c->key.high, at, value, answer);
     }
 }
 
@@ -415,20 +480,13 @@ static uint32_t step(struct set *s, const struct command *c, uint32_t at[ORDERSE
 static uint32_t change(struct set *s, const struct command *c) {
     uint32_t at[ORDERSET_STORES];
     uint64_t value[ORDERSET_STORES], answer[ORDERSET_STEP_ANSWER];
-    uint32_t number = step(s, c, at, value, answer);
+    uint32_t number = (s->layout == ORDERSET2_LAYOUT ? step2 : step)(s, c, at, value, answer);
     if (number)
         return number;
     if (answer[0] == ORDERSET_GIVEN)
         persist(s, c, at, value);
     print_change(c, answer);
     return 0;
-}
-
-static uint64_t word_of(const uint8_t *bytes) {
-    uint64_t word = 0;
-    for (int i = 7; i >= 0; i--)
-        word = word << 8 | bytes[i];
-    return word;
 }
 
 static void set_word(uint8_t *bytes, uint64_t word) {
@@ -451,14 +509,24 @@ static void print_order(const uint8_t *bytes, uint64_t length) {
         printf("no order: %" PRIu64 " bytes", length);
 }
 
-static uint32_t show(const struct set *s, uint64_t key) {
-    uint8_t bytes[ORDERSET_VALUE_MAX] = {0};
+static uint64_t get(const struct set *s, const struct key *key, uint8_t bytes[ORDERSET_VALUE_MAX],
+                    uint64_t answer[ORDERSET_ANSWER]) {
+    memset(bytes, 0, ORDERSET_VALUE_MAX);
+    if (s->layout == ORDERSET2_LAYOUT)
+        return orderset2_get(s->image, s->length, s->heads, s->heads_length, s->next, s->next_length, key->low,
+                             key->high, bytes, ORDERSET_VALUE_MAX, answer);
+    return orderset_get(s->image, s->length, s->heads, s->heads_length, s->next, s->next_length, key->low, bytes,
+                        ORDERSET_VALUE_MAX, answer);
+}
+
+static uint32_t show(const struct set *s, const struct key *key) {
+    char text[KEY_TEXT];
+    uint8_t bytes[ORDERSET_VALUE_MAX];
     uint64_t answer[ORDERSET_ANSWER];
-    uint64_t returned = orderset_get(s->image, s->length, s->heads, s->heads_length, s->next, s->next_length, key,
-                                     bytes, sizeof bytes, answer);
+    uint64_t returned = get(s, key, bytes, answer);
     if (returned)
         return ORDERSET_REFUSAL(returned);
-    printf("%" PRIu64 ": ", key);
+    printf("%s: ", key_text(text, key));
     if (answer[0] == ORDERSET_ABSENT)
         printf("absent");
     else
@@ -467,18 +535,19 @@ static uint32_t show(const struct set *s, uint64_t key) {
     return 0;
 }
 
-/* word 1 of a slot */
-static uint64_t key_in(const struct set *s, uint32_t slot) {
-    uint64_t key;
-    memcpy(&key, s->image + (size_t)ORDERSET_SLOT_BYTES * slot + 8, sizeof key);
-    return key;
+/* word 1 of a slot, and in layout 2 word 2 */
+static struct key key_in(const struct set *s, uint32_t slot) {
+    const uint8_t *words = s->image + (size_t)ORDERSET_SLOT_BYTES * slot;
+    const int wide = s->layout == ORDERSET2_LAYOUT;
+    return (struct key){wide, word_of(words + 8), wide ? word_of(words + 16) : 0};
 }
 
 /* Every chain from its head. */
 static uint32_t list(const struct set *s) {
     for (size_t head = 0; head < s->heads_length; head++)
         for (uint32_t slot = s->heads[head]; slot; slot = s->next[slot]) {
-            uint32_t number = show(s, key_in(s, slot));
+            const struct key key = key_in(s, slot);
+            uint32_t number = show(s, &key);
             if (number)
                 return number;
         }
@@ -489,19 +558,18 @@ static uint32_t list(const struct set *s) {
 /* ---- a basket of new and withdrawn orders */
 
 static int key_twice(const struct command *c) {
-    for (uint64_t i = 0; i < c->number[ITEMS]; i++)
+    for (uint64_t i = 0; i < c->number; i++)
         for (uint64_t j = 0; j < i; j++)
-            if (c->item[i].key == c->item[j].key)
+            if (c->item[i].key.low == c->item[j].key.low && c->item[i].key.high == c->item[j].key.high)
                 return 1;
     return 0;
 }
 
 /* The book's rules for an item, 17, 18 and 19: the set knows keys and bytes, and no orders. */
 static uint32_t item_fault(const struct set *s, const struct item *item) {
-    uint8_t bytes[ORDERSET_VALUE_MAX] = {0};
+    uint8_t bytes[ORDERSET_VALUE_MAX];
     uint64_t answer[ORDERSET_ANSWER];
-    uint64_t returned = orderset_get(s->image, s->length, s->heads, s->heads_length, s->next, s->next_length, item->key,
-                                     bytes, sizeof bytes, answer);
+    uint64_t returned = get(s, &item->key, bytes, answer);
     if (returned)
         return ORDERSET_REFUSAL(returned);
     const int held = answer[0] == ORDERSET_GIVEN;
@@ -521,21 +589,25 @@ static void print_basket(uint64_t items, const uint64_t answer[ORDERSET_BASKET_A
 static uint32_t basket(struct set *s, const struct command *c) {
     enum { ROOM = ORDERSET_BASKET_STORES(ORDERSET_BASKET) };
     uint32_t kinds[ORDERSET_BASKET] = {0}, at[ROOM], number = key_twice(c) ? ORDERSET_KEY_TWICE : ORDERSET_OK;
-    uint64_t keys[ORDERSET_BASKET] = {0}, value[ROOM], answer[ORDERSET_BASKET_ANSWER];
-    size_t lengths[ORDERSET_BASKET] = {0}, items = (size_t)c->number[ITEMS];
+    uint64_t lows[ORDERSET_BASKET] = {0}, highs[ORDERSET_BASKET] = {0}, value[ROOM], answer[ORDERSET_BASKET_ANSWER];
+    size_t lengths[ORDERSET_BASKET] = {0}, items = (size_t)c->number;
     uint8_t values[ORDERSET_BASKET_VALUES] = {0};
     for (size_t i = 0; i < items && !number; i++) {
         uint8_t *order = values + ORDERSET_VALUE_MAX * i;
         kinds[i] = c->item[i].kind == NEW ? ORDERSET_INSERT : ORDERSET_REMOVE;
-        keys[i] = c->item[i].key;
+        lows[i] = c->item[i].key.low;
+        highs[i] = c->item[i].key.high;
         lengths[i] = ORDERSET_ORDER_BYTES; /* not read of a remove */
         set_word(order, ORDERSET_SENT);
         set_word(order + 8, c->item[i].quantity);
         number = item_fault(s, &c->item[i]);
     }
-    if (!number)
+    if (!number && s->layout == ORDERSET2_LAYOUT)
+        number = orderset2_basket(s->image, s->length, s->heads, s->heads_length, s->next, s->next_length, s->state,
+                                  s->version, items, kinds, lows, highs, lengths, values, at, ROOM, value, ROOM, answer);
+    else if (!number)
         number = orderset_basket(s->image, s->length, s->heads, s->heads_length, s->next, s->next_length, s->state,
-                                 s->version, items, kinds, keys, lengths, values, at, ROOM, value, ROOM, answer);
+                                 s->version, items, kinds, lows, lengths, values, at, ROOM, value, ROOM, answer);
     if (number)
         return number;
     if (persist_list(s, at, value, ORDERSET_BASKET_STORES(items)))
@@ -549,7 +621,7 @@ static uint32_t carry_out(struct set *s, const struct command *c) {
     case BASKET:
         return basket(s, c);
     case SHOW:
-        return show(s, c->number[KEY]);
+        return show(s, &c->key);
     case LIST:
         return list(s);
     default:
@@ -569,8 +641,12 @@ static uint32_t count_slots(const struct set *s, uint64_t *found) {
             continue;
         while (s->next[last])
             last = s->next[last];
-        uint64_t returned = orderset_locate(s->image, s->length, s->heads, s->heads_length, s->next, s->next_length,
-                                            key_in(s, last), answer);
+        const struct key key = key_in(s, last);
+        uint64_t returned = s->layout == ORDERSET2_LAYOUT
+                                ? orderset2_locate(s->image, s->length, s->heads, s->heads_length, s->next,
+                                                   s->next_length, key.low, key.high, answer)
+                                : orderset_locate(s->image, s->length, s->heads, s->heads_length, s->next,
+                                                  s->next_length, key.low, answer);
         if (returned)
             return ORDERSET_REFUSAL(returned);
         for (uint64_t compared = 1; compared <= answer[ORDERSET_COMPARED]; compared++)
@@ -614,16 +690,47 @@ static int number_of(const char *word, size_t length, uint64_t *number) {
     return length ? 0 : -1;
 }
 
+static int hex_of(char digit) {
+    if (digit >= '0' && digit <= '9')
+        return digit - '0';
+    return digit >= 'a' && digit <= 'f' ? digit - 'a' + 10 : digit >= 'A' && digit <= 'F' ? digit - 'A' + 10 : -1;
+}
+
+/* A 64-bit number, or 0x and the 32 hexadecimal digits of 16 bytes. */
+static int key_of(const char *word, size_t length, struct key *key) {
+    *key = (struct key){0};
+    if (length != 34 || word[0] != '0' || word[1] != 'x')
+        return number_of(word, length, &key->low);
+    key->wide = 1;
+    for (size_t i = 2; i < length; i++) {
+        int digit = hex_of(word[i]);
+        if (digit < 0)
+            return -1;
+        key->high = key->high << 4 | key->low >> 60;
+        key->low = key->low << 4 | (uint64_t)digit;
+    }
+    return 0;
+}
+
+/* Have the keys of the command the form of this file's? */
+static int right_keys(const struct set *s, const struct command *c) {
+    const int wide = s->layout == ORDERSET2_LAYOUT;
+    for (uint64_t i = 0; c->kind == BASKET && i < c->number; i++)
+        if (c->item[i].key.wide != wide)
+            return 0;
+    return !forms[c->kind].key || c->key.wide == wide;
+}
+
 static int in_basket(const struct command *item) {
     return item->kind == NEW || item->kind == WITHDRAW;
 }
 
 static struct item item_of(const struct command *c) {
-    return (struct item){c->kind, c->number[KEY], c->number[QUANTITY]};
+    return (struct item){c->kind, c->key, c->number};
 }
 
 static int good_count(const struct command *c) {
-    return c->kind != BASKET || (c->number[ITEMS] > 0 && c->number[ITEMS] <= ORDERSET_BASKET);
+    return c->kind != BASKET || (c->number > 0 && c->number <= ORDERSET_BASKET);
 }
 
 /* The command at the front of the words; answers how many words it has. */
@@ -631,14 +738,15 @@ static int command_of_words(char **word, int count, struct command *c) {
     int kind = kind_of(word[0], strlen(word[0]));
     if (kind == KINDS)
         stop(USAGE, "not a command: %s", word[0]);
-    if (count <= forms[kind].numbers)
+    int used = 1 + forms[kind].key + forms[kind].number;
+    if (count < used)
         stop(USAGE, "not a command, words are missing: %s", word[0]);
     *c = (struct command){.kind = (enum kind)kind};
-    for (int i = 0; i < forms[kind].numbers; i++)
-        if (number_of(word[1 + i], strlen(word[1 + i]), &c->number[i]) || !good_count(c))
-            stop(USAGE, "not a %s: %s", kind == BASKET ? "number of items" : numbers[i], word[1 + i]);
-    int used = 1 + forms[kind].numbers;
-    for (uint64_t i = 0; kind == BASKET && i < c->number[ITEMS]; i++) {
+    if (forms[kind].key && key_of(word[1], strlen(word[1]), &c->key))
+        stop(USAGE, "not a key: %s", word[1]);
+    if (forms[kind].number && (number_of(word[used - 1], strlen(word[used - 1]), &c->number) || !good_count(c)))
+        stop(USAGE, "not a %s: %s", kind == BASKET ? "number of items" : "quantity", word[used - 1]);
+    for (uint64_t i = 0; kind == BASKET && i < c->number; i++) {
         struct command item;
         if (used == count)
             stop(USAGE, "not a command, words are missing: %s", word[0]);
@@ -667,14 +775,13 @@ static int front_command(const char **line, const char *end, struct command *c) 
     if (kind == KINDS)
         return -1;
     *c = (struct command){.kind = (enum kind)kind};
-    for (int i = 0; i < forms[kind].numbers; i++) {
-        word = next_word(line, end, &length);
-        if (!word || number_of(word, length, &c->number[i]))
-            return -1;
-    }
+    if (forms[kind].key && (!(word = next_word(line, end, &length)) || key_of(word, length, &c->key)))
+        return -1;
+    if (forms[kind].number && (!(word = next_word(line, end, &length)) || number_of(word, length, &c->number)))
+        return -1;
     if (!good_count(c))
         return -1;
-    for (uint64_t i = 0; kind == BASKET && i < c->number[ITEMS]; i++) {
+    for (uint64_t i = 0; kind == BASKET && i < c->number; i++) {
         struct command item;
         if (front_command(line, end, &item) || !in_basket(&item))
             return -1;
@@ -691,6 +798,9 @@ static int command_of_line(const char *line, size_t length, struct command *c) {
 
 /* ---- the ways to be called */
 
+static const char narrow_keys[] = "the keys of this file are 64-bit numbers in decimal digits",
+                  wide_keys[] = "the keys of this file have 16 bytes: 0x and 32 hexadecimal digits";
+
 static int run_words(const char *path, char **word, int count) {
     static struct set set;
     int commands = 0, writing = 0;
@@ -701,12 +811,16 @@ static int run_words(const char *path, char **word, int count) {
         i += command_of_words(word + i, count - i, c + commands);
         writing |= forms[c[commands].kind].writes;
     }
+    char text[KEY_TEXT];
     start(&set, path, writing);
+    for (int i = 0; i < commands; i++)
+        if (!right_keys(&set, c + i))
+            stop(USAGE, "%s: %s", forms[c[i].kind].name, set.layout == ORDERSET2_LAYOUT ? wide_keys : narrow_keys);
     for (int i = 0; i < commands; i++) {
         uint32_t number = carry_out(&set, c + i);
         answered();
         if (number)
-            stop(FAILED, "%s %" PRIu64 ": no %" PRIu32 ": %s", forms[c[i].kind].name, c[i].number[KEY], number,
+            stop(FAILED, "%s %s: no %" PRIu32 ": %s", forms[c[i].kind].name, command_text(text, c + i), number,
                  words_of(number));
     }
     free(c);
@@ -733,7 +847,7 @@ static int run_lines(const char *path) {
         uint32_t number = 0;
         const int ended = line[got - 1] == '\n';
         const size_t length = (size_t)got - (ended ? 1 : 0);
-        if (!ended || command_of_line(line, length, &c)) {
+        if (!ended || command_of_line(line, length, &c) || !right_keys(&set, &c)) {
             not_a_command(line, length, ended);
             status = FAILED;
         } else if ((number = carry_out(&set, &c))) {
@@ -768,11 +882,15 @@ static int run_heads(const char *path, char **word, int count) {
 }
 
 static int run_make(const char *path, char **word, int count) {
-    uint64_t slots;
-    if (count != 1 || number_of(word[0], strlen(word[0]), &slots) || slots < ORDERSET_SLOTS_MIN ||
+    uint64_t slots, layout = ORDERSET_LAYOUT;
+    if (count < 1 || count > 2 || number_of(word[0], strlen(word[0]), &slots) || slots < ORDERSET_SLOTS_MIN ||
         slots > ORDERSET_SLOTS_MAX)
-        stop(USAGE, "make: a number of slots follows, from %u to %u", ORDERSET_SLOTS_MIN, ORDERSET_SLOTS_MAX);
-    make(path, slots);
+        stop(USAGE, "make: a number of slots follows, from %u to %u, and perhaps a layout", ORDERSET_SLOTS_MIN,
+             ORDERSET_SLOTS_MAX);
+    if (count == 2 && (number_of(word[1], strlen(word[1]), &layout) || layout < ORDERSET_LAYOUT ||
+                       layout > ORDERSET2_LAYOUT))
+        stop(USAGE, "make: a layout is %u or %u", ORDERSET_LAYOUT, ORDERSET2_LAYOUT);
+    make(path, slots, layout);
     return 0;
 }
 
@@ -791,7 +909,7 @@ int main(int count, char **word) {
     signal(SIGPIPE, SIG_IGN); /* a reader that is gone is a failed write */
     hold_streams();
     if (count < 2)
-        stop(USAGE, "usage: gateway FILE [make N | heads [B] | new KEY QUANTITY | acknowledge KEY | "
+        stop(USAGE, "usage: gateway FILE [make N [L] | heads [B] | new KEY QUANTITY | acknowledge KEY | "
                     "fill KEY QUANTITY | withdraw KEY | basket N ITEM... | show KEY | list]...");
     if (count == 2)
         return run_lines(word[1]);

@@ -4,6 +4,9 @@
  * image is all that a restart needs: orderset_recover rebuilds the index from it. Nothing here allocates, keeps a
  * pointer, or uses a global variable.
  *
+ * Layouts: the calls of this header are for images of layout 1 and give 3 on images of layout 2, whose keys have 128
+ * bits: orderset2.h. format, play and the questions about a line serve both.
+ *
  * The caller owns everything:
  *   image    ORDERSET_IMAGE_BYTES(N) bytes; 64-byte aligned if its stores are to be persisted (orderset_persist.h)
  *   heads    B numbers, B from 1 to ORDERSET_HEADS_MAX; key k belongs to head k % B
@@ -121,6 +124,7 @@ extern "C" {
 #define ORDERSET_SLOTS_MIN 2u
 #define ORDERSET_SLOTS_MAX 65535u
 #define ORDERSET_HEADS_MAX 65536u
+#define ORDERSET_LAYOUT 1u /* of the calls of this header */
 #define ORDERSET_VALUE_MAX 80u
 #define ORDERSET_LINE_BYTES 64u
 #define ORDERSET_SLOT_BYTES 128u
@@ -196,7 +200,7 @@ enum orderset_refusal {
     ORDERSET_OK = 0,
     ORDERSET_NO_IMAGE_LENGTH = 1,   /* the length is not 128 * (N + 1) with N from 2 to 65,535 */
     ORDERSET_NO_FORMAT = 2,         /* word 0 of the header is zero: not formatted */
-    ORDERSET_NO_HEADER = 3,         /* the header is not the one for this length */
+    ORDERSET_NO_HEADER = 3,         /* the header is not the one for this length and the call's layout */
     ORDERSET_NO_INDEX_LENGTH = 4,   /* heads has 0 or more than 65,536 numbers, or next has not N + 1 */
     ORDERSET_BAD_MARK = 5,          /* a mark is neither 0 nor 1 */
     ORDERSET_BAD_BITS = 6,          /* the kind word of a valid slot has bits above bit 23, or its number of records
@@ -227,12 +231,15 @@ enum orderset_refusal {
     ORDERSET_KEY_TWICE = 27,        /* a key comes twice in the basket */
     ORDERSET_NO_ROOM = 28,          /* too few slots of the reuse chain may be taken, or with the new keys no slot would
                                        be spare */
+    ORDERSET_NO_LAYOUT = 32,        /* format is asked for a layout other than 1 or 2 */
     ORDERSET_NO_LINE_LENGTH = 33    /* a line has not 64 bytes, or the answer about it not 8 */
 };
 
-/* Makes an empty image of the bytes. answer: {ORDERSET_GIVEN, N}. Refusals: 1. A cut during format is not covered:
- * format before the first use, and make the image durable before it gets its name. */
-ORDERSET_CALL uint32_t orderset_format(uint8_t *image, size_t image_length, uint64_t answer[ORDERSET_FORMAT_ANSWER]);
+/* Makes an empty image of the bytes, in layout ORDERSET_LAYOUT or ORDERSET2_LAYOUT (orderset2.h); word 1 of the image
+ * tells which. answer: {ORDERSET_GIVEN, N}. Refusals: 1, 32. A cut during format is not covered: format before the first
+ * use, and make the image durable before it gets its name. */
+ORDERSET_CALL uint32_t orderset_format(uint8_t *image, size_t image_length, uint64_t layout,
+                                       uint64_t answer[ORDERSET_FORMAT_ANSWER]);
 
 /* Rebuilds heads, next, state and version from the image, whatever they held. The image is only read; if it may hold
  * stores that are not durable, make it durable first (above). Refusals: 1, 2, 3, 4, 5; then 6, 22, 23, 24; 7, 25, 8.

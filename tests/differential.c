@@ -1,5 +1,5 @@
-/* The archive against the model of document 01 and of the order book, call by call: every return code, answer, count of
- * slots compared, state, store, index number, output and image byte is compared, and after a cut the recovered set is
+/* The archive against the model of document 01 and of the order book, call by call, in the layout that the test is built
+ * for (layout.h): every return code, answer, count of slots compared, state, store, index number, output and image byte is compared, and after a cut the recovered set is
  * compared with a plain map. The answers about single lines are compared too: of random and damaged lines, and of every
  * line of the images in histories; and what they say will be stored first and last with what each call hands out. There
  * the counts are those of a chain for each head: the held keys of a head have the counts from 1 to their number, each
@@ -24,7 +24,6 @@
 #include "chance.h"
 #include "images.h"
 #include "model.h"
-#include "orderset.h"
 
 enum { GUARD = 64, GUARD_BYTE = 0xa5, SMALL = 40, LARGE = 5, CALLS = 3000000 };
 
@@ -85,14 +84,14 @@ static uint32_t named; /* the slot that the last recovery named */
 static const char *phase = "";
 static enum which call;
 static const struct set *now;
-static uint64_t call_key;
+static m_key call_key;
 static size_t call_size, call_a, call_b;
 
 static void show_case(void) {
-    printf("seed %" PRIu64 ", call %" PRIu64 ", %s\n", seed, calls, phase);
-    printf("%s: N %u, length %zu, B %zu, next %zu, key %" PRIu64 ", size, room or quantity %zu, counts %zu %zu\n",
-           name[call], now->n, now->length, now->model.heads_length, now->model.next_length, call_key, call_size,
-           call_a, call_b);
+    printf("layout %d, seed %" PRIu64 ", call %" PRIu64 ", %s\n", LAYOUT, seed, calls, phase);
+    printf("%s: N %u, length %zu, B %zu, next %zu, key " KEY_FORM ", size, room or quantity %zu, counts %zu %zu\n",
+           name[call], now->n, now->length, now->model.heads_length, now->model.next_length, KEY_WORDS(call_key),
+           call_size, call_a, call_b);
     printf("state: archive %u %u %u %u %" PRIu64 ", model %u %u %u %u %" PRIu64 "\n", now->state[0], now->state[1],
            now->state[2], now->state[3], now->version[0], now->model.state.first, now->model.state.last,
            now->model.state.live, now->model.state.newest, now->model.state.version);
@@ -131,7 +130,7 @@ static void same_bytes(const char *what, const void *archive, const void *model,
             differ("in %s, byte %zu of %zu: archive %u, model %u", what, i, length, x[i], y[i]);
 }
 
-static void keep_case(const struct set *s, enum which which, uint64_t key, size_t size, size_t a, size_t b) {
+static void keep_case(const struct set *s, enum which which, m_key key, size_t size, size_t a, size_t b) {
     now = s;
     call = which;
     call_key = key;
@@ -140,7 +139,7 @@ static void keep_case(const struct set *s, enum which which, uint64_t key, size_
     call_b = b;
 }
 
-static void begin(const struct set *s, enum which which, uint64_t key, size_t size, size_t a, size_t b) {
+static void begin(const struct set *s, enum which which, m_key key, size_t size, size_t a, size_t b) {
     keep_case(s, which, key, size, a, b);
     calls++;
 }
@@ -297,13 +296,13 @@ static void framed(const struct set *s, uint32_t slot, uint64_t version) {
 
 /* ---- the calls, each on both sides */
 
-static int try_format(struct set *s) {
+static int try_format(struct set *s, uint64_t layout) {
     uint64_t answer[ORDERSET_FORMAT_ANSWER], expected[ORDERSET_FORMAT_ANSWER];
     fill(answer, sizeof answer);
     memcpy(expected, answer, sizeof answer);
-    begin(s, FORMAT, 0, 0, 0, 0);
-    uint32_t code = orderset_format(s->image, s->length, answer);
-    int refusal = m_format(s->model_image, s->length);
+    begin(s, FORMAT, 0, (size_t)layout, 0, 0);
+    uint32_t code = orderset_format(s->image, s->length, layout, answer);
+    int refusal = m_format(s->model_image, s->length, layout);
     if (!refusal) {
         expected[0] = 1;
         expected[1] = s->n;
@@ -335,7 +334,7 @@ static int try_recover(struct set *s) {
     memcpy(s->open_at, at_lent, sizeof at_lent);
     memcpy(s->open_value, value_lent, sizeof value_lent);
     begin(s, RECOVER, 0, 0, 0, 0);
-    uint64_t code = orderset_recover(s->image, s->length, s->heads, s->model.heads_length, s->next,
+    uint64_t code = SET(recover)(s->image, s->length, s->heads, s->model.heads_length, s->next,
                                      s->model.next_length, s->state, s->version, s->count, s->open_at, s->open_value);
     struct m_recovered recovered = m_recover(s->model_image, s->length, &s->model);
     named = ORDERSET_FAULT_SLOT(code);
@@ -352,7 +351,8 @@ static int try_recover(struct set *s) {
 /* A call that stores, if it is not refused. quantity: of new and fill; bytes and size: of insert and replace. */
 struct request {
     enum which which;
-    uint64_t key, quantity;
+    m_key key;
+    uint64_t quantity;
     const uint8_t *bytes;
     size_t size;
 };
@@ -361,25 +361,25 @@ static uint64_t archive_change(const struct set *s, const struct request *r, uin
     const size_t heads = s->model.heads_length, next = s->model.next_length;
     switch (r->which) {
     case INSERT:
-        return orderset_insert(s->image, s->length, s->heads, heads, s->next, next, s->state, s->version, r->key,
+        return SET(insert)(s->image, s->length, s->heads, heads, s->next, next, s->state, s->version, KEY(r->key),
                                r->bytes, r->size, s->at, s->value, answer);
     case REPLACE:
-        return orderset_replace(s->image, s->length, s->heads, heads, s->next, next, s->state, s->version, r->key,
+        return SET(replace)(s->image, s->length, s->heads, heads, s->next, next, s->state, s->version, KEY(r->key),
                                 r->bytes, r->size, s->at, s->value, answer);
     case REMOVE:
-        return orderset_remove(s->image, s->length, s->heads, heads, s->next, next, s->state, s->version, r->key, s->at,
+        return SET(remove)(s->image, s->length, s->heads, heads, s->next, next, s->state, s->version, KEY(r->key), s->at,
                                s->value, answer);
     case NEW:
-        return orderset_book_new(s->image, s->length, s->heads, heads, s->next, next, s->state, s->version, r->key,
+        return SET(book_new)(s->image, s->length, s->heads, heads, s->next, next, s->state, s->version, KEY(r->key),
                                  r->quantity, s->at, s->value, answer);
     case ACKNOWLEDGE:
-        return orderset_book_acknowledge(s->image, s->length, s->heads, heads, s->next, next, s->state, s->version,
-                                         r->key, s->at, s->value, answer);
+        return SET(book_acknowledge)(s->image, s->length, s->heads, heads, s->next, next, s->state, s->version,
+                                         KEY(r->key), s->at, s->value, answer);
     case FILL:
-        return orderset_book_fill(s->image, s->length, s->heads, heads, s->next, next, s->state, s->version, r->key,
+        return SET(book_fill)(s->image, s->length, s->heads, heads, s->next, next, s->state, s->version, KEY(r->key),
                                   r->quantity, s->at, s->value, answer);
     default:
-        return orderset_book_withdraw(s->image, s->length, s->heads, heads, s->next, next, s->state, s->version, r->key,
+        return SET(book_withdraw)(s->image, s->length, s->heads, heads, s->next, next, s->state, s->version, KEY(r->key),
                                       s->at, s->value, answer);
     }
 }
@@ -466,21 +466,23 @@ struct basket {
 static uint32_t archive_basket(const struct set *s, const struct basket *b, uint32_t *at, uint64_t *value,
                                uint64_t answer[ORDERSET_BASKET_ANSWER]) {
     uint32_t kinds[ORDERSET_BASKET];
-    uint64_t keys[ORDERSET_BASKET];
+    uint64_t lows[ORDERSET_BASKET], highs[ORDERSET_BASKET];
     size_t lengths[ORDERSET_BASKET];
     uint8_t values[ORDERSET_BASKET_VALUES];
     fill(values, sizeof values);
     for (size_t i = 0; i < ORDERSET_BASKET; i++) {
         const struct m_item *item = &b->item[i];
         kinds[i] = item->kind;
-        keys[i] = item->key;
+        lows[i] = low_word(item->key);
+        highs[i] = high_word(item->key);
         lengths[i] = item->size;
-        if (item->bytes && item->size <= ORDERSET_VALUE_MAX)
+        if (item->bytes && item->size <= VALUE_MAX)
             memcpy(values + ORDERSET_VALUE_MAX * i, item->bytes, item->size);
     }
-    return orderset_basket(s->image, s->length, s->heads, s->model.heads_length, s->next, s->model.next_length,
-                           s->state, s->version, b->count, kinds, keys, lengths, values, at, b->places, value,
-                           b->values, answer);
+    (void)highs; /* of layout 1 there are none */
+    return SET(basket)(s->image, s->length, s->heads, s->model.heads_length, s->next, s->model.next_length, s->state,
+                       s->version, b->count, kinds, BASKET_KEYS(lows, highs), lengths, values, at, b->places, value, b->values,
+                       answer);
 }
 
 /* The stores of item i of the last basket become those that are played. */
@@ -557,13 +559,13 @@ static unsigned try_basket(struct set *s, const struct basket *b) {
     return answered;
 }
 
-static unsigned try_locate(struct set *s, uint64_t key) {
+static unsigned try_locate(struct set *s, m_key key) {
     uint64_t answer[ORDERSET_CHANGE_ANSWER], expected[ORDERSET_CHANGE_ANSWER];
     fill(answer, sizeof answer);
     memcpy(expected, answer, sizeof answer);
     begin(s, LOCATE, key, 0, 0, 0);
-    uint64_t code = orderset_locate(s->image, s->length, s->heads, s->model.heads_length, s->next, s->model.next_length,
-                                    key, answer);
+    uint64_t code = SET(locate)(s->image, s->length, s->heads, s->model.heads_length, s->next, s->model.next_length,
+                                KEY(key), answer);
     struct m_place place = m_locate(s->model_image, s->length, &s->model, key);
     if (!place.refusal) {
         expected[0] = place.absent ? ORDERSET_ABSENT : ORDERSET_GIVEN;
@@ -579,7 +581,7 @@ static unsigned try_locate(struct set *s, uint64_t key) {
 }
 
 /* The answer of the archive's get, after it was compared: the refusal's number, ABSENT, or 200 and the length. */
-static unsigned try_get(struct set *s, uint64_t key, uint8_t *out, size_t room) {
+static unsigned try_get(struct set *s, m_key key, uint8_t *out, size_t room) {
     uint64_t answer[ORDERSET_ANSWER], expected[ORDERSET_ANSWER];
     uint8_t *lent = lend(room), *model_out = lend(room);
     fill(answer, sizeof answer);
@@ -587,8 +589,8 @@ static unsigned try_get(struct set *s, uint64_t key, uint8_t *out, size_t room) 
     memcpy(lent, out, room);
     memcpy(model_out, out, room);
     begin(s, GET, key, room, 0, 0);
-    uint64_t code = orderset_get(s->image, s->length, s->heads, s->model.heads_length, s->next, s->model.next_length,
-                                 key, lent, room, answer);
+    uint64_t code = SET(get)(s->image, s->length, s->heads, s->model.heads_length, s->next, s->model.next_length,
+                             KEY(key), lent, room, answer);
     struct m_got got = m_get(s->model_image, s->length, &s->model, key, model_out, room);
     if (!got.refusal) {
         expected[0] = !got.absent;
@@ -646,8 +648,8 @@ typedef unsigned __int128 total;
 
 struct plain {
     uint32_t keys;
-    uint64_t *key;
-    uint8_t (*bytes)[ORDERSET_VALUE_MAX];
+    m_key *key;
+    uint8_t (*bytes)[VALUE_MAX];
     int16_t *size; /* -1: absent */
     uint32_t held;
     int grown;                       /* from a formatted image */
@@ -670,10 +672,12 @@ static struct plain *open_plain(uint32_t keys) {
     p->key = calloc(keys, sizeof *p->key);
     p->bytes = calloc(keys, sizeof *p->bytes);
     p->size = malloc(keys * sizeof *p->size);
+    const int one_low = LAYOUT == 2 && keys <= 4000 && below(2); /* in larger sets chains would be too long */
     for (uint32_t i = 0; i < keys; i++) {
         p->size[i] = -1;
-        /* distinct: key mod keys is i */
-        p->key[i] = keys < 100 && below(4) ? i : chance() % UINT64_MAX / keys * keys + i;
+        /* distinct: the low word mod keys is i; or of layout 2 the high word is, and many have one low word */
+        const uint64_t word = keys < 100 && below(4) ? i : chance() % UINT64_MAX / keys * keys + i;
+        p->key[i] = LAYOUT == 1 ? word : one_low ? key_of_words(below(3), word) : key_of_words(word, below(3));
     }
     return p;
 }
@@ -720,7 +724,7 @@ struct sharers {
 static struct sharers open_sharers(const struct plain *p, size_t heads) {
     struct sharers sharers = {calloc(heads + 1, sizeof *sharers.first), calloc(p->held + 1, 1)};
     for (uint32_t i = 0; i < p->keys; i++)
-        sharers.first[p->key[i] % heads + 1] += p->size[i] >= 0;
+        sharers.first[m_head(p->key[i], heads) + 1] += p->size[i] >= 0;
     for (size_t h = 0; h < heads; h++)
         sharers.first[h + 1] += sharers.first[h];
     return sharers;
@@ -738,29 +742,29 @@ static void same_place(const struct sharers *sharers, size_t head, int held) {
 
 /* The same for one call of a history: at most as many as share the head. In a large set that is not counted. */
 static void few_compared(const struct set *s, const struct plain *p, uint32_t i) {
-    const uint64_t heads = s->model.heads_length, head = p->key[i] % heads;
+    const uint64_t heads = s->model.heads_length, head = m_head(p->key[i], heads);
     uint64_t sharing = 0;
     if (p->keys > 4000)
         return;
     for (uint32_t k = 0; k < p->keys; k++)
-        sharing += p->size[k] >= 0 && p->key[k] % heads == head;
+        sharing += p->size[k] >= 0 && m_head(p->key[k], heads) == head;
     if (compared > sharing || (p->size[i] < 0 ? compared != sharing : compared == 0))
         differ("in the slots compared: %" PRIu64 ", %" PRIu64 " held keys share the head", compared, sharing);
 }
 
 static void same_map(struct set *s, const struct plain *p) {
-    uint8_t out[ORDERSET_VALUE_MAX];
+    uint8_t out[VALUE_MAX];
     total open = 0;
     struct sharers sharers = open_sharers(p, s->model.heads_length);
     same_number("the plain map's count", s->state[ORDERSET_LIVE], p->held);
     for (uint32_t i = 0; i < p->keys; i++) {
         unsigned got = try_get(s, p->key[i], out, sizeof out);
-        same_place(&sharers, p->key[i] % s->model.heads_length, p->size[i] >= 0);
+        same_place(&sharers, m_head(p->key[i], s->model.heads_length), p->size[i] >= 0);
         same_number("the plain map's answer", got, p->size[i] < 0 ? ABSENT : 200u + (unsigned)p->size[i]);
         if (p->size[i] > 0)
             same_bytes("the plain map's value", out, p->bytes[i], (size_t)p->size[i]);
         if (p->book_only && p->size[i] >= 0 && !open_of(out, p->size[i]))
-            differ("in a book's history: key %" PRIu64 " holds no order", p->key[i]);
+            differ("in a book's history: key " KEY_FORM " holds no order", KEY_WORDS(p->key[i]));
         open += p->size[i] < 0 ? 0 : open_of(out, p->size[i]);
     }
     free(sharers.first);
@@ -796,7 +800,7 @@ static unsigned plain_step(const uint8_t *order, uint64_t open, const struct req
 
 /* The rules' answer for an insert or a replace, before the set is asked for room. */
 static unsigned plain_write(const struct request *r, int held) {
-    if (r->size > ORDERSET_VALUE_MAX)
+    if (r->size > VALUE_MAX)
         return ORDERSET_VALUE_TOO_LONG;
     if (r->which == INSERT)
         return held ? ORDERSET_INSERT_HELD : DONE;
@@ -948,9 +952,9 @@ static struct basket any_basket(const struct plain *p, struct effect *e) {
         const uint32_t i = (first + k) % p->keys, kind = any_kind(p->size[i] >= 0);
         if (below(3) == 0)
             continue;
-        e[b.count] = (struct effect){.i = i, .holds = kind != ORDERSET_REMOVE, .size = below(ORDERSET_VALUE_MAX + 1)};
+        e[b.count] = (struct effect){.i = i, .holds = kind != ORDERSET_REMOVE, .size = below(VALUE_MAX + 1)};
         fill(e[b.count].bytes, e[b.count].size);
-        b.item[b.count] = (struct m_item){kind, p->key[i], e[b.count].bytes, below(200) ? e[b.count].size : 81};
+        b.item[b.count] = (struct m_item){kind, p->key[i], e[b.count].bytes, below(200) ? e[b.count].size : VALUE_MAX + 1};
         b.count++;
     }
     b.places = any_places(b.count);
@@ -967,7 +971,7 @@ static unsigned plain_basket(const struct set *s, const struct plain *p, const s
     if (b->places < stores || b->values < stores)
         return ORDERSET_OUTPUT_TOO_SHORT;
     for (size_t i = 0; i < b->count; i++)
-        if (b->item[i].kind != ORDERSET_REMOVE && b->item[i].size > ORDERSET_VALUE_MAX)
+        if (b->item[i].kind != ORDERSET_REMOVE && b->item[i].size > VALUE_MAX)
             return ORDERSET_VALUE_TOO_LONG;
     for (size_t i = 0; i < b->count; i++) {
         const int is_held = p->size[e[i].i] >= 0;
@@ -1041,7 +1045,7 @@ static struct set *step(struct set *s, struct plain *p, unsigned cuts) {
     if (!p->book_only && below(s->n > 3000 ? 100 : 12) == 0)
         return basket(s, p, cuts);
     if (r.which == GET) {
-        size_t room = below(3) ? ORDERSET_VALUE_MAX : below(ORDERSET_VALUE_MAX + 1);
+        size_t room = below(3) ? VALUE_MAX : below(VALUE_MAX + 1);
         unsigned want = size < 0 ? ABSENT : room < (size_t)size ? 13 : 200u + (unsigned)size;
         same_number("get by the plain map", try_get(s, r.key, e.bytes, room), want);
         few_compared(s, p, e.i);
@@ -1080,7 +1084,7 @@ static void break_slot(uint8_t *image, uint32_t slot, int line) {
 static void emptied_image(uint8_t *image, uint32_t n, const struct plain *p) {
     const uint32_t half = n / 2, void_slots = (uint32_t)(below(2) * below(half < 8 ? half : 8));
     for (uint32_t i = 1; i < n; i += 2) {
-        uint64_t key = p->key[below(p->keys)];
+        const m_key key = p->key[below(p->keys)];
         set_record(image, i, 1, key, i, ORDERSET_ORDER_BYTES);
         set_record(image, i + 1, 2, key, i + 1, 0);
     }
@@ -1099,7 +1103,7 @@ static void history(uint32_t n, size_t heads, uint32_t keys, unsigned steps, uns
     fill(s->model_image, s->length < 4096 ? s->length : 4096);
     lend_garbage(s);
     now = s;
-    same_number("format", (uint64_t)try_format(s), 0);
+    same_number("format", (uint64_t)try_format(s, LAYOUT), 0);
     p->grown = (int)below(2);
     if (!p->grown) {
         emptied_image(s->model_image, n, p);
@@ -1128,12 +1132,12 @@ static void play_some(struct set *s) {
 }
 
 /* A key of the image, or near one. */
-static uint64_t key_near(const struct set *s, uint64_t keys) {
-    return below(4) ? any_key(keys) : m_word(s->model_image, s->n ? 16 * (1 + below(s->n)) + 1 : 0);
+static m_key key_near(const struct set *s, uint64_t keys) {
+    return below(4) ? any_key(keys) : s->n ? m_key_in(s->model_image, 1 + (uint32_t)below(s->n)) : m_word(s->model_image, 0);
 }
 
 /* What is asked of a key, mostly what it asks for by the image and the index; seldom a kind that there is not. */
-static uint32_t kind_near(const struct set *s, uint64_t key) {
+static uint32_t kind_near(const struct set *s, m_key key) {
     struct m_place place = m_locate(s->model_image, s->length, &s->model, key);
     if (below(100) == 0)
         return below(2) ? (uint32_t)below(5) : (uint32_t)chance();
@@ -1145,9 +1149,9 @@ static struct basket basket_near(const struct set *s, uint64_t keys, const uint8
     struct basket b = {.count = below(40) ? 1 + below(below(2) ? 2 : 8) : below(2) ? below(11) : (size_t)chance()};
     const size_t few = b.count <= ORDERSET_BASKET ? b.count : ORDERSET_BASKET;
     for (size_t i = 0; i < ORDERSET_BASKET; i++) {
-        const uint64_t key = key_near(s, keys);
+        const m_key key = key_near(s, keys);
         b.item[i] = (struct m_item){i < few ? kind_near(s, key) : (uint32_t)chance(), key, bytes,
-                                    below(20) ? below(ORDERSET_VALUE_MAX + 1) : any_size()};
+                                    below(20) ? below(VALUE_MAX + 1) : any_size()};
     }
     b.places = any_places(few);
     b.values = any_places(few);
@@ -1172,7 +1176,7 @@ static void any_calls(struct set *s, uint64_t keys, unsigned count) {
                                      REPLACE, REMOVE, REMOVE, NEW,    ACKNOWLEDGE, FILL,   WITHDRAW, BASKET};
     uint8_t bytes[128], out[96];
     for (unsigned k = 0; k < count; k++) {
-        uint64_t key = key_near(s, keys);
+        const m_key key = key_near(s, keys);
         struct request r = {any[below(sizeof any / sizeof *any)], key, any_quantity(), bytes, any_size()};
         fill(bytes, sizeof bytes);
         fill(out, sizeof out);
@@ -1243,7 +1247,7 @@ static void lengths(void) {
     uint64_t value[20];
     lend_garbage(s);
     if (below(2) && s->n)
-        m_format(s->model_image, length), lend_same(s);
+        m_format(s->model_image, length, below(8) ? LAYOUT : 1 + below(2)), lend_same(s);
     try_recover(s);
     if (length >= 8)
         any_calls(s, 8, 3);
@@ -1263,7 +1267,7 @@ static void lengths(void) {
         value[i] = chance();
     }
     try_play_list(s, at, places, value, values);
-    try_format(s);
+    try_format(s, below(4) ? 1 + below(2) : below(2) ? below(5) : chance());
     close_set(s);
 }
 
@@ -1315,7 +1319,7 @@ enum fault {
     OUTSIDE, ONE_LINE, TWO_LENGTHS, OTHER_STATE, ALL_FILLED, OTHER_SIZE, LARGE_ORDER, ALL_SLOTS, ALL_BUT_ONE, LONG_LAST,
     BAD_BITS, BAD_TAIL, REMOVE_LENGTH, BITS_AND_KIND, KIND_AND_LENGTH, LENGTH_AND_TAIL, TAIL_THEN_BITS, ONE_BROKEN,
     TWO_BROKEN, SAME_AND_BROKEN, NONE_TO_TAKE, KEPT_REMOVE, LATER_LINK, ROUND_REUSE, NONE_AND_VERSION, FULL_AND_VERSION,
-    NONE_AND_NO_LIVE, LIVE_N, LIVE_ABOVE, ONE_LIVE, LAST_LINK, FAULTS
+    NONE_AND_NO_LIVE, LIVE_N, LIVE_ABOVE, ONE_LIVE, LAST_LINK, OTHER_LAYOUT, OTHER_HIGH, FAULTS
 };
 
 /* the slot that recovery names */
@@ -1333,20 +1337,26 @@ enum { IN_WRITE = IN_INSERT | IN_REPLACE, IN_CHANGE = IN_REPLACE | IN_REMOVE }; 
 enum { IN_STEP = IN_ACKNOWLEDGE | IN_FILL | IN_WITHDRAW };
 enum { IN_WALK = IN_WRITE | IN_REMOVE | IN_GET | IN_LOCATE | IN_NEW | IN_STEP, IN_ALL = IN_WALK | IN_RECOVER };
 
-/* Six slots: key 7 in slot 1 with 20 bytes, key 8 in slot 2 with 80; in slot 3 key 11 with a sent order and in slot 4
+/* Six slots: key 7 in slot 1 with 20 bytes, key 8 in slot 2 with as many as there may be; in slot 3 key 11 with a sent order and in slot 4
  * key 12 with an acknowledged one, of each 100 ordered and 40 filled; three heads, so that the chains are 12, 7, and 8
  * with 11; keys 9, 10 and 14 are not held and have the heads of 12, 7 and 8. size: of a value, room of a get, both
- * counts of a play, quantity of a new order or a fill. */
+ * counts of a play, quantity of a new order or a fill, layout of a format. Of layout 2 the high word of these keys is 5. */
 static const struct directed {
     unsigned calls, answer;
     enum fault fault;
     uint64_t key;
     size_t size;
 } cases[] = {
-    {IN_FORMAT | IN_RECOVER, DONE, SOUND, 0, 0},
+    {IN_RECOVER, DONE, SOUND, 0, 0},
+    {IN_FORMAT, DONE, SOUND, 0, 1},
+    {IN_FORMAT, DONE, SOUND, 0, 2},
+    {IN_FORMAT, 32, SOUND, 0, 0},
+    {IN_FORMAT, 32, SOUND, 0, 3},
+    {IN_FORMAT, 32, SOUND, 0, SIZE_MAX},
     {IN_FORMAT | IN_ALL | IN_PLAY, 1, BAD_LENGTH, 7, 5},
     {IN_ALL, 2, UNFORMATTED, 7, 5},
     {IN_ALL, 3, BAD_HEADER, 7, 5},
+    {IN_ALL, 3, OTHER_LAYOUT, 7, 5},
     {IN_ALL, 4, NO_HEADS, 7, 5},
     {IN_ALL, 4, MANY_HEADS, 7, 5},
     {IN_ALL, 4, BAD_NEXT, 7, 5},
@@ -1366,15 +1376,15 @@ static const struct directed {
     {IN_RECOVER, 7, SAME_AND_BROKEN, 0, 0},
     {IN_RECOVER, 8, ALL_LIVE, 0, 0},
     {IN_CHANGE | IN_GET | IN_LOCATE, DONE, SOUND, 7, 33},
-    {IN_REPLACE | IN_GET, DONE, SOUND, 8, 80},
+    {IN_REPLACE | IN_GET, DONE, SOUND, 8, VALUE_MAX},
     {IN_INSERT, DONE, SOUND, 10, 0},
-    {IN_INSERT, DONE, SOUND, 10, 80},
+    {IN_INSERT, DONE, SOUND, 10, VALUE_MAX},
     {IN_REMOVE | IN_GET | IN_LOCATE, ABSENT, SOUND, 10, 0},
-    {IN_WRITE, 10, SOUND, 7, 81},
-    {IN_WRITE, 10, SOUND, 10, 81},
-    {IN_WRITE, 10, ABOVE_N, 7, 81},
-    {IN_WALK, 11, ABOVE_N, 7, 80},
-    {IN_WALK, 11, ROUND, 10, 80},
+    {IN_WRITE, 10, SOUND, 7, VALUE_MAX + 1},
+    {IN_WRITE, 10, SOUND, 10, VALUE_MAX + 1},
+    {IN_WRITE, 10, ABOVE_N, 7, VALUE_MAX + 1},
+    {IN_WALK, 11, ABOVE_N, 7, VALUE_MAX},
+    {IN_WALK, 11, ROUND, 10, VALUE_MAX},
     {IN_WALK, 11, ABOVE_N, 7, 0},
     {IN_WALK, 11, ROUND, 10, 0},
     {IN_INSERT, 20, SOUND, 7, 5},
@@ -1436,7 +1446,7 @@ static const struct directed {
     {IN_CHANGE | IN_GET | IN_LOCATE, DONE, SOUND, 11, 33},
     {IN_INSERT, DONE, SOUND, 14, 5},
     {IN_REMOVE | IN_GET | IN_LOCATE, ABSENT, SOUND, 14, 0},
-    {IN_WRITE, 10, SOUND, 11, 81},
+    {IN_WRITE, 10, SOUND, 11, VALUE_MAX + 1},
     {IN_INSERT, 20, SOUND, 11, 5},
     {IN_REPLACE, 21, SOUND, 14, 5},
     {IN_INSERT, 28, FULL, 14, 5},
@@ -1447,11 +1457,11 @@ static const struct directed {
     {IN_CHANGE, 11, NO_LAST, 11, 5},
     {IN_REMOVE, 11, NO_LIVE, 11, 0},
     {IN_GET, 13, SOUND, 11, 23},
-    {IN_CHANGE | IN_GET | IN_LOCATE, DONE, ALL_SLOTS, 7, 80},
+    {IN_CHANGE | IN_GET | IN_LOCATE, DONE, ALL_SLOTS, 7, VALUE_MAX},
     {IN_INSERT, 20, ALL_SLOTS, 7, 5},
     {IN_GET, 13, ALL_SLOTS, 7, 0},
     {IN_GET, 23, LONG_LAST, 7, 90},
-    {IN_WALK, 11, ALL_SLOTS, 10, 80},
+    {IN_WALK, 11, ALL_SLOTS, 10, VALUE_MAX},
     {IN_REMOVE | IN_GET | IN_LOCATE, ABSENT, ALL_BUT_ONE, 10, 0},
     {IN_REPLACE, 21, ALL_BUT_ONE, 10, 5},
     {IN_INSERT, DONE, ALL_BUT_ONE, 10, 5},
@@ -1517,12 +1527,24 @@ static const struct directed {
     {IN_STEP, 11, FIRST_NEXT, 11, 59},
     {IN_FILL | IN_WITHDRAW, 11, NO_LIVE, 11, 60},
     {IN_FILL | IN_ACKNOWLEDGE, DONE, NO_LIVE, 11, 59},
+#if LAYOUT == 2
+    /* a key that shares its low word with one that is held */
+    {IN_REMOVE | IN_GET | IN_LOCATE, ABSENT, OTHER_HIGH, 7, 0},
+    {IN_INSERT, DONE, OTHER_HIGH, 7, 5},
+    {IN_REPLACE, 21, OTHER_HIGH, 7, 5},
+    {IN_NEW, DONE, OTHER_HIGH, 11, 1},
+    {IN_STEP, 18, OTHER_HIGH, 11, 1},
+#endif
 };
 
+static m_key directed_key(uint64_t low) {
+    return key_of_words(low, 5);
+}
+
 static void set_order(uint8_t *image, uint32_t slot, uint64_t state, uint64_t ordered, uint64_t filled) {
-    m_set_word(image, 16 * (size_t)slot + 3, state);
-    m_set_word(image, 16 * (size_t)slot + 4, ordered);
-    m_set_word(image, 16 * (size_t)slot + 5, filled);
+    m_set_word(image, 16 * (size_t)slot + VALUE_WORD, state);
+    m_set_word(image, 16 * (size_t)slot + VALUE_WORD + 1, ordered);
+    m_set_word(image, 16 * (size_t)slot + VALUE_WORD + 2, filled);
 }
 
 /* The chain of key 7's head: the slots 5, 6, 2, 3, 4 and 1 from that one on. */
@@ -1534,11 +1556,16 @@ static void chain_all(struct m_index *index, uint32_t from) {
 
 /* the kind word of slot 2, and a nonzero byte past the length of slot 1 */
 static void set_kind_word(uint8_t *image, unsigned kind, unsigned size, uint64_t bits) {
-    m_set_word(image, 16 * 2 + 2, kind + 256 * size + bits);
+    m_set_word(image, 16 * 2 + KIND_WORD, kind + 256 * size + bits);
 }
 
 static void set_tail(uint8_t *image) {
-    image[128 + (below(2) ? 24 + 20 + below(12) : 72 + below(48))] = (uint8_t)(1 + below(255));
+    image[128 + (below(2) ? 8 * VALUE_WORD + 20 + below(FRONT - 20) : 72 + below(48))] = (uint8_t)(1 + below(255));
+}
+
+/* and a length of slot 1 that is too long */
+static void set_length(uint8_t *image) {
+    image[128 + 8 * KIND_WORD + 1] = (uint8_t)(VALUE_MAX + 1 + below(255 - VALUE_MAX));
 }
 
 /* bits above bit 23, or a number of 1 or over 8 */
@@ -1549,13 +1576,13 @@ static uint64_t bad_bits(void) {
 /* The reuse chain has slots 5 and 6. Two remove records of one basket there, above all others: neither may be taken. */
 static void none_to_take(uint8_t *image) {
     for (uint32_t slot = 5; slot <= 6; slot++)
-        set_record(image, slot, 2, 4 + slot, 5, 0), set_number(image, slot, 2);
+        set_record(image, slot, 2, directed_key(4 + slot), 5, 0), set_number(image, slot, 2);
 }
 
 /* It has slot 5 alone: a remove record of key 8, which slot 2 has an older record of; and slot 6 is above it. */
 static void kept_remove(struct set *s) {
-    set_record(s->model_image, 5, 2, 8, 5, 0);
-    set_record(s->model_image, 6, 1, 13, 6, 5);
+    set_record(s->model_image, 5, 2, directed_key(8), 5, 0);
+    set_record(s->model_image, 6, 1, directed_key(13), 6, 5);
     s->model.next[5] = 0;
     s->model.state.last = 5;
 }
@@ -1566,12 +1593,13 @@ static void plant(struct set *s, enum fault fault) {
     const uint64_t bits = bad_bits();
     switch (fault) {
     case UNFORMATTED: m_set_word(image, 0, 0); break;
-    case BAD_HEADER: m_set_word(image, 1 + below(7), 2); break;
+    case BAD_HEADER: m_set_word(image, 1 + below(7), 3); break;
+    case OTHER_LAYOUT: m_set_word(image, 1, 3 - LAYOUT); break;
     case BAD_MARK: m_set_word(image, 16 * (1 + below(6)) + 8 * below(2), 2 + below(1000)); break;
-    case BAD_KIND: set_record(image, 5, 3, 9, 5, 0); break;
-    case LONG_RECORD: image[128 + 17] = (uint8_t)(81 + below(175)); break;
-    case SAME_VERSION: set_record(image, 5, 1, 9, 2, 5); break;
-    case ALL_LIVE: set_record(image, 5, 1, 9, 5, 5), set_record(image, 6, 1, 10, 6, 5); break;
+    case BAD_KIND: set_record(image, 5, 3, directed_key(9), 5, 0); break;
+    case LONG_RECORD: set_length(image); break;
+    case SAME_VERSION: set_record(image, 5, 1, directed_key(9), 2, 5); break;
+    case ALL_LIVE: set_record(image, 5, 1, directed_key(9), 5, 5), set_record(image, 6, 1, directed_key(10), 6, 5); break;
     case ABOVE_N: index->heads[7 % 3] = 7 + (uint32_t)below(1000); break;
     case ROUND: index->next[1] = 1; break;
     case FULL: index->state.live = 5; break;
@@ -1589,13 +1617,13 @@ static void plant(struct set *s, enum fault fault) {
     case LARGE_ORDER: set_order(image, 3, 1, UINT64_MAX, UINT64_MAX - 1); break;
     case ALL_SLOTS: chain_all(index, 5); break;
     case ALL_BUT_ONE: chain_all(index, 6); break;
-    case LONG_LAST: chain_all(index, 5), image[128 + 17] = (uint8_t)(81 + below(175)); break;
-    case BAD_BITS: set_kind_word(image, 1, 80, bits); break;
+    case LONG_LAST: chain_all(index, 5), set_length(image); break;
+    case BAD_BITS: set_kind_word(image, 1, VALUE_MAX, bits); break;
     case BAD_TAIL: set_tail(image); break;
-    case REMOVE_LENGTH: set_record(image, 5, 2, 9, 5, 1 + below(80)); break;
-    case BITS_AND_KIND: set_kind_word(image, 3, 81, bits); break;
-    case KIND_AND_LENGTH: set_kind_word(image, below(2) ? 0 : 3 + (unsigned)below(253), 81, 0); break;
-    case LENGTH_AND_TAIL: set_tail(image), image[128 + 16] = 2; break;
+    case REMOVE_LENGTH: set_record(image, 5, 2, directed_key(9), 5, 1 + below(VALUE_MAX)); break;
+    case BITS_AND_KIND: set_kind_word(image, 3, VALUE_MAX + 1, bits); break;
+    case KIND_AND_LENGTH: set_kind_word(image, below(2) ? 0 : 3 + (unsigned)below(253), VALUE_MAX + 1, 0); break;
+    case LENGTH_AND_TAIL: set_tail(image), image[128 + 8 * KIND_WORD] = 2; break;
     case ONE_BROKEN: break_slot(image, 1 + (uint32_t)below(6), (int)below(2)); break;
     case TWO_BROKEN: break_slot(image, 1 + (uint32_t)below(3), (int)below(2)), break_slot(image, 4, 0); break;
     case SAME_AND_BROKEN: set_record(image, 5, 1, 9, 2, 5), break_slot(image, 3, 0), break_slot(image, 6, 1); break;
@@ -1610,7 +1638,7 @@ static void plant(struct set *s, enum fault fault) {
     case ONE_LIVE: index->state.live = 1; break;
     case LAST_LINK: index->next[6] = 7 + (uint32_t)below(1000); break;
     case LIVE_ABOVE: index->state.live = 7 + (uint32_t)below(UINT32_MAX - 6u); break;
-    case TAIL_THEN_BITS: set_tail(image), set_kind_word(image, 3, 81, bits); break;
+    case TAIL_THEN_BITS: set_tail(image), set_kind_word(image, 3, VALUE_MAX + 1, bits); break;
     default: break;
     }
 }
@@ -1620,11 +1648,11 @@ static struct set *directed_set(enum fault fault) {
     struct set *s = open_set(length - (fault == BAD_LENGTH), heads, fault == BAD_NEXT ? 8 : 7);
     lend_garbage(s);
     if (fault != BAD_LENGTH) {
-        m_format(s->model_image, length);
-        set_record(s->model_image, 1, 1, 7, 1, 20);
-        set_record(s->model_image, 2, 1, 8, 2, 80);
-        set_record(s->model_image, 3, 1, 11, 3, ORDERSET_ORDER_BYTES);
-        set_record(s->model_image, 4, 1, 12, 4, ORDERSET_ORDER_BYTES);
+        m_format(s->model_image, length, LAYOUT);
+        set_record(s->model_image, 1, 1, directed_key(7), 1, 20);
+        set_record(s->model_image, 2, 1, directed_key(8), 2, VALUE_MAX);
+        set_record(s->model_image, 3, 1, directed_key(11), 3, ORDERSET_ORDER_BYTES);
+        set_record(s->model_image, 4, 1, directed_key(12), 4, ORDERSET_ORDER_BYTES);
         set_order(s->model_image, 3, ORDERSET_SENT, 100, 40);
         set_order(s->model_image, 4, ORDERSET_ACKNOWLEDGED, 100, 40);
     }
@@ -1652,14 +1680,15 @@ static uint64_t slots_due(const struct directed *c) {
 static void directed(const struct directed *c, enum which which) {
     uint8_t bytes[128];
     struct set *s = directed_set(c->fault);
-    const struct request r = {which, c->key, c->size, bytes, c->size};
+    const m_key key = key_of_words(c->key, c->fault == OTHER_HIGH ? 6 : 5);
+    const struct request r = {which, key, c->size, bytes, c->size};
     uint64_t before = met[which][c->answer];
     fill(bytes, sizeof bytes);
     switch (which) {
-    case FORMAT: try_format(s); break;
+    case FORMAT: try_format(s, c->size); break;
     case RECOVER: try_recover(s); break;
-    case GET: try_get(s, c->key, bytes, c->size); break;
-    case LOCATE: try_locate(s, c->key); break;
+    case GET: try_get(s, key, bytes, c->size); break;
+    case LOCATE: try_locate(s, key); break;
     case PLAY: try_play(s, below(2) ? c->size : c->size == 9, c->size); break;
     case PLAY_LIST: try_play_list(s, s->at, c->fault == TWO_LENGTHS ? 15 : 16, s->value, 16); break;
     default: try_change(s, &r); break;
@@ -1688,11 +1717,11 @@ static const struct basket_case {
         size_t size;
     } item[ORDERSET_BASKET];
 } basket_cases[] = {
-    {DONE, SOUND, 1, {0, 0}, {{R, 7, 80}}},
+    {DONE, SOUND, 1, {0, 0}, {{R, 7, VALUE_MAX}}},
     {DONE, SOUND, 1, {0, 0}, {{I, 10, 0}}},
-    {DONE, SOUND, 1, {0, 0}, {{D, 8, 81}}},
-    {DONE, SOUND, 2, {0, 0}, {{R, 7, 5}, {D, 8, SIZE_MAX}, {9, 7, 81}}},
-    {DONE, SOUND, 2, {0, 0}, {{I, 10, 80}, {D, 12, 0}}},
+    {DONE, SOUND, 1, {0, 0}, {{D, 8, VALUE_MAX + 1}}},
+    {DONE, SOUND, 2, {0, 0}, {{R, 7, 5}, {D, 8, SIZE_MAX}, {9, 7, VALUE_MAX + 1}}},
+    {DONE, SOUND, 2, {0, 0}, {{I, 10, VALUE_MAX}, {D, 12, 0}}},
     {DONE, SOUND, 2, {0, 0}, {{D, 11, 0}, {D, 8, 0}}},
     {DONE, SOUND, 2, {0, 0}, {{I, 14, 7}, {R, 8, 9}}},
     {DONE, SOUND, 2, {0, 0}, {{R, 8, 9}, {I, 14, 7}}},
@@ -1705,23 +1734,23 @@ static const struct basket_case {
     {26, BAD_LENGTH, 0, {0, 0}, {{0}}},
     {26, SOUND, 1, {0, 0}, {{0, 7, 5}}},
     {26, SOUND, 2, {0, 0}, {{R, 7, 5}, {4, 8, 5}}},
-    {26, SOUND, 2, {0, 0}, {{R, 7, 5}, {UINT32_MAX, 7, 81}}},
+    {26, SOUND, 2, {0, 0}, {{R, 7, 5}, {UINT32_MAX, 7, VALUE_MAX + 1}}},
     {26, BAD_LENGTH, 2, {1, 1}, {{R, 7, 5}, {257, 8, 5}}},
     {27, SOUND, 2, {0, 0}, {{R, 7, 5}, {D, 7, 5}}},
-    {27, SOUND, 3, {0, 0}, {{I, 7, 81}, {R, 10, 5}, {I, 10, 5}}},
+    {27, SOUND, 3, {0, 0}, {{I, 7, VALUE_MAX + 1}, {R, 10, 5}, {I, 10, 5}}},
     {27, BAD_LENGTH, 8, {1, 1}, {{I, 1, 5}, {I, 2, 5}, {I, 3, 5}, {I, 4, 5}, {I, 5, 5}, {I, 6, 5}, {I, 7, 5}, {I, 1, 5}}},
     {13, SOUND, 1, {1, 0}, {{R, 7, 5}}},
     {13, SOUND, 2, {0, 1}, {{R, 7, 5}, {D, 8, 0}}},
     {13, BAD_LENGTH, 2, {32, 32}, {{R, 7, 5}, {D, 8, 0}}},
-    {1, BAD_LENGTH, 2, {0, 0}, {{R, 7, 81}, {D, 8, 0}}},
-    {2, UNFORMATTED, 2, {0, 0}, {{R, 7, 81}, {D, 8, 0}}},
-    {3, BAD_HEADER, 2, {0, 0}, {{R, 7, 81}, {D, 8, 0}}},
-    {4, NO_HEADS, 2, {0, 0}, {{R, 7, 81}, {D, 8, 0}}},
-    {4, MANY_HEADS, 2, {0, 0}, {{R, 7, 81}, {D, 8, 0}}},
-    {4, BAD_NEXT, 2, {0, 0}, {{R, 7, 81}, {D, 8, 0}}},
-    {10, SOUND, 1, {0, 0}, {{I, 10, 81}}},
+    {1, BAD_LENGTH, 2, {0, 0}, {{R, 7, VALUE_MAX + 1}, {D, 8, 0}}},
+    {2, UNFORMATTED, 2, {0, 0}, {{R, 7, VALUE_MAX + 1}, {D, 8, 0}}},
+    {3, BAD_HEADER, 2, {0, 0}, {{R, 7, VALUE_MAX + 1}, {D, 8, 0}}},
+    {4, NO_HEADS, 2, {0, 0}, {{R, 7, VALUE_MAX + 1}, {D, 8, 0}}},
+    {4, MANY_HEADS, 2, {0, 0}, {{R, 7, VALUE_MAX + 1}, {D, 8, 0}}},
+    {4, BAD_NEXT, 2, {0, 0}, {{R, 7, VALUE_MAX + 1}, {D, 8, 0}}},
+    {10, SOUND, 1, {0, 0}, {{I, 10, VALUE_MAX + 1}}},
     {10, ABOVE_N, 2, {0, 0}, {{R, 7, 5}, {R, 8, SIZE_MAX}}},
-    {10, SOUND, 3, {0, 0}, {{R, 10, 5}, {I, 7, 5}, {I, 9, 81}}},
+    {10, SOUND, 3, {0, 0}, {{R, 10, 5}, {I, 7, 5}, {I, 9, VALUE_MAX + 1}}},
     {11, ABOVE_N, 2, {0, 0}, {{I, 8, 5}, {R, 7, 5}}},
     {11, ROUND, 2, {0, 0}, {{D, 14, 5}, {I, 10, 5}}},
     {11, ALL_SLOTS, 1, {0, 0}, {{I, 10, 5}}},
@@ -1760,7 +1789,7 @@ static void directed_basket(const struct basket_case *c) {
     const uint64_t before = met[BASKET][c->answer];
     fill(bytes, sizeof bytes);
     for (size_t i = 0; i < ORDERSET_BASKET; i++)
-        b.item[i] = (struct m_item){c->item[i].kind, c->item[i].key, bytes, c->item[i].size};
+        b.item[i] = (struct m_item){c->item[i].kind, directed_key(c->item[i].key), bytes, c->item[i].size};
     s->own = c->fault == SOUND;
     try_basket(s, &b);
     if (met[BASKET][c->answer] != before + 1)
@@ -1862,7 +1891,7 @@ static void set_groups(uint8_t *image, const struct group_case *c) {
     uint32_t slot = 1;
     for (size_t g = 0; g < 3; g++)
         for (uint32_t k = 0; k < c->group[g].records; k++, slot++) {
-            set_record(image, slot, 1, 100 + slot, c->group[g].version, below(81));
+            set_record(image, slot, 1, 100 + slot, c->group[g].version, below(VALUE_MAX + 1));
             set_number(image, slot, c->group[g].number);
         }
     for (uint32_t k = 0; k < c->broken; k++)
@@ -1872,7 +1901,7 @@ static void set_groups(uint8_t *image, const struct group_case *c) {
 static void directed_group(const struct group_case *c) {
     struct set *s = open_set(ORDERSET_IMAGE_BYTES(12), 5, 13);
     lend_garbage(s);
-    m_format(s->model_image, s->length);
+    m_format(s->model_image, s->length, LAYOUT);
     set_groups(s->model_image, c);
     lend_same(s);
     now = s;
@@ -1890,7 +1919,7 @@ static void directed_twice(uint32_t number) {
     const struct group_case c = {{{5, number, number}}, 0, 7, 0, 0};
     uint32_t i = 1 + (uint32_t)below(number), j = 1 + (i + (uint32_t)below(number - 1)) % number;
     lend_garbage(s);
-    m_format(s->model_image, s->length);
+    m_format(s->model_image, s->length, LAYOUT);
     set_groups(s->model_image, &c);
     m_set_word(s->model_image, 16 * (size_t)i + 1, m_word(s->model_image, 16 * (size_t)j + 1));
     lend_same(s);
@@ -1930,7 +1959,7 @@ static uint64_t least_met(uint64_t times[WHICH][ANSWERS], const char *const rule
 }
 
 static const char *const answers[WHICH] = {
-    [FORMAT] = "0 1",
+    [FORMAT] = "0 1 32",
     [RECOVER] = "0 1 2 3 4 5 6 7 8 22 23 24 25",
     [INSERT] = "0 1 2 3 4 9 10 11 20 28",
     [REPLACE] = "0 1 2 3 4 9 10 11 21 28",
@@ -1986,7 +2015,7 @@ static int only_damaged(uint64_t wanted) {
 
 int main(int count, char **word) {
     uint64_t wanted = count > 2 ? strtoull(word[2], NULL, 10) : CALLS, least, far_least;
-    begin_chance("differential", count > 1 ? word[1] : NULL);
+    begin_chance(LAYOUT == 1 ? "differential" : "differential of layout 2", count > 1 ? word[1] : NULL);
     for (int i = 0; i < 20; i++)
         all_directed();
     if (count > 3 && !strcmp(word[3], "damaged"))

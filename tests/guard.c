@@ -1,4 +1,5 @@
-/* Calls on lent memory that begins or ends at a page which nobody may touch (pieces.h). What a refused call was lent is
+/* Calls of the layout that the test is built for (layout.h), on lent memory that begins or ends at a page which nobody
+ * may touch (pieces.h). What a refused call was lent is
  * compared with what it was. Images and indexes are sound, damaged and garbage; lengths are right and wrong.
  *
  *     guard [SEED [CALLS]]
@@ -10,7 +11,6 @@
 
 #include "chance.h"
 #include "images.h"
-#include "orderset.h"
 #include "pieces.h"
 
 enum { CALLS = 5000000 };
@@ -29,8 +29,8 @@ static enum which call;
 /* ---- pieces of memory */
 
 enum what {
-    IMAGE, HEADS, NEXT, STATE, VERSION, BYTES, OUTPUT, AT, VALUE, ANSWER, COUNT, OPEN_AT, OPEN_VALUE, KINDS, KEYS, LENGTHS,
-    VALUES, PIECES
+    IMAGE, HEADS, NEXT, STATE, VERSION, BYTES, OUTPUT, AT, VALUE, ANSWER, COUNT, OPEN_AT, OPEN_VALUE, KINDS, LOWS, HIGHS,
+    LENGTHS, VALUES, PIECES
 };
 
 struct piece piece[PIECES] = {
@@ -48,7 +48,8 @@ struct piece piece[PIECES] = {
     {"the opening stores' words", PAGE, NULL, NULL, NULL, 0, 0},
     {"the opening stores' values", PAGE, NULL, NULL, NULL, 0, 0},
     {"kinds", PAGE, NULL, NULL, NULL, 0, 0},
-    {"keys", PAGE, NULL, NULL, NULL, 0, 0},
+    {"low words", PAGE, NULL, NULL, NULL, 0, 0},
+    {"high words", PAGE, NULL, NULL, NULL, 0, 0},
     {"lengths", PAGE, NULL, NULL, NULL, 0, 0},
     {"values", PAGE, NULL, NULL, NULL, 0, 0},
 };
@@ -82,7 +83,7 @@ static size_t heads_length, next_length;
 static void call_format(void) {
     static const int writable[] = {IMAGE, ANSWER, NONE};
     begin(FORMAT, writable);
-    end(orderset_format(w(IMAGE), piece[IMAGE].length, w(ANSWER)), writable);
+    end(orderset_format(w(IMAGE), piece[IMAGE].length, below(4) ? 1 + below(2) : below(5), w(ANSWER)), writable);
 }
 
 /* The stores that recovery hands out open line A of a slot each, by rising slot; those past them are zero. */
@@ -102,7 +103,7 @@ static void openings_are_sound(void) {
 static void call_recover(void) {
     static const int writable[] = {HEADS, NEXT, STATE, VERSION, COUNT, OPEN_AT, OPEN_VALUE, NONE};
     begin(RECOVER, writable);
-    if (end(orderset_recover(r(IMAGE), piece[IMAGE].length, w(HEADS), heads_length, w(NEXT), next_length, w(STATE),
+    if (end(SET(recover)(r(IMAGE), piece[IMAGE].length, w(HEADS), heads_length, w(NEXT), next_length, w(STATE),
                              w(VERSION), w(COUNT), w(OPEN_AT), w(OPEN_VALUE)),
             writable))
         return;
@@ -121,35 +122,35 @@ static void call_play(size_t a, size_t b) {
     end(orderset_play(w(IMAGE), piece[IMAGE].length, r(AT), r(VALUE), a, b), writable);
 }
 
-static uint64_t change(uint64_t key, uint64_t quantity) {
+static uint64_t change(m_key key, uint64_t quantity) {
     const size_t length = piece[IMAGE].length;
     switch (call) {
     case INSERT:
-        return orderset_insert(r(IMAGE), length, w(HEADS), heads_length, w(NEXT), next_length, w(STATE), w(VERSION),
-                               key, r(BYTES), piece[BYTES].length, w(AT), w(VALUE), w(ANSWER));
+        return SET(insert)(r(IMAGE), length, w(HEADS), heads_length, w(NEXT), next_length, w(STATE), w(VERSION),
+                               KEY(key), r(BYTES), piece[BYTES].length, w(AT), w(VALUE), w(ANSWER));
     case REPLACE:
-        return orderset_replace(r(IMAGE), length, w(HEADS), heads_length, w(NEXT), next_length, w(STATE), w(VERSION),
-                                key, r(BYTES), piece[BYTES].length, w(AT), w(VALUE), w(ANSWER));
+        return SET(replace)(r(IMAGE), length, w(HEADS), heads_length, w(NEXT), next_length, w(STATE), w(VERSION),
+                                KEY(key), r(BYTES), piece[BYTES].length, w(AT), w(VALUE), w(ANSWER));
     case REMOVE:
-        return orderset_remove(r(IMAGE), length, w(HEADS), heads_length, w(NEXT), next_length, w(STATE), w(VERSION),
-                               key, w(AT), w(VALUE), w(ANSWER));
+        return SET(remove)(r(IMAGE), length, w(HEADS), heads_length, w(NEXT), next_length, w(STATE), w(VERSION),
+                               KEY(key), w(AT), w(VALUE), w(ANSWER));
     case NEW:
-        return orderset_book_new(r(IMAGE), length, w(HEADS), heads_length, w(NEXT), next_length, w(STATE), w(VERSION),
-                                 key, quantity, w(AT), w(VALUE), w(ANSWER));
+        return SET(book_new)(r(IMAGE), length, w(HEADS), heads_length, w(NEXT), next_length, w(STATE), w(VERSION),
+                                 KEY(key), quantity, w(AT), w(VALUE), w(ANSWER));
     case ACKNOWLEDGE:
-        return orderset_book_acknowledge(r(IMAGE), length, w(HEADS), heads_length, w(NEXT), next_length, w(STATE),
-                                         w(VERSION), key, w(AT), w(VALUE), w(ANSWER));
+        return SET(book_acknowledge)(r(IMAGE), length, w(HEADS), heads_length, w(NEXT), next_length, w(STATE),
+                                         w(VERSION), KEY(key), w(AT), w(VALUE), w(ANSWER));
     case FILL:
-        return orderset_book_fill(r(IMAGE), length, w(HEADS), heads_length, w(NEXT), next_length, w(STATE), w(VERSION),
-                                  key, quantity, w(AT), w(VALUE), w(ANSWER));
+        return SET(book_fill)(r(IMAGE), length, w(HEADS), heads_length, w(NEXT), next_length, w(STATE), w(VERSION),
+                                  KEY(key), quantity, w(AT), w(VALUE), w(ANSWER));
     default:
-        return orderset_book_withdraw(r(IMAGE), length, w(HEADS), heads_length, w(NEXT), next_length, w(STATE),
-                                      w(VERSION), key, w(AT), w(VALUE), w(ANSWER));
+        return SET(book_withdraw)(r(IMAGE), length, w(HEADS), heads_length, w(NEXT), next_length, w(STATE),
+                                      w(VERSION), KEY(key), w(AT), w(VALUE), w(ANSWER));
     }
 }
 
 /* 1 if there are stores to be made */
-static int call_change(uint64_t key) {
+static int call_change(m_key key) {
     static const int writable[] = {HEADS, NEXT, STATE, VERSION, AT, VALUE, ANSWER, NONE};
     uint64_t answer;
     begin(call, writable);
@@ -162,30 +163,32 @@ static int call_change(uint64_t key) {
     return code == 0 && answer == ORDERSET_GIVEN;
 }
 
-static uint64_t key_of_image(uint64_t keys) {
-    uint64_t key;
+static m_key key_of_image(uint64_t keys) {
     if (slots == 0 || below(2))
         return any_key(keys);
-    memcpy(&key, (const uint8_t *)w(IMAGE) + 128 * (1 + below(slots)) + 8, sizeof key);
-    return key;
+    return m_key_in(w(IMAGE), 1 + (uint32_t)below(slots));
 }
 
 /* The items of a basket, the first `count` of them mostly as the rules ask for. */
 static void place_items(uint64_t keys, size_t count) {
     place(KINDS, 4 * ORDERSET_BASKET);
-    place(KEYS, 8 * ORDERSET_BASKET);
+    place(LOWS, 8 * ORDERSET_BASKET);
+    place(HIGHS, 8 * ORDERSET_BASKET);
     place(LENGTHS, sizeof(size_t) * ORDERSET_BASKET);
     place(VALUES, ORDERSET_BASKET_VALUES);
     fill(w(VALUES), ORDERSET_BASKET_VALUES);
     for (size_t i = 0; i < ORDERSET_BASKET; i++) {
         uint32_t kind = i < count && below(100) ? 1 + (uint32_t)below(3) : (uint32_t)chance();
-        uint64_t key = key_of_image(keys), answer[ORDERSET_CHANGE_ANSWER] = {0};
-        size_t length = below(100) ? below(ORDERSET_VALUE_MAX + 1) : (size_t)chance();
+        const m_key key = key_of_image(keys);
+        const uint64_t low = low_word(key), high = high_word(key);
+        uint64_t answer[ORDERSET_CHANGE_ANSWER] = {0};
+        size_t length = below(100) ? below(VALUE_MAX + 1) : (size_t)chance();
         if (i < count && below(8)
-            && !orderset_locate(r(IMAGE), piece[IMAGE].length, r(HEADS), heads_length, r(NEXT), next_length, key, answer))
+            && !SET(locate)(r(IMAGE), piece[IMAGE].length, r(HEADS), heads_length, r(NEXT), next_length, KEY(key), answer))
             kind = answer[0] == ORDERSET_ABSENT ? ORDERSET_INSERT : ORDERSET_REPLACE + (uint32_t)below(2);
         memcpy((uint8_t *)w(KINDS) + 4 * i, &kind, sizeof kind);
-        memcpy((uint8_t *)w(KEYS) + 8 * i, &key, sizeof key);
+        memcpy((uint8_t *)w(LOWS) + 8 * i, &low, sizeof low);
+        memcpy((uint8_t *)w(HIGHS) + 8 * i, &high, sizeof high);
         memcpy((uint8_t *)w(LENGTHS) + sizeof length * i, &length, sizeof length);
     }
 }
@@ -201,9 +204,9 @@ static void call_basket(uint64_t keys) {
     fill(w(AT), piece[AT].length);
     fill(w(VALUE), piece[VALUE].length);
     begin(BASKET, writable);
-    if (end(orderset_basket(r(IMAGE), piece[IMAGE].length, w(HEADS), heads_length, w(NEXT), next_length, w(STATE),
-                            w(VERSION), count, r(KINDS), r(KEYS), r(LENGTHS), r(VALUES), w(AT), piece[AT].length / 4,
-                            w(VALUE), piece[VALUE].length / 8, w(ANSWER)),
+    if (end(SET(basket)(r(IMAGE), piece[IMAGE].length, w(HEADS), heads_length, w(NEXT), next_length, w(STATE),
+                        w(VERSION), count, r(KINDS), BASKET_KEYS(r(LOWS), r(HIGHS)), r(LENGTHS), r(VALUES), w(AT),
+                        piece[AT].length / 4, w(VALUE), piece[VALUE].length / 8, w(ANSWER)),
             writable))
         return;
     same(&piece[AT], piece[AT].at + 4 * stores, piece[AT].at + piece[AT].length, "past the stores");
@@ -214,23 +217,23 @@ static void call_basket(uint64_t keys) {
     }
 }
 
-static void call_get(uint64_t key) {
+static void call_get(m_key key) {
     static const int writable[] = {OUTPUT, ANSWER, NONE};
     const struct piece *out = &piece[OUTPUT];
     uint64_t answer[ORDERSET_ANSWER];
     begin(GET, writable);
-    uint32_t code = end(orderset_get(r(IMAGE), piece[IMAGE].length, r(HEADS), heads_length, r(NEXT), next_length, key,
-                                     w(OUTPUT), out->length, w(ANSWER)),
+    uint32_t code = end(SET(get)(r(IMAGE), piece[IMAGE].length, r(HEADS), heads_length, r(NEXT), next_length, KEY(key),
+                                 w(OUTPUT), out->length, w(ANSWER)),
                         writable);
     memcpy(answer, w(ANSWER), sizeof answer);
     if (code == 0)
         same(out, out->at + answer[ORDERSET_LENGTH], out->at + out->length, "past the value");
 }
 
-static void call_locate(uint64_t key) {
+static void call_locate(m_key key) {
     static const int writable[] = {ANSWER, NONE};
     begin(LOCATE, writable);
-    end(orderset_locate(r(IMAGE), piece[IMAGE].length, r(HEADS), heads_length, r(NEXT), next_length, key, w(ANSWER)),
+    end(SET(locate)(r(IMAGE), piece[IMAGE].length, r(HEADS), heads_length, r(NEXT), next_length, KEY(key), w(ANSWER)),
         writable);
 }
 
@@ -383,7 +386,7 @@ static int all_met(void) {
 
 int main(int count, char **word) {
     uint64_t wanted = count > 2 ? strtoull(word[2], NULL, 10) : CALLS, refused = 0;
-    begin_chance("guard", count > 1 ? word[1] : NULL);
+    begin_chance(LAYOUT == 1 ? "guard" : "guard of layout 2", count > 1 ? word[1] : NULL);
     make_pieces();
     while (calls < wanted) {
         uint64_t keys = make_set();

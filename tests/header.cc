@@ -2,12 +2,14 @@
 // not found; an insert of a held key, a replace of one that is not held and a value that is too long are refused and
 // store nothing; the slots compared are read from answers and from refusals; an order is sent, acknowledged,
 // acknowledged again and filled; a record of a basket that a cut left is opened; a basket is made durable and found, and
-// baskets are refused. Before the stores of a call are made, and after that, its lines are asked about.
+// baskets are refused. Before the stores of a call are made, and after that, its lines are asked about. In layout 2 two
+// keys that share their low word are inserted, found, and removed by a basket, and each layout refuses the other's image.
 #include <cstdio>
 #include <cstring>
 #include <vector>
 
 #include "orderset.h"
+#include "orderset2.h"
 #include "orderset_persist.h"
 
 namespace {
@@ -32,8 +34,12 @@ bool recover(uint32_t voids) {
            && orderset_persist_list(image, sizeof image, open_at, open_value, count[0], best) == 0;
 }
 
+bool formats(uint64_t layout) {
+    return orderset_format(image, sizeof image, layout, found) == ORDERSET_OK && found[ORDERSET_SLOTS] == slots;
+}
+
 bool start() {
-    return orderset_format(image, sizeof image, found) == ORDERSET_OK && found[ORDERSET_SLOTS] == slots
+    return formats(ORDERSET_LAYOUT)
            && orderset_aligned(image) && orderset_persist_image(image, sizeof image, best) == 0 && recover(0);
 }
 
@@ -192,6 +198,60 @@ bool keeps_book(uint64_t key) {
            && answer[0] == ORDERSET_ABSENT;
 }
 
+// ---- layout 2: keys 2^64 * high + 7
+
+uint64_t recover2() {
+    return orderset2_recover(image, sizeof image, heads.data(), heads.size(), next.data(), next.size(), state, version,
+                             count, open_at, open_value);
+}
+
+uint64_t insert2(uint64_t high, const char *text, size_t length) {
+    return orderset2_insert(image, sizeof image, heads.data(), heads.size(), next.data(), next.size(), state, version, 7,
+                            high, reinterpret_cast<const uint8_t *>(text), length, at, value, answer);
+}
+
+bool finds2(uint64_t high, const char *text, uint64_t compared) {
+    if (orderset2_get(image, sizeof image, heads.data(), heads.size(), next.data(), next.size(), 7, high, out,
+                      ORDERSET2_VALUE_MAX, found)
+            != ORDERSET_OK
+        || found[ORDERSET_GET_COMPARED] != compared)
+        return false;
+    return found[0] == ORDERSET_GIVEN
+               ? text && found[ORDERSET_LENGTH] == std::strlen(text) && !std::memcmp(out, text, found[ORDERSET_LENGTH])
+               : !text;
+}
+
+bool drops_both() {
+    const uint32_t kinds[ORDERSET_BASKET] = {ORDERSET_REMOVE, ORDERSET_REMOVE};
+    const uint64_t lows[ORDERSET_BASKET] = {7, 7}, highs[ORDERSET_BASKET] = {2, 1};
+    const size_t lengths[ORDERSET_BASKET] = {0, 0};
+    const uint8_t values[ORDERSET_BASKET_VALUES] = {0};
+    const size_t stores = ORDERSET_BASKET_STORES(2);
+    return orderset2_basket(image, sizeof image, heads.data(), heads.size(), next.data(), next.size(), state, version, 2,
+                            kinds, lows, highs, lengths, values, list_at, stores, list_value, stores, given)
+               == ORDERSET_OK
+           && orderset_persist_list(image, sizeof image, list_at, list_value, stores, best) == 0;
+}
+
+bool keeps_second_layout() {
+    const std::vector<char> text(ORDERSET2_VALUE_MAX + 1, 'x');
+    return orderset_format(image, sizeof image, 3, found) == ORDERSET_NO_LAYOUT && formats(ORDERSET_LAYOUT)
+           && recover2() == ORDERSET_NO_HEADER && formats(ORDERSET2_LAYOUT) && recover2() == ORDERSET_OK
+           && orderset_recover(image, sizeof image, heads.data(), heads.size(), next.data(), next.size(), state, version,
+                               count, open_at, open_value)
+                  == ORDERSET_NO_HEADER
+           && refused(insert(7, "x", 1), ORDERSET_NO_HEADER, 0)
+           && refused(insert2(1, text.data(), text.size()), ORDERSET_VALUE_TOO_LONG, 0)
+           && made_durable(insert2(1, "buy", 3)) && made_durable(insert2(2, "sell", 4))
+           && refused(insert2(2, "x", 1), ORDERSET_INSERT_HELD, 2) && finds2(1, "buy", 1) && finds2(2, "sell", 2)
+           && finds2(3, nullptr, 2) && recover2() == ORDERSET_OK && finds2(1, "buy", 1) && finds2(2, "sell", 2)
+           && drops_both() && finds2(1, nullptr, 0)
+           && made_durable(orderset2_book_new(image, sizeof image, heads.data(), heads.size(), next.data(), next.size(),
+                                              state, version, 7, 9, 100, at, value, answer))
+           && made_durable(orderset2_book_withdraw(image, sizeof image, heads.data(), heads.size(), next.data(),
+                                                   next.size(), state, version, 7, 9, at, value, answer));
+}
+
 }
 
 int main() {
@@ -200,7 +260,7 @@ int main() {
                       && replace(7, "sell", 4) == ORDERSET_OK && lines_foretell() && made_durable(ORDERSET_OK)
                       && lines_tell() && finds(7, "sell") && refused_stores_nothing("sell")
                       && counts_slots() && made_durable(drop(7)) && finds(7, nullptr) && drop(7) == ORDERSET_OK
-                      && answer[0] == ORDERSET_ABSENT && keeps_book(9) && keeps_basket();
+                      && answer[0] == ORDERSET_ABSENT && keeps_book(9) && keeps_basket() && keeps_second_layout();
     std::printf("header: a set through the headers in C++: %s\n", good ? "as it should be" : "NOT SO");
     return good ? 0 : 1;
 }

@@ -64,7 +64,7 @@ static void make_image(uint64_t step) {
     length = ORDERSET_IMAGE_BYTES(n);
     count = 0;
     fill(bytes, sizeof bytes);
-    expect(orderset_format(image, length, answer) == ORDERSET_OK, "format");
+    expect(orderset_format(image, length, ORDERSET_LAYOUT, answer) == ORDERSET_OK, "format");
     expect(orderset_recover(image, length, heads, OWN_HEADS, next, n + 1, state, version, voids, open_at, open_value)
                    == ORDERSET_OK
                && voids[0] == 0,

@@ -5,15 +5,16 @@
 
 #include "chance.h"
 
-void set_record(uint8_t *image, uint32_t slot, unsigned kind, uint64_t key, uint64_t version, size_t size) {
+void set_record(uint8_t *image, uint32_t slot, unsigned kind, m_key key, uint64_t version, size_t size) {
     uint64_t bit = below(2), bit2 = below(2);
     uint8_t *record = image + 128 * (size_t)slot;
     memset(record, 0, 128);
     for (size_t i = 0; i < size; i++)
-        record[i < 32 ? 24 + i : 40 + i] = (uint8_t)chance();
+        record[i < FRONT ? 8 * VALUE_WORD + i : 8 * 9 + i - FRONT] = (uint8_t)chance();
     m_set_word(record, 0, bit);
-    m_set_word(record, 1, key);
-    m_set_word(record, 2, kind + 256 * (uint64_t)size);
+    m_set_word(record, 1, low_word(key));
+    m_set_word(record, 2, high_word(key));
+    m_set_word(record, KIND_WORD, kind + 256 * (uint64_t)size);
     m_set_word(record, 7, version * 2 + bit);
     m_set_word(record, 8, bit2);
     m_set_word(record, 15, version * 2 + bit2);
@@ -33,11 +34,12 @@ void order_bytes(uint8_t bytes[24]) {
 }
 
 void set_number(uint8_t *image, uint32_t slot, unsigned number) {
-    image[128 * (size_t)slot + 18] = (uint8_t)number;
+    image[128 * (size_t)slot + 8 * KIND_WORD + 2] = (uint8_t)number;
 }
 
-uint64_t any_key(uint64_t keys) {
-    return below(keys) * (below(2) ? 1 : 65536);
+m_key any_key(uint64_t keys) {
+    const uint64_t word = below(keys) * (below(2) ? 1 : 65536);
+    return LAYOUT == 1 ? word : key_of_words(below(2) ? word : word % 3, below(2) ? word : word % 3);
 }
 
 /* The numbers 1 to n in any order, at places 1 to n. */
@@ -69,15 +71,16 @@ static uint32_t newest_single(const uint8_t *image, uint32_t n, const uint8_t *i
 static void add_basket(uint8_t *image, uint32_t n, uint64_t keys, uint8_t *in_basket) {
     uint32_t number = 2 + (uint32_t)below(7), count = below(2) ? number : 1 + (uint32_t)below(number),
              slot = below(4) ? newest_single(image, n, in_basket) : 1 + (uint32_t)below(n);
-    uint64_t key = any_key(keys), version = m_word(image, 16 * (size_t)slot + 7) / 2;
+    m_key key = any_key(keys);
+    uint64_t version = m_word(image, 16 * (size_t)slot + 7) / 2;
     for (uint32_t tries = 0; slot && version && count > 0 && tries < 40; tries++) {
         if (!in_basket[slot]) {
             set_record(image, slot, below(3) ? 1 : 2, key, version, 0);
-            if (image[128 * (size_t)slot + 16] == 1)
-                set_record(image, slot, 1, key, version, below(81));
+            if (image[128 * (size_t)slot + 8 * KIND_WORD] == 1)
+                set_record(image, slot, 1, key, version, below(VALUE_MAX + 1));
             set_number(image, slot, number);
             in_basket[slot] = 1;
-            key += below(40) > 0;
+            key += (m_key)(below(40) > 0) << (LAYOUT == 1 ? 0 : 64 * below(2));
             count--;
         }
         slot = 1 + (uint32_t)below(n);
@@ -89,10 +92,11 @@ void any_image(uint8_t *image, uint32_t n, uint64_t keys) {
     uint32_t breaks = below(8) ? (uint32_t)below(9) : n; /* how many slots may be broken: mostly as a cut leaves them */
     uint64_t base = below(4) ? gap * below(3) : (1ull << 63) - 1 - gap * n - below(3);
     uint32_t *rank = any_order(n);
-    m_format(image, 128 * (n + 1ul));
+    m_format(image, 128 * (n + 1ul), LAYOUT);
     for (uint32_t i = 1; i <= n; i++) {
         uint8_t *slot = image + 128 * (size_t)i;
-        uint64_t key = any_key(keys), kind = below(8);
+        const m_key key = any_key(keys);
+        uint64_t kind = below(8);
         if (kind == 7 && spares == 1 && breaks)
             breaks--, fill(slot, 128), m_set_word(slot, 0, below(2)), m_set_word(slot, 8, below(2)),
                 m_set_word(slot, 7, 2 * chance() + !m_word(slot, 0));
@@ -101,9 +105,9 @@ void any_image(uint8_t *image, uint32_t n, uint64_t keys) {
         else
             set_record(image, i, kind < 4 || spares == 3 ? 1 : 2, key, base + gap * rank[i], 0);
         if (kind < 4 || (kind < 6 && spares == 3))
-            set_record(image, i, 1, key, base + gap * rank[i], below(81));
+            set_record(image, i, 1, key, base + gap * rank[i], below(VALUE_MAX + 1));
         if (kind < 4 && below(2))
-            set_record(image, i, 1, key, base + gap * rank[i], 24), order_bytes(slot + 24);
+            set_record(image, i, 1, key, base + gap * rank[i], 24), order_bytes(slot + 8 * VALUE_WORD);
         if (kind == 5 && spares >= 2 && breaks && below(2))
             breaks--, m_set_word(slot, below(2) ? 7 : 15, 2 * below(gap * n) + below(2));
     }
@@ -122,9 +126,9 @@ void damage(uint8_t *image, uint32_t n) {
     switch (below(12)) {
     case 0: m_set_word(image, below(8), below(3)); break;
     case 1: m_set_word(slot, below(2) * 8, below(2) ? 2 : chance()); break;
-    case 2: m_set_word(slot, 2, below(4) + 256 * below(84) + (below(4) ? 0 : 1ull << (16 + below(48)))); break;
-    case 3: slot[17] = (uint8_t)below(256); break;
-    case 4: slot[below(2) ? 24 + below(32) : 72 + below(48)] ^= (uint8_t)(1u << below(8)); break;
+    case 2: m_set_word(slot, KIND_WORD, below(4) + 256 * below(84) + (below(4) ? 0 : 1ull << (16 + below(48)))); break;
+    case 3: slot[8 * KIND_WORD + 1] = (uint8_t)below(256); break;
+    case 4: slot[below(2) ? 8 * VALUE_WORD + below(FRONT) : 72 + below(48)] ^= (uint8_t)(1u << below(8)); break;
     case 5: memcpy(slot, other, 128); break;
     case 6: m_set_word(slot, below(2) ? 7 : 15, m_word(other, 7)); break;
     case 7: m_set_word(slot, below(2) * 8, !m_word(slot, 0)); break;
@@ -134,7 +138,7 @@ void damage(uint8_t *image, uint32_t n) {
             memcpy(slot + 64, other + 64, 8);
         break;
     case 10: set_number(image, i, (unsigned)below(below(2) ? 10 : 256)); break;
-    case 11: set_number(image, i, other[18]); break;
+    case 11: set_number(image, i, other[8 * KIND_WORD + 2]); break;
     }
 }
 
@@ -164,7 +168,7 @@ uint32_t any_heads(uint32_t n) {
 }
 
 size_t any_size(void) {
-    return below(20) ? below(81) : 80 + below(4);
+    return below(20) ? below(VALUE_MAX + 1) : VALUE_MAX + below(4);
 }
 
 uint64_t any_quantity(void) {

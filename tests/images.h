@@ -6,7 +6,7 @@
 #include "model.h"
 
 /* A valid record of that kind (1 put, 2 remove) with random bytes. */
-void set_record(uint8_t *image, uint32_t slot, unsigned kind, uint64_t key, uint64_t version, size_t size);
+void set_record(uint8_t *image, uint32_t slot, unsigned kind, m_key key, uint64_t version, size_t size);
 
 /* The record's number, in bits 16 to 23 of its kind word: of how many the basket is. */
 void set_number(uint8_t *image, uint32_t slot, unsigned number);
@@ -22,13 +22,13 @@ void any_image(uint8_t *image, uint32_t n, uint64_t keys);
 /* One fault, of any kind that the rules name, or a word of garbage. */
 void damage(uint8_t *image, uint32_t n);
 
-/* A key of any_image. */
-uint64_t any_key(uint64_t keys);
+/* A key of any_image; of layout 2 many share their low word. */
+m_key any_key(uint64_t keys);
 
 /* Numbers that are mostly slots; n may be 0. */
 void garbage_index(struct m_index *index, uint32_t n);
 
-/* A number of heads for n slots; a value's size, sometimes more than 80; a quantity, mostly small. */
+/* A number of heads for n slots; a value's size, sometimes too long; a quantity, mostly small. */
 uint32_t any_heads(uint32_t n);
 size_t any_size(void);
 uint64_t any_quantity(void);

@@ -1,5 +1,5 @@
-/* The order set of document 01 as document 02 changes it (A.2, A.4 to A.7, A.12), and its order book (A.1), as a plain
- * program. The quotations are their sentences. */
+/* The order set of document 01 as document 02 changes it (A.2, A.4 to A.7, A.11, A.12), and its order book (A.1), as a
+ * plain program. The quotations are their sentences. */
 #include "model.h"
 
 #include <stdlib.h>
@@ -33,27 +33,37 @@ struct slot {
     enum kind kind;
     int bad_mark;
     int fault; /* of the record of a valid slot: 6, 22, 23 or 24, else 0 */
-    uint64_t key, version, highest; /* highest: the highest version on a whole line of it, 0 if none is whole */
-    uint32_t number;                /* "bits 16 to 23 of the kind word hold their number" */
+    m_key key;
+    uint64_t version, highest; /* highest: the highest version on a whole line of it, 0 if none is whole */
+    uint32_t number;           /* "bits 16 to 23 of the kind word hold their number" */
 };
 
+m_key m_key_in(const uint8_t *image, uint32_t s) {
+    const uint8_t *slot = image + 128 * (size_t)s;
+    return key_of_words(m_word(slot, 1), m_word(slot, 2));
+}
+
+size_t m_head(m_key key, size_t heads) {
+    return low_word(key) % heads;
+}
+
 static uint8_t value_byte(const uint8_t *slot, size_t i) {
-    return i < 32 ? slot[24 + i] : slot[72 + (i - 32)];
+    return i < FRONT ? slot[8 * VALUE_WORD + i] : slot[72 + (i - FRONT)];
 }
 
 /* "Fault 6 now begins above bit 23 or at a number of 1 or over 8", "22 when the kind is neither 1 nor 2, 23 when the length is wrong for the kind or over 80, and 24 when a byte past
  * the length is nonzero; within a slot they follow 6 in that order" */
 static int record_fault(const uint8_t *slot) {
-    uint64_t word = m_word(slot, 2);
+    uint64_t word = m_word(slot, KIND_WORD);
     unsigned kind = word & 0xff;
     size_t size = word >> 8 & 0xff, number = word >> 16 & 0xff;
     if (word >> 24 || number == 1 || number > GROUP)
         return 6;
     if (kind != 1 && kind != 2)
         return 22;
-    if (size > 80 || (kind == 2 && size > 0))
+    if (size > VALUE_MAX || (kind == 2 && size > 0))
         return 23;
-    for (size_t i = size; i < 80; i++)
+    for (size_t i = size; i < VALUE_MAX; i++)
         if (value_byte(slot, i))
             return 24;
     return 0;
@@ -62,7 +72,7 @@ static int record_fault(const uint8_t *slot) {
 /* "A line is whole when its mark equals its close bit", "A slot is valid when both lines are whole and carry the same version, at least 1" */
 static struct slot look(const uint8_t *image, uint32_t s) {
     const uint8_t *slot = image + 128 * (size_t)s;
-    struct slot seen = {.kind = BROKEN, .key = m_word(slot, 1)};
+    struct slot seen = {.kind = BROKEN, .key = m_key_in(image, s)};
     uint64_t version[2];
     int whole[2];
     for (size_t line = 0; line < 2; line++) {
@@ -81,8 +91,8 @@ static struct slot look(const uint8_t *image, uint32_t s) {
         seen.kind = EMPTY;
         return seen;
     }
-    unsigned kind = m_word(slot, 2) & 0xff;
-    seen.number = m_word(slot, 2) >> 16 & 0xff;
+    unsigned kind = m_word(slot, KIND_WORD) & 0xff;
+    seen.number = m_word(slot, KIND_WORD) >> 16 & 0xff;
     seen.kind = kind == 1 ? PUT : kind == 2 ? REMOVE : ILL;
     seen.fault = record_fault(slot);
     return seen;
@@ -96,27 +106,31 @@ static int refuse_lent(const uint8_t *image, size_t length, size_t heads, size_t
         return 1;
     if (m_word(image, 0) == 0)
         return 2;
-    uint64_t header[8] = {n, 1};
+    uint64_t header[8] = {n, LAYOUT};
     for (size_t i = 0; i < 8; i++)
         if (m_word(image, i) != header[i])
             return 3;
     return heads < 1 || heads > 65536 || next != n + 1 ? 4 : 0;
 }
 
-int m_format(uint8_t *image, size_t length) {
+/* "32 when format is asked for a layout other than 1 or 2, after 1" */
+int m_format(uint8_t *image, size_t length, uint64_t layout) {
     if (m_slots(length) == 0)
         return 1;
+    if (layout != 1 && layout != 2)
+        return 32;
     for (size_t i = 0; i < length; i++)
         image[i] = 0;
     m_set_word(image, 0, m_slots(length));
-    m_set_word(image, 1, 1);
+    m_set_word(image, 1, layout);
     return 0;
 }
 
 /* ---- recovery */
 
 struct entry {
-    uint64_t key, version;
+    m_key key;
+    uint64_t version;
     uint32_t slot;
 };
 
@@ -173,7 +187,7 @@ static void build(const struct slot *slot, uint32_t n, const struct entry *valid
         if (slot[s].kind == EMPTY)
             join(&reuse, index->next, s);
     for (uint32_t i = 0; i < count; i++)
-        join(live[valid[i].slot] ? &chain[valid[i].key % index->heads_length] : &reuse, index->next, valid[i].slot);
+        join(live[valid[i].slot] ? &chain[m_head(valid[i].key, index->heads_length)] : &reuse, index->next, valid[i].slot);
     for (size_t h = 0; h < index->heads_length; h++)
         index->heads[h] = chain[h].first;
     index->state.first = reuse.first;
@@ -287,12 +301,12 @@ struct walk {
     uint32_t compared;
 };
 
-static struct walk follow(const uint8_t *image, uint32_t n, const struct m_index *index, uint64_t key) {
-    uint32_t before = 0, passed = 0, at = index->heads[key % index->heads_length];
+static struct walk follow(const uint8_t *image, uint32_t n, const struct m_index *index, m_key key) {
+    uint32_t before = 0, passed = 0, at = index->heads[m_head(key, index->heads_length)];
     while (at != 0) {
         if (at > n)
             return (struct walk){.refusal = 11};
-        if (m_word(image, 16 * (size_t)at + 1) == key)
+        if (m_key_in(image, at) == key)
             return (struct walk){.slot = at, .before = before, .compared = passed + 1};
         if (++passed == n)
             return (struct walk){.refusal = 11};
@@ -314,7 +328,8 @@ static uint64_t valid_version(const uint8_t *image, uint32_t s) {
 /* "No call, single ones included, takes a slot of the highest valid version, or a remove record while an older valid record of its key remains in the image the
  * call is given" */
 int m_may_take(const uint8_t *image, uint32_t n, uint32_t s) {
-    const uint64_t version = valid_version(image, s), key = m_word(image, 16 * (size_t)s + 1);
+    const uint64_t version = valid_version(image, s);
+    const m_key key = m_key_in(image, s);
     uint32_t t = 1;
     if (version == 0)
         return 1;
@@ -322,10 +337,10 @@ int m_may_take(const uint8_t *image, uint32_t n, uint32_t s) {
         t++;
     if (t > n)
         return 0;
-    if (image[128 * (size_t)s + 16] != 2)
+    if (image[128 * (size_t)s + 8 * KIND_WORD] != 2)
         return 1;
     for (t = 1; t <= n; t++)
-        if (m_word(image, 16 * (size_t)t + 1) == key && valid_version(image, t) && valid_version(image, t) < version)
+        if (m_key_in(image, t) == key && valid_version(image, t) && valid_version(image, t) < version)
             return 0;
     return 1;
 }
@@ -383,11 +398,11 @@ static void append(struct m_index *index, uint32_t slot) {
     index->state.last = slot;
 }
 
-static void link_after(struct m_index *index, uint64_t key, uint32_t before, uint32_t slot) {
+static void link_after(struct m_index *index, m_key key, uint32_t before, uint32_t slot) {
     if (before)
         index->next[before] = slot;
     else
-        index->heads[key % index->heads_length] = slot;
+        index->heads[m_head(key, index->heads_length)] = slot;
 }
 
 /* ---- "How a call writes" */
@@ -395,7 +410,7 @@ static void link_after(struct m_index *index, uint64_t key, uint32_t before, uin
 /* A record that is to be written: kind 1 put, 2 remove. */
 struct m_record {
     unsigned kind;
-    uint64_t key;
+    m_key key;
     const uint8_t *bytes;
     size_t size;
 };
@@ -411,11 +426,13 @@ static void write_record(const uint8_t *image, uint32_t slot, uint64_t version, 
         else if (i % 8 == 7)
             v = version * 2 + open;
         else if (i == 1)
-            v = r->key;
-        else if (i == 2)
+            v = low_word(r->key);
+        else if (i < KIND_WORD)
+            v = high_word(r->key);
+        else if (i == KIND_WORD)
             v = r->kind + 256 * (uint64_t)r->size + 65536 * number;
         else
-            v = m_word(padded, i < 8 ? i - 3 : i - 5);
+            v = m_word(padded, i < 8 ? i - VALUE_WORD : i - 9 + FRONT / 8);
         store[i] = (struct m_store){16 * slot + i, v};
     }
 }
@@ -440,7 +457,7 @@ static int refuse_given(const struct m_item *item, size_t count, size_t places, 
 /* "Each later check goes over all keys before the next, 20 and 21 being one", "In a basket, removing an unheld key gives 21" */
 static int refuse_keys(const uint8_t *image, uint32_t n, const struct m_index *index, const struct m_item *item, size_t count) {
     for (size_t i = 0; i < count; i++)
-        if (item[i].kind != 3 && item[i].size > 80)
+        if (item[i].kind != 3 && item[i].size > VALUE_MAX)
             return 10;
     for (size_t i = 0; i < count; i++)
         if (follow(image, n, index, item[i].key).refusal)
@@ -499,9 +516,9 @@ static void leave_reuse(struct m_index *index, uint32_t slot) {
 }
 
 /* The slot before `slot` in the chain of the key's head, or the chain's last slot where that is 0; 0: the head. */
-static uint32_t before_in_chain(const struct m_index *index, uint64_t key, uint32_t slot) {
+static uint32_t before_in_chain(const struct m_index *index, m_key key, uint32_t slot) {
     uint32_t before = 0;
-    for (uint32_t at = index->heads[key % index->heads_length]; at != slot; at = index->next[at])
+    for (uint32_t at = index->heads[m_head(key, index->heads_length)]; at != slot; at = index->next[at])
         before = at;
     return before;
 }
@@ -553,17 +570,17 @@ static struct m_change change(const uint8_t *image, uint32_t n, struct m_index *
 }
 
 /* "insert for a key not held, replace for one that is": what they test first, and where the key stands */
-static struct walk walk_for_value(const uint8_t *image, size_t length, const struct m_index *index, uint64_t key, size_t size) {
+static struct walk walk_for_value(const uint8_t *image, size_t length, const struct m_index *index, m_key key, size_t size) {
     int refusal = refuse_lent(image, length, index->heads_length, index->next_length);
     if (refusal)
         return (struct walk){.refusal = refusal};
-    if (size > 80)
+    if (size > VALUE_MAX)
         return (struct walk){.refusal = 10};
     return follow(image, m_slots(length), index, key);
 }
 
 /* "20 when insert meets a held key .. straight after the chain check" */
-struct m_change m_insert(const uint8_t *image, size_t length, struct m_index *index, uint64_t key, const uint8_t *bytes, size_t size) {
+struct m_change m_insert(const uint8_t *image, size_t length, struct m_index *index, m_key key, const uint8_t *bytes, size_t size) {
     struct walk walk = walk_for_value(image, length, index, key, size);
     uint32_t n = m_slots(length);
     if (walk.refusal)
@@ -579,7 +596,7 @@ struct m_change m_insert(const uint8_t *image, size_t length, struct m_index *in
 }
 
 /* "21 when replace meets an unheld one .. straight after the chain check" */
-struct m_change m_replace(const uint8_t *image, size_t length, struct m_index *index, uint64_t key, const uint8_t *bytes, size_t size) {
+struct m_change m_replace(const uint8_t *image, size_t length, struct m_index *index, m_key key, const uint8_t *bytes, size_t size) {
     struct walk walk = walk_for_value(image, length, index, key, size);
     if (walk.refusal)
         return refuse(walk.refusal, 0);
@@ -594,7 +611,7 @@ struct m_change m_replace(const uint8_t *image, size_t length, struct m_index *i
     return c;
 }
 
-struct m_change m_remove(const uint8_t *image, size_t length, struct m_index *index, uint64_t key) {
+struct m_change m_remove(const uint8_t *image, size_t length, struct m_index *index, m_key key) {
     int refusal = refuse_lent(image, length, index->heads_length, index->next_length);
     if (refusal)
         return refuse(refusal, 0);
@@ -613,7 +630,7 @@ struct m_change m_remove(const uint8_t *image, size_t length, struct m_index *in
     return c;
 }
 
-struct m_got m_get(const uint8_t *image, size_t length, const struct m_index *index, uint64_t key, uint8_t *out, size_t room) {
+struct m_got m_get(const uint8_t *image, size_t length, const struct m_index *index, m_key key, uint8_t *out, size_t room) {
     int refusal = refuse_lent(image, length, index->heads_length, index->next_length);
     if (refusal)
         return (struct m_got){.refusal = refusal};
@@ -623,8 +640,8 @@ struct m_got m_get(const uint8_t *image, size_t length, const struct m_index *in
     if (!walk.slot)
         return (struct m_got){.absent = 1, .compared = walk.compared};
     const uint8_t *slot = image + 128 * (size_t)walk.slot;
-    size_t size = slot[17];
-    if (size > 80)
+    size_t size = slot[8 * KIND_WORD + 1];
+    if (size > VALUE_MAX)
         return (struct m_got){.refusal = 23, .compared = walk.compared};
     if (room < size)
         return (struct m_got){.refusal = 13, .compared = walk.compared};
@@ -633,7 +650,7 @@ struct m_got m_get(const uint8_t *image, size_t length, const struct m_index *in
     return (struct m_got){.length = size, .compared = walk.compared};
 }
 
-struct m_place m_locate(const uint8_t *image, size_t length, const struct m_index *index, uint64_t key) {
+struct m_place m_locate(const uint8_t *image, size_t length, const struct m_index *index, m_key key) {
     int refusal = refuse_lent(image, length, index->heads_length, index->next_length);
     if (refusal)
         return (struct m_place){.refusal = refusal};
@@ -654,7 +671,7 @@ struct order {
 };
 
 /* "18 when another step's key is not held or holds no book record"; a length over 80, which only a foreign index leads to, is no book record */
-static struct order order_of(const uint8_t *image, size_t length, const struct m_index *index, uint64_t key) {
+static struct order order_of(const uint8_t *image, size_t length, const struct m_index *index, m_key key) {
     uint8_t bytes[80];
     struct m_got got = m_get(image, length, index, key, bytes, sizeof bytes);
     if (got.refusal && got.refusal != 23)
@@ -674,14 +691,14 @@ static void set_bytes(uint8_t bytes[24], struct order o) {
 }
 
 /* "The book's steps use the one they mean": acknowledge and fill, whose key is held, replace */
-static struct m_change replace_order(const uint8_t *image, size_t length, struct m_index *index, uint64_t key, struct order o) {
+static struct m_change replace_order(const uint8_t *image, size_t length, struct m_index *index, m_key key, struct order o) {
     uint8_t bytes[24];
     set_bytes(bytes, o);
     return m_replace(image, length, index, key, bytes, sizeof bytes);
 }
 
 /* "17 when a new order's key is held", "19 when a new quantity is zero" */
-struct m_change m_new(const uint8_t *image, size_t length, struct m_index *index, uint64_t key, uint64_t quantity) {
+struct m_change m_new(const uint8_t *image, size_t length, struct m_index *index, m_key key, uint64_t quantity) {
     uint8_t bytes[24];
     struct m_place place = m_locate(image, length, index, key);
     if (place.refusal)
@@ -695,7 +712,7 @@ struct m_change m_new(const uint8_t *image, size_t length, struct m_index *index
 }
 
 /* "A second acknowledge stores nothing and, before any later check, answers the order's present slot and its line A's version" */
-struct m_change m_acknowledge(const uint8_t *image, size_t length, struct m_index *index, uint64_t key) {
+struct m_change m_acknowledge(const uint8_t *image, size_t length, struct m_index *index, m_key key) {
     struct order o = order_of(image, length, index, key);
     if (o.refusal)
         return refuse(o.refusal, 0);
@@ -708,7 +725,7 @@ struct m_change m_acknowledge(const uint8_t *image, size_t length, struct m_inde
 }
 
 /* "19 when .. a fill is zero or more than is open", "Fill and withdraw serve either state and keep it", "A .. fully filled order is removed" */
-struct m_change m_fill(const uint8_t *image, size_t length, struct m_index *index, uint64_t key, uint64_t quantity) {
+struct m_change m_fill(const uint8_t *image, size_t length, struct m_index *index, m_key key, uint64_t quantity) {
     struct order o = order_of(image, length, index, key);
     if (o.refusal)
         return refuse(o.refusal, 0);
@@ -722,7 +739,7 @@ struct m_change m_fill(const uint8_t *image, size_t length, struct m_index *inde
 }
 
 /* "A withdrawn .. order is removed" */
-struct m_change m_withdraw(const uint8_t *image, size_t length, struct m_index *index, uint64_t key) {
+struct m_change m_withdraw(const uint8_t *image, size_t length, struct m_index *index, m_key key) {
     struct order o = order_of(image, length, index, key);
     return o.refusal ? refuse(o.refusal, 0) : m_remove(image, length, index, key);
 }

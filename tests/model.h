@@ -1,10 +1,12 @@
 /* model.h: the order set of document 01 as document 02 changes it, and its order book, written from their sentences for
- * the tests. Plain and slow, and nothing of the archive is used in it. */
+ * the tests, in the layout that they are built for (layout.h). Plain and slow, and no call of the archive is used in it. */
 #ifndef MODEL_H
 #define MODEL_H
 
 #include <stddef.h>
 #include <stdint.h>
+
+#include "layout.h"
 
 struct m_state {
     uint32_t first, last, live, newest; /* newest: the slot that the last call took, 0 for none since recovery */
@@ -40,7 +42,7 @@ struct m_change {
 /* One of a basket's keys: kind 1 insert, 2 replace, 3 remove; a remove has no value. */
 struct m_item {
     uint32_t kind;
-    uint64_t key;
+    m_key key;
     const uint8_t *bytes;
     size_t size;
 };
@@ -77,17 +79,17 @@ struct m_recovered {
 };
 
 uint32_t m_slots(size_t length); /* N, or 0 where no image has that length */
-int m_format(uint8_t *image, size_t length);
+int m_format(uint8_t *image, size_t length, uint64_t layout);
 struct m_recovered m_recover(const uint8_t *image, size_t length, struct m_index *index);
-struct m_change m_insert(const uint8_t *image, size_t length, struct m_index *index, uint64_t key, const uint8_t *bytes, size_t size);
-struct m_change m_replace(const uint8_t *image, size_t length, struct m_index *index, uint64_t key, const uint8_t *bytes, size_t size);
-struct m_change m_remove(const uint8_t *image, size_t length, struct m_index *index, uint64_t key);
-struct m_got m_get(const uint8_t *image, size_t length, const struct m_index *index, uint64_t key, uint8_t *out, size_t room);
-struct m_place m_locate(const uint8_t *image, size_t length, const struct m_index *index, uint64_t key);
-struct m_change m_new(const uint8_t *image, size_t length, struct m_index *index, uint64_t key, uint64_t quantity);
-struct m_change m_acknowledge(const uint8_t *image, size_t length, struct m_index *index, uint64_t key);
-struct m_change m_fill(const uint8_t *image, size_t length, struct m_index *index, uint64_t key, uint64_t quantity);
-struct m_change m_withdraw(const uint8_t *image, size_t length, struct m_index *index, uint64_t key);
+struct m_change m_insert(const uint8_t *image, size_t length, struct m_index *index, m_key key, const uint8_t *bytes, size_t size);
+struct m_change m_replace(const uint8_t *image, size_t length, struct m_index *index, m_key key, const uint8_t *bytes, size_t size);
+struct m_change m_remove(const uint8_t *image, size_t length, struct m_index *index, m_key key);
+struct m_got m_get(const uint8_t *image, size_t length, const struct m_index *index, m_key key, uint8_t *out, size_t room);
+struct m_place m_locate(const uint8_t *image, size_t length, const struct m_index *index, m_key key);
+struct m_change m_new(const uint8_t *image, size_t length, struct m_index *index, m_key key, uint64_t quantity);
+struct m_change m_acknowledge(const uint8_t *image, size_t length, struct m_index *index, m_key key);
+struct m_change m_fill(const uint8_t *image, size_t length, struct m_index *index, m_key key, uint64_t quantity);
+struct m_change m_withdraw(const uint8_t *image, size_t length, struct m_index *index, m_key key);
 
 /* what is asked of a line of 64 bytes, and answered in 8; version: of M_FIRST and M_LAST */
 enum m_query { M_WHOLE, M_VERSION, M_FIRST, M_LAST };
@@ -107,6 +109,10 @@ void m_basket_stores(const uint8_t *image, const struct m_item item[8], size_t c
 
 /* Its changes of an index that is the image's own, where it is not refused. */
 void m_basket_index(const uint8_t *image, size_t length, struct m_index *index, const struct m_item item[8], uint32_t count, const struct m_basket *basket);
+
+/* "the key in words 1 and 2 of line A"; its head is "word 1 mod B" */
+m_key m_key_in(const uint8_t *image, uint32_t slot);
+size_t m_head(m_key key, size_t heads);
 
 uint64_t m_word(const uint8_t *image, size_t i);
 void m_set_word(uint8_t *image, size_t i, uint64_t value);

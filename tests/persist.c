@@ -256,7 +256,7 @@ static void get(uint64_t key) {
 
 static void make(uint8_t *bytes) {
     uint32_t count[1];
-    expect(orderset_format(bytes, LENGTH, answer) == ORDERSET_OK, "format");
+    expect(orderset_format(bytes, LENGTH, ORDERSET_LAYOUT, answer) == ORDERSET_OK, "format");
     expect(orderset_recover(bytes, LENGTH, heads, HEADS, next, N + 1, state, version, count, list_at, list_value)
                    == ORDERSET_OK
                && count[0] == 0,

@@ -6,6 +6,7 @@ set -u
 export LC_ALL=C
 cd "$(dirname "$0")/.."
 archive=target/staticlib/liborderset_c.a
+archive2=target/staticlib/liborderset2_c.a
 log_archive=target/staticlib/liblog_c.a
 tree=target/planted/tree
 log=target/planted/log
@@ -36,7 +37,7 @@ fault() {
     if cmp -s "$file" "$tree/$file"; then
         echo "the edit changes nothing" >"$log"
         not_seen "$test" "$what"
-    elif make -s -C "$tree" -o "$archive" -o "$log_archive" "run-$test" SEED=1 >"$log" 2>&1 ||
+    elif make -s -C "$tree" -o "$archive" -o "$archive2" -o "$log_archive" "run-$test" SEED=1 >"$log" 2>&1 ||
         ! grep -qE "$message" "$log"; then
         not_seen "$test" "$what"
     else
@@ -180,11 +181,11 @@ fault storm 'every slot may be taken' tests/model.c '/^int m_may_take/,/^}/s/if 
     'LOST a basket of [0-9]+ keys answers 28'
 fault storm 'one line of a basket is not flushed' $header "${list}s/if \(i == 0 \|\|/if (i > 0 \&\&/" 'LOST key'
 fault storm 'an insert of a held key should be done' tests/storm.c \
-    's/return ORDERSET_INSERT_HELD;/return ORDERSET_OK;/' 'LOST a call of key [0-9]+ answers 20'
+    's/return ORDERSET_INSERT_HELD;/return ORDERSET_OK;/' 'LOST a call of key [0-9a-f:]+ answers 20'
 fault storm 'a replace of a key that is not held should be done' tests/storm.c 's/ORDERSET_NOT_HELD;/ORDERSET_OK;/' \
-    'LOST a call of key [0-9]+ answers 21'
+    'LOST a call of key [0-9a-f:]+ answers 21'
 fault storm 'the count of a refusal is lost' tests/storm.c 's/code \? ORDERSET_REFUSED_COMPARED\(code\)/code ? 0/' \
-    'LOST count: key [0-9]+, 0 slots compared'
+    'LOST count: key [0-9a-f:]+, 0 slots compared'
 
 fault kills 'a new order is answered before it is durable' $gateway \
     '/^static uint32_t change/,/^}/{s/if \(answer\[0\] == ORDERSET_GIVEN\)/if (answer[0] == 1 \&\& c->kind != NEW)/
@@ -231,30 +232,32 @@ fault guard 'one opening store less' tests/guard.c 's/place\(OPEN_AT, 4 \* ORDER
 fault guard 'a state of three numbers' tests/guard.c 's/place\(STATE, 4 \* ORDERSET_STATE\)/place(STATE, 12)/' \
     'NOT SO: (signal 11: state is touched|state changed, after what was lent)'
 fault guard 'a refused recovery changes the count' tests/guard.c \
-    's/if \(end\(orderset_recover\(/if ((++*(uint8_t *)w(COUNT), end)(orderset_recover(/' 'NOT SO: count changed, by a refused'
+    's/if \(end\(SET\(recover\)\(/if ((++*(uint8_t *)w(COUNT), end)(SET(recover)(/' 'NOT SO: count changed, by a refused'
 fault guard 'a call writes what it may only read' tests/guard.c \
     's/orderset_play\(w\(IMAGE\)/orderset_play((uint8_t *)r(IMAGE)/' 'NOT SO: signal 11: image is .* lent for reading'
 fault guard 'a refused call changes the state' tests/guard.c \
-    's/if \(end\(orderset_recover\(/if ((++*(uint8_t *)w(STATE), end)(orderset_recover(/' 'NOT SO: state changed, by a refused'
+    's/if \(end\(SET\(recover\)\(/if ((++*(uint8_t *)w(STATE), end)(SET(recover)(/' 'NOT SO: state changed, by a refused'
 fault guard 'a refused insert changes the version' tests/guard.c \
-    's/return orderset_insert\(/return (++*(uint8_t *)w(VERSION), orderset_insert)(/' \
+    's/return SET\(insert\)\(/return (++*(uint8_t *)w(VERSION), SET(insert))(/' \
     'NOT SO: version changed, by a refused'
 fault guard 'a refused replace changes the version' tests/guard.c \
-    's/return orderset_replace\(/return (++*(uint8_t *)w(VERSION), orderset_replace)(/' \
+    's/return SET\(replace\)\(/return (++*(uint8_t *)w(VERSION), SET(replace))(/' \
     'NOT SO: version changed, by a refused'
 
 fault guard 'in a basket word numbers one longer than lent' tests/guard.c \
-    's/w\(AT\), piece\[AT\].length \/ 4,/w(AT), piece[AT].length \/ 4 + 1,/' \
+    's/piece\[AT\].length \/ 4,/piece[AT].length \/ 4 + 1,/' \
     'NOT SO: (signal 11: at is touched|at changed, after what was lent)'
 fault guard 'in a basket values one longer than lent' tests/guard.c \
     's/w\(VALUE\), piece\[VALUE\].length \/ 8,/w(VALUE), piece[VALUE].length \/ 8 + 1,/' \
     'NOT SO: (signal 11: value is touched|value changed, after what was lent)'
-fault guard 'seven keys for a basket' tests/guard.c 's/place\(KEYS, 8 \* ORDERSET_BASKET\)/place(KEYS, 56)/' \
-    'NOT SO: signal 11: keys is touched'
+fault guard 'seven keys for a basket' tests/guard.c 's/place\(LOWS, 8 \* ORDERSET_BASKET\)/place(LOWS, 56)/' \
+    'NOT SO: signal 11: low words is touched'
+fault guard2 'seven high words for a basket' tests/guard.c 's/place\(HIGHS, 8 \* ORDERSET_BASKET\)/place(HIGHS, 56)/' \
+    'NOT SO: signal 11: high words is touched'
 fault guard 'the answer of a basket one word shorter' tests/guard.c 's/return ORDERSET_BASKET_ANSWER;/return 8;/' \
     'NOT SO: (signal 11: answer is touched|answer changed, after what was lent)'
 fault guard 'a refused basket changes the version' tests/guard.c \
-    's/if \(end\(orderset_basket\(/if ((++*(uint8_t *)w(VERSION), end)(orderset_basket(/' \
+    's/if \(end\(SET\(basket\)\(/if ((++*(uint8_t *)w(VERSION), end)(SET(basket)(/' \
     'NOT SO: version changed, by a refused'
 fault guard 'an entry past the stores of a basket changes' tests/guard.c \
     's/^    same\(&piece\[AT\], .* "past the stores"\);/    if (piece[AT].length > 4 * stores)\n        ++((uint8_t *)w(AT))[piece[AT].length - 1];\n&/' \
@@ -402,9 +405,9 @@ fault differential 'a basket counts its keys as versions' tests/model.c \
 take='/^int m_may_take/,/^}/'
 fault differential 'a slot of the highest version is taken' tests/model.c "${take}s/if \(t > n\)/if (t > n + 1)/" \
     'DIFFERENCE in the code: archive 28, model 0'
-fault differential 'a remove record with an older one is taken' tests/model.c "${take}s/\+ 16\] != 2/+ 16] != 3/" \
+fault differential 'a remove record with an older one is taken' tests/model.c "${take}s/KIND_WORD\] != 2/KIND_WORD] != 3/" \
     'DIFFERENCE in the code: archive 28, model 0'
-fault differential 'a put record with an older one is kept' tests/model.c "${take}s/\+ 16\] != 2/+ 16] > 2/" 'DIFFERENCE'
+fault differential 'a put record with an older one is kept' tests/model.c "${take}s/KIND_WORD\] != 2/KIND_WORD] > 2/" 'DIFFERENCE'
 fault differential '28 is tested before 11 of a later link' tests/model.c \
     's/if \(after > n \|\| \(met == n/if (after > n \&\& met > 1) return 28;\n        &/' \
     'DIFFERENCE in the code: archive 11, model 28'
@@ -548,6 +551,26 @@ fault differential 'a directed line is whole by the low bit' tests/differential.
     "DIFFERENCE in a directed case's line"
 fault differential 'a call is to store the mark last' tests/differential.c 's/s->value\[i\], first/s->value[i], last/' \
     'DIFFERENCE in the first store of a line'
+
+fault differential2 'the second word of a key is not compared' tests/model.c \
+    's/return key_of_words\(m_word\(slot, 1\), m_word\(slot, 2\)\);/return m_word(slot, 1);/' 'DIFFERENCE'
+fault differential2 'the head goes by both words' tests/model.c 's/return low_word\(key\) % heads;/return key % heads;/' \
+    'DIFFERENCE'
+fault differential2 'a value of 73 bytes is taken' tests/model.c \
+    '/^static struct walk walk_for_value/,/^}/s/size > VALUE_MAX/size > VALUE_MAX + 8/' \
+    'DIFFERENCE in the code: archive 10, model'
+fault differential2 'the value begins at word 3' tests/model.c \
+    's/slot\[8 \* VALUE_WORD \+ i\]/slot[8 * (VALUE_WORD - 1) + i]/' 'DIFFERENCE'
+for layout in '' 2; do
+    fault "differential$layout" "an image of the other layout is taken" tests/model.c \
+        's/m_word\(image, i\) != header\[i\]/& \&\& i != 1/' 'DIFFERENCE in the code: archive 3, model'
+done
+fault differential '32 is tested before 1' tests/model.c \
+    's/^    if \(m_slots\(length\) == 0\)$/    if (m_slots(length) == 0 \&\& layout - 1 < 2)/' \
+    'DIFFERENCE in the code: archive 1, model 32'
+fault header 'the high words of a basket are left out' tests/header.cc 's/highs\[ORDERSET_BASKET\] = \{2, 1\}/highs[ORDERSET_BASKET] = {0, 0}/' 'NOT SO'
+fault storm2 'a key is inserted by its low word alone' tests/storm.c \
+    's/return SET\(insert\)\((.*)KEY\(key\)/return SET(insert)(\1KEY((m_key)low_word(key))/' 'LOST'
 
 fault log_header 'a store of a list is left out' $header "$left_out" 'NOT SO'
 fault log_header "recovery's stores are not made" tests/log_header.cc \

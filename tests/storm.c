@@ -1,4 +1,4 @@
-/* A storm of power cuts and kills. The program under test inserts, replaces, removes and gets with the archive, alone
+/* A storm of power cuts and kills, in the layout that the test is built for (layout.h). The program under test inserts, replaces, removes and gets with the archive, alone
  * and in baskets of up to eight keys, and makes its stores durable with orderset_persist.h, over a simulated cache: what
  * a process sees and what is durable are apart, and each line has a list of the stores that are not durable yet.
  * Whenever something strikes, the program starts again, makes the image durable, recovers and makes the stores that
@@ -33,11 +33,11 @@ static uint32_t n;
 struct value {
     int held;
     size_t size;
-    uint8_t bytes[ORDERSET_VALUE_MAX];
+    uint8_t bytes[VALUE_MAX];
 };
 
 static uint32_t keys;
-static uint64_t key_of[MAX_KEYS];
+static m_key key_of[MAX_KEYS];
 static struct value map[MAX_KEYS];
 
 /* one key, or those of a basket */
@@ -86,18 +86,18 @@ static int after_kill, opening; /* opening: void slots are being opened */
 static void counted(uint32_t i, uint64_t slots) {
     uint64_t sharing = 0;
     for (uint32_t k = 0; k < keys; k++)
-        sharing += map[k].held && key_of[k] % heads_length == key_of[i] % heads_length;
+        sharing += map[k].held && m_head(key_of[k], heads_length) == m_head(key_of[i], heads_length);
     if (slots > sharing || (map[i].held ? slots == 0 : slots != sharing))
-        lost("count: key %" PRIu64 ", %" PRIu64 " slots compared, %" PRIu64 " held keys share its head", key_of[i],
-             slots, sharing);
+        lost("count: key " KEY_FORM ", %" PRIu64 " slots compared, %" PRIu64 " held keys share its head",
+             KEY_WORDS(key_of[i]), slots, sharing);
 }
 
 static struct value get(uint32_t i) {
     struct value found = {0, 0, {0}};
-    uint64_t code = orderset_get(visible, length, heads, heads_length, next, n + 1, key_of[i], found.bytes,
-                                 sizeof found.bytes, answer);
+    uint64_t code = SET(get)(visible, length, heads, heads_length, next, n + 1, KEY(key_of[i]), found.bytes,
+                             sizeof found.bytes, answer);
     if (code)
-        lost("get of key %" PRIu64 " is refused: %" PRIu32, key_of[i], ORDERSET_REFUSAL(code));
+        lost("get of key " KEY_FORM " is refused: %" PRIu32, KEY_WORDS(key_of[i]), ORDERSET_REFUSAL(code));
     found.held = answer[0] == ORDERSET_GIVEN;
     found.size = answer[ORDERSET_LENGTH];
     return found;
@@ -119,8 +119,8 @@ static void check_struck(void) {
         later &= same(&found, &call.later[k]);
     }
     if (!earlier && !later)
-        lost("key %" PRIu64 " and %" PRIu32 " more of one call: neither all as before it nor all as after it",
-             key_of[call.key[0]], call.count - 1);
+        lost("key " KEY_FORM " and %" PRIu32 " more of one call: neither all as before it nor all as after it",
+             KEY_WORDS(key_of[call.key[0]]), call.count - 1);
     for (uint32_t k = 0; later && k < call.count; k++)
         map[call.key[k]] = call.later[k];
 }
@@ -130,7 +130,7 @@ static void check(void) {
     for (uint32_t i = 0; i < keys; i++) {
         struct value found = get(i);
         if (!is_struck(i) && !same(&found, &map[i]))
-            lost("key %" PRIu64 ": acknowledged %s of %zu bytes, found %s of %zu bytes", key_of[i],
+            lost("key " KEY_FORM ": acknowledged %s of %zu bytes, found %s of %zu bytes", KEY_WORDS(key_of[i]),
                  map[i].held ? "a value" : "absent", map[i].size, found.held ? "a value" : "absent", found.size);
     }
     if (call.under_way)
@@ -154,8 +154,8 @@ static void recover(void) {
     fill(heads, sizeof heads);
     fill(next, sizeof next);
     point(); /* recovery writes nothing to the image: a strike in it is one before or after it, with the index lost */
-    uint64_t code = orderset_recover(visible, length, heads, heads_length, next, n + 1, state, version, voids, list_at,
-                                     list_value);
+    uint64_t code = SET(recover)(visible, length, heads, heads_length, next, n + 1, state, version, voids, list_at,
+                                 list_value);
     point();
     if (code)
         lost("recovery refuses: %" PRIu32 ", slot %" PRIu32, ORDERSET_REFUSAL(code), ORDERSET_FAULT_SLOT(code));
@@ -198,17 +198,17 @@ static uint32_t due(enum kind kind, uint32_t i) {
     return kind == INSERT && held() + 1 >= n ? ORDERSET_NO_ROOM : ORDERSET_OK;
 }
 
-static uint64_t carry_out(enum kind kind, uint64_t key, const struct value *v) {
+static uint64_t carry_out(enum kind kind, m_key key, const struct value *v) {
     switch (kind) {
     case INSERT:
-        return orderset_insert(visible, length, heads, heads_length, next, n + 1, state, version, key, v->bytes,
-                               v->size, at, value, answer);
+        return SET(insert)(visible, length, heads, heads_length, next, n + 1, state, version, KEY(key), v->bytes,
+                           v->size, at, value, answer);
     case REPLACE:
-        return orderset_replace(visible, length, heads, heads_length, next, n + 1, state, version, key, v->bytes,
-                                v->size, at, value, answer);
+        return SET(replace)(visible, length, heads, heads_length, next, n + 1, state, version, KEY(key), v->bytes,
+                            v->size, at, value, answer);
     default:
-        return orderset_remove(visible, length, heads, heads_length, next, n + 1, state, version, key, at, value,
-                               answer);
+        return SET(remove)(visible, length, heads, heads_length, next, n + 1, state, version, KEY(key), at, value,
+                           answer);
     }
 }
 
@@ -217,7 +217,7 @@ static const struct value *later_of(uint32_t k, uint32_t i, int holds) {
     struct value *later = &call.later[k];
     call.key[k] = i;
     later->held = holds;
-    later->size = holds ? below(ORDERSET_VALUE_MAX + 1) : 0;
+    later->size = holds ? below(VALUE_MAX + 1) : 0;
     fill(later->bytes, later->size);
     return later;
 }
@@ -244,7 +244,7 @@ static void change(uint32_t i, enum kind kind) {
     const uint32_t wanted = due(kind, i);
     uint64_t code = carry_out(kind, key_of[i], later_of(0, i, kind != REMOVE));
     if (ORDERSET_REFUSAL(code) != wanted)
-        lost("a call of key %" PRIu64 " answers %" PRIu32, key_of[i], ORDERSET_REFUSAL(code));
+        lost("a call of key " KEY_FORM " answers %" PRIu32, KEY_WORDS(key_of[i]), ORDERSET_REFUSAL(code));
     counted(i, code ? ORDERSET_REFUSED_COMPARED(code) : answer[ORDERSET_COMPARED]);
     if (code || answer[0] == ORDERSET_ABSENT)
         return;
@@ -258,7 +258,7 @@ static void change(uint32_t i, enum kind kind) {
 
 static struct {
     uint32_t count, kinds[BASKET];
-    uint64_t keys[BASKET];
+    uint64_t lows[BASKET], highs[BASKET];
     size_t lengths[BASKET];
     uint8_t values[ORDERSET_BASKET_VALUES];
 } asked;
@@ -275,7 +275,8 @@ static void ask_basket(void) {
                             : map[i].held   ? ORDERSET_REPLACE + (uint32_t)below(2)
                                             : ORDERSET_INSERT;
         const struct value *later = later_of(here, i, asked.kinds[here] != ORDERSET_REMOVE);
-        asked.keys[here] = key_of[i];
+        asked.lows[here] = low_word(key_of[i]);
+        asked.highs[here] = high_word(key_of[i]);
         asked.lengths[here] = later->size;
         memcpy(asked.values + ORDERSET_VALUE_MAX * here, later->bytes, later->size);
         asked.count++;
@@ -300,9 +301,9 @@ static uint32_t due_of_basket(void) {
 static void basket(void) {
     ask_basket();
     const uint32_t wanted = due_of_basket();
-    uint32_t code = orderset_basket(visible, length, heads, heads_length, next, n + 1, state, version, asked.count,
-                                    asked.kinds, asked.keys, asked.lengths, asked.values, list_at,
-                                    BASKET * ORDERSET_STORES, list_value, BASKET * ORDERSET_STORES, basket_answer);
+    uint32_t code = SET(basket)(visible, length, heads, heads_length, next, n + 1, state, version, asked.count,
+                                asked.kinds, BASKET_KEYS(asked.lows, asked.highs), asked.lengths, asked.values, list_at,
+                                BASKET * ORDERSET_STORES, list_value, BASKET * ORDERSET_STORES, basket_answer);
     if (code != wanted)
         lost("a basket of %" PRIu32 " keys answers %" PRIu32 ", due is %" PRIu32, asked.count, code, wanted);
     refused_baskets += code != 0;
@@ -330,7 +331,7 @@ static void run_until_struck(void) {
         else if (kind > 0)
             change(i, kind > 2 ? any_write(i) : REMOVE);
         else if (found = get(i), !same(&found, &map[i]))
-            lost("get of key %" PRIu64, key_of[i]);
+            lost("get of key " KEY_FORM, KEY_WORDS(key_of[i]));
         else
             counted(i, answer[ORDERSET_GET_COMPARED]);
         point();
@@ -355,15 +356,20 @@ static void strike(void) {
     strikes++;
 }
 
+/* Distinct keys: the word mod MAX_KEYS is i. Of layout 2 it is the high word, and many keys have one low word. */
+static m_key any_key_of(uint32_t i, uint64_t word) {
+    return LAYOUT == 1 ? word : key_of_words(i % 5, word);
+}
+
 /* A new set of slots and keys, durable. */
 static void make(void) {
     n = (uint32_t)(below(200) ? 2 + below(11) : spread(13, MAX_N));
     length = ORDERSET_IMAGE_BYTES(n);
     keys = 1 + (uint32_t)below(n + 3);
     for (uint32_t i = 0; i < keys; i++)
-        key_of[i] = below(2) ? i : chance() / MAX_KEYS * MAX_KEYS + i; /* distinct: key mod MAX_KEYS is i */
+        key_of[i] = any_key_of(i, below(2) ? i : chance() / MAX_KEYS * MAX_KEYS + i);
     memset(map, 0, sizeof map);
-    if (orderset_format(visible, length, answer))
+    if (orderset_format(visible, length, LAYOUT, answer))
         lost("format");
     all_durable();
     call.under_way = after_kill = 0;
@@ -371,7 +377,7 @@ static void make(void) {
 
 int main(int count, char **word) {
     uint64_t wanted = count > 2 ? strtoull(word[2], NULL, 10) : STRIKES;
-    begin_chance("storm", count > 1 ? word[1] : NULL);
+    begin_chance(LAYOUT == 1 ? "storm" : "storm of layout 2", count > 1 ? word[1] : NULL);
     flush = orderset_best_flush();
     while (strikes < wanted) {
         make();

@@ -32,7 +32,7 @@ static void make_set(void) {
     expect(there >= 0 && ftruncate(there, LENGTH) == 0, "a file %s", file);
     image = mmap(NULL, LENGTH, PROT_READ | PROT_WRITE, MAP_SHARED, there, 0);
     close(there);
-    expect(image != MAP_FAILED && orderset_format(image, LENGTH, slots) == 0
+    expect(image != MAP_FAILED && orderset_format(image, LENGTH, ORDERSET_LAYOUT, slots) == 0
                && orderset_recover(image, LENGTH, heads, 1, next, SLOTS + 1, state, version, count, open_at, open_value)
                       == 0
                && count[0] == 0,

@@ -47,14 +47,14 @@ use Rattle.face.proofs.SetLaws.{layout-1, layout-2}
 use Rattle.cutrule.specs.Request.{TypedRequest}
 use Rattle.cutrule.specs.Rule.{AllRight}
 use Rattle.cutrule.proofs.CutRule.{cut-rule}
-use Rattle.examples.specs.Trial.{answers, outputs, small, oneHead, twoSlots, recovering, cutAt, fresh, sessionOf, session, secondSession, asRequests, expected, expectedOutputs}
+use Rattle.examples.specs.Trial.{answers, outputs, small, oneHead, twoSlots, recovering, cutAt, fresh, sessionWith, session, secondSession, asRequests, expected, expectedOutputs}
 
 -- THE SESSION answers as document 01 says, with the outputs of its gets, in both layouts; recovery accepts its formatted image, which has two slots
 session-computed : (answers 1 (fresh 1) session ≡ expected) × (outputs 1 (fresh 1) session ≡ expectedOutputs)
     × (recoverFault 1 (formatted 1 384) (length oneHead) (length twoSlots) ≡ 0) × (slotsIn (formatted 1 384) ≡ 2)
     × (answers 2 (fresh 2) secondSession ≡ expected) × (outputs 2 (fresh 2) secondSession ≡ expectedOutputs)
     × (recoverFault 2 (formatted 2 384) (length oneHead) (length twoSlots) ≡ 0) × (slotsIn (formatted 2 384) ≡ 2)
-unfolding word setBytes setWord filter slotNumbers anyOf tabulate greatest topmost lowest atLowest count say orElse unlessRefused made contentBy contentOf content top topOf markFault kindFault longest bitsFault wordFault tailFault faultOf recordFault headerWord headerFault imageFault indexFault lentFault lineTop versionFault keyFrom keyOf valuePlace slotWord valueWord valueByte valueFront valueOf slotsOf paired slotTop verdictOf lineVerdict isValid insert sorted openingStore openingStores wordNumbers values zipped played less standing marked placedWord bodyA bodyB run lineStores recordStores said hasVersion sharers complete versionIfComplete highestComplete isVoid settled rankOf ordered chainOf reuseOf clashes sharersFault isRecord isBroken keyIn weight nextVersion decider decidingPut live spare liveCount brokenCount brokenLimit manyBroken allLive validVersion highestValid isRemove older mayTake firstOf lastOf after nextIn chained takeFirst linkNew append insertAt replaceAt removeAt insertNew replaceHeld removeHeld keyFault isFound setNext setStart setLast link withTaken atEnd takeWalk takeFrom endsFault linkFault fewFault reuseFault roomFault walk search chainFault takingOf voidSlots openingsOf storesIn noState settledFault slotsFault slotsNamed recoverFault recoverSlot chainsOf placeOf recoveredIndex recoveredState recovered recoverResult unchanged storeFault changed writeLentFault insertsOf writeLaterFault writeFault writeDone writeResult removeLaterFault removeFault removeDone removeResult formatted lengthFault getLaterFault getFault getDone getResult locateFault locateDone locateResult calledChange calledGet calledLocate called worldAfter afterRound afterRounds openedWorld restarted imageCut stepBy answers outputs small oneHead twoSlots recovering cutAt fresh sessionOf expected expectedOutputs
+unfolding word setBytes setWord filter slotNumbers anyOf tabulate greatest topmost lowest atLowest count say orElse unlessRefused made contentBy contentOf content top topOf markFault kindFault longest bitsFault wordFault tailFault faultOf recordFault headerWord headerFault imageFault indexFault lentFault lineTop versionFault keyFrom keyOf valuePlace slotWord valueWord valueByte valueFront valueOf slotsOf paired slotTop verdictOf lineVerdict isValid insert sorted openingStore openingStores wordNumbers values zipped played less standing marked placedWord bodyA bodyB run lineStores recordStores said hasVersion sharers complete versionIfComplete highestComplete isVoid settled rankOf ordered chainOf reuseOf clashes sharersFault isRecord isBroken keyIn weight nextVersion decider decidingPut live spare liveCount brokenCount brokenLimit manyBroken allLive validVersion highestValid isRemove older mayTake firstOf lastOf after nextIn chained takeFirst linkNew append insertAt replaceAt removeAt insertNew replaceHeld removeHeld keyFault isFound setNext setStart setLast link withTaken atEnd takeWalk takeFrom endsFault linkFault fewFault reuseFault roomFault walk search chainFault takingOf voidSlots openingsOf storesIn noState settledFault slotsFault slotsNamed recoverFault recoverSlot chainsOf placeOf recoveredIndex recoveredState recovered recoverResult unchanged storeFault changed writeLentFault insertsOf writeLaterFault writeFault writeDone writeResult removeLaterFault removeFault removeDone removeResult formatted lengthFault getLaterFault getFault getDone getResult locateFault locateDone locateResult calledChange calledGet calledLocate called worldAfter afterRound afterRounds openedWorld restarted imageCut stepBy answers outputs small oneHead twoSlots recovering cutAt fresh sessionWith expected expectedOutputs
 session-computed = (refl, refl, refl, refl, refl, refl, refl, refl)
 
 pub session-answers : answers 1 (fresh 1) session ≡ expected
@@ -88,8 +88,8 @@ module _ (l a b : ℕ) (a-sized : a < (2 ^ 64) ^ l) (b-sized : b < (2 ^ 64) ^ l)
   sized : {mode : Mode} (key value : ℕ) → key < (2 ^ 64) ^ l → value < 256 → Typed l (write mode key (small value))
   sized key value k v = write-typed k (small-bytes value v)
 
-  session-fits : All (FitsBy (TypedRequest l) 2) (asRequests (sessionOf a b))
-  unfolding sessionOf asRequests cutAt
+  session-fits : All (FitsBy (TypedRequest l) 2) (asRequests (sessionWith a b))
+  unfolding sessionWith asRequests cutAt
   session-fits =
       one-more (done-fits (sized a 100 a-sized (omega arith))) (one-more (done-fits (sized b 5 b-sized (omega arith)))
       (one-more (done-fits (sized a 101 a-sized (omega arith)))
@@ -99,10 +99,10 @@ module _ (l a b : ℕ) (a-sized : a < (2 ^ 64) ^ l) (b-sized : b < (2 ^ 64) ^ l)
 
   -- AN INSTANCE of the cut rule
   holds : Layout l → recoverFault l (formatted l 384) (length oneHead) (length twoSlots) ≡ 0 → slotsIn (formatted l 384) ≡ 2
-      → AllRight l (fresh l) (slotsMap l (formatted l 384)) (asRequests (sessionOf a b))
+      → AllRight l (fresh l) (slotsMap l (formatted l 384)) (asRequests (sessionWith a b))
   unfolding fresh recovering
   holds layout accepted slots =
-      cut-rule l layout (formatted l 384) (recovering twoSlots) accepted (rw slots restart-fits) (asRequests (sessionOf a b)) (rw slots session-fits) .1
+      cut-rule l layout (formatted l 384) (recovering twoSlots) accepted (rw slots restart-fits) (asRequests (sessionWith a b)) (rw slots session-fits) .1
 
 pub session-holds : AllRight 1 (fresh 1) (slotsMap 1 (formatted 1 384)) (asRequests session)
 session-holds = holds 1 7 8 (omega arith) (omega arith) layout-1 (session-computed .2) (session-computed .3)

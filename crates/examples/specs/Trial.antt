@@ -47,18 +47,18 @@ unfoldable pub fresh : (l : ℕ) → World
 fresh l = restarted l (formatted l 384) (recovering twoSlots)
 
 -- "p 7 100 / p 8 5 / p 7 101 / c 8 3 / p 7 102 / g 7 / r 7 / g 7 / p 8 5", with these keys for 7 and 8
-unfoldable pub sessionOf : (a b : ℕ) → List (Event Call)
-sessionOf a b =
+unfoldable pub sessionWith : (a b : ℕ) → List (Event Call)
+sessionWith a b =
     done (write Insert a (small 100)) ∷ done (write Insert b (small 5)) ∷ done (write Replace a (small 101))
     ∷ struck (write Replace a (small 102)) (cutAt 8 3 twoSlots)
     ∷ done (get a (replicate 8 0)) ∷ done (remove a) ∷ done (get a (replicate 8 0)) ∷ done (write Insert b (small 5)) ∷ []
 
 abbrev pub session : List (Event Call)
-session = sessionOf 7 8
+session = sessionWith 7 8
 
 -- of layout 2: the keys have two words, of which they share the low one
 abbrev pub secondSession : List (Event Call)
-secondSession = sessionOf (keyWith 7 1) (keyWith 7 2)
+secondSession = sessionWith (keyWith 7 1) (keyWith 7 2)
 
 -- the same as requests of the cut rule
 unfoldable pub asRequests : List (Event Call) → List (Event Request)

@@ -1,9 +1,9 @@
 -- What an exported call that writes leaves, by what the public call left and the numbers that were handed out. Assumes nothing.
-use mathlib.Core.Path.{_≡_, sym, ap, ap₂, _∙_}
+use mathlib.Core.Path.{_≡_, ap, ap₂, _∙_}
 use mathlib.Core.List.{List}
 use Prim.Native.Nat.{ℕ}
 use Rattle.prelude.specs.Answer.{Answer}
-use Rattle.face.specs.Set.{Got, Located, GetAnswer, LocateAnswer, GetResult, getEnd, locateEnd, getSays, locateSays}
+use Rattle.face.specs.Set.{GetAnswer, LocateAnswer, GetResult, getEnd, locateEnd, getSays, locateSays}
 use Rattle.face.specs.Set.{Store, State, Reported, reported, zipped, Change, changeSays, changeEnd, leftIn, ChangeResult}
 use Rattle.book.specs.Steps.{BookResult, bookSays, bookEnd, bookLeftIn}
 use Rattle.book.specs.Plain.{refusalNumber}
@@ -40,25 +40,19 @@ module _ (code : ℕ) (answer lent-answer : List ℕ) (s : State) (at value head
 
 -- get and locate, by what they gave back
 pub get-called : (code : ℕ) (answer lent-answer out : List ℕ) (r : GetAnswer) (c : GetResult) (compared : ℕ) → getEnd r out ≡ reported c compared
-    → (known : Got) → r .got ≡ known → code ≡ returnedWith (getSays known) (r .compared) → answer ≡ answeredWith 2 (getSays known) (r .compared) lent-answer
+    → (code ≡ returnedWith (getSays (r .got)) (r .compared)) × (answer ≡ answeredWith 2 (getSays (r .got)) (r .compared) lent-answer)
     → getLeft code answer out ≡ getCall c compared lent-answer
 unfolding getCall
-get-called code answer lent-answer out r c compared e known g p q =
-    ap₂ (λ (k : ℕ) (a : List ℕ). getLeft k a out) p q
-    ∙ ap (λ (x : Got). getLeft (returnedWith (getSays x) (r .compared)) (answeredWith 2 (getSays x) (r .compared) lent-answer) out) (sym g)
-    ∙ ap told e
+get-called code answer lent-answer out r c compared e h = ap₂ (λ (k : ℕ) (a : List ℕ). getLeft k a out) (h .0) (h .1) ∙ ap told e
   where
     told : Reported GetResult → GetCall
     told x = getLeft (returnedWith (x .left .answer) (x .compared)) (answeredWith 2 (x .left .answer) (x .compared) lent-answer) (x .left .out)
 
 pub locate-called : (code : ℕ) (answer lent-answer : List ℕ) (r : LocateAnswer) (c : Answer) (compared : ℕ) → locateEnd r ≡ reported c compared
-    → (known : Located) → r .located ≡ known → code ≡ returnedWith (locateSays known) (r .compared) → answer ≡ answeredWith 3 (locateSays known) (r .compared) lent-answer
+    → (code ≡ returnedWith (locateSays (r .located)) (r .compared)) × (answer ≡ answeredWith 3 (locateSays (r .located)) (r .compared) lent-answer)
     → locateLeft code answer ≡ locateCall c compared lent-answer
 unfolding locateCall
-locate-called code answer lent-answer r c compared e known g p q =
-    ap₂ locateLeft p q
-    ∙ ap (λ (x : Located). locateLeft (returnedWith (locateSays x) (r .compared)) (answeredWith 3 (locateSays x) (r .compared) lent-answer)) (sym g)
-    ∙ ap told e
+locate-called code answer lent-answer r c compared e h = ap₂ locateLeft (h .0) (h .1) ∙ ap told e
   where
     told : Reported Answer → LocateCall
     told x = locateLeft (returnedWith (x .left) (x .compared)) (answeredWith 3 (x .left) (x .compared) lent-answer)

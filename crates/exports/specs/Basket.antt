@@ -24,21 +24,21 @@ unknownKind kinds count = anyOf (λ i. not (isKind (getD kinds i 0))) 0 count
 unfoldable pub keysAsked : (count : ℕ) → (kinds : List ℕ) → ℕ
 keysAsked count kinds = cond (ltb 8 count) 0 (cond (unknownKind kinds count) 0 count)
 
--- the item with number i, by three lists of eight numbers
-unfoldable pub givenItem : (kinds keys lengths : List ℕ) → ℕ → BasketItem
-givenItem kinds keys lengths i =
-    record { action = actionOf (getD kinds i 0); low = getD keys i 0; high = 0; length = getD lengths i 0 }
+-- the item with number i, by four lists of eight numbers; a key of layout 1 has 0 for its high word
+unfoldable pub givenItem : (kinds lows highs lengths : List ℕ) → ℕ → BasketItem
+givenItem kinds lows highs lengths i =
+    record { action = actionOf (getD kinds i 0); low = getD lows i 0; high = getD highs i 0; length = getD lengths i 0 }
 
-unfoldable pub givenItems : (kinds keys lengths : List ℕ) → List BasketItem
-givenItems kinds keys lengths =
-    givenItem kinds keys lengths 0
-    ∷ givenItem kinds keys lengths 1
-    ∷ givenItem kinds keys lengths 2
-    ∷ givenItem kinds keys lengths 3
-    ∷ givenItem kinds keys lengths 4
-    ∷ givenItem kinds keys lengths 5
-    ∷ givenItem kinds keys lengths 6
-    ∷ givenItem kinds keys lengths 7
+unfoldable pub givenItems : (kinds lows highs lengths : List ℕ) → List BasketItem
+givenItems kinds lows highs lengths =
+    givenItem kinds lows highs lengths 0
+    ∷ givenItem kinds lows highs lengths 1
+    ∷ givenItem kinds lows highs lengths 2
+    ∷ givenItem kinds lows highs lengths 3
+    ∷ givenItem kinds lows highs lengths 4
+    ∷ givenItem kinds lows highs lengths 5
+    ∷ givenItem kinds lows highs lengths 6
+    ∷ givenItem kinds lows highs lengths 7
     ∷ []
 
 -- ---- what is returned and left

@@ -1,148 +1,14 @@
 // A basket: up to eight keys are changed, all or none.
 ghost use mathlib.Core.Path.{_≡_};
-ghost use mathlib.Core.List.{List, _∷_};
-ghost use Prim.Native.Nat.{ℕ, _≤_, _<_};
-ghost use lib.ListN.{length};
-ghost use Rattle.prelude.specs.Answer.{refusalIn};
-ghost use Rattle.face.specs.Set.{basketSays, leftInLists, changesOf, basketResult};
+ghost use lib.ListN.{length, replicate};
+ghost use Rattle.face.specs.Set.{leftInLists, changesOf, basketResult};
 ghost use Rattle.exports.specs.State.{stateFrom};
-ghost use Rattle.exports.specs.Basket.{isKind, actionOf, unknownKind, keysAsked, givenItem, givenItems, basketCallLeft, basketAnswered, basketCall};
-use crate::state::keep_state;
-use crate::state::state_from;
-use orderset::Action;
-use orderset::BasketAnswer;
-use orderset::BasketItem;
-use orderset::BasketOutcome;
+ghost use Rattle.exports.specs.Basket.{keysAsked, givenItems, basketCallLeft, basketCall};
+use exports_code::basket::given_items;
+use exports_code::basket::hand_out_basket;
+use exports_code::basket::keys_asked;
+use exports_code::state::state_from;
 use orderset::basket;
-
-// Is it one of the three kinds?
-fn is_kind(kind: u32) -> bool
-    ensures { λ r. ⌜ r ≡ isKind kind ⌝ }
-{
-    if kind == 1 {
-        return true;
-    }
-    if kind == 2 {
-        return true;
-    }
-    kind == 3
-}
-
-// What is asked by one of the three kinds.
-fn action_of(kind: u32) -> Action
-    ensures { λ r. ⌜ r ≡ actionOf kind ⌝ }
-{
-    if kind == 1 {
-        return Action::Insert;
-    }
-    if kind == 2 {
-        return Action::Replace;
-    }
-    Action::Remove
-}
-
-// Is one of the first kinds none of the three?
-fn unknown_kind(kinds: &[u32; 8], count: usize) -> bool
-    requires { ⌜ count ≤ 8 ⌝ }
-    ensures { λ r. ⌜ r ≡ unknownKind (now (kinds .entry)) count ⌝ }
-{
-    let mut i = 0;
-    while i < count {
-        if !is_kind(kinds[i]) {
-            return true;
-        }
-        i += 1;
-    }
-    false
-}
-
-// The number of keys, 0 for a basket that is refused by its count or its kinds.
-fn keys_asked(count: usize, kinds: &[u32; 8]) -> usize
-    ensures { λ r. ⌜ r ≡ keysAsked count (now (kinds .entry)) ⌝ }
-{
-    if 8 < count {
-        return 0;
-    }
-    if unknown_kind(kinds, count) {
-        return 0;
-    }
-    count
-}
-
-// The item with number i.
-fn given_item(kinds: &[u32; 8], keys: &[u64; 8], lengths: &[usize; 8], i: usize) -> BasketItem
-    requires { ⌜ i < 8 ⌝ }
-    ensures { λ r. ⌜ r ≡ givenItem (now (kinds .entry)) (now (keys .entry)) (now (lengths .entry)) i ⌝ }
-{
-    BasketItem {
-        action: action_of(kinds[i]),
-        low: keys[i],
-        high: 0,
-        length: lengths[i],
-    }
-}
-
-// All eight.
-fn given_items(kinds: &[u32; 8], keys: &[u64; 8], lengths: &[usize; 8]) -> [BasketItem; 8]
-    ensures { λ r. ⌜ r ≡ givenItems (now (kinds .entry)) (now (keys .entry)) (now (lengths .entry)) ⌝ }
-{
-    [
-        given_item(kinds, keys, lengths, 0),
-        given_item(kinds, keys, lengths, 1),
-        given_item(kinds, keys, lengths, 2),
-        given_item(kinds, keys, lengths, 3),
-        given_item(kinds, keys, lengths, 4),
-        given_item(kinds, keys, lengths, 5),
-        given_item(kinds, keys, lengths, 6),
-        given_item(kinds, keys, lengths, 7),
-    ]
-}
-
-// A slot's number as one of 64 bits.
-fn wide(slot: u32) -> u64
-    ensures { λ r. ⌜ r ≡ slot ⌝ }
-{
-    slot as u64
-}
-
-// The answer of a basket: its version and the slots.
-fn answer_of(version: u64, slots: [u32; 8]) -> [u64; 9]
-    ensures { λ r. ⌜ r ≡ version ∷ slots ⌝ }
-{
-    [
-        version,
-        wide(slots[0]),
-        wide(slots[1]),
-        wide(slots[2]),
-        wide(slots[3]),
-        wide(slots[4]),
-        wide(slots[5]),
-        wide(slots[6]),
-        wide(slots[7]),
-    ]
-}
-
-// What a basket gives back goes into the lent numbers.
-fn hand_out_basket(
-    basket: BasketAnswer,
-    state: &mut [u32; 4],
-    version: &mut [u64; 1],
-    answer: &mut [u64; 9],
-) -> u32
-    ensures { λ r. ⌜ ((taken : List ℕ) → (r ≡ refusalIn (basketSays taken (basket .outcome))) × (now (answer .exit) ≡ basketAnswered (basketSays taken (basket .outcome)) (basket .slots) (now (answer .entry))) × (stateFrom (now (state .exit)) (now (version .exit)) ≡ basket .state)) ⌝ }
-{
-    let after = basket.state;
-    let slots = basket.slots;
-    let outcome = basket.outcome;
-    keep_state(after, state, version);
-    match outcome {
-        BasketOutcome::Refused(number) => number,
-        BasketOutcome::Stored { version: number } => {
-            *answer = answer_of(number, slots);
-            0
-        }
-    }
-}
 
 // The first count items are carried out together: kind 1 inserts, 2 replaces and 3 removes the key; item i's value is the first bytes of values from byte 80 × i on. The answer
 // is the version and the slots taken, and the stores, sixteen for each key, are to be made by the caller.
@@ -162,11 +28,12 @@ pub extern "C" fn orderset_basket(
     value: &mut [u64],
     answer: &mut [u64; 9],
 ) -> u32
-    ensures { λ r. ⌜ basketCallLeft r (now (answer .exit)) (stateFrom (now (state .exit)) (now (version .exit))) (now (at .exit)) (now (value .exit)) (now (heads .exit)) (now (next .exit)) ≡ basketCall (leftInLists (now (at .entry)) (now (value .entry)) (basketResult 1 (now (image .entry)) (now (heads .entry)) (now (next .entry)) (stateFrom (now (state .entry)) (now (version .entry))) (changesOf 1 (keysAsked count (now (kinds .entry))) (givenItems (now (kinds .entry)) (now (keys .entry)) (now (lengths .entry))) (now (values .entry))) (length (now (at .entry))) (length (now (value .entry))))) (now (answer .entry)) ⌝ }
+    ensures { λ r. ⌜ basketCallLeft r (now (answer .exit)) (stateFrom (now (state .exit)) (now (version .exit))) (now (at .exit)) (now (value .exit)) (now (heads .exit)) (now (next .exit)) ≡ basketCall (leftInLists (now (at .entry)) (now (value .entry)) (basketResult 1 (now (image .entry)) (now (heads .entry)) (now (next .entry)) (stateFrom (now (state .entry)) (now (version .entry))) (changesOf 1 (keysAsked count (now (kinds .entry))) (givenItems (now (kinds .entry)) (now (keys .entry)) (replicate 8 0) (now (lengths .entry))) (now (values .entry))) (length (now (at .entry))) (length (now (value .entry))))) (now (answer .entry)) ⌝ }
 {
     let before = state_from(state, version);
     let asked = keys_asked(count, kinds);
-    let items = given_items(kinds, keys, lengths);
+    let highs = [0; 8];
+    let items = given_items(kinds, keys, &highs, lengths);
     let bytes = *values;
     let given = basket(image, heads, next, before, asked, items, bytes, at, value);
     hand_out_basket(given, state, version, answer)

@@ -2,8 +2,7 @@
 ghost use mathlib.Core.Path.{_≡_};
 ghost use Rattle.face.specs.Set.{getResult, keyCompared};
 ghost use Rattle.exports.specs.Call.{getLeft, getCall};
-use crate::answer::refused_with;
-use orderset::Got;
+use exports_code::answer::hand_out_got;
 use orderset::get;
 
 // The value of the key fills the front of out; the answer is its length, or absent, each with the slots compared.
@@ -18,17 +17,6 @@ pub extern "C" fn orderset_get(
 ) -> u64
     ensures { λ r. ⌜ getLeft r (now (answer .exit)) (now (out .exit)) ≡ getCall (getResult 1 (now (image .entry)) (now (heads .entry)) (now (next .entry)) key (now (out .entry))) (keyCompared 1 (now (image .entry)) (now (heads .entry)) (now (next .entry)) key) (now (answer .entry)) ⌝ }
 {
-    let r = get(image, heads, next, key, out);
-    let got = r.got;
-    match got {
-        Got::Refused(number) => refused_with(number, r.compared),
-        Got::Absent => {
-            *answer = [0, 0, r.compared as u64];
-            0
-        }
-        Got::Length(length) => {
-            *answer = [1, length as u64, r.compared as u64];
-            0
-        }
-    }
+    let got = get(image, heads, next, key, out);
+    hand_out_got(got, answer)
 }

@@ -2,8 +2,7 @@
 ghost use mathlib.Core.Path.{_≡_};
 ghost use Rattle.face.specs.Set.{locateResult, keyCompared};
 ghost use Rattle.exports.specs.Call.{locateLeft, locateCall};
-use crate::answer::refused_with;
-use orderset::Located;
+use exports_code::answer::hand_out_located;
 use orderset::locate;
 
 // The answer is the slot that holds the key and its version, or absent, each with the slots compared.
@@ -17,17 +16,6 @@ pub extern "C" fn orderset_locate(
 ) -> u64
     ensures { λ r. ⌜ locateLeft r (now (answer .exit)) ≡ locateCall (locateResult 1 (now (image .entry)) (now (heads .entry)) (now (next .entry)) key) (keyCompared 1 (now (image .entry)) (now (heads .entry)) (now (next .entry)) key) (now (answer .entry)) ⌝ }
 {
-    let r = locate(image, heads, next, key);
-    let located = r.located;
-    match located {
-        Located::Refused(number) => refused_with(number, r.compared),
-        Located::Absent => {
-            *answer = [0, 0, 0, r.compared as u64];
-            0
-        }
-        Located::At { slot, version } => {
-            *answer = [1, slot as u64, version, r.compared as u64];
-            0
-        }
-    }
+    let located = locate(image, heads, next, key);
+    hand_out_located(located, answer)
 }

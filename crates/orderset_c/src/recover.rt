@@ -4,27 +4,8 @@ ghost use Rattle.face.specs.Set.{recoverResult};
 ghost use Rattle.exports.specs.State.{stateFrom};
 ghost use Rattle.exports.specs.Opening.{openingsFrom};
 ghost use Rattle.exports.specs.Call.{recoverLeft, recoverCall};
-use crate::answer::refused_with;
-use crate::state::keep_state;
-use orderset::Openings;
-use orderset::Recovered;
+use exports_code::recover::hand_out_recovered;
 use orderset::recover;
-
-// The lent numbers become those of the opening stores.
-pub fn keep_openings(
-    openings: Openings,
-    count: &mut [u32; 1],
-    at: &mut [u32; 8],
-    value: &mut [u64; 8],
-)
-    ensures { λ _. ⌜ openingsFrom (now (count .exit)) (now (at .exit)) (now (value .exit)) ≡ openings ⌝ }
-{
-    let words = openings.at;
-    let values = openings.value;
-    *count = [openings.count];
-    *at = words;
-    *value = values;
-}
 
 // The index of the image is rebuilt; the answer is the state beside it, with the opening stores, which are to be made by the caller. Returned is 0, or
 // the refusal + 2^32 × the slot that it names.
@@ -42,14 +23,5 @@ pub extern "C" fn orderset_recover(
     ensures { λ r. ⌜ recoverLeft r (stateFrom (now (state .exit)) (now (version .exit))) (openingsFrom (now (count .exit)) (now (at .exit)) (now (value .exit))) (now (heads .exit)) (now (next .exit)) ≡ recoverCall (recoverResult 1 (now (image .entry)) (now (heads .entry)) (now (next .entry))) (stateFrom (now (state .entry)) (now (version .entry))) (openingsFrom (now (count .entry)) (now (at .entry)) (now (value .entry))) ⌝ }
 {
     let answer = recover(image, heads, next);
-    let recovered = answer.recovered;
-    let openings = answer.openings;
-    match recovered {
-        Recovered::Refused { number, slot } => refused_with(number, slot),
-        Recovered::Rebuilt(after) => {
-            keep_state(after, state, version);
-            keep_openings(openings, count, at, value);
-            0
-        }
-    }
+    hand_out_recovered(answer, state, version, count, at, value)
 }

@@ -1,0 +1,132 @@
+/* The time of recovery in layout 1 and in layout 2, and of gets. N slots, N - 1 orders of 24 bytes in random slots, random keys: of layout 2 both words
+ * are random, or only the high one and the low one is one of 1,000. The two layouts are timed in turn. Prints, for each N, the median and the best.
+ *     layouts [REPETITIONS] */
+#include <stdio.h>
+#include <stdlib.h>
+#include <string.h>
+#include <time.h>
+
+#include "orderset.h"
+#include "orderset2.h"
+
+enum { MAX_N = ORDERSET_SLOTS_MAX, MAX_REPETITIONS = 10000, GETS = 512, WAYS = 3 };
+
+/* layout 1; layout 2 with random keys; layout 2 with few low words */
+static const struct way {
+    const char *name;
+    uint64_t layout, lows;
+} ways[WAYS] = {{"layout 1", ORDERSET_LAYOUT, 0}, {"layout 2", ORDERSET2_LAYOUT, 0}, {"layout 2, 1,000 low words", ORDERSET2_LAYOUT, 1000}};
+
+struct set {
+    uint8_t image[ORDERSET_IMAGE_BYTES(MAX_N)];
+    uint32_t heads[ORDERSET_HEADS_MAX], next[MAX_N + 1], state[ORDERSET_STATE];
+    uint64_t version[1], low[MAX_N], high[MAX_N];
+    double recovery[MAX_REPETITIONS], get[MAX_REPETITIONS];
+};
+
+static struct set sets[WAYS];
+static uint32_t n, b;
+static uint8_t bytes[24], out[ORDERSET_VALUE_MAX];
+
+static uint64_t seed = 1;
+static uint64_t chance(void) {
+    uint64_t z = seed += 0x9e3779b97f4a7c15u;
+    z = (z ^ z >> 30) * 0xbf58476d1ce4e5b9u;
+    z = (z ^ z >> 27) * 0x94d049bb133111ebu;
+    return z ^ z >> 31;
+}
+
+static void must(int done, const char *what) {
+    if (done)
+        return;
+    fprintf(stderr, "layouts: %s failed\n", what);
+    exit(1);
+}
+
+static void recover(struct set *s, const struct way *way) {
+    uint32_t voids[1], open_at[ORDERSET_OPENINGS];
+    uint64_t open_value[ORDERSET_OPENINGS];
+    must((way->layout == ORDERSET_LAYOUT ? orderset_recover : orderset2_recover)(s->image, ORDERSET_IMAGE_BYTES(n), s->heads, b, s->next, n + 1, s->state,
+                                                                                s->version, voids, open_at, open_value) == 0 && voids[0] == 0,
+         "recover");
+}
+
+static void write_order(struct set *s, const struct way *way, uint32_t i, int is_new) {
+    uint32_t at[ORDERSET_STORES];
+    uint64_t value[ORDERSET_STORES], answer[ORDERSET_CHANGE_ANSWER], code;
+    const size_t length = ORDERSET_IMAGE_BYTES(n);
+    if (way->layout == ORDERSET_LAYOUT)
+        code = (is_new ? orderset_insert : orderset_replace)(s->image, length, s->heads, b, s->next, n + 1, s->state, s->version, s->low[i], bytes, sizeof bytes,
+                                                            at, value, answer);
+    else
+        code = (is_new ? orderset2_insert : orderset2_replace)(s->image, length, s->heads, b, s->next, n + 1, s->state, s->version, s->low[i], s->high[i],
+                                                              bytes, sizeof bytes, at, value, answer);
+    must(code == 0 && orderset_play(s->image, length, at, value, 8, 8) == 0, "write");
+}
+
+static void fill(struct set *s, const struct way *way) {
+    uint64_t answer[ORDERSET_FORMAT_ANSWER];
+    must(orderset_format(s->image, ORDERSET_IMAGE_BYTES(n), way->layout, answer) == 0, "format");
+    recover(s, way);
+    for (uint32_t i = 0; i < n - 1; i++) {
+        s->low[i] = way->lows ? chance() % way->lows : chance();
+        s->high[i] = chance();
+        write_order(s, way, i, 1);
+    }
+    for (uint32_t i = 0; i < 4 * n; i++)
+        write_order(s, way, (uint32_t)(chance() % (n - 1)), 0);
+}
+
+static void get(struct set *s, const struct way *way, uint32_t i) {
+    uint64_t answer[ORDERSET_ANSWER];
+    const size_t length = ORDERSET_IMAGE_BYTES(n);
+    uint64_t code = way->layout == ORDERSET_LAYOUT
+                        ? orderset_get(s->image, length, s->heads, b, s->next, n + 1, s->low[i], out, sizeof out, answer)
+                        : orderset2_get(s->image, length, s->heads, b, s->next, n + 1, s->low[i], s->high[i], out, sizeof out, answer);
+    must(code == 0 && answer[0] == ORDERSET_GIVEN, "get");
+}
+
+static double nanoseconds(void) {
+    struct timespec now;
+    clock_gettime(CLOCK_MONOTONIC, &now);
+    return (double)now.tv_sec * 1e9 + (double)now.tv_nsec;
+}
+
+static int by_size(const void *x, const void *y) {
+    double a = *(const double *)x, c = *(const double *)y;
+    return (a > c) - (a < c);
+}
+
+static void measure(uint32_t slots, uint32_t heads, unsigned repetitions) {
+    n = slots;
+    b = heads;
+    for (int w = 0; w < WAYS; w++)
+        fill(&sets[w], &ways[w]);
+    for (unsigned r = 0; r < repetitions; r++)
+        for (int w = 0; w < WAYS; w++) {
+            double from = nanoseconds();
+            recover(&sets[w], &ways[w]);
+            double between = nanoseconds();
+            for (int k = 0; k < GETS; k++)
+                get(&sets[w], &ways[w], (uint32_t)(chance() % (n - 1)));
+            sets[w].recovery[r] = between - from;
+            sets[w].get[r] = (nanoseconds() - between) / GETS;
+        }
+    for (int w = 0; w < WAYS; w++) {
+        qsort(sets[w].recovery, repetitions, sizeof(double), by_size);
+        qsort(sets[w].get, repetitions, sizeof(double), by_size);
+        printf("N %u, B %u, %s: recovery median %.1f us, best %.1f us, x layout 1: %.2f and %.2f; get %.0f ns, best %.0f ns\n", n, b, ways[w].name,
+               sets[w].recovery[repetitions / 2] / 1e3, sets[w].recovery[0] / 1e3, sets[w].recovery[repetitions / 2] / sets[0].recovery[repetitions / 2],
+               sets[w].recovery[0] / sets[0].recovery[0], sets[w].get[repetitions / 2], sets[w].get[0]);
+    }
+}
+
+int main(int count, char **word) {
+    unsigned repetitions = count > 1 ? (unsigned)atoi(word[1]) : 201;
+    repetitions = repetitions < 1 ? 1 : repetitions > MAX_REPETITIONS ? MAX_REPETITIONS : repetitions;
+    measure(60, 60, repetitions);
+    measure(1000, 250, repetitions);
+    measure(16000, 16000, repetitions);
+    measure(65535, 65521, repetitions);
+    return 0;
+}

@@ -1,0 +1,22 @@
+-- `exports_code::answer::hand_out_got` meets its contract. Assumes nothing.
+use mathlib.Core.Path.{refl}
+use borrow.Author.Needs.{needs}
+use Rattle.face.specs.Set.{getSays}
+use Rattle.exports.specs.Call.{answeredWith, returnedWith}
+use Rattle.exports_code.proofs.answer.hand_out_got.Statement.{statement}
+use Rattle.exports_code.proofs.answer.hand_out_got.Tie as tie
+
+returns : tie.Need-returns
+unfolding returnedWith answeredWith getSays
+returns c = rw (@got .given .1) (@refused-with .ensures, refl)
+
+returns-2 : tie.Need-returns-2
+unfolding returnedWith answeredWith getSays
+returns-2 c = rw (@enum-told .given .1) (refl, refl)
+
+returns-3 : tie.Need-returns-3
+unfolding returnedWith answeredWith getSays
+returns-3 c = rw (@got2 .given .1) (refl, refl)
+
+pub hand-out-got-spec : {M : Type 1} → statement M
+hand-out-got-spec = ?

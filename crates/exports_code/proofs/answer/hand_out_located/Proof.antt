@@ -1,0 +1,22 @@
+-- `exports_code::answer::hand_out_located` meets its contract. Assumes nothing.
+use mathlib.Core.Path.{refl}
+use borrow.Author.Needs.{needs}
+use Rattle.face.specs.Set.{locateSays}
+use Rattle.exports.specs.Call.{answeredWith, returnedWith}
+use Rattle.exports_code.proofs.answer.hand_out_located.Statement.{statement}
+use Rattle.exports_code.proofs.answer.hand_out_located.Tie as tie
+
+returns : tie.Need-returns
+unfolding returnedWith answeredWith locateSays
+returns c = rw (@located .given .1) (@refused-with .ensures, refl)
+
+returns-2 : tie.Need-returns-2
+unfolding returnedWith answeredWith locateSays
+returns-2 c = rw (@enum-told .given .1) (refl, refl)
+
+returns-3 : tie.Need-returns-3
+unfolding returnedWith answeredWith locateSays
+returns-3 c = rw (@located2 .given .1) (refl, refl)
+
+pub hand-out-located-spec : {M : Type 1} → statement M
+hand-out-located-spec = ?

@@ -1,0 +1,5 @@
+// What the exported calls ask and answer by lent numbers, for both layouts.
+pub mod answer;
+pub mod basket;
+pub mod recover;
+pub mod state;

@@ -1,0 +1,11 @@
+-- `orderset2_c::locate::orderset2_locate` meets its contract. Assumes nothing.
+use borrow.Author.Needs.{needs}
+use Rattle.exports.proofs.Calls.{locate-called}
+use Rattle.orderset2_c.proofs.locate.orderset2_locate.Statement.{statement}
+use Rattle.orderset2_c.proofs.locate.orderset2_locate.Tie as tie
+
+returns : tie.Need-returns
+returns c = locate-called _ _ _ _ _ _ (@locate2 .ensures) (@hand-out-located .ensures)
+
+pub orderset2-locate-spec : {M : Type 1} → statement M
+orderset2-locate-spec = tie.close (tie.spec (λ c κs. search needs) (λ c κs. search needs) returns)

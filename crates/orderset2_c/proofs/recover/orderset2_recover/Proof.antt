@@ -1,0 +1,12 @@
+-- `orderset2_c::recover::orderset2_recover` meets its contract. Assumes nothing.
+use borrow.Author.Needs.{needs}
+use Rattle.orderset2_c.proofs.recover.orderset2_recover.Statement.{statement}
+use Rattle.orderset2_c.proofs.recover.orderset2_recover.Tie as tie
+
+returns : tie.Need-returns
+returns c = rw (← (@recover2 .ensures)) (@hand-out-recovered .ensures _ _)
+
+pub orderset2-recover-spec : {M : Type 1} → statement M
+orderset2-recover-spec =
+    tie.close
+    (tie.spec (λ c κs. search needs) (λ c κs. search needs) (λ c. search needs) (λ c. search needs) returns)
