@@ -4,6 +4,7 @@
  * and power cuts strike too. A cut leaves in the file what was synced, and of what was not each line keeps some number
  * of its words, counted from the first. Some commands are baskets of orders: all of one is there, or nothing. Between
  * two runs the test writes some stores of a basket to the file, as a cut leaves them: nothing of it may ever be there.
+ * The file has the layout that the test is built for (layout.h).
  *
  *     kills GATEWAY GATEWAY_ON_DISK FILE [SEED]
  */
@@ -17,9 +18,9 @@
 
 #include "chance.h"
 #include "child.h"
-#include "orderset.h"
+#include "layout.h"
 
-enum { KILLS = 200, STRIKES = 400, SLOTS = 12, KEYS = 15, BATCH = 40, TEXT = 80, PATH = 1024, BASKET = 4 };
+enum { KILLS = 200, STRIKES = 400, SLOTS = 12, KEYS = 15, BATCH = 40, TEXT = 80, WORD = 40, PATH = 1024, BASKET = 4 };
 
 static const char *gateway, *file;
 static char shadow[PATH], log_file[PATH];
@@ -46,8 +47,20 @@ static struct command {
 } batch[BATCH];
 static int sent, done; /* commands of the batch that were sent, and that were answered */
 
-static uint64_t number_of(int key) {
-    return key % 3 ? (uint64_t)key : UINT64_MAX - (uint64_t)key;
+/* Of layout 2 many keys share their low word. */
+static m_key number_of(int key) {
+    const uint64_t number = key % 3 ? (uint64_t)key : UINT64_MAX - (uint64_t)key;
+    return LAYOUT == 1 ? number : key_of_words((uint64_t)key % 4, number);
+}
+
+/* as the gateway takes and shows it */
+static const char *word_of(int key, char word[WORD]) {
+    const m_key number = number_of(key);
+    if (LAYOUT == 1)
+        snprintf(word, WORD, "%" PRIu64, low_word(number));
+    else
+        snprintf(word, WORD, "0x%016" PRIx64 "%016" PRIx64, high_word(number), low_word(number));
+    return word;
 }
 
 static int held(const struct order *orders) {
@@ -102,16 +115,16 @@ static const char *const name[] = {"new", "acknowledge", "fill", "withdraw", "sh
 
 /* What the command is to be answered, or its beginning. */
 static void answer_due(const struct command *c, int refusal, const struct order *later, char wanted[LINE]) {
-    char text[TEXT];
-    const uint64_t key = number_of(c->item[0].key);
+    char text[TEXT], key[WORD];
+    word_of(c->item[0].key, key);
     if (c->kind == SHOW)
-        snprintf(wanted, LINE, "%" PRIu64 ": %s", key, text_of(&later[c->item[0].key], text));
+        snprintf(wanted, LINE, "%s: %s", key, text_of(&later[c->item[0].key], text));
     else if (refusal)
         snprintf(wanted, LINE, "no %d: ", refusal);
     else if (c->kind == BASKETS)
         snprintf(wanted, LINE, "basket %d: slots ", c->count);
     else
-        snprintf(wanted, LINE, "%s %" PRIu64 ": slot ", name[c->kind], key);
+        snprintf(wanted, LINE, "%s %s: slot ", name[c->kind], key);
 }
 
 /* A command is answered as the map asks for, and the map takes its step. */
@@ -140,7 +153,8 @@ static uint64_t any_quantity(void) {
 }
 
 static char *write_item(char *end, const struct item *c) {
-    end += sprintf(end, "%s %" PRIu64, name[c->kind], number_of(c->key));
+    char key[WORD];
+    end += sprintf(end, "%s %s", name[c->kind], word_of(c->key, key));
     if (c->kind == NEW || c->kind == FILL)
         end += sprintf(end, " %" PRIu64, c->quantity);
     return end;
@@ -188,9 +202,12 @@ static void send_batch(struct child *child) {
     say(child, all);
 }
 
-static int key_of(uint64_t number) {
+/* The key that a line begins with, or KEYS. */
+static int key_of(const char *line) {
+    char word[WORD];
+    const size_t length = strcspn(line, ":");
     int key = 0;
-    while (key < KEYS && number_of(key) != number)
+    while (key < KEYS && (strlen(word_of(key, word)) != length || strncmp(line, word, length)))
         key++;
     return key;
 }
@@ -202,8 +219,8 @@ static void hear_list(struct child *child, char found[KEYS][LINE]) {
     for (int i = 0; i < KEYS; i++)
         strcpy(found[i], "absent");
     say(child, "list\n");
-    while (expect(hear(child, line), "list ends"), strchr(line, ':')) {
-        int key = key_of(strtoull(line, &text, 10));
+    while (expect(hear(child, line), "list ends"), (text = strchr(line, ':'))) {
+        int key = key_of(line);
         expect(key < KEYS && !strcmp(found[key], "absent") && !strncmp(text, ": ", 2),
                "an order that was never sent: '%s'", line);
         strcpy(found[key], text + 2);
@@ -224,15 +241,15 @@ static int first_other(char found[KEYS][LINE], const struct order *orders) {
 /* What is listed after a start: all as the answered commands left it, or all as the command that was under way left it
  * too. The map goes on with that. */
 static void check(struct child *child) {
-    char found[KEYS][LINE], text[TEXT];
+    char found[KEYS][LINE], text[TEXT], key[WORD];
     struct order later[KEYS];
     hear_list(child, found);
     const struct command *c = done < sent && batch[done].kind != SHOW ? &batch[done] : NULL;
     const int other = first_other(found, map),
               is_later = c && carry_out_all(c, later) == 0 && first_other(found, later) == KEYS;
     expect(other == KEYS || is_later,
-           "key %" PRIu64 " after %" PRIu64 " kills and %" PRIu64 " cuts: answered '%s', found '%s'%s",
-           number_of(other % KEYS), kills, cuts, text_of(&map[other % KEYS], text), found[other % KEYS],
+           "key %s after %" PRIu64 " kills and %" PRIu64 " cuts: answered '%s', found '%s'%s",
+           word_of(other % KEYS, key), kills, cuts, text_of(&map[other % KEYS], text), found[other % KEYS],
            c && c->kind == BASKETS ? ", in a basket or beside it" : "");
     if (other < KEYS)
         memcpy(map, later, sizeof map);
@@ -298,7 +315,7 @@ static void make(void) {
     unlink(fresh);
     memset(map, 0, sizeof map);
     sent = done = 0;
-    struct child child = start_child((const char *const[]){gateway, file, "make", slots, NULL});
+    struct child child = start_child((const char *const[]){gateway, file, "make", slots, LAYOUT == 1 ? NULL : "2", NULL});
     expect(hear(&child, line) && !strncmp(line, "made ", 5), "a file is made: '%s'", line);
     expect(end_of(&child) == 0, "make ends with status 0");
 }
@@ -332,23 +349,25 @@ static void half_basket(uint64_t *words, size_t length) {
     enum { ROOM = BASKET * ORDERSET_STORES };
     uint32_t heads[1], next[SLOTS + 1], state[ORDERSET_STATE], voids[1], open_at[ORDERSET_OPENINGS], at[ROOM],
         kinds[ORDERSET_BASKET], count = 2 + (uint32_t)below(BASKET - 1), first = (uint32_t)below(KEYS);
-    uint64_t version[1], open_value[ORDERSET_OPENINGS], value[ROOM], keys[ORDERSET_BASKET] = {0},
+    uint64_t version[1], open_value[ORDERSET_OPENINGS], value[ROOM], lows[ORDERSET_BASKET], highs[ORDERSET_BASKET],
         answer[ORDERSET_BASKET_ANSWER];
     size_t lengths[ORDERSET_BASKET];
     uint8_t values[ORDERSET_BASKET_VALUES] = {0};
     const uint8_t *image = (const uint8_t *)words;
-    uint64_t refusal = orderset_recover(image, length, heads, 1, next, SLOTS + 1, state, version, voids, open_at,
-                                        open_value);
+    uint64_t refusal = SET(recover)(image, length, heads, 1, next, SLOTS + 1, state, version, voids, open_at,
+                                    open_value);
     expect(refusal == 0, "recovery takes the file; refusal %" PRIu32, ORDERSET_REFUSAL(refusal));
     for (uint32_t i = 0; i < ORDERSET_BASKET; i++) {
         const int key = (int)((first + i) % KEYS);
         kinds[i] = map[key].state ? ORDERSET_REPLACE : ORDERSET_INSERT;
-        keys[i] = number_of(key);
+        lows[i] = low_word(number_of(key));
+        highs[i] = high_word(number_of(key));
         lengths[i] = ORDERSET_ORDER_BYTES;
         memcpy(values + ORDERSET_VALUE_MAX * i, (const uint64_t[]){ORDERSET_SENT, 200, 100}, ORDERSET_ORDER_BYTES);
     }
-    if (voids[0] || orderset_basket(image, length, heads, 1, next, SLOTS + 1, state, version, count, kinds, keys,
-                                    lengths, values, at, ROOM, value, ROOM, answer))
+    (void)highs; /* of layout 1 there are none */
+    if (voids[0] || SET(basket)(image, length, heads, 1, next, SLOTS + 1, state, version, count, kinds,
+                                BASKET_KEYS(lows, highs), lengths, values, at, ROOM, value, ROOM, answer))
         return;
     make_some(words, at, value, count);
     half_baskets++;
@@ -423,7 +442,7 @@ static void on_simulated_disk(const char *program) {
 }
 
 int main(int count, char **word) {
-    begin_chance("kills", count > 4 ? word[4] : NULL);
+    begin_chance(LAYOUT == 1 ? "kills" : "kills of layout 2", count > 4 ? word[4] : NULL);
     expect(count > 3, "kills GATEWAY GATEWAY_ON_DISK FILE [SEED]");
     gateway = word[1];
     file = word[3];
