@@ -2,16 +2,16 @@
 use mathlib.Core.Path.{_≡_, refl, sym, ap, ap₂, _∙_, subst}
 use mathlib.Core.Bool.{Bool, true, false, cond, _&&_}
 use mathlib.Core.List.{List, [], _∷_}
-use Prim.Native.Nat.{ℕ, _≤_, _<_}
+use Prim.Native.Nat.{ℕ, zero, suc, _-_, _*_, _≤_, _<_}
 use native.Mathlib.Omega.{arith}
 use lib.Dec.{eqb, ltb}
-use lib.ListN.{length, take, replicate, length-take}
+use lib.ListN.{length, take, replicate, length-take, length-replicate}
 use borrow.Author.Tests.{ltb-true, lt-ltb, le-ltb, eq-eqb, ne-eqb}
 use Rattle.words.specs.Word.{word}
 use Rattle.words.proofs.Laws.{word-take}
 use Rattle.prelude.proofs.Choice.{pick-true, pick-false, both, both-right}
 use Rattle.prelude.specs.Answer.{Answer, gives, absent, refused}
-use Rattle.face.specs.Set.{GetResult, getResult, limit}
+use Rattle.face.specs.Set.{Layout, GetResult, getResult, limit}
 use Rattle.book.specs.Orders.{isState, isOrder, orderOf}
 use Rattle.book.specs.Steps.{Sought, order, none-there, soughtIn, soughtBy, seek}
 use Rattle.book.specs.inner.Courses.{soughtWith}
@@ -80,13 +80,33 @@ sought-sound r o e = go (r .answer) e
     go absent e = absurd (not-there o _ e)
     go (refused number) e = absurd (not-there o _ e)
 
+-- ---- the output of a seek
+
+zeros-front : (n m : ℕ) → n ≤ m → take n (replicate {A = ℕ} m 0) ≡ replicate n 0
+zeros-front zero m h = refl
+zeros-front (suc n) zero h = absurd (omega arith)
+zeros-front (suc n) (suc m) h = ap (λ (zs : List ℕ). 0 ∷ zs) (zeros-front n m (omega arith))
+
+-- the front of 80 zeros that has room for any value
+pub room-zeros : (l : ℕ) → Layout l → take (88 - 8 * l) (replicate {A = ℕ} 80 0) ≡ replicate (limit l) 0
+room-zeros l lay = zeros-front (88 - 8 * l) 80 (omega (arith, lay .low))
+
+-- what a get leaves of it is as long
+pub room-left : (l : ℕ) → Layout l → (out : List ℕ) → out ≡ replicate (limit l) 0 → (size : ℕ) → size ≡ length out → 24 < size
+room-left l lay out e size h = omega (arith, lay .high, h, ap length e, length-replicate {A = ℕ} (limit l) 0)
+
 module _ (l : ℕ) (image heads next : List ℕ) (key : ℕ) where
   pub seek-sound : (o : Order) → order o ≡ seek l image heads next key → o .filled < o .ordered
   unfolding seek
   seek-sound o e = sought-sound (getResult l image heads next key (replicate (limit l) 0)) o e
 
   -- what a get answers and the output that it leaves
-  pub seek-by : (r : GetResult) → r ≡ getResult l image heads next key (replicate (limit l) 0) → (answer : Answer) → r .answer ≡ answer
+  seek-by : (r : GetResult) → r ≡ getResult l image heads next key (replicate (limit l) 0) → (answer : Answer) → r .answer ≡ answer
       → soughtIn (r .out) answer ≡ seek l image heads next key
   unfolding seek soughtBy
   seek-by r e answer q = ap (soughtIn (r .out)) (sym q) ∙ ap soughtBy e
+
+  -- the same of a get with such an output
+  pub seek-given : (out : List ℕ) → out ≡ replicate (limit l) 0 → (r : GetResult) → r ≡ getResult l image heads next key out → (answer : Answer)
+      → r .answer ≡ answer → soughtIn (r .out) answer ≡ seek l image heads next key
+  seek-given out e r q answer p = seek-by r (q ∙ ap (getResult l image heads next key) e) answer p

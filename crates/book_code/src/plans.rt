@@ -1,7 +1,8 @@
 // What each step is to do, by what it reads. Nothing is written here. `l` is the layout; a key is two words, the high one 0 in layout 1.
 ghost use mathlib.Core.Path.{_≡_};
 ghost use Prim.Native.Nat.{_<_};
-ghost use Rattle.face.specs.Set.{Layout, keyWith, locateSays, locateResult};
+ghost use lib.ListN.{replicate};
+ghost use Rattle.face.specs.Set.{Layout, keyWith, limit, locateSays, locateResult};
 ghost use Rattle.book.specs.Steps.{seek};
 ghost use Rattle.book.specs.inner.Courses.{seekSays, soughtNumber, planSays, newCourse, alreadyCourse, acknowledgeCourse, fillOrder, fillCourse, withdrawCourse};
 use crate::orders::order_in;
@@ -24,6 +25,28 @@ fn sought_number(number: u32) -> u32
     number
 }
 
+// The order of the key, or a refusal: by a get with this output, of zeros and as long as a value may be.
+fn seek_with(
+    image: &[u8],
+    l: usize,
+    heads: &[u32],
+    next: &[u32],
+    low: u64,
+    high: u64,
+    out: &mut [u8],
+) -> Seek
+    requires { ⌜ Layout l × (now out ≡ replicate (limit l) 0) ⌝ }
+    ensures { λ r. ⌜ seekSays r ≡ seek l (now (image .entry)) (now (heads .entry)) (now (next .entry)) (keyWith low high) ⌝ }
+{
+    let answer = get_in(image, l, heads, next, low, high, out);
+    let got = answer.got;
+    match got {
+        Got::Length(n) => order_in(out, n),
+        Got::Absent => Seek::Missing(18),
+        Got::Refused(number) => Seek::Missing(sought_number(number)),
+    }
+}
+
 // The order of the key, or a refusal.
 fn seek_order(
     image: &[u8],
@@ -36,15 +59,8 @@ fn seek_order(
     requires { ⌜ Layout l ⌝ }
     ensures { λ r. ⌜ seekSays r ≡ seek l (now (image .entry)) (now (heads .entry)) (now (next .entry)) (keyWith low high) ⌝ }
 {
-    let mut room = [0u8; 80];
-    let out = &mut room[..88 - 8 * l];
-    let answer = get_in(image, l, heads, next, low, high, out);
-    let got = answer.got;
-    match got {
-        Got::Length(n) => order_in(out, n),
-        Got::Absent => Seek::Missing(18),
-        Got::Refused(number) => Seek::Missing(sought_number(number)),
-    }
+    let mut out = [0u8; 80];
+    seek_with(image, l, heads, next, low, high, &mut out[..88 - 8 * l])
 }
 
 // A new order, by what locate answers for its key.

@@ -32,7 +32,7 @@ pub extern "C" fn orderset_basket(
 {
     let before = state_from(state, version);
     let asked = keys_asked(count, kinds);
-    let highs = [0; 8];
+    let highs = [0u64; 8];
     let items = given_items(kinds, keys, &highs, lengths);
     let bytes = *values;
     let given = basket(image, heads, next, before, asked, items, bytes, at, value);
