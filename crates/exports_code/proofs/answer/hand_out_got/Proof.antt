@@ -8,15 +8,26 @@ use Rattle.exports_code.proofs.answer.hand_out_got.Tie as tie
 
 returns : tie.Need-returns
 unfolding returnedWith answeredWith getSays
-returns c = rw (@got .given .1) (@refused-with .ensures, refl)
+returns c = rw (c .before .before .got .given .1) (c .refused-with .ensures, refl)
 
 returns-2 : tie.Need-returns-2
 unfolding returnedWith answeredWith getSays
-returns-2 c = rw (@enum-told .given .1) (refl, refl)
+returns-2 c = rw (c .before .before .enum-told .given .1) (refl, refl)
 
 returns-3 : tie.Need-returns-3
 unfolding returnedWith answeredWith getSays
-returns-3 c = rw (@got2 .given .1) (refl, refl)
+returns-3 c = rw (c .before .before .before .got2 .given .1) (refl, refl)
 
 pub hand-out-got-spec : {M : Type 1} → statement M
-hand-out-got-spec = ?
+hand-out-got-spec =
+    tie.close
+    (tie.spec
+    (λ c. search needs)
+    (λ c κs. search needs)
+    (λ c. search needs)
+    (λ c. search needs)
+    (λ c. search needs)
+    (λ c. search needs)
+    returns
+    returns-2
+    returns-3)
