@@ -48,14 +48,7 @@ fn seek_with(
 }
 
 // The order of the key, or a refusal.
-fn seek_order(
-    image: &[u8],
-    l: usize,
-    heads: &[u32],
-    next: &[u32],
-    low: u64,
-    high: u64,
-) -> Seek
+fn seek_order(image: &[u8], l: usize, heads: &[u32], next: &[u32], low: u64, high: u64) -> Seek
     requires { ⌜ Layout l ⌝ }
     ensures { λ r. ⌜ seekSays r ≡ seek l (now (image .entry)) (now (heads .entry)) (now (next .entry)) (keyWith low high) ⌝ }
 {

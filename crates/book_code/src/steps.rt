@@ -62,12 +62,20 @@ fn carry_out(
         Plan::Write { mode, order } => {
             let bytes = order_bytes(order);
             by_change(write_in(
-                image, l, heads, next, state, mode, low, high, &bytes, at, words,
+                image,
+                l,
+                heads,
+                next,
+                state,
+                mode,
+                low,
+                high,
+                &bytes,
+                at,
+                words,
             ))
         }
-        Plan::Remove => by_change(remove_in(
-            image, l, heads, next, state, low, high, at, words,
-        )),
+        Plan::Remove => by_change(remove_in(image, l, heads, next, state, low, high, at, words)),
         Plan::Already { slot, version } => BookChange {
             outcome: BookOutcome::Already { slot, version },
             state,

@@ -13,12 +13,7 @@ use orderset::RecoverAnswer;
 use orderset::Recovered;
 
 // The lent numbers become those of the opening stores.
-fn keep_openings(
-    openings: Openings,
-    count: &mut [u32; 1],
-    at: &mut [u32; 8],
-    value: &mut [u64; 8],
-)
+fn keep_openings(openings: Openings, count: &mut [u32; 1], at: &mut [u32; 8], value: &mut [u64; 8])
     ensures { λ _. ⌜ openingsFrom (now (count .exit)) (now (at .exit)) (now (value .exit)) ≡ openings ⌝ }
 {
     let words = openings.at;
