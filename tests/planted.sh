@@ -566,7 +566,7 @@ for layout in '' 2; do
         's/m_word\(image, i\) != header\[i\]/& \&\& i != 1/' 'DIFFERENCE in the code: archive 3, model'
 done
 fault differential '32 is tested before 1' tests/model.c \
-    's/^    if \(m_slots\(length\) == 0\)$/    if (m_slots(length) == 0 \&\& layout - 1 < 2)/' \
+    '/^int m_format/,/^}/s/if \(m_slots\(length\) == 0\)/if (m_slots(length) == 0 \&\& layout - 1 < 2)/' \
     'DIFFERENCE in the code: archive 1, model 32'
 fault header 'the high words of a basket are left out' tests/header.cc 's/highs\[ORDERSET_BASKET\] = \{2, 1\}/highs[ORDERSET_BASKET] = {0, 0}/' 'NOT SO'
 fault storm2 'a key is inserted by its low word alone' tests/storm.c \

@@ -1,5 +1,5 @@
 -- Recovery within a session accepts, and a new set is the empty plain map. Assumes nothing.
-use mathlib.Core.Path.{_≡_, ap, _∙_}
+use mathlib.Core.Path.{_≡_, refl, ap, _∙_}
 use mathlib.Core.Bool.{not}
 use mathlib.Core.Option.{none}
 use mathlib.Core.List.{List, [], _∷_}
@@ -7,6 +7,7 @@ use Prim.Native.Nat.{ℕ, _+_, _*_, _≤_}
 use native.Mathlib.Omega.{arith}
 use lib.ListN.{length}
 use borrow.Author.Tests.{le-ltb, eq-eqb, ne-eqb}
+use Rattle.prelude.specs.Refusal.{say}
 use Rattle.prelude.specs.Answer.{Answer, gives}
 use Rattle.prelude.specs.Members.{none-left}
 use Rattle.prelude.proofs.Refusals.{say-false, taken-leaves}
