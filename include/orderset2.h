@@ -15,7 +15,8 @@
  * by orderset_persist.h, orderset_play and orderset_play_list, which know nothing of a layout; so do the questions about
  * a line.
  *
- * Stack: as in layout 1; recovery up to 2.75 MB from N = 16,384 on: give its thread 3 MiB. */
+ * Stack: as in layout 1, and for recovery 8 bytes more for each entry of its scratch lists: 173 KB for N below 4,096,
+ * 796 KB below 16,384 and 2.77 MB from there on. Give the thread 3 MiB, or 1 MiB where N is below 16,384. */
 #ifndef ORDERSET2_H
 #define ORDERSET2_H
 
