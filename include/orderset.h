@@ -286,11 +286,12 @@ ORDERSET_CALL uint64_t orderset_remove(const uint8_t *image, size_t image_length
                                        uint64_t value[ORDERSET_STORES], uint64_t answer[ORDERSET_CHANGE_ANSWER]);
 
 /* Changes count keys, 1 to ORDERSET_BASKET, all or none. Item i is kinds[i] (ORDERSET_INSERT, ORDERSET_REPLACE or
- * ORDERSET_REMOVE), keys[i] and, where it is not removed, the first lengths[i] bytes of values from byte 80 * i on; the
- * items from number count on are not looked at. answer: {version, slots}: answer[ORDERSET_BASKET_SLOTS + i] is the slot
- * of item i, and zeros follow. The stores, ORDERSET_BASKET_STORES(count), are at[i] and value[i], sixteen for each item
- * in order; the entries past them stay as they were. They are made in order within each line, each of the 2 * count
- * lines is flushed and one fence is passed (orderset_persist_list), or orderset_play_list makes them.
+ * ORDERSET_REMOVE), keys[i] and, where it is not removed, the first lengths[i] bytes of values from byte 80 * i on. All
+ * eight places of these arrays are lent, and what stands from place count on does not matter. answer: {version, slots}:
+ * answer[ORDERSET_BASKET_SLOTS + i] is the slot of item i, and zeros follow. The stores, ORDERSET_BASKET_STORES(count),
+ * are at[i] and value[i], sixteen for each item in order; the entries past them stay as they were. They are made in
+ * order within each line, each of the 2 * count lines is flushed and one fence is passed (orderset_persist_list), or
+ * orderset_play_list makes them.
  *
  * Refusals: 26 where count is 0 or above 8 or one of the first count kinds is none of the three; 27; 13 where at or
  * value has fewer than ORDERSET_BASKET_STORES(count) entries; 1, 2, 3, 4; 10 of an insert or a replace; 11 (chain); 20

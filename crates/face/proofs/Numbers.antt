@@ -2,7 +2,7 @@
 use mathlib.Core.Path.{_≡_, refl, sym, ap, _∙_, subst}
 use mathlib.Core.Bool.{Bool, true, false, cond, not}
 use mathlib.Core.Logic.{_⊎_, inl, inr}
-use mathlib.Core.List.{List, []}
+use mathlib.Core.List.{List, [], _∷_}
 use Prim.Native.Nat.{ℕ, zero, suc, _≤_}
 use native.Mathlib.Omega.{arith}
 use lib.Dec.{eqb, ltb}
@@ -31,16 +31,20 @@ use Rattle.layout.specs.Header.{headerFault, imageFault, indexFault, lentFault}
 use Rattle.index.specs.Walk.{search, chainFault}
 use Rattle.index.specs.Change.{keyFault, isFound}
 use Rattle.index.specs.Taking.{Taking, taken, tooFew, badLink, endsFault, linkFault, fewFault, reuseFault, roomFault}
+use Rattle.index.specs.declared.Action.{Action}
+use Rattle.index.specs.declared.Action.the-variants.{Insert as Inserting, Replace as Replacing, Remove as Removing}
 use Rattle.index.specs.declared.Mode.{Mode}
 use Rattle.index.specs.declared.Mode.the-variants.{Insert, Replace}
 use Rattle.index.specs.declared.State.{State}
 use Rattle.index.specs.declared.Found.{Found}
 use Rattle.index.specs.declared.Found.the-variants.{At, Missing, BadChain}
+use Rattle.taking.specs.Taking.{choiceOf}
 use Rattle.recovery.specs.Recover.{Result, settledFault, slotsFault, slotsNamed, recovered, recoverFault, recoverSlot, refusedResult, recoverResult}
 use Rattle.calls.specs.Format.{FormatResult, layoutFault, formatFault, formatResult}
 use Rattle.calls.specs.Change.{ChangeResult, unchanged, changed, writeLentFault, writeLaterFault, writeFault, writeDone, writeResult, storeFault, removeLaterFault, removeFault, removeDone, removeResult}
+use Rattle.calls.specs.Basket.{KeyChange, keyCountFault, listsFault, givenFault, firstFault, valueFault, actionFault, basketLentFault, keysFault, basketFault, basketMade, basketDone, basketBy, basketResult}
 use Rattle.calls.specs.Get.{GetResult, lengthFault, getLaterFault, getFault, getDone, getResult}
-use Rattle.face.specs.Numbers.{Numbered, AnswersAsAsked, formatRefusals, noSlotRefusals, slotRefusals, recoverRefusals, Names, a-slot, no-slot, writeRefusals, storingRefusals, getRefusals, roomyGetRefusals, locateRefusals}
+use Rattle.face.specs.Numbers.{Numbered, AnswersAsAsked, formatRefusals, noSlotRefusals, slotRefusals, recoverRefusals, Names, a-slot, no-slot, writeRefusals, storingRefusals, basketRefusals, getRefusals, roomyGetRefusals, locateRefusals}
 use Rattle.calls.specs.Locate.{locateFault, locateDone, locateResult}
 
 -- ---- rows of refusals
@@ -372,3 +376,55 @@ module _ (l : ℕ) (image heads next : List ℕ) (key : ℕ) where
   locate-numbered =
       numbered locateRefusals (λ (a : Answer). a) (λ fault. refused fault) (λ k. refl) _
       (else-due locateRefusals _ _ (lent-due locateRefusals refl refl refl refl l image (length heads) (length next)) (chain-due locateRefusals refl _)) _ (locate-done locateRefusals refl _)
+
+-- ---- a basket
+
+each-due : (ks : List ℕ) (fault : KeyChange → ℕ) → ((c : KeyChange) → Due ks (fault c)) → (changes : List KeyChange) → Due ks (firstFault fault changes)
+unfolding firstFault
+each-due ks fault h [] = none-due ks
+each-due ks fault h (c ∷ cs) = else-due ks _ _ (h c) (each-due ks fault h cs)
+
+given-due : (changes : List KeyChange) (at words : ℕ) → Due basketRefusals (givenFault changes at words)
+unfolding givenFault keyCountFault listsFault
+given-due changes at words =
+    else-due basketRefusals _ _
+    (say-due basketRefusals _ 26 _ (one-of 26 basketRefusals refl) (say-due basketRefusals _ 26 0 (one-of 26 basketRefusals refl) (none-due basketRefusals)))
+    (say-due basketRefusals _ 27 _ (one-of 27 basketRefusals refl)
+    (say-due basketRefusals _ 13 _ (one-of 13 basketRefusals refl) (say-due basketRefusals _ 13 0 (one-of 13 basketRefusals refl) (none-due basketRefusals))))
+
+value-due : (l : ℕ) (a : Action) (size : ℕ) → Due basketRefusals (valueFault l a size)
+unfolding valueFault
+value-due l Inserting size = say-due basketRefusals _ 10 0 (one-of 10 basketRefusals refl) (none-due basketRefusals)
+value-due l Replacing size = say-due basketRefusals _ 10 0 (one-of 10 basketRefusals refl) (none-due basketRefusals)
+value-due l Removing size = none-due basketRefusals
+
+action-due : (a : Action) (held : Bool) → Due basketRefusals (actionFault a held)
+unfolding actionFault
+action-due Inserting held = say-due basketRefusals _ 20 0 (one-of 20 basketRefusals refl) (none-due basketRefusals)
+action-due Replacing held = say-due basketRefusals _ 21 0 (one-of 21 basketRefusals refl) (none-due basketRefusals)
+action-due Removing held = say-due basketRefusals _ 21 0 (one-of 21 basketRefusals refl) (none-due basketRefusals)
+
+module _ (l : ℕ) (image heads next : List ℕ) (s : State) (changes : List KeyChange) (at words : ℕ) where
+  basket-due : Due basketRefusals (basketFault l image heads next s changes at words)
+  unfolding basketFault basketLentFault keysFault
+  basket-due =
+      else-due basketRefusals _ _ (given-due changes at words)
+      (else-due basketRefusals _ _
+      (else-due basketRefusals _ _ (lent-due basketRefusals refl refl refl refl l image (length heads) (length next))
+      (each-due basketRefusals _ (λ c. value-due l (c .action) (length (c .value))) changes))
+      (else-due basketRefusals _ _
+      (else-due basketRefusals _ _ (each-due basketRefusals _ (λ c. chain-due basketRefusals refl (search l image heads next (c .key))) changes)
+      (each-due basketRefusals _ (λ c. action-due (c .action) (isFound (search l image heads next (c .key)))) changes))
+      (store-due basketRefusals refl refl refl _ _ s _ _)))
+
+  -- A BASKET: 26, 27, 13, 1, 2, 3, 4, 10, 11, 20 or 21, 28, 9
+  pub basket-numbered : Numbered basketRefusals (basketResult l image heads next s changes at words .answer)
+  unfolding basketResult basketBy basketDone basketMade unchanged
+  basket-numbered =
+      numbered basketRefusals (λ (r : ChangeResult). r .answer) (λ fault. unchanged (refused fault) s heads next) (λ k. refl) _ basket-due _
+      (done (choiceOf l image next (slotsIn image) (s .first) (length changes)))
+    where
+      done : (t : Taking) → Numbered basketRefusals (basketDone l image heads next s changes t .answer)
+      done (taken ts) = tt
+      done tooFew = one-of 28 basketRefusals refl
+      done badLink = one-of 11 basketRefusals refl

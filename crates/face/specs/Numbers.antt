@@ -51,6 +51,10 @@ writeRefusals Replace = 1 ∷ 2 ∷ 3 ∷ 4 ∷ 10 ∷ 11 ∷ 21 ∷ 28 ∷ 9 �
 abbrev pub storingRefusals : List ℕ
 storingRefusals = 1 ∷ 2 ∷ 3 ∷ 4 ∷ 11 ∷ 28 ∷ 9 ∷ []
 
+-- a basket
+abbrev pub basketRefusals : List ℕ
+basketRefusals = 26 ∷ 27 ∷ 13 ∷ 1 ∷ 2 ∷ 3 ∷ 4 ∷ 10 ∷ 11 ∷ 20 ∷ 21 ∷ 28 ∷ 9 ∷ []
+
 -- get
 abbrev pub getRefusals : List ℕ
 getRefusals = 1 ∷ 2 ∷ 3 ∷ 4 ∷ 11 ∷ 23 ∷ 13 ∷ []
