@@ -104,9 +104,9 @@ backwards='/orderset_store_list\(void/,/^}/s/\(size_t i = 0; i < count; i\+\+\)/
 fault persist 'a store of a list is left out' $header "$left_out" 'NOT SO: store i is the one of the list'
 fault persist 'the stores of a list are made from the last one on' $header "$backwards" \
     'NOT SO: store i is the one of the list'
-fault persist 'only the first line of a list is flushed' $header "${list}s/if \(i == 0 \|\| .*/if (i == 0)/" \
+fault persist 'only the first line of a list is flushed' $header "${list}s/if \(line != last\)/if (i == 0)/" \
     'NOT SO: then each line of the list is flushed'
-fault persist 'a line of a list is flushed for each store' $header "${list}s/if \(i == 0 \|\| .*/if (i < count)/" \
+fault persist 'a line of a list is flushed for each store' $header "${list}s/if \(line != last\)/if (i < count)/" \
     'NOT SO: (then each line of the list is flushed|after a list there is one fence)'
 fault persist 'no fence after a list' $header "${list}{/orderset_fence/d}" 'NOT SO: after a list there is one fence'
 fault persist 'a word past the end of a list is taken' $header 's/at\[i\] >= words/at[i] > words/' \
@@ -568,7 +568,7 @@ fault log_storm "recovery's stores are made and not flushed" $storm \
     'LOST message'
 fault log_storm 'the first line of a list is not flushed' $header \
     "${list}s/if \(i == 0 \|\|/if (i > 0 \&\&/" 'LOST message'
-fault log_storm 'only the first line of a list is flushed' $header "${list}s/if \(i == 0 \|\| .*/if (i == 0)/" \
+fault log_storm 'only the first line of a list is flushed' $header "${list}s/if \(line != last\)/if (i == 0)/" \
     'LOST message'
 fault log_storm 'the stores of a list are made from the last one on' $header "$backwards" 'LOST message'
 fault log_storm 'no fence after a list' $header "${list}{/orderset_fence/d}" 'LOST persist_list: .* fence seen: 0'
