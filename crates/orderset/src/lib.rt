@@ -1,4 +1,8 @@
 // The public calls of the set, with the types that they take and answer. None has a `requires`; each contract is one equation.
+pub use basket_code::basket::basket;
+pub use calls::BasketAnswer;
+pub use calls::BasketItem;
+pub use calls::BasketOutcome;
 pub use calls::Change;
 pub use calls::Formatted;
 pub use calls::GetAnswer;
@@ -14,6 +18,7 @@ pub use get_code::locate::locate;
 pub use image_code::format::format;
 pub use image_code::play::play;
 pub use image_code::play::play_list;
+pub use index::Action;
 pub use index::Mode;
 pub use index::State;
 pub use recover_code::recover;
