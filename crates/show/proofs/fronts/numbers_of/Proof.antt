@@ -1,8 +1,8 @@
--- `messages::lent::numbers_of` meets its contract. Assumes nothing.
+-- `show::fronts::numbers_of` meets its contract. Assumes nothing.
 use native.Mathlib.Omega.{arith}
 use Rattle.prelude.proofs.Lists.{front-length}
-use Rattle.messages.proofs.lent.numbers_of.Statement.{statement}
-use Rattle.messages.proofs.lent.numbers_of.Tie as tie
+use Rattle.show.proofs.fronts.numbers_of.Statement.{statement}
+use Rattle.show.proofs.fronts.numbers_of.Tie as tie
 
 pub numbers-of-spec : {M : Type 1} → statement M
 numbers-of-spec =

@@ -1,8 +1,8 @@
--- `messages::lent::values_of` meets its contract. Assumes nothing.
+-- `show::fronts::values_of` meets its contract. Assumes nothing.
 use native.Mathlib.Omega.{arith}
 use Rattle.prelude.proofs.Lists.{front-length}
-use Rattle.messages.proofs.lent.values_of.Statement.{statement}
-use Rattle.messages.proofs.lent.values_of.Tie as tie
+use Rattle.show.proofs.fronts.values_of.Statement.{statement}
+use Rattle.show.proofs.fronts.values_of.Tie as tie
 
 pub values-of-spec : {M : Type 1} → statement M
 values-of-spec =
