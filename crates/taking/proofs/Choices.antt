@@ -334,10 +334,11 @@ module _ (f : Table) (n : ℕ) where
       → ((t : ℕ) → Slot n t → live f n t ≡ false → mayTake f n t ≡ true → In t chosen ⊎ In t xs) → OlderFirst f xs
       → AgreeAlong (mayTakeAfter f n) (λ c. mayTake f n) chosen xs
   along [] chosen in-chosen in-list either o = tt
-  along (x ∷ xs) chosen in-chosen in-list either o =
-      (after-same f n chosen x in-chosen (in-list x (inl refl)) covers,
-      go (mayTake f n x) refl
-      (λ c a b. along xs c a (λ t i. in-list t (inr i)) b (o .1)))
+  along (x ∷ xs) chosen in-chosen in-list either o = (
+    after-same f n chosen x in-chosen (in-list x (inl refl)) covers,
+    go (mayTake f n x) refl
+        (λ c a b. along xs c a (λ t i. in-list t (inr i)) b (o .1)),
+  )
     where
       covers : (t : ℕ) → Slot n t → older f x t ≡ true → mayTake f n t ≡ true → isRemove (f x) ≡ true → In t chosen
       covers t i q m r = pick (either t i (older-idle f n x t (in-list x (inl refl)) (remove-is-record (f x) r) q) m)

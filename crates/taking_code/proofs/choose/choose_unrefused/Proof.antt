@@ -20,8 +20,11 @@ meet-requires c κs =
 
 loop-less : tie.Need-loop-less Inv-loop μ-loop
 loop-less c =
-    omega (arith, met-left _ _ _ _ _ _ (c .meet .ensures),
-    meetable _ _ _ _ _ _ _ (c .before .before .before .loop .inv) (choice-fine _ _ _ _ _ _ (c .before .before .before .before .before .before .pre .1) (c .before .before .before .before .before .before .pre .4)) (c .before .before .before .before .before .before .pre .2) (c .before .if1 .taken) .some)
+    omega (
+      arith,
+      met-left _ _ _ _ _ _ (c .meet .ensures),
+      meetable _ _ _ _ _ _ _ (c .before .before .before .loop .inv) (choice-fine _ _ _ _ _ _ (c .before .before .before .before .before .before .pre .1) (c .before .before .before .before .before .before .pre .4)) (c .before .before .before .before .before .before .pre .2) (c .before .if1 .taken) .some,
+    )
 
 loop-again : tie.Need-loop-again Inv-loop μ-loop
 loop-again c =

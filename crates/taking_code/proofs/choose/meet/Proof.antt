@@ -16,9 +16,11 @@ shared-slice-read-link : tie.Need-shared-slice-read-link
 shared-slice-read-link c = omega (arith, c .before .before .before .before .before .pre .0 .next-size, c .before .before .before .before .before .pre .1 .high)
 
 may-take-after-requires : tie.Need-may-take-after-requires
-may-take-after-requires c κs =
-    (record { layout = c .before .before .before .before .before .before .before .pre .0 .layout; room = omega (arith, c .before .before .before .before .before .before .before .pre .0 .image-size, c .before .before .before .before .before .before .before .pre .1 .high) }, omega (arith, c .before .before .before .before .before .before .before .pre .0 .image-size),
-    record { few = omega (arith, c .before .before .before .before .before .before .before .pre .1 .few); inside = λ j h. omega (arith, c .before .before .before .before .before .before .before .pre .1 .chosen-in j h .1, c .before .before .before .before .before .before .before .pre .0 .image-size) })
+may-take-after-requires c κs = (
+  record { layout = c .before .before .before .before .before .before .before .pre .0 .layout; room = omega (arith, c .before .before .before .before .before .before .before .pre .0 .image-size, c .before .before .before .before .before .before .before .pre .1 .high) },
+  omega (arith, c .before .before .before .before .before .before .before .pre .0 .image-size),
+  record { few = omega (arith, c .before .before .before .before .before .before .before .pre .1 .few); inside = λ j h. omega (arith, c .before .before .before .before .before .before .before .pre .1 .chosen-in j h .1, c .before .before .before .before .before .before .before .pre .0 .image-size) },
+)
 
 array-write-slots : tie.Need-array-write-slots
 array-write-slots c = c .before .before .before .before .before .before .before .before .before .pre .1 .few
