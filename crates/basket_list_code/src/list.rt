@@ -1,0 +1,1 @@
+// A basket that fills a lent list of records.
