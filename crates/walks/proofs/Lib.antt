@@ -1,3 +1,4 @@
+pub mod Arrays
 pub mod Lent
 pub mod Locals
 pub mod Loop

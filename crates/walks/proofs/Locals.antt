@@ -11,7 +11,7 @@ use base.Logic.{ent, sep, id⊢, via, comm∗, assoc∗, assoc′, monoL, monoR}
 use base.Fml.{fat, froom, fdies}
 use prog.Wp.{Heap, Env}
 use ghost.Atoms.{Atoms}
-use types.Kit.{Given, Item, ‵, mean, ⋆, push, pop, ++⊢, ⊢++, Goal, allocs, frees, Seq, Step, step, _$_}
+use types.Kit.{Given, Item, ‵, mean, ⋆, push, pop, sel⊢, ++⊢, ⊢++, Goal, allocs, frees, Seq, Step, step, _$_}
 use types.Run.{alloc1, alloc0, free1, free0, forget}
 
 -- where each local lies
@@ -22,6 +22,12 @@ Blocks (l ∷ ls) = ℕ × Blocks ls
 abbrev pub envOf : {M : Type 1} (𝓤 : URA M) (H : Heap 𝓤) (ls : List Local) → Blocks ls → Env 𝓤 H
 envOf 𝓤 H [] bs = []
 envOf 𝓤 H (local τ h ∷ ls) bs = (τ, bs .0) ∷ envOf 𝓤 H ls (bs .1)
+
+-- where local k lies
+abbrev pub block : (ls : List Local) → Blocks ls → ℕ → ℕ
+block [] bs k = 0
+block (l ∷ ls) bs zero = bs .0
+block (l ∷ ls) bs (suc k) = block ls (bs .1) k
 
 -- a local that holds a value, or room for one
 abbrev pub cell : {M : Type 1} {𝓤 : URA M} → Ty → ℕ → Option Val → Item 𝓤
@@ -56,6 +62,20 @@ module _ {M : Type 1} (𝓤 : URA M) (H : Heap 𝓤) (A : Atoms 𝓤) where
       (via 𝓤 (sep 𝓤 (⋆ 𝓤 H A Γ) (mean 𝓤 H A i)) (comm∗ 𝓤 (mean 𝓤 H A i) (⋆ 𝓤 H A Γ))
       (via 𝓤 (⋆ 𝓤 H A (Γ ++ (i ∷ []))) (++⊢ 𝓤 H A Γ (i ∷ [])) (rotated⊢ n (Γ ++ (i ∷ [])))))
 
+  -- an entry at place n
+  abbrev pub inserted : ℕ → Item 𝓤 → List (Item 𝓤) → List (Item 𝓤)
+  inserted zero i Γ = i ∷ Γ
+  inserted (suc n) i [] = i ∷ []
+  inserted (suc n) i (j ∷ Γ) = j ∷ inserted n i Γ
+
+  inserted⊢ : (n : ℕ) (i : Item 𝓤) (Γ : List (Item 𝓤)) → ent 𝓤 (⋆ 𝓤 H A (i ∷ Γ)) (⋆ 𝓤 H A (inserted n i Γ))
+  inserted⊢ zero i Γ = id⊢ 𝓤 (⋆ 𝓤 H A (i ∷ Γ))
+  inserted⊢ (suc n) i [] = id⊢ 𝓤 (mean 𝓤 H A i)
+  inserted⊢ (suc n) i (j ∷ Γ) =
+      via 𝓤 (⋆ 𝓤 H A (j ∷ i ∷ Γ)) (sel⊢ 𝓤 H A (1 ∷ []) (i ∷ j ∷ Γ))
+      (via 𝓤 (sep 𝓤 (mean 𝓤 H A j) (⋆ 𝓤 H A (i ∷ Γ))) (pop 𝓤 H A j (i ∷ Γ))
+      (via 𝓤 (sep 𝓤 (mean 𝓤 H A j) (⋆ 𝓤 H A (inserted n i Γ))) (monoR 𝓤 (mean 𝓤 H A j) (inserted⊢ n i Γ)) (push 𝓤 H A j (inserted n i Γ))))
+
   -- an entry after Δ stands before it
   before : (i : Item 𝓤) (Δ Γ : List (Item 𝓤)) → ent 𝓤 (⋆ 𝓤 H A (Δ ++ (i ∷ Γ))) (⋆ 𝓤 H A (i ∷ (Δ ++ Γ)))
   before i Δ Γ =
@@ -78,6 +98,10 @@ module _ {M : Type 1} {𝓤 : URA M} {H : Heap 𝓤} {A : Atoms 𝓤} {K : Type 
   -- the first n entries go behind the others
   pub behind : K → (n : ℕ) {Γ : List (Item 𝓤)} {G : Goal 𝓤 H} → Step K W (rotated 𝓤 H A n Γ) G Γ G
   behind t n {Γ} = step (λ s. record { prf = via 𝓤 (⋆ 𝓤 H A (rotated 𝓤 H A n Γ)) (rotated⊢ 𝓤 H A n Γ) (s .prf) })
+
+  -- the first entry goes to place n of the others
+  pub sinks : K → (n : ℕ) {i : Item 𝓤} {Γ : List (Item 𝓤)} {G : Goal 𝓤 H} → Step K W (inserted 𝓤 H A n i Γ) G (i ∷ Γ) G
+  sinks t n {i} {Γ} = step (λ s. record { prf = via 𝓤 (⋆ 𝓤 H A (inserted 𝓤 H A n i Γ)) (inserted⊢ 𝓤 H A n i Γ) (s .prf) })
 
   -- all locals are allocated, and hold nothing
   pub allocates : K → (ls : List Local) {Γ : List (Item 𝓤)} {Kt : Env 𝓤 H → Goal 𝓤 H}
