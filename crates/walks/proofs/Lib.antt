@@ -1,3 +1,4 @@
+pub mod Again
 pub mod Arrays
 pub mod Lent
 pub mod Locals

@@ -43,11 +43,12 @@ use denote.Exit.{yes}
 use Rattle.stores.specs.Store.{Store}
 use Rattle.store_list.specs.List.{storesPut}
 use Rattle.store_list.proofs.List.{put-none, put-length, put-next}
-use Rattle.walks.proofs.Lent.{Element, number, lentAt, OwnsMut, Shuts, dropped, opened, closed, looked, taken}
+use Rattle.walks.proofs.Lent.{number, lentAt, OwnsMut, Shuts, dropped, opened, closed, looked, taken, offset-fits}
 use Rattle.walks.proofs.Locals.{Blocks, envOf, Frame, allocates, freed, behind}
 use Rattle.walks.proofs.Loop.{Upto, Nearer, nearer-wf, tests}
 use Rattle.stores.proofs.Store as T
 use Rattle.stores.proofs.Store.Laws as T′
+use Rattle.store_list_code.proofs.Struct.{struct}
 use Rattle.store_list_code.proofs.list.put_stores.Key.{name as #put-stores}
 use Rattle.store_list_code.proofs.list.put_stores as f
 use Rattle.store_list_code.proofs.list.put_stores.Statement as stated
@@ -56,13 +57,6 @@ use Rattle.store_list_code.proofs.list.put_stores.Code.Mir as body
 
 abbrev stayed : Stays (f.ended .signature .params) (f.ended .kept)
 stayed = (stay-slice (0 ∷ []) tt (plain (λ _. T.the-row)), (stay-dropped (shrSliceOf (1 ∷ []) tt (plain (λ _. u32))) yes, (stay-dropped (shrSliceOf (2 ∷ []) tt (plain (λ _. u64))) yes, (stay-dropped (plain (λ _. usize)) yes, tt))))
-
-abbrev struct : Element T.the-row
-struct = record { vals = LL.vals T.the-type T′.the-laws; tells = LL.tells T.the-type T′.the-laws; copies = LL.copy T.the-type T′.the-copy }
-
--- the offset of an element fits
-offset-fits : (s i n : ℕ) → i < n → n * s < 2 ^ 63 → i * s < 2 ^ 64
-offset-fits s i n l g = lt-of-le-of-lt (mul-le-mul-right s (le-of-lt l)) (lt-of-lt-of-le g (omega arith))
 
 module _ {M : Type 1} (𝓤 : URA M) (H : Heap 𝓤) (A : Atoms 𝓤) (W : Given 𝓤 H A) (mem : Memory → SProp 𝓤) (run : Routine → Fun 𝓤) (κ₀ κ₁ κ₂ : Lft) (q₀ q₁ q₂ : Share)
     (b o : ℕ) (γ : GName) (list : List Store) (b₁ o₁ : ℕ) (γ₁ : GName) (at : List ℕ) (b₂ o₂ : ℕ) (γ₂ : GName) (words : List ℕ) (n : ℕ)
