@@ -1,5 +1,6 @@
 // The public calls of the set, with the types that they take and answer. None has a `requires`; each contract is one equation.
 pub use basket_code::basket::basket;
+pub use basket_list_code::list::basket_list;
 pub use calls::BasketAnswer;
 pub use calls::BasketItem;
 pub use calls::BasketOutcome;
@@ -25,4 +26,6 @@ pub use recover_code::recover;
 pub use recovery::Openings;
 pub use recovery::RecoverAnswer;
 pub use recovery::Recovered;
+pub use store_list_code::play::play_stores;
+pub use stores::Store;
 pub use stores::Stores;

@@ -5,7 +5,7 @@ use Prim.Native.Nat.{ℕ, zero, suc, _≤_, _<_}
 use native.Mathlib.Omega.{arith}
 use lib.ListN.{length, getD, set}
 use Rattle.stores.specs.Store.{Store, zipped}
-use Rattle.store_list.specs.List.{storesPut}
+use Rattle.store_list.specs.inner.List.{storesPut}
 
 pub put-none : (at words : List ℕ) (list : List Store) → storesPut at words 0 list ≡ list
 unfolding zipped

@@ -17,7 +17,7 @@ use Rattle.words.specs.Word.{setWord}
 use Rattle.stores.specs.Store.{Store, zipped, played}
 use Rattle.stores.specs.Play.{wordNumbers, values, listFault, playEnd, playListResult}
 use Rattle.stores.proofs.Lists.{zipped-back, numbers-length, values-length}
-use Rattle.store_list.specs.List.{AllInside}
+use Rattle.store_list.specs.inner.List.{AllInside}
 
 -- past the end of a list
 abbrev pub none : Store

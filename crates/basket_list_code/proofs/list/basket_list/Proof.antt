@@ -47,7 +47,7 @@ use Rattle.walks.proofs.Lent.{lentAt, OwnsMut, OwnsShr, counted, dropped}
 use Rattle.walks.proofs.Locals.{Blocks, block, envOf, Frame, allocates, freed, behind, sinks}
 use Rattle.stores.specs.Store.{Store}
 use Rattle.stores.proofs.Store as T
-use Rattle.store_list.specs.List.{storesPut}
+use Rattle.store_list.specs.inner.List.{storesPut}
 use Rattle.index.specs.declared.State.{State}
 use Rattle.index.proofs.State as S
 use Rattle.index.proofs.State.Laws as S′

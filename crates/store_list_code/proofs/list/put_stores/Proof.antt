@@ -41,7 +41,7 @@ use denote.Triple.Table.{entered}
 use denote.Triple.Walked.{says, needs, Stays, stay-dropped, stay-slice, walkOf, goes-dropped, goes-slice, Walks, ends-at, walked, walk-meets}
 use denote.Exit.{yes}
 use Rattle.stores.specs.Store.{Store}
-use Rattle.store_list.specs.List.{storesPut}
+use Rattle.store_list.specs.inner.List.{storesPut}
 use Rattle.store_list.proofs.List.{put-none, put-length, put-next}
 use Rattle.walks.proofs.Lent.{number, lentAt, OwnsMut, Shuts, dropped, opened, closed, looked, taken, offset-fits}
 use Rattle.walks.proofs.Locals.{Blocks, envOf, Frame, allocates, freed, behind}
