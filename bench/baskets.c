@@ -10,11 +10,11 @@
 #include "bench.h"
 #include "orderset_persist.h"
 
-enum { EIGHT = ORDERSET_BASKET, SIZE = 24, MAX_BATCHES = 10000, MAX_N = 65535 };
+enum { EIGHT = ORDERSET_BASKET_MAX, SIZE = 24, MAX_BATCHES = 10000, MAX_N = 65535 };
 #define MEASURED __attribute__((noipa))
 
 static const char path[] = "/dev/shm/orderset_baskets";
-static uint8_t *image, values[ORDERSET_BASKET_VALUES];
+static uint8_t *image, values[ORDERSET_BASKET_BYTES];
 static size_t length, heads_length, next_length;
 static uint32_t n, heads[ORDERSET_HEADS_MAX], next[MAX_N + 1], state[ORDERSET_STATE], at[ORDERSET_BASKET_STORES(EIGHT)];
 static uint64_t version[1], value[ORDERSET_BASKET_STORES(EIGHT)], answer[ORDERSET_BASKET_ANSWER];
@@ -169,29 +169,37 @@ static void rows(uint32_t slots, uint32_t b, uint32_t many, const char *filled) 
     }
 }
 
-/* Single calls where no few slots tell which may be taken: replace, remove and insert of one key in turn on a set of N - 1 live keys; and the refill of a
- * set that was cleared and recovered. The mean over all calls. */
-static void slow_singles(uint32_t slots, uint32_t b) {
-    bench_set_wait(&settings[1]);
-    begin(slots, b, slots - 1);
-    const unsigned turns = 300;
-    uint64_t from = __rdtsc();
-    for (unsigned i = 0; i < turns; i++) {
+/* Replace, remove and insert of one key in turn, with so many live keys: the mean over all calls. */
+static double turns(uint32_t slots, uint32_t b, uint32_t many) {
+    const unsigned rounds = 300;
+    begin(slots, b, many);
+    const uint64_t from = __rdtsc();
+    for (unsigned i = 0; i < rounds; i++) {
         const uint64_t key = held[bench_chance(&seed) % live];
         single(ORDERSET_REPLACE, key);
         single(ORDERSET_REMOVE, key);
         single(ORDERSET_INSERT, key);
     }
-    const double turned = (double)(__rdtsc() - from) / bench_ticks_per_ns / (3 * turns);
+    return (double)(__rdtsc() - from) / bench_ticks_per_ns / (3 * rounds);
+}
+
+/* The refill of a set that was cleared and recovered: the mean over the inserts. */
+static double refill(uint32_t slots, uint32_t b) {
     begin(slots, b, slots / 2);
     for (uint32_t i = 0; i < live; i++)
         single(ORDERSET_REMOVE, held[i]);
     recover();
-    from = __rdtsc();
+    const uint64_t from = __rdtsc();
     for (uint32_t i = 0; i < live; i++)
         single(ORDERSET_INSERT, held[i]);
-    const double refilled = (double)(__rdtsc() - from) / bench_ticks_per_ns / live;
-    printf("| %u | %u | %.0f | %.0f |\n", slots, b, turned, refilled);
+    return (double)(__rdtsc() - from) / bench_ticks_per_ns / live;
+}
+
+/* Single calls with few spare slots. */
+static void single_rows(uint32_t slots, uint32_t b) {
+    bench_set_wait(&settings[1]);
+    const double half = turns(slots, b, slots / 2), two = turns(slots, b, slots - 2), one = turns(slots, b, slots - 1);
+    printf("| %u | %u | %.0f | %.0f | %.0f | %.0f |\n", slots, b, half, two, one, refill(slots, b));
     fflush(stdout);
 }
 
@@ -214,7 +222,6 @@ static int count(char **words) {
 int main(int many, char **words) {
     bench_begin();
     memcpy(values, bench_values, sizeof values);
-    ;
     held = malloc((MAX_N + EIGHT) * sizeof *held);
     must(held != NULL, "memory");
     fresh = 1000003;
@@ -233,9 +240,9 @@ int main(int many, char **words) {
         rows(slots, ORDERSET_HEADS_MAX, slots / 2, "half");
         rows(slots, ORDERSET_HEADS_MAX, slots - 24, "N - 24");
     }
-    printf("\n| N | B | N - 1 live: replace, remove, insert | cleared, recovered, refilled |\n|---|---|---|---|\n");
-    slow_singles(1000, ORDERSET_HEADS_MAX);
-    slow_singles(MAX_N, ORDERSET_HEADS_MAX);
+    printf("\n| N | B | half live: replace, remove, insert | N - 2 live | N - 1 live | cleared, recovered, refilled |\n|---|---|---|---|---|---|\n");
+    single_rows(1000, ORDERSET_HEADS_MAX);
+    single_rows(MAX_N, ORDERSET_HEADS_MAX);
     bench_unmap(path, image, ORDERSET_IMAGE_BYTES(MAX_N));
     return 0;
 }

@@ -83,7 +83,7 @@ struct item {
 struct command {
     enum kind kind;
     uint64_t number[NUMBERS];
-    struct item item[ORDERSET_BASKET];
+    struct item item[ORDERSET_BASKET_MAX];
 };
 
 /* ---- what is said */
@@ -519,11 +519,11 @@ static void print_basket(uint64_t items, const uint64_t answer[ORDERSET_BASKET_A
 
 /* All items or none: one call of the set, and one fence. */
 static uint32_t basket(struct set *s, const struct command *c) {
-    enum { ROOM = ORDERSET_BASKET_STORES(ORDERSET_BASKET) };
-    uint32_t kinds[ORDERSET_BASKET] = {0}, at[ROOM], number = key_twice(c) ? ORDERSET_KEY_TWICE : ORDERSET_OK;
-    uint64_t keys[ORDERSET_BASKET] = {0}, value[ROOM], answer[ORDERSET_BASKET_ANSWER];
-    size_t lengths[ORDERSET_BASKET] = {0}, items = (size_t)c->number[ITEMS];
-    uint8_t values[ORDERSET_BASKET_VALUES] = {0};
+    enum { ROOM = ORDERSET_BASKET_STORES(ORDERSET_BASKET_MAX) };
+    uint32_t kinds[ORDERSET_BASKET_MAX] = {0}, at[ROOM], number = key_twice(c) ? ORDERSET_KEY_TWICE : ORDERSET_OK;
+    uint64_t keys[ORDERSET_BASKET_MAX] = {0}, value[ROOM], answer[ORDERSET_BASKET_ANSWER];
+    size_t lengths[ORDERSET_BASKET_MAX] = {0}, items = (size_t)c->number[ITEMS];
+    uint8_t values[ORDERSET_BASKET_BYTES] = {0};
     for (size_t i = 0; i < items && !number; i++) {
         uint8_t *order = values + ORDERSET_VALUE_MAX * i;
         kinds[i] = c->item[i].kind == NEW ? ORDERSET_INSERT : ORDERSET_REMOVE;
@@ -623,11 +623,11 @@ static struct item item_of(const struct command *c) {
 }
 
 static int good_count(const struct command *c) {
-    return c->kind != BASKET || (c->number[ITEMS] > 0 && c->number[ITEMS] <= ORDERSET_BASKET);
+    return c->kind != BASKET || (c->number[ITEMS] > 0 && c->number[ITEMS] <= ORDERSET_BASKET_MAX);
 }
 
-/* The command at the front of the words; answers how many words it has. */
-static int command_of_words(char **word, int count, struct command *c) {
+/* A command's name and numbers at the front of the words, without a basket's items; answers how many words they are. */
+static int head_of_words(char **word, int count, struct command *c) {
     int kind = kind_of(word[0], strlen(word[0]));
     if (kind == KINDS)
         stop(USAGE, "not a command: %s", word[0]);
@@ -637,13 +637,18 @@ static int command_of_words(char **word, int count, struct command *c) {
     for (int i = 0; i < forms[kind].numbers; i++)
         if (number_of(word[1 + i], strlen(word[1 + i]), &c->number[i]) || !good_count(c))
             stop(USAGE, "not a %s: %s", kind == BASKET ? "number of items" : numbers[i], word[1 + i]);
-    int used = 1 + forms[kind].numbers;
-    for (uint64_t i = 0; kind == BASKET && i < c->number[ITEMS]; i++) {
+    return 1 + forms[kind].numbers;
+}
+
+/* The command at the front of the words; answers how many words it has. */
+static int command_of_words(char **word, int count, struct command *c) {
+    int used = head_of_words(word, count, c);
+    for (uint64_t i = 0; c->kind == BASKET && i < c->number[ITEMS]; i++) {
         struct command item;
         if (used == count)
             stop(USAGE, "not a command, words are missing: %s", word[0]);
         const char *name = word[used];
-        used += command_of_words(word + used, count - used, &item);
+        used += head_of_words(word + used, count - used, &item);
         if (!in_basket(&item))
             stop(USAGE, "not an item of a basket: %s", name);
         c->item[i] = item_of(&item);
@@ -659,8 +664,9 @@ static const char *next_word(const char **line, const char *end, size_t *length)
     return word;
 }
 
-/* The command at the front of a line, one space between its words. Answers 0, or -1. */
-static int front_command(const char **line, const char *end, struct command *c) {
+/* A command's name and numbers at the front of a line, one space between its words, without a basket's items. Answers 0,
+ * or -1. */
+static int front_head(const char **line, const char *end, struct command *c) {
     size_t length;
     const char *word = next_word(line, end, &length);
     int kind = word ? kind_of(word, length) : KINDS;
@@ -672,11 +678,16 @@ static int front_command(const char **line, const char *end, struct command *c) 
         if (!word || number_of(word, length, &c->number[i]))
             return -1;
     }
-    if (!good_count(c))
+    return good_count(c) ? 0 : -1;
+}
+
+/* The command at the front of a line. Answers 0, or -1. */
+static int front_command(const char **line, const char *end, struct command *c) {
+    if (front_head(line, end, c))
         return -1;
-    for (uint64_t i = 0; kind == BASKET && i < c->number[ITEMS]; i++) {
+    for (uint64_t i = 0; c->kind == BASKET && i < c->number[ITEMS]; i++) {
         struct command item;
-        if (front_command(line, end, &item) || !in_basket(&item))
+        if (front_head(line, end, &item) || !in_basket(&item))
             return -1;
         c->item[i] = item_of(&item);
     }

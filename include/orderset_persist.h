@@ -11,13 +11,14 @@
  *     if (orderset_insert(image, length, ..., at, value, answer) == ORDERSET_OK &&
  *         orderset_persist(image, length, at, value, flush) == 0)
  *         ...answer the client
- *     if (orderset_basket(image, length, ..., keys, ..., at, room, value, room, answer) == ORDERSET_OK &&
- *         orderset_persist_list(image, length, at, value, ORDERSET_BASKET_STORES(keys), flush) == 0)
+ *     if (orderset_basket(image, length, ..., items, kinds, keys, ..., answer) == ORDERSET_OK &&
+ *         orderset_persist_list(image, length, at, value, ORDERSET_BASKET_STORES(items), flush) == 0)
  *         ...answer the client
  *
  * The image is mapped from non-volatile memory and 64-byte aligned, so that the eight words of a line are one cache
  * line. What mmap gives is; of other memory orderset_aligned tells it, and orderset_persist_image tests it. at and
- * value are as an insert, a replace, a remove or a step of the book handed them out for this image. A refused call, a
+ * value are as an insert, a replace, a remove or a step of the book handed them out for this image; those of
+ * orderset_persist_list as a basket, recovery or the log did, with as many stores as it told. A refused call, a
  * remove that answers absent and a second acknowledge hand out nothing, and nothing is to be persisted.
  *
  * The order (section 2 of Cohen, Friedman and Larus, Efficient Logging in Non-Volatile Memory by Exploiting Coherency

@@ -455,22 +455,22 @@ static unsigned try_change(struct set *s, const struct request *r) {
     return compare_change(s, code, answer, answer_lent, at_lent, value_lent, c);
 }
 
-enum { PLACES = ORDERSET_BASKET * ORDERSET_STORES }; /* the stores of a basket, at the most */
+enum { PLACES = ORDERSET_BASKET_MAX * ORDERSET_STORES }; /* the stores of a basket, at the most */
 
 /* A basket: how many of the items are asked, and the lengths of the two lists that are lent. */
 struct basket {
     size_t count, places, values;
-    struct m_item item[ORDERSET_BASKET];
+    struct m_item item[ORDERSET_BASKET_MAX];
 };
 
 static uint32_t archive_basket(const struct set *s, const struct basket *b, uint32_t *at, uint64_t *value,
                                uint64_t answer[ORDERSET_BASKET_ANSWER]) {
-    uint32_t kinds[ORDERSET_BASKET];
-    uint64_t keys[ORDERSET_BASKET];
-    size_t lengths[ORDERSET_BASKET];
-    uint8_t values[ORDERSET_BASKET_VALUES];
+    uint32_t kinds[ORDERSET_BASKET_MAX];
+    uint64_t keys[ORDERSET_BASKET_MAX];
+    size_t lengths[ORDERSET_BASKET_MAX];
+    uint8_t values[ORDERSET_BASKET_BYTES];
     fill(values, sizeof values);
-    for (size_t i = 0; i < ORDERSET_BASKET; i++) {
+    for (size_t i = 0; i < ORDERSET_BASKET_MAX; i++) {
         const struct m_item *item = &b->item[i];
         kinds[i] = item->kind;
         keys[i] = item->key;
@@ -520,7 +520,7 @@ static unsigned compare_basket(struct set *s, const struct basket *b, uint32_t c
     const unsigned answered = same_code(code, s->basket.refusal, DONE);
     if (answered == DONE && !s->own)
         take_slots(s, b, answer);
-    for (size_t i = 0; i < ORDERSET_BASKET; i++)
+    for (size_t i = 0; i < ORDERSET_BASKET_MAX; i++)
         expected[ORDERSET_BASKET_SLOTS + i] = s->basket.slot[i];
     same_bytes("the answer", answer, s->basket.refusal ? lent : expected, sizeof expected);
     if (answered == DONE && s->own)
@@ -942,7 +942,7 @@ static size_t any_places(size_t count) {
 
 /* Distinct keys of the plain map, each to be inserted, replaced or removed, and what that does. */
 static struct basket any_basket(const struct plain *p, struct effect *e) {
-    const uint32_t wanted = 1 + (uint32_t)below(ORDERSET_BASKET), first = (uint32_t)below(p->keys);
+    const uint32_t wanted = 1 + (uint32_t)below(ORDERSET_BASKET_MAX), first = (uint32_t)below(p->keys);
     struct basket b = {0};
     for (uint32_t k = 0; k < p->keys && b.count < wanted; k++) {
         const uint32_t i = (first + k) % p->keys, kind = any_kind(p->size[i] >= 0);
@@ -995,7 +995,7 @@ static int make_basket(struct set *s, size_t count, int struck) {
 /* A basket: refused exactly where the rules refuse it, but for 28 by the slots that may be taken, which the model tells.
  * All of it is there, or after a cut perhaps nothing. */
 static struct set *basket(struct set *s, struct plain *p, unsigned cuts) {
-    struct effect e[ORDERSET_BASKET];
+    struct effect e[ORDERSET_BASKET_MAX];
     const struct basket b = any_basket(p, e);
     const int struck = cuts && below(s->n > 3000 ? 200 : 4) == 0;
     unsigned want = plain_basket(s, p, &b, e), got = try_basket(s, &b);
@@ -1143,8 +1143,8 @@ static uint32_t kind_near(const struct set *s, uint64_t key) {
 /* Mostly a basket that is not refused for what is given, with an index that is the image's own. */
 static struct basket basket_near(const struct set *s, uint64_t keys, const uint8_t *bytes) {
     struct basket b = {.count = below(40) ? 1 + below(below(2) ? 2 : 8) : below(2) ? below(11) : (size_t)chance()};
-    const size_t few = b.count <= ORDERSET_BASKET ? b.count : ORDERSET_BASKET;
-    for (size_t i = 0; i < ORDERSET_BASKET; i++) {
+    const size_t few = b.count <= ORDERSET_BASKET_MAX ? b.count : ORDERSET_BASKET_MAX;
+    for (size_t i = 0; i < ORDERSET_BASKET_MAX; i++) {
         const uint64_t key = key_near(s, keys);
         b.item[i] = (struct m_item){i < few ? kind_near(s, key) : (uint32_t)chance(), key, bytes,
                                     below(20) ? below(ORDERSET_VALUE_MAX + 1) : any_size()};
@@ -1686,7 +1686,7 @@ static const struct basket_case {
         uint32_t kind;
         uint64_t key;
         size_t size;
-    } item[ORDERSET_BASKET];
+    } item[ORDERSET_BASKET_MAX];
 } basket_cases[] = {
     {DONE, SOUND, 1, {0, 0}, {{R, 7, 80}}},
     {DONE, SOUND, 1, {0, 0}, {{I, 10, 0}}},
@@ -1755,11 +1755,11 @@ static const struct basket_case {
 static void directed_basket(const struct basket_case *c) {
     struct set *s = directed_set(c->fault);
     uint8_t bytes[ORDERSET_VALUE_MAX];
-    const size_t stores = ORDERSET_STORES * (c->count > ORDERSET_BASKET ? 1 : c->count);
+    const size_t stores = ORDERSET_STORES * (c->count > ORDERSET_BASKET_MAX ? 1 : c->count);
     struct basket b = {.count = c->count, .places = stores - c->less[0], .values = stores - c->less[1]};
     const uint64_t before = met[BASKET][c->answer];
     fill(bytes, sizeof bytes);
-    for (size_t i = 0; i < ORDERSET_BASKET; i++)
+    for (size_t i = 0; i < ORDERSET_BASKET_MAX; i++)
         b.item[i] = (struct m_item){c->item[i].kind, c->item[i].key, bytes, c->item[i].size};
     s->own = c->fault == SOUND;
     try_basket(s, &b);

@@ -172,12 +172,12 @@ static uint64_t key_of_image(uint64_t keys) {
 
 /* The items of a basket, the first `count` of them mostly as the rules ask for. */
 static void place_items(uint64_t keys, size_t count) {
-    place(KINDS, 4 * ORDERSET_BASKET);
-    place(KEYS, 8 * ORDERSET_BASKET);
-    place(LENGTHS, sizeof(size_t) * ORDERSET_BASKET);
-    place(VALUES, ORDERSET_BASKET_VALUES);
-    fill(w(VALUES), ORDERSET_BASKET_VALUES);
-    for (size_t i = 0; i < ORDERSET_BASKET; i++) {
+    place(KINDS, 4 * ORDERSET_BASKET_MAX);
+    place(KEYS, 8 * ORDERSET_BASKET_MAX);
+    place(LENGTHS, sizeof(size_t) * ORDERSET_BASKET_MAX);
+    place(VALUES, ORDERSET_BASKET_BYTES);
+    fill(w(VALUES), ORDERSET_BASKET_BYTES);
+    for (size_t i = 0; i < ORDERSET_BASKET_MAX; i++) {
         uint32_t kind = i < count && below(100) ? 1 + (uint32_t)below(3) : (uint32_t)chance();
         uint64_t key = key_of_image(keys), answer[ORDERSET_CHANGE_ANSWER] = {0};
         size_t length = below(100) ? below(ORDERSET_VALUE_MAX + 1) : (size_t)chance();

@@ -131,10 +131,10 @@ bool counts_slots() {
 
 // Two keys at once, in a list of two baskets' length.
 uint32_t basket(size_t keys, uint32_t first_kind, uint64_t first, uint32_t second_kind, uint64_t second, size_t room) {
-    const uint32_t kinds[ORDERSET_BASKET] = {first_kind, second_kind};
-    const uint64_t key[ORDERSET_BASKET] = {first, second};
-    const size_t lengths[ORDERSET_BASKET] = {4, 6};
-    uint8_t values[ORDERSET_BASKET_VALUES] = "twin";
+    const uint32_t kinds[ORDERSET_BASKET_MAX] = {first_kind, second_kind};
+    const uint64_t key[ORDERSET_BASKET_MAX] = {first, second};
+    const size_t lengths[ORDERSET_BASKET_MAX] = {4, 6};
+    uint8_t values[ORDERSET_BASKET_BYTES] = "twin";
     std::memcpy(values + ORDERSET_VALUE_MAX, "second", 6);
     std::memset(list_at, 1, sizeof list_at);
     return orderset_basket(image, sizeof image, heads.data(), heads.size(), next.data(), next.size(), state, version,

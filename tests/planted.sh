@@ -178,7 +178,7 @@ fault storm 'too few slots that may be taken are not looked at' tests/storm.c 's
     'LOST a basket of [0-9]+ keys answers 28'
 fault storm 'every slot may be taken' tests/model.c '/^int m_may_take/,/^}/s/if \(version == 0\)/if (n > 0)/' \
     'LOST a basket of [0-9]+ keys answers 28'
-fault storm 'one line of a basket is not flushed' $header "${list}s/if \(i == 0 \|\|/if (i > 0 \&\&/" 'LOST key'
+fault storm 'one line of a basket is not flushed' $header "${list}s/if \(line != last\)/if (line != last \&\& i > 0)/" 'LOST key'
 fault storm 'an insert of a held key should be done' tests/storm.c \
     's/return ORDERSET_INSERT_HELD;/return ORDERSET_OK;/' 'LOST a call of key [0-9]+ answers 20'
 fault storm 'a replace of a key that is not held should be done' tests/storm.c 's/ORDERSET_NOT_HELD;/ORDERSET_OK;/' \
@@ -249,7 +249,7 @@ fault guard 'in a basket word numbers one longer than lent' tests/guard.c \
 fault guard 'in a basket values one longer than lent' tests/guard.c \
     's/w\(VALUE\), piece\[VALUE\].length \/ 8,/w(VALUE), piece[VALUE].length \/ 8 + 1,/' \
     'NOT SO: (signal 11: value is touched|value changed, after what was lent)'
-fault guard 'seven keys for a basket' tests/guard.c 's/place\(KEYS, 8 \* ORDERSET_BASKET\)/place(KEYS, 56)/' \
+fault guard 'seven keys for a basket' tests/guard.c 's/place\(KEYS, 8 \* ORDERSET_BASKET_MAX\)/place(KEYS, 56)/' \
     'NOT SO: signal 11: keys is touched'
 fault guard 'the answer of a basket one word shorter' tests/guard.c 's/return ORDERSET_BASKET_ANSWER;/return 8;/' \
     'NOT SO: (signal 11: answer is touched|answer changed, after what was lent)'
@@ -567,7 +567,7 @@ fault log_storm "recovery's stores are made and not flushed" $storm \
     's/if \(orderset_persist_list\(.*, count, flush\)\)/if (orderset_store_list(visible, at, value, count), 0)/' \
     'LOST message'
 fault log_storm 'the first line of a list is not flushed' $header \
-    "${list}s/if \(i == 0 \|\|/if (i > 0 \&\&/" 'LOST message'
+    "${list}s/if \(line != last\)/if (line != last \&\& i > 0)/" 'LOST message'
 fault log_storm 'only the first line of a list is flushed' $header "${list}s/if \(line != last\)/if (i == 0)/" \
     'LOST message'
 fault log_storm 'the stores of a list are made from the last one on' $header "$backwards" 'LOST message'
