@@ -18,7 +18,7 @@ pub fn high_in(l: usize, high: u64) -> u64
 }
 
 // Has the item this key?
-fn has_key(l: usize, item: BasketItem, low: u64, high: u64) -> bool
+fn item_has_key(l: usize, item: BasketItem, low: u64, high: u64) -> bool
     ensures { λ r. ⌜ r ≡ eqb (itemKey l item) (keyWith low high) ⌝ }
 {
     if item.low != low {
@@ -42,7 +42,7 @@ fn is_among(
     let mut j = from;
     while j < count {
         let item = items[j];
-        if has_key(l, item, low, high) {
+        if item_has_key(l, item, low, high) {
             return true;
         }
         j += 1;

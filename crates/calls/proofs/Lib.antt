@@ -9,3 +9,4 @@ pub mod BasketLinks
 pub mod BasketLists
 pub mod BasketStores
 pub mod BasketEnds
+pub mod BasketRefusal

@@ -18,8 +18,8 @@ use crate::slot::highest_valid;
 use crate::slot::is_older;
 use crate::slot::may_take;
 use crate::slot::valid_version;
-use crate::take::chain_fault;
 use crate::take::newest_version;
+use crate::take::slots_fault;
 use layout_code::fields::slot_high;
 use layout_code::fields::slot_low;
 use taking::Choice;
@@ -193,7 +193,7 @@ pub fn choose(
     ensures { λ r. ⌜ Chosen (takingOf l (now (image .entry)) (now (next .entry)) n first wanted) (choiceOf l (now (image .entry)) (now (next .entry)) n first wanted) wanted r ⌝ }
 {
     let known = newest_version(image, n, newest);
-    let fault = chain_fault(image, l, next, n, first, wanted, known);
+    let fault = slots_fault(image, l, next, n, first, wanted, known);
     if fault != 0 {
         return none_chosen(fault);
     }
