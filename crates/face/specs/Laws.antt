@@ -107,7 +107,7 @@ pub record SetLaws (l : ℕ) (Inv : World → PlainMap → Type 0) : Type 0 wher
       → slotsIn (step l w event .image) ≡ slotsIn (w .image)
   -- ---- baskets
 
-  -- a basket is refused exactly where the rules refuse it, and otherwise answers its version and slots
+  -- a basket is refused exactly where the rules refuse it, and otherwise answers its version and slots; the whole call is that of the taking rule
   pub answers-basket : (w : World) (m : PlainMap) → Inv w m → (b : Basket) → TypedBasket l b → BasketRight l w m b
   -- every event of a basket, struck or not, keeps the invariant, with all of its changes or none, and recovery gives that map of each image on the way
   pub keeps-basket : (w : World) (m : PlainMap) → Inv w m → (event : Event Basket) → FitsBy (TypedBasket l) (slotsIn (w .image)) event
