@@ -1,0 +1,4 @@
+pub mod Counts
+pub mod Classing
+pub mod VoidRecords
+pub mod Answers
