@@ -21,6 +21,7 @@ use Rattle.stores.specs.Opening.{openingStores}
 use Rattle.recovery.specs.Recover.{Result, recoverEnd, slotsFault, recoverFault, recoverResult, recovered, recoveredState}
 use Rattle.recovery.specs.Opening.{voidSlots}
 use Rattle.recovery.specs.declared.Openings.{Openings}
+use Rattle.recovery.specs.declared.Recovered.{Recovered}
 use Rattle.recovery.specs.declared.Recovered.the-variants.{Rebuilt, Refused}
 use Rattle.recovery.proofs.Clear.{slots-clear}
 use Rattle.recovery.proofs.Lent.{recovery-taken}
@@ -49,8 +50,11 @@ module _ (l : ℕ) (image heads next : List ℕ) where
       (λ nz. ap refusalIn (refused-answer nz))
 
   -- a refusal of recovery is one of counting
-  module _ (number slot : ℕ) (o : Openings) (heads′ next′ : List ℕ)
-      (e : recoverEnd (Refused number slot) o heads′ next′ ≡ recoverResult l image heads next) where
+  module _ (number slot : ℕ) (x : Recovered) (d : x ≡ Refused number slot) (o : Openings) (heads′ next′ : List ℕ)
+      (left : recoverEnd x o heads′ next′ ≡ recoverResult l image heads next) where
+    e : recoverEnd (Refused number slot) o heads′ next′ ≡ recoverResult l image heads next
+    e = ap (λ (y : Recovered). recoverEnd y o heads′ next′) (sym d) ∙ left
+
     pub count-refused : countEnd (NotCounted number slot) heads′ next′ ≡ countResult l image heads next
     unfolding recoverEnd countEnd countResult countSays recovered
     count-refused =
@@ -62,13 +66,17 @@ module _ (l : ℕ) (image heads next : List ℕ) where
         never : fault ≡ 0 → ⊥
         never z =
             let a = ap (λ (r : Result). r .answer) (e ∙ recovery-taken l image heads next z) in
-            let x : _≡_ {A = ℕ} 0 1 = cc in
+            let z : _≡_ {A = ℕ} 0 1 = cc in
             omega arith
 
-  module _ (s : State) (o : Openings) (heads′ next′ : List ℕ) (e : recoverEnd (Rebuilt s) o heads′ next′ ≡ recoverResult l image heads next) where
+  module _ (s : State) (x : Recovered) (d : x ≡ Rebuilt s) (o : Openings) (heads′ next′ : List ℕ)
+      (left : recoverEnd x o heads′ next′ ≡ recoverResult l image heads next) where
+    rebuilt : recoverEnd (Rebuilt s) o heads′ next′ ≡ recoverResult l image heads next
+    rebuilt = ap (λ (y : Recovered). recoverEnd y o heads′ next′) (sym d) ∙ left
+
     accepted-fault : fault ≡ 0
     unfolding recoverEnd refusalIn
-    accepted-fault = sym refusal-is ∙ sym (ap (λ (r : Result). refusalIn (r .answer)) e)
+    accepted-fault = sym refusal-is ∙ sym (ap (λ (r : Result). refusalIn (r .answer)) rebuilt)
 
     -- what recovery accepted may be counted
     pub accepted : Layout l → Accepted image l (s .live) o
@@ -90,7 +98,7 @@ module _ (l : ℕ) (image heads next : List ℕ) where
         stores = openingStores (word image) (voidSlots l (word image) (slotsIn image))
 
         taken : recoverEnd (Rebuilt s) o heads′ next′ ≡ recovered (tableOf l image) (slotsIn image) (length heads) stores
-        taken = e ∙ recovery-taken l image heads next accepted-fault
+        taken = rebuilt ∙ recovery-taken l image heads next accepted-fault
 
         parts : (lentFault l image (length heads) (length next) ≡ 0) × (slotsFault l (word image) (slotsIn image) ≡ 0)
         parts = orElse-zero (lentFault l image (length heads) (length next)) _ accepted-fault
@@ -101,7 +109,7 @@ module _ (l : ℕ) (image heads next : List ℕ) where
     -- and its counts are the answer
     pub count-taken : (c : SlotCounts) → c ≡ countsIn l image → countEnd (Counted c) heads′ next′ ≡ countResult l image heads next
     unfolding recoverEnd countEnd countResult countSays
-    count-taken c d =
-        ap (with-answer (gives (countValues c))) e
+    count-taken c same =
+        ap (with-answer (gives (countValues c))) rebuilt
         ∙ ap (λ (a : Answer). with-answer a (recoverResult l image heads next))
-        (ap (λ (x : SlotCounts). gives (countValues x)) d ∙ sym (taken-leaves _ _ fault accepted-fault))
+        (ap (λ (y : SlotCounts). gives (countValues y)) same ∙ sym (taken-leaves _ _ fault accepted-fault))

@@ -83,12 +83,15 @@ module _ (image : List ℕ) (l : ℕ) (o : Openings) (g : OpensVoid image l o) w
   removing-start = record { inside = omega arith; few = omega arith; so-far = refl }
 
   -- store i is that of void slot i
-  module _ (i : ℕ) (h : i < length (slots image l)) where
+  module _ (i : ℕ) (lower : i < o .count) where
+    h : i < length (slots image l)
+    h = omega (arith, opened-count)
+
     opened-at : getD (o .at) i 0 ≡ 16 * getD (slots image l) i 0
     unfolding openingsOf
     opened-at =
         ap (λ (x : Openings). getD (x .at) i 0) (g .opened)
-        ∙ tabulate-get (λ j. getD (wordNumbers (openingStores (word image) (slots image l))) j 0) 0 8 i (omega (arith, g .few))
+        ∙ tabulate-get (λ j. getD (wordNumbers (openingStores (word image) (slots image l))) j 0) 0 8 i (omega (arith, h, g .few))
         ∙ ap (λ (j : ℕ). getD (wordNumbers (openingStores (word image) (slots image l))) j 0) (omega arith)
         ∙ opened-words (word image) (slots image l) i h
 
@@ -134,28 +137,28 @@ module _ (image : List ℕ) (l : ℕ) (o : Openings) (g : OpensVoid image l o) w
         one false d = ap length (pick-false (isRemove (contentsOf l image (getD (slots image l) i 0))) _ _ d)
 
     module _ (removes kind : ℕ) (so : Removing image l i removes) (k : kind ≡ kindOf (lineA (word image) (getD (o .at) i 0 / 16) (l + 1))) where
-      pub removing-more : kind ≡ 2 → Removing image l (i + 1) (removes + 1)
-      removing-more e =
+      pub removing-more : (next : ℕ) → kind ≡ 2 → next ≡ removes + 1 → Removing image l (i + 1) next
+      removing-more next e d =
           record {
             inside = omega (arith, h);
             few = omega (arith, so .few);
             so-far = omega (arith, so .so-far, next-so-far true (removes-by kind k ∙ eq-eqb kind 2 e));
           }
 
-      pub removing-same : (kind ≡ 2 → ⊥) → Removing image l (i + 1) removes
-      removing-same e =
+      pub removing-same : (next : ℕ) → (kind ≡ 2 → ⊥) → next ≡ removes → Removing image l (i + 1) next
+      removing-same next e d =
           record {
             inside = omega (arith, h);
             few = omega (arith, so .few);
             so-far = omega (arith, so .so-far, next-so-far false (removes-by kind k ∙ ne-eqb kind 2 e));
           }
 
-  pub removing-end : (i removes : ℕ) → Removing image l i removes → length (slots image l) ≤ i
+  pub removing-end : (i removes : ℕ) → Removing image l i removes → o .count ≤ i
       → removes ≡ voidRemoves (contentsOf l image) (numbersOf l image) (slotsIn image)
   unfolding voidRemoves voidSlots
   removing-end i removes so h =
       so .so-far
-      ∙ ap (λ (xs : List ℕ). length (filter (λ s. isRemove (contentsOf l image s)) xs)) (take-all i (slots image l) h)
+      ∙ ap (λ (xs : List ℕ). length (filter (λ s. isRemove (contentsOf l image s)) xs)) (take-all i (slots image l) (omega (arith, opened-count)))
       ∙ sym
       (count-filter (λ s. isVoid (contentsOf l image) (numbersOf l image) (slotsIn image) s && isRemove (contentsOf l image s)) (slotsIn image)
       ∙ ap length (filter-both (isVoid (contentsOf l image) (numbersOf l image) (slotsIn image)) (λ s. isRemove (contentsOf l image s)) (slotNumbers (slotsIn image))))

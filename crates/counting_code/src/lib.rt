@@ -43,7 +43,12 @@ fn count_slots_in(image: &[u8], l: usize, heads: &mut [u32], next: &mut [u32]) -
     let openings = answer.openings;
     let recovered = answer.recovered;
     match recovered {
-        Recovered::Rebuilt(state) => CountAnswer::Counted(count_accepted(image, l, state.live, openings)),
+        Recovered::Rebuilt(state) => CountAnswer::Counted(count_accepted(
+            image,
+            l,
+            state.live,
+            openings,
+        )),
         Recovered::Refused { number, slot } => CountAnswer::Refused { number, slot },
     }
 }

@@ -1,24 +1,19 @@
+-- `counting_code::classes::with_record` meets its contract. Assumes nothing.
+use mathlib.Core.Path.{sym}
 use borrow.Author.Needs.{needs}
+use borrow.Author.Tests.{eq-eqb, ne-eqb}
+use Rattle.prelude.proofs.Choice.{pick-true, pick-false}
+use Rattle.counting.specs.inner.Classes.{recordWith}
 use Rattle.counting_code.proofs.classes.with_record.Statement.{statement}
 use Rattle.counting_code.proofs.classes.with_record.Tie as tie
-use Rattle.counting_code.proofs.classes.with_record.Reads as reads
-use Rattle.counting_code.proofs.classes.with_record.Lts as lts
 
--- src/classes.rt:26:22
-add-t4 : tie.Need-add-t4
-add-t4 c = search needs
-
--- src/classes.rt:22:9
 returns : tie.Need-returns
-returns c = ?
+unfolding recordWith
+returns c = sym (pick-true _ _ _ (eq-eqb _ 2 (c .before .if1 .taken)))
 
--- src/classes.rt:32:15
-add-t5 : tie.Need-add-t5
-add-t5 c = search needs
-
--- src/classes.rt:17:1
 returns-2 : tie.Need-returns-2
-returns-2 c = ?
+unfolding recordWith
+returns-2 c = sym (pick-false _ _ _ (ne-eqb _ 2 (c .before .if1 .left)))
 
 pub with-record-spec : {M : Type 1} → statement M
-with-record-spec = tie.close (tie.spec add-t4 returns add-t5 returns-2)
+with-record-spec = tie.close (tie.spec (λ c. search needs) returns (λ c. search needs) returns-2)

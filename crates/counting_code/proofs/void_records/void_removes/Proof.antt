@@ -1,58 +1,52 @@
+-- `counting_code::void_records::void_removes` meets its contract. Assumes nothing.
+use mathlib.Core.Logic.{⊎-elim}
+use Prim.Native.Nat.{_-_}
+use native.Mathlib.Omega.{arith}
+use borrow.Author.Needs.{needs}
+use Rattle.counting.proofs.VoidRecords.{Removing, opened-count, removing-start, opened-inside, removing-more, removing-same, removing-end}
 use Rattle.counting_code.proofs.void_records.void_removes.Statement.{statement}
 use Rattle.counting_code.proofs.void_records.void_removes.Tie as tie
-use Rattle.counting_code.proofs.void_records.void_removes.Reads as reads
-use Rattle.counting_code.proofs.void_records.void_removes.Lts as lts
-use Rattle.layout_code.proofs.fields.slot_kind.Reads as slot-kind-reads
 
 abbrev Inv-loop : tie.InvT-loop
-Inv-loop image l count at removes₀ i₀ removes i = ?
+Inv-loop image l count at removes₀ i₀ removes i = Removing image l i removes
 
 abbrev μ-loop : tie.MeasureT-loop
-μ-loop image l count at removes₀ i₀ removes i = ?
+μ-loop image l count at removes₀ i₀ removes i = count - i
 
--- src/void_records.rt:14:17
 cast-count : tie.Need-cast-count Inv-loop μ-loop
-cast-count c = ?
+cast-count c = omega (arith, opened-count _ _ _ (c .before .before .pre), c .before .before .pre .few)
 
--- src/void_records.rt:18:5
 loop-holds : tie.Need-loop-holds Inv-loop μ-loop
-loop-holds c = ?
+loop-holds c = removing-start _ _ _ (c .before .before .before .pre)
 
--- src/void_records.rt:19:18
 mul-s : tie.Need-mul-s Inv-loop μ-loop
-mul-s c = ?
+mul-s c = omega (arith, opened-count _ _ _ (c .before .before .before .before .before .pre), c .loop-test .taken, c .before .before .before .before .before .pre .few)
 
--- src/void_records.rt:19:18
 array-read-s : tie.Need-array-read-s Inv-loop μ-loop
-array-read-s c = ?
+array-read-s c = omega (arith, opened-count _ _ _ (c .before .before .before .before .before .pre), c .loop-test .taken, c .before .before .before .before .before .pre .few)
 
--- src/void_records.rt:19:17
 cast-s : tie.Need-cast-s Inv-loop μ-loop
-cast-s c = ?
+cast-s c = omega (arith, opened-inside _ _ _ (c .before .before .before .before .before .pre) _ (c .loop-test .taken))
 
--- src/void_records.rt:20:12
 slot-kind-requires : tie.Need-slot-kind-requires Inv-loop μ-loop
-slot-kind-requires c κs = ?
+slot-kind-requires c κs = record { layout = c .before .before .before .before .before .pre .layout; room = opened-inside _ _ _ (c .before .before .before .before .before .pre) _ (c .loop-test .taken) }
 
--- src/void_records.rt:21:13
 add-removes : tie.Need-add-removes Inv-loop μ-loop
-add-removes c = ?
+add-removes c = omega (arith, c .before .before .before .loop .inv .few, c .before .before .before .loop .inv .inside, c .before .before .before .before .before .before .before .pre .few)
 
--- src/void_records.rt:23:9
 add-i : tie.Need-add-i Inv-loop μ-loop
-add-i c = ?
+add-i c = search needs
 
--- src/void_records.rt:18:5
 loop-less : tie.Need-loop-less Inv-loop μ-loop
-loop-less c = ?
+loop-less c = search needs
 
--- src/void_records.rt:18:5
 loop-again : tie.Need-loop-again Inv-loop μ-loop
-loop-again c = ?
+loop-again c =
+    ⊎-elim (λ w. removing-more _ _ _ (c .before .before .before .before .before .before .before .pre) _ (c .before .before .loop-test .taken) _ _ (c .before .before .before .loop .inv) (c .before .slot-kind .ensures) _ (w .0 .taken) (w .1))
+    (λ w. removing-same _ _ _ (c .before .before .before .before .before .before .before .pre) _ (c .before .before .loop-test .taken) _ _ (c .before .before .before .loop .inv) (c .before .slot-kind .ensures) _ (w .0 .left) (w .1)) (c .if1 .came)
 
--- src/void_records.rt:10:1
 returns : tie.Need-returns Inv-loop μ-loop
-returns c = ?
+returns c = removing-end _ _ _ (c .before .before .before .before .before .pre) _ _ (c .before .loop .inv) (c .loop-test .left)
 
 pub void-removes-spec : {M : Type 1} → statement M
 void-removes-spec =
