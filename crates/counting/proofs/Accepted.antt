@@ -14,12 +14,12 @@ use Rattle.recovery.specs.inner.Scan.{Classed}
 use Rattle.recovery.specs.declared.Classes.{Classes}
 use Rattle.recovery.specs.declared.Openings.{Openings}
 use Rattle.counting.specs.Count.{countsIn}
-use Rattle.counting.specs.inner.Classes.{classesOf, voidRemoves, Accepted}
+use Rattle.counting.specs.inner.Classes.{classesOf, voidRemoves, Countable}
 use Rattle.counting.proofs.Counts.{void-split, puts-left, live-left, removes-left, counted-is}
 use Rattle.counting.proofs.Classing.{classed-of}
 use Rattle.counting.proofs.VoidRecords.{opened-count}
 
-module _ (image : List ℕ) (l live : ℕ) (o : Openings) (g : Accepted image l live o) (n : ℕ) (size : n ≡ slotsIn image) (all : Classes)
+module _ (image : List ℕ) (l live : ℕ) (o : Openings) (g : Countable image l live o) (n : ℕ) (size : n ≡ slotsIn image) (all : Classes)
     (e : all ≡ classesOf (contentsOf l image) n) (removes : ℕ) (r : removes ≡ voidRemoves (contentsOf l image) (numbersOf l image) (slotsIn image)) where
   classed : Classed (contentsOf l image) (slotsIn image) all
   classed =

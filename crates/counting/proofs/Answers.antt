@@ -27,7 +27,7 @@ use Rattle.recovery.proofs.Clear.{slots-clear}
 use Rattle.recovery.proofs.Lent.{recovery-taken}
 use Rattle.recovery.proofs.Void.{few-void}
 use Rattle.counting.specs.Count.{CountResult, countValues, countsIn, countEnd, countSays, countResult}
-use Rattle.counting.specs.inner.Classes.{OpensVoid, Accepted}
+use Rattle.counting.specs.inner.Classes.{OpensVoid, Countable}
 use Rattle.counting.specs.declared.SlotCounts.{SlotCounts}
 use Rattle.counting.specs.declared.CountAnswer.the-variants.{Counted, Refused as NotCounted}
 
@@ -79,7 +79,7 @@ module _ (l : ℕ) (image heads next : List ℕ) where
     accepted-fault = sym refusal-is ∙ sym (ap (λ (r : Result). refusalIn (r .answer)) rebuilt)
 
     -- what recovery accepted may be counted
-    pub accepted : Layout l → Accepted image l (s .live) o
+    pub accepted : Layout l → Countable image l (s .live) o
     unfolding recoverEnd recovered recoveredState recoverFault
     accepted lay =
         record {

@@ -5,7 +5,7 @@ mod void_records;
 ghost use mathlib.Core.Path.{_≡_};
 ghost use Rattle.layout.specs.Record.{Layout};
 ghost use Rattle.counting.specs.Count.{countsIn, countEnd, countResult};
-ghost use Rattle.counting.specs.inner.Classes.{Accepted};
+ghost use Rattle.counting.specs.inner.Classes.{Countable};
 use crate::classes::classes;
 use crate::void_records::void_removes;
 use counting::CountAnswer;
@@ -17,7 +17,7 @@ use recovery::Recovered;
 
 // The counts of an image that recovery accepted, with its live count and the stores that open its void slots.
 fn count_accepted(image: &[u8], l: usize, live: u32, openings: Openings) -> SlotCounts
-    requires { ⌜ Accepted (now image) l live openings ⌝ }
+    requires { ⌜ Countable (now image) l live openings ⌝ }
     ensures { λ r. ⌜ r ≡ countsIn l (now (image .entry)) ⌝ }
 {
     let n = slot_count(image.len());

@@ -23,7 +23,7 @@ written-append out at (x ∷ xs) ys =
     ∙ written-append (set out at x) (suc at) xs ys
 
 -- one text after another
-wrote-then : (a b d : List ℕ) (at p r : ℕ) (xs ys : List ℕ) → Wrote a b at p xs → Wrote b d p r ys → Wrote a d at r (xs ++ ys)
+pub wrote-then : (a b d : List ℕ) (at p r : ℕ) (xs ys : List ℕ) → Wrote a b at p xs → Wrote b d p r ys → Wrote a d at r (xs ++ ys)
 wrote-then a b d at p r xs ys v w =
     record {
       output =
@@ -147,7 +147,7 @@ digits-length (suc places) n rest = go (ltb n 10) (digits-length places (n / 10)
     go true h = omega arith
     go false h = omega arith
 
-decimal-length : (n : ℕ) → length (decimal n) ≤ 20
+pub decimal-length : (n : ℕ) → length (decimal n) ≤ 20
 unfolding decimal
 decimal-length n = digits-length 20 n []
 
@@ -201,7 +201,7 @@ rendered p out new at r h w =
 
 -- ---- a line has room in 64 bytes
 
-numbers-length : (numbers : List ℕ) → length (numbersText numbers) ≤ 21 * length numbers + 1
+pub numbers-length : (numbers : List ℕ) → length (numbersText numbers) ≤ 21 * length numbers + 1
 unfolding numbersText
 numbers-length [] = omega arith
 numbers-length (n ∷ numbers) =
@@ -223,12 +223,12 @@ text-length notHeld few = omega (arith, numbers-length [])
 text-length (cut a b) few = omega (arith, numbers-length (a ∷ b ∷ []))
 text-length (no number) few = omega (arith, numbers-length (number ∷ []))
 
-written-length : (out : List ℕ) (at : ℕ) (bytes : List ℕ) → length (written out at bytes) ≡ length out
+pub written-length : (out : List ℕ) (at : ℕ) (bytes : List ℕ) → length (written out at bytes) ≡ length out
 unfolding written
 written-length out at [] = refl
 written-length out at (byte ∷ bytes) = written-length (set out at byte) (suc at) bytes ∙ length-set out at byte
 
-written-front : (out : List ℕ) (at : ℕ) (bytes : List ℕ) → at + length bytes ≤ length out
+pub written-front : (out : List ℕ) (at : ℕ) (bytes : List ℕ) → at + length bytes ≤ length out
     → take (at + length bytes) (written out at bytes) ≡ take at out ++ bytes
 unfolding written
 written-front out at [] h = ap (λ (k : ℕ). take k out) (add-zero at) ∙ sym (append-nil (take at out))

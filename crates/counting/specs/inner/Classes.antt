@@ -48,7 +48,7 @@ pub record OpensVoid (image : List ℕ) (l : ℕ) (o : Openings) : Type 0 where
   pub few : length (voidSlots l (word image) (slotsIn image)) ≤ 8
 
 -- what recovery leaves of an accepted image: its live count, and the stores that open its void slots
-pub record Accepted (image : List ℕ) (l live : ℕ) (o : Openings) : Type 0 where
+pub record Countable (image : List ℕ) (l live : ℕ) (o : Openings) : Type 0 where
   pub live-is : live ≡ liveCount (tableOf l image) (slotsIn image)
   pub opens : OpensVoid image l o
   pub few : slotsIn image ≤ 65535
