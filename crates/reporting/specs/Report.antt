@@ -3,13 +3,13 @@
 -- image cut short, prints `no 1` and ends the reading."
 use mathlib.Core.Bool.{Bool, true, cond}
 use mathlib.Core.List.{List, [], _∷_, _++_}
-use Prim.Native.Nat.{ℕ, zero, suc, _+_, _*_}
+use Prim.Native.Nat.{ℕ, zero, suc, _+_, _*_, _/_}
 use lib.Dec.{eqb, ltb, leb}
 use lib.ListN.{length, getD, take, drop}
 use Rattle.words.specs.Word.{word}
 use Rattle.prelude.specs.Answer.{Answer, gives, absent, refused}
 use Rattle.text.specs.Output.{no, text, lineText}
-use Rattle.face.specs.Set.{slotsIn, countSays}
+use Rattle.face.specs.Set.{countSays}
 use Rattle.reporting.specs.declared.Totals.{Totals}
 
 -- ---- an image
@@ -26,9 +26,9 @@ imageSize input = cond (ltb (length input) 8) 0 (cond (outside (word input 0)) 0
 unfoldable pub wholeSize : (input : List ℕ) → ℕ
 wholeSize input = cond (leb (imageSize input) (length input)) (imageSize input) 0
 
--- the six counts of an image or recovery's refusal, with an index of one head
+-- the six counts of an image or recovery's refusal, with an index of one head and, for the 128 × (N + 1) bytes of the image, N + 1 entries
 unfoldable pub imageAnswer : (image : List ℕ) → Answer
-imageAnswer image = countSays 1 image 1 (slotsIn image + 1)
+imageAnswer image = countSays 1 image 1 (length image / 128)
 
 -- its line: "the six in this order on a line", or "`no` and the number"
 unfoldable pub answerText : Answer → List ℕ

@@ -1,6 +1,6 @@
 // One image: its size, its line, and the totals with its counts.
 ghost use mathlib.Core.Path.{_≡_};
-ghost use Prim.Native.Nat.{_^_, _≤_};
+ghost use Prim.Native.Nat.{ℕ, _+_, _^_};
 ghost use Rattle.reporting.specs.Report.{outside, imageSize};
 ghost use Rattle.reporting.specs.inner.Blocks.{Below, totalsAdded, readable, Reportable, ImageReported};
 use crate::storing::store_counts;
@@ -54,7 +54,7 @@ pub fn readable_size(input: &[u8], left: u32) -> usize
 // The totals with the counts of one more image.
 fn add_counts(t: Totals, c: SlotCounts) -> Totals
     requires { ⌜ Below t (2 ^ 63) ⌝ }
-    ensures { λ r. ⌜ r ≡ totalsAdded t c ⌝ }
+    ensures { λ r. ⌜ (r ≡ totalsAdded t c) × ((bound : ℕ) → Below t bound → Below r (bound + 2 ^ 32)) ⌝ }
 {
     Totals {
         live: t.live + c.live as u64,
