@@ -1,8 +1,9 @@
 // Counts the slots of images that come one after another on standard input: a line for each image, and a last line of totals. Each second a line on
 // standard error says how many images were read.
-ghost use Prim.Native.Nat.{_≤_};
-ghost use lib.ListN.{length};
-ghost use Rattle.io.specs.Counts.{Counts};
+ghost use mathlib.Core.Path.{_≡_};
+ghost use Prim.Native.Nat.{ℕ, _+_, _≤_, _<_};
+ghost use lib.ListN.{length, getD};
+ghost use Rattle.reporting.specs.inner.Blocks.{Buffers};
 use libc::STDERR_FILENO;
 use libc::STDIN_FILENO;
 use libc::STDOUT_FILENO;
@@ -23,13 +24,19 @@ struct Status {
 }
 
 // One read to the place after the first `have` bytes: how many bytes came, 0 at the end.
-fn read_more(input: &mut [u8], have: usize) -> usize {
+fn read_more(input: &mut [u8], have: usize) -> usize
+    requires { ⌜ have ≤ length (now input) ⌝ }
+    ensures { λ r. ⌜ have + r ≤ length (now (input .entry)) ⌝ }
+{
     let got = libc::read(STDIN_FILENO, &mut input[have..]);
     io::count(got, &input[have..])
 }
 
 // The bytes from position `from` up to `have` are moved to the front.
-fn move_down(input: &mut [u8], from: usize, have: usize) {
+fn move_down(input: &mut [u8], from: usize, have: usize)
+    requires { ⌜ (from ≤ have) × (have ≤ length (now input)) ⌝ }
+    ensures { λ _. ⌜ ((k : ℕ) → from + k < have → getD (now (input .exit)) k 0 ≡ getD (now (input .entry)) (from + k) 0) ⌝ }
+{
     let n = have - from;
     let mut i = 0;
     while i < n {
@@ -64,7 +71,10 @@ fn show_progress(second: i64, left: u32) -> i64 {
 }
 
 // One read, and the report on the whole images that are there then.
-fn step(s: Status, input: &mut [u8], next: &mut [u32], out: &mut [u8]) -> Status {
+fn step(s: Status, input: &mut [u8], next: &mut [u32], out: &mut [u8]) -> Status
+    requires { ⌜ Buffers (s .progress) (s .have) (now input) (now next) (now out) ⌝ }
+    ensures { λ r. ⌜ Buffers (r .progress) (r .have) (now (input .exit)) (now (next .exit)) (now (out .exit)) ⌝ }
+{
     let n = read_more(input, s.have);
     let have = s.have + n;
     let p = s.progress;
@@ -84,6 +94,16 @@ fn step(s: Status, input: &mut [u8], next: &mut [u32], out: &mut [u8]) -> Status
     }
 }
 
+// The end: what is left of the input, and the totals.
+fn finish(s: Status, input: &[u8], next: &mut [u32], out: &mut [u8])
+    requires { ⌜ Buffers (s .progress) (s .have) (now input) (now next) (now out) ⌝ }
+{
+    let p = s.progress;
+    let have = s.have;
+    let end = report_last(&input[..have], next, p, out);
+    io::write_all(STDOUT_FILENO, &out[..end]);
+}
+
 fn main() {
     let mut input = [0u8; 262144];
     let mut out = [0u8; 98304];
@@ -101,9 +121,6 @@ fn main() {
         reads -= 1;
     }
     if s.written {
-        let p = s.progress;
-        let have = s.have;
-        let end = report_last(&input[..have], &mut next, p, &mut out);
-        io::write_all(STDOUT_FILENO, &out[..end]);
+        finish(s, &input, &mut next, &mut out);
     }
 }

@@ -15,7 +15,7 @@ use Rattle.prelude.proofs.Choice.{pick-true, pick-false}
 use Rattle.text.specs.inner.Output.{Wrote}
 use Rattle.text.proofs.Storing.{written-front}
 use Rattle.reporting.specs.Report.{wholeSize, imageAnswer, answerText, totalsWith, totalsText, unreadText, reportFrom}
-use Rattle.reporting.specs.inner.Blocks.{Held, readable, progressWith, Reportable, ImageReported, Readable, BlockReported}
+use Rattle.reporting.specs.inner.Blocks.{Held, readable, progressWith, Reportable, ImageReported, Readable, BlockReported, Buffers}
 use Rattle.reporting.specs.declared.Totals.{Totals}
 use Rattle.reporting.specs.declared.Progress.{Progress}
 use Rattle.reporting.specs.declared.Reported.{Reported}
@@ -189,15 +189,13 @@ totals-room input p out₁ out₂ b end g u fits same =
 -- the whole images, what is left of the input, and the totals
 pub last-reported : (input : List ℕ) (p : Progress) (out₁ out₂ out₃ : List ℕ) (b : Block) (end r : ℕ) → BlockReported input p out₁ b
     → Wrote out₁ out₂ (b .end) end (unreadText (b .progress .left) (length input - b .used)) → Wrote out₂ out₃ end r (totalsText (b .progress .totals))
-    → length input + 768 ≤ 3 * length out₁ → length out₂ ≡ length out₁ → take r out₃ ≡ reportFrom (p .left) input (p .totals)
-last-reported input p out₁ out₂ out₃ b end r g u w fits same =
-    ap₂ (λ (k : ℕ) (x : List ℕ). take k x) (w .end) (w .output)
-    ∙ written-front out₂ end (totalsText (b .progress .totals)) (omega (arith, totals-room input p out₁ out₂ b end g u fits same, totals-length (b .progress .totals)))
-    ∙ ap (λ (x : List ℕ). x ++ totalsText (b .progress .totals)) first
-    ∙ append-assoc (take (b .end) out₁) unread (totalsText (b .progress .totals))
-    ∙ ap (λ (x : List ℕ). take (b .end) out₁ ++ x) (sym rest)
-    ∙ sym whole
+    → length input + 768 ≤ 3 * length out₁ → length out₂ ≡ length out₁ → length out₃ ≡ length out₂
+    → (take r out₃ ≡ reportFrom (p .left) input (p .totals)) × (r ≤ length out₃)
+last-reported input p out₁ out₂ out₃ b end r g u w fits same same₃ = (printed, omega (arith, w .end, room))
   where
+    room : end + length (totalsText (b .progress .totals)) ≤ length out₂
+    room = omega (arith, totals-room input p out₁ out₂ b end g u fits same, totals-length (b .progress .totals))
+
     unread : List ℕ
     unread = unreadText (b .progress .left) (length input - b .used)
 
@@ -215,3 +213,45 @@ last-reported input p out₁ out₂ out₃ b end r g u w fits same =
     whole =
         ap (λ (x : List ℕ). reportFrom (p .left) x (p .totals)) (sym (append-nil input)) ∙ g .goes-on []
         ∙ ap (λ (x : List ℕ). take (b .end) out₁ ++ reportFrom (b .progress .left) x (b .progress .totals)) (append-nil (drop (b .used) input))
+
+    printed : take r out₃ ≡ reportFrom (p .left) input (p .totals)
+    printed =
+        ap₂ (λ (k : ℕ) (x : List ℕ). take k x) (w .end) (w .output)
+        ∙ written-front out₂ end (totalsText (b .progress .totals)) room
+        ∙ ap (λ (x : List ℕ). x ++ totalsText (b .progress .totals)) first
+        ∙ append-assoc (take (b .end) out₁) unread (totalsText (b .progress .totals))
+        ∙ ap (λ (x : List ℕ). take (b .end) out₁ ++ x) (sym rest)
+        ∙ sym whole
+
+-- ---- what the program keeps: the first `have` bytes of the input, and after a read n more
+
+-- at the end of the input
+pub kept-readable : (p : Progress) (have : ℕ) (input next out : List ℕ) → Buffers p have input next out → Readable (take have input) next p out
+kept-readable p have input next out g =
+    record { next-size = g .next-size; held = g .held; room = omega (arith, length-take-le have input (g .inside), g .inside, g .room) }
+
+module _ (p : Progress) (have n : ℕ) (input next out : List ℕ) (g : Buffers p have input next out) (come : have + n ≤ length input)
+    (input′ : List ℕ) (same : length input′ ≡ length input) where
+  pub front-size : have + n ≡ length (take (have + n) input′)
+  front-size = sym (length-take-le (have + n) input′ (omega arith))
+
+  pub front-readable : Readable (take (have + n) input′) next p out
+  front-readable = record { next-size = g .next-size; held = g .held; room = omega (arith, front-size, g .room) }
+
+  module _ (b : Block) (next′ out′ : List ℕ) (r : BlockReported (take (have + n) input′) p out′ b) (same-out : length out′ ≡ length out) where
+    pub used-inside : b .used ≤ have + n
+    used-inside = omega (arith, r .inside, front-size)
+
+    pub end-inside : b .end ≤ length out′
+    end-inside = omega (arith, r .thirds, used-inside, g .room)
+
+    -- what is not used stays
+    pub buffers-next : length next′ ≡ length next → (input″ : List ℕ) → length input″ ≡ length input′
+        → Buffers (b .progress) (have + n - b .used) input″ next′ out′
+    buffers-next same-next input″ kept =
+        record {
+          held = r .held;
+          inside = omega (arith, used-inside);
+          next-size = same-next ∙ g .next-size;
+          room = omega (arith, g .room);
+        }

@@ -1,3 +1,4 @@
 pub mod Sizes
 pub mod Texts
 pub mod Blocks
+pub mod Moved

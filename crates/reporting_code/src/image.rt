@@ -67,7 +67,13 @@ fn add_counts(t: Totals, c: SlotCounts) -> Totals
 }
 
 // The image is counted, and its line stored from position at on.
-pub fn report_image(image: &[u8], next: &mut [u32], p: Progress, out: &mut [u8], at: usize) -> Reported
+pub fn report_image(
+    image: &[u8],
+    next: &mut [u32],
+    p: Progress,
+    out: &mut [u8],
+    at: usize,
+) -> Reported
     requires { ⌜ Reportable (now image) (now next) p (now out) at ⌝ }
     ensures { λ r. ⌜ ImageReported (now (image .entry)) p (now (out .entry)) at (now (out .exit)) r ⌝ }
 {

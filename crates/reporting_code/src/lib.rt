@@ -3,9 +3,8 @@ mod image;
 mod storing;
 
 ghost use mathlib.Core.Path.{_≡_};
-ghost use lib.ListN.{take};
-ghost use Prim.Native.Nat.{_+_, _*_};
-ghost use lib.ListN.{length};
+ghost use Prim.Native.Nat.{_≤_};
+ghost use lib.ListN.{length, take};
 ghost use Rattle.reporting.specs.Report.{noTotals, reportFrom};
 ghost use Rattle.reporting.specs.inner.Blocks.{Held, Readable, BlockReported};
 pub use crate::image::image_size;
@@ -61,7 +60,7 @@ pub fn report_block(input: &[u8], next: &mut [u32], p: Progress, out: &mut [u8])
 // The end of the input is reported: its whole images, `no 1` where something is left, and the totals. Returned is how many bytes of output there are.
 pub fn report_last(input: &[u8], next: &mut [u32], p: Progress, out: &mut [u8]) -> usize
     requires { ⌜ Readable (now input) (now next) p (now out) ⌝ }
-    ensures { λ r. ⌜ take r (now (out .exit)) ≡ reportFrom (p .left) (now (input .entry)) (p .totals) ⌝ }
+    ensures { λ r. ⌜ (take r (now (out .exit)) ≡ reportFrom (p .left) (now (input .entry)) (p .totals)) × (r ≤ length (now (out .exit))) ⌝ }
 {
     let block = report_block(input, next, p, out);
     let progress = block.progress;

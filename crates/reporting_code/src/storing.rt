@@ -43,7 +43,12 @@ pub fn store_totals(t: Totals, out: &mut [u8], at: usize) -> usize
     requires { ⌜ at + 126 ≤ length (now out) ⌝ }
     ensures { λ r. ⌜ Wrote (now (out .entry)) (now (out .exit)) at r (totalsText t) ⌝ }
 {
-    store_numbers(out, at, t.live, &[t.hidden, t.removes, t.void, t.broken, t.empty])
+    store_numbers(
+        out,
+        at,
+        t.live,
+        &[t.hidden, t.removes, t.void, t.broken, t.empty],
+    )
 }
 
 // `no 1` where images may still be read and bytes are left.

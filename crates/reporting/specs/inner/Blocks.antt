@@ -80,3 +80,10 @@ pub record BlockReported (input : List ℕ) (p : Progress) (out : List ℕ) (b :
   pub goes-on : (more : List ℕ)
       → reportFrom (p .left) (input ++ more) (p .totals)
       ≡ take (b .end) out ++ reportFrom (b .progress .left) (drop (b .used) input ++ more) (b .progress .totals)
+
+-- what the program keeps between reads: the first `have` bytes of the input are not read yet
+pub record Buffers (p : Progress) (have : ℕ) (input next out : List ℕ) : Type 0 where
+  pub held : Held p
+  pub inside : have ≤ length input
+  pub next-size : length next ≡ 512
+  pub room : length input + 768 ≤ 3 * length out

@@ -9,7 +9,7 @@ store-totals-requires : tie.Need-store-totals-requires
 store-totals-requires c κs = totals-room _ _ _ _ _ _ (c .before .before .before .before .before .before .before .before .before .before .before .before .report-block .ensures) (c .before .before .before .store-unread .ensures) (omega (arith, c .before .before .before .before .before .before .before .before .before .before .before .before .before .before .before .before .before .before .pre .room, c .before .before .before .before .before .before .before .before .before .before .before .before .report-block .kept .1 .1 .1 .0)) (c .before .before .before .store-unread .kept .1 .1 .0)
 
 returns : tie.Need-returns
-returns c = last-reported _ _ _ _ _ _ _ _ (c .before .before .before .before .before .before .before .before .before .before .before .before .before .before .before .report-block .ensures) (c .before .before .before .before .before .before .store-unread .ensures) (c .before .before .store-totals .ensures) (omega (arith, c .before .before .before .before .before .before .before .before .before .before .before .before .before .before .before .before .before .before .before .before .before .pre .room, c .before .before .before .before .before .before .before .before .before .before .before .before .before .before .before .report-block .kept .1 .1 .1 .0)) (c .before .before .before .before .before .before .store-unread .kept .1 .1 .0)
+returns c = last-reported _ _ _ _ _ _ _ _ (c .before .before .before .before .before .before .before .before .before .before .before .before .before .before .before .report-block .ensures) (c .before .before .before .before .before .before .store-unread .ensures) (c .before .before .store-totals .ensures) (omega (arith, c .before .before .before .before .before .before .before .before .before .before .before .before .before .before .before .before .before .before .before .before .before .pre .room, c .before .before .before .before .before .before .before .before .before .before .before .before .before .before .before .report-block .kept .1 .1 .1 .0)) (c .before .before .before .before .before .before .store-unread .kept .1 .1 .0) (c .before .before .store-totals .kept .1 .0)
 
 pub report-last-spec : {M : Type 1} → statement M
 report-last-spec =

@@ -11,14 +11,14 @@ unfolding totalsAdded
 returns c = (
   refl,
   λ bound h.
-  record {
-    live-low = omega (arith, h .live-low);
-    hidden-low = omega (arith, h .hidden-low);
-    removes-low = omega (arith, h .removes-low);
-    void-low = omega (arith, h .void-low);
-    broken-low = omega (arith, h .broken-low);
-    empty-low = omega (arith, h .empty-low);
-  },
+      record {
+        live-low = omega (arith, h .live-low);
+        hidden-low = omega (arith, h .hidden-low);
+        removes-low = omega (arith, h .removes-low);
+        void-low = omega (arith, h .void-low);
+        broken-low = omega (arith, h .broken-low);
+        empty-low = omega (arith, h .empty-low);
+      },
 )
 
 pub add-counts-spec : {M : Type 1} → statement M
