@@ -23,8 +23,8 @@ unfolding outside
 inside-range n b e d = go (ltb n 2) refl
   where
     go : (x : Bool) → ltb n 2 ≡ x → (2 ≤ n) × (n ≤ 511)
-    go true p = absurd (true-false (pick-true (ltb n 2) true (ltb 511 n) p) (sym e ∙ d))
-    go false p = (ltb-false n 2 p, ltb-false 511 n (sym (pick-false (ltb n 2) true (ltb 511 n) p) ∙ sym e ∙ d))
+    go true p = absurd (true-false (pick-true (ltb n 2) _ _ p) (sym e ∙ d))
+    go false p = (ltb-false n 2 p, ltb-false 511 n (sym (pick-false (ltb n 2) _ _ p) ∙ sym e ∙ d))
 
 module _ (input : List ℕ) where
   pub size-short : length input < 8 → 0 ≡ imageSize input
