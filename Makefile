@@ -12,6 +12,7 @@ RT ?= rt
 OUT := target/c
 ARCHIVE := target/staticlib/liborderset_c.a
 LOG_ARCHIVE := target/staticlib/liblog_c.a
+REPORT := target/bin/report
 # CC, CXX, CFLAGS, CXXFLAGS and LDFLAGS are the caller's, from the environment or the command line
 ifeq ($(origin CC),default)
 CC := gcc
@@ -27,7 +28,7 @@ HEADERS := include/orderset.h include/orderset_log.h include/orderset_persist.h
 CRATES := crates.txt $(shell find crates -name '*.rt' -o -name '*.antt')
 
 .PHONY: test planted gateway recorder heads bench archive run-names run-header run-persist run-guard run-storm run-lock \
-	run-watch run-kills run-heads run-differential run-log_header run-log_storm run-log_guard run-log_kills \
+	run-watch run-kills run-heads run-report run-differential run-log_header run-log_storm run-log_guard run-log_kills \
 	run-log_differential
 archive: $(ARCHIVE) $(LOG_ARCHIVE)
 
@@ -37,17 +38,21 @@ $(ARCHIVE): $(CRATES)
 $(LOG_ARCHIVE): $(CRATES)
 	$(RT) staticlib log_c
 
+$(REPORT): $(CRATES)
+	$(RT) check report
+
 $(OUT):
 	mkdir -p $(OUT)
 
 # the tests: docs/TESTS.md; SEED=... repeats a run, and run-storm and the like run one of them
-TESTS := persist guard storm lock kills heads watch differential
+TESTS := persist guard storm lock kills heads watch report differential
 LOG_TESTS := log_storm log_guard log_kills log_differential
 $(OUT)/persist: tests/persist.c tests/chance.c $(LOG_ARCHIVE)
 $(OUT)/guard: tests/guard.c tests/pieces.c tests/images.c tests/model.c tests/chance.c
 $(OUT)/differential: tests/differential.c tests/images.c tests/model.c tests/chance.c
 $(OUT)/storm: tests/storm.c tests/cache.c tests/model.c tests/chance.c
 $(OUT)/lock $(OUT)/heads $(OUT)/kills: $(OUT)/%: tests/%.c tests/child.c tests/chance.c
+$(OUT)/report: tests/report.c tests/images.c tests/model.c tests/child.c tests/chance.c
 $(OUT)/watch: tests/watch.c tests/model.c tests/child.c tests/chance.c
 
 $(TESTS:%=$(OUT)/%): $(wildcard tests/*.h) $(HEADERS) $(ARCHIVE) | $(OUT)
@@ -73,8 +78,8 @@ $(OUT)/gateway_on_disk: examples/gateway.c tests/disk.c $(HEADERS) $(ARCHIVE) | 
 	$(C) examples/gateway.c tests/disk.c $(ARCHIVE) -Wl,--wrap=mmap,--wrap=msync,--wrap=fsync,--wrap=renameat2 -o $@
 
 .NOTPARALLEL:
-test: run-names run-header run-persist run-lock run-watch run-heads run-storm run-kills run-guard run-differential \
-	run-log_header run-log_storm run-log_kills run-log_guard run-log_differential
+test: run-names run-header run-persist run-lock run-watch run-heads run-report run-storm run-kills run-guard \
+	run-differential run-log_header run-log_storm run-log_kills run-log_guard run-log_differential
 run-names:
 	@tests/names
 run-header run-log_header: run-%: $(OUT)/%
@@ -85,13 +90,15 @@ run-lock run-heads: run-%: $(OUT)/% $(OUT)/gateway
 	@$(OUT)/$* $(OUT)/gateway $(OUT)/$*.img $(SEED)
 run-watch: $(OUT)/watch $(OUT)/sender
 	@$(OUT)/watch $(OUT)/sender $(OUT)/watch.img $(SEED)
+run-report: $(OUT)/report $(OUT)/gateway $(REPORT)
+	@$(OUT)/report $(REPORT) $(OUT)/gateway $(OUT)/report.img $(SEED)
 run-kills: $(OUT)/kills $(OUT)/gateway $(OUT)/gateway_on_disk
 	@$(OUT)/kills $(OUT)/gateway $(OUT)/gateway_on_disk $(OUT)/kills.img $(SEED)
 run-log_kills: $(OUT)/log_kills $(OUT)/recorder
 	@$(OUT)/log_kills $(OUT)/recorder $(OUT)/log_kills.log $(SEED)
 
 # every test fails where a fault is planted
-planted: $(ARCHIVE) $(LOG_ARCHIVE)
+planted: $(ARCHIVE) $(LOG_ARCHIVE) $(REPORT)
 	tests/planted.sh
 
 $(OUT)/gateway $(OUT)/sender: $(OUT)/%: examples/%.c $(HEADERS) $(ARCHIVE) | $(OUT)

@@ -5,6 +5,7 @@
  *     gateway FILE               the same commands from standard input, one a line
  *     gateway FILE heads [B]     how many held keys are found with each count of slots compared, their average and the
  *                                longest, with B heads (1 to 65536), or as many as the gateway takes for the file
+ *     gateway FILE count         how many slots are live, hidden puts, remove records, void, broken and empty
  *
  *     new KEY QUANTITY           an order is sent
  *     acknowledge KEY            the exchange has acknowledged it; once is enough, and again stores nothing
@@ -20,9 +21,9 @@
  * all done. 1: something was refused or failed. 2: the arguments are no commands, and nothing was done.
  *
  * On a file system on non-volatile memory (DAX) a write is two line flushes, in a basket two for each item, and one
- * fence; on any other it is msync, the fallback. One gateway writes at a time, alone; those that only read (heads, and
- * show and list as arguments) open the file read-only, and several of them may run. What they show was perhaps not
- * durable yet if the last writer was killed.
+ * fence; on any other it is msync, the fallback. One gateway writes at a time, alone; those that only read (heads,
+ * count, and show and list as arguments) open the file read-only, and several of them may run. What they show was
+ * perhaps not durable yet if the last writer was killed.
  *
  * The calls of the archive are proved; this program, the headers and what lies below them are not. It is made so that a
  * power cut, a kill, a full disk and a failed msync lose nothing that was answered. Each start that writes makes
@@ -298,7 +299,8 @@ static uint64_t load(struct set *s, int file, const char *path, int writing) {
     return recover(s);
 }
 
-static void start(struct set *s, const char *path, int writing) {
+/* Stops where recovery refuses. */
+static void recover_file(struct set *s, const char *path, int writing) {
     if (access(path, F_OK) && errno == ENOENT)
         stop(FAILED, "%s: %s; 'gateway %s make N' makes one", path, strerror(errno), path);
     int file = open_image(path, writing, &s->length);
@@ -308,6 +310,10 @@ static void start(struct set *s, const char *path, int writing) {
         stop(FAILED, "%s: recovery says no %" PRIu32 " of slot %" PRIu32 ": %s", path, number, slot, words_of(number));
     if (number)
         stop(FAILED, "%s: recovery says no %" PRIu32 ": %s", path, number, words_of(number));
+}
+
+static void start(struct set *s, const char *path, int writing) {
+    recover_file(s, path, writing);
     open_voids(s, path, writing);
     printf("recovered %" PRIu32 " held keys; next version %" PRIu64 "; %s\n", s->state[ORDERSET_LIVE], s->version[0],
            !writing ? "reading only" : s->flushes ? "flush and fence" : "msync (fallback)");
@@ -591,6 +597,25 @@ static void print_counts(const struct set *s, const uint64_t *found) {
     printf("average %.2f, longest %" PRIu64 "\n", held ? (double)sum / (double)held : 0, longest);
 }
 
+/* ---- how many slots are of each class, as the file has them: void slots are not opened before */
+
+static int run_count(const char *path, int count) {
+    static struct set set;
+    uint64_t counts[ORDERSET_COUNTS];
+    if (count)
+        stop(USAGE, "count: nothing follows");
+    recover_file(&set, path, 0);
+    uint64_t returned = orderset_count_slots(set.image, set.length, set.heads, set.heads_length, set.next,
+                                             set.next_length, counts);
+    if (returned)
+        stop(FAILED, "%s: no %" PRIu32, path, ORDERSET_REFUSAL(returned));
+    printf("%" PRIu64 " live, %" PRIu64 " hidden puts, %" PRIu64 " remove records, %" PRIu64 " void, %" PRIu64
+           " broken, %" PRIu64 " empty\n",
+           counts[0], counts[1], counts[2], counts[3], counts[4], counts[5]);
+    answered();
+    return 0;
+}
+
 /* ---- commands from words and from lines */
 
 static int kind_of(const char *name, size_t length) {
@@ -802,7 +827,7 @@ int main(int count, char **word) {
     signal(SIGPIPE, SIG_IGN); /* a reader that is gone is a failed write */
     hold_streams();
     if (count < 2)
-        stop(USAGE, "usage: gateway FILE [make N | heads [B] | new KEY QUANTITY | acknowledge KEY | "
+        stop(USAGE, "usage: gateway FILE [make N | heads [B] | count | new KEY QUANTITY | acknowledge KEY | "
                     "fill KEY QUANTITY | withdraw KEY | basket N ITEM... | show KEY | list]...");
     if (count == 2)
         return run_lines(word[1]);
@@ -810,5 +835,7 @@ int main(int count, char **word) {
         return run_make(word[1], word + 3, count - 3);
     if (!strcmp(word[2], "heads"))
         return run_heads(word[1], word + 3, count - 3);
+    if (!strcmp(word[2], "count"))
+        return run_count(word[1], count - 3);
     return run_words(word[1], word + 2, count - 2);
 }

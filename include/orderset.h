@@ -57,9 +57,10 @@
  * What a call returns: 0 where it is not refused. A refused call leaves everything that it was lent as it was. Format,
  * play, baskets, the book's steps and the questions about a line return the number of the refusal (enum
  * orderset_refusal).
- * Recover, insert, replace, remove, get and locate return 64 bits: that number in the low 32, read by ORDERSET_REFUSAL,
- * and above them the slot that recover names (ORDERSET_FAULT_SLOT), or the count of slots that the other calls compared
- * (below). So compare ORDERSET_REFUSAL of the result with a number, and the result itself with 0 alone. In get, locate
+ * Recover, count_slots, insert, replace, remove, get and locate return 64 bits: that number in the low 32, read by
+ * ORDERSET_REFUSAL, and above them the slot that recover and count_slots name (ORDERSET_FAULT_SLOT), or the count of
+ * slots that the other calls compared (below). So compare ORDERSET_REFUSAL of the result with a number, and the result
+ * itself with 0 alone. In get, locate
  * and remove a key that is not held is no refusal: the call returns 0 and answer[0] is ORDERSET_ABSENT.
  *
  * Slots compared: insert, replace, remove, get and locate report how many slots of the key's chain were compared with
@@ -129,6 +130,7 @@ extern "C" {
 #define ORDERSET_STORES 16u /* the stores of a call, the first half for line A and the second for line B */
 #define ORDERSET_LINE_STORES 8u
 #define ORDERSET_OPENINGS 8u /* the most stores that recovery hands out */
+#define ORDERSET_COUNTS 6u /* the counts of orderset_count_slots */
 
 /* a basket: its keys, at the most; the bytes of its values, 80 for each key; and the stores of one of so many keys */
 #define ORDERSET_BASKET_MAX 8u
@@ -254,6 +256,17 @@ ORDERSET_CALL uint64_t orderset_recover(const uint8_t *image, size_t image_lengt
                                         uint32_t *next, size_t next_length, uint32_t state[ORDERSET_STATE],
                                         uint64_t version[1], uint32_t count[1], uint32_t at[ORDERSET_OPENINGS],
                                         uint64_t value[ORDERSET_OPENINGS]);
+
+/* Counts the slots of an image that recovery accepts, by what they hold. counts: {live slots, hidden puts, remove
+ * records, void slots, broken slots, empty slots}; they add up to N. A live slot has the value of a held key, a hidden
+ * put one that a later record of its key hides; a remove record is counted whether it hides anything or not. A record
+ * that is void is counted as void alone: to know how many a cut left, count before recovery's stores are made. heads
+ * and next become those of orderset_recover; state, version and the stores that open void slots come from there alone.
+ * The image is only read. Returns what orderset_recover returns, with the same stack; of a refused image counts, heads
+ * and next stay as they were. Refusals: those of orderset_recover. */
+ORDERSET_CALL uint64_t orderset_count_slots(const uint8_t *image, size_t image_length, uint32_t *heads,
+                                            size_t heads_length, uint32_t *next, size_t next_length,
+                                            uint64_t counts[ORDERSET_COUNTS]);
 
 /* Gives the key, which is not held, the value. answer: {ORDERSET_GIVEN, slot, version, slots compared}; the stores are
  * at[i], a word number counted from the start of the image, and value[i]. Refusals: 1, 2, 3, 4, 10, 11 (chain), and

@@ -6,7 +6,7 @@
  * once, and any other key of that head has their number. In histories that are book steps only, total ordered is total
  * filled plus total withdrawn plus what is open. In the other histories there are baskets too, whose stores are made, all
  * of them or as a cut leaves them: recovery must give all of the basket or nothing of it, also after cuts among the
- * stores that open void slots. With an index that is not the image's own, the slots of a basket and the index that it
+ * stores that open void slots. Beside each recovery the slots are counted. With an index that is not the image's own, the slots of a basket and the index that it
  * leaves are free, and of a single call whose slot is not the reuse chain's first all but the refusal. Ends with status
  * 1 at the first difference and prints the case.
  *
@@ -82,6 +82,7 @@ static uint64_t baskets, half_baskets, openings; /* whole, struck by a cut, stor
 static uint64_t calls, strikes, queries, met[WHICH][ANSWERS]; /* queries: of lines; met: by the answer */
 static uint64_t compared, longest, far_met[WHICH][ANSWERS]; /* slots: of the last call, the most; with 2 or more */
 static uint32_t named; /* the slot that the last recovery named */
+static uint64_t counted; /* accepted images whose slots were counted */
 static const char *phase = "";
 static enum which call;
 static const struct set *now;
@@ -326,6 +327,42 @@ static void compare_openings(const struct set *s, const struct m_recovered *reco
     openings += recovered->count;
 }
 
+/* The six counts of the same image, with an index of the same size: what recovery returned and left. */
+static void compare_counts(const struct set *s, const struct m_recovered *recovered, uint64_t recovery_code) {
+    const size_t heads_bytes = 4 * s->model.heads_length, next_bytes = 4 * s->model.next_length;
+    uint64_t *counts = lend(8 * ORDERSET_COUNTS), expected[ORDERSET_COUNTS], sum = 0;
+    uint32_t *heads = lend(heads_bytes), *next = lend(next_bytes);
+    uint8_t *heads_lent = malloc(heads_bytes + 1), *next_lent = malloc(next_bytes + 1);
+    if (!heads_lent || !next_lent)
+        abort();
+    fill(expected, sizeof expected);
+    fill(heads, heads_bytes);
+    fill(next, next_bytes);
+    memcpy(counts, expected, sizeof expected);
+    memcpy(heads_lent, heads, heads_bytes);
+    memcpy(next_lent, next, next_bytes);
+    uint64_t code = orderset_count_slots(s->image, s->length, heads, s->model.heads_length, next, s->model.next_length,
+                                         counts);
+    same_number("what counting returned", code, recovery_code);
+    if (!recovered->refusal) {
+        m_count(s->model_image, s->length, recovered, expected);
+        for (unsigned i = 0; i < ORDERSET_COUNTS; i++)
+            sum += counts[i];
+        same_number("the sum of the counts", sum, s->n);
+    }
+    same_bytes("the counts", counts, expected, sizeof expected);
+    same_bytes("the heads of counting", heads, recovered->refusal ? (void *)heads_lent : s->model.heads, heads_bytes);
+    same_bytes("the next of counting", next, recovered->refusal ? (void *)next_lent : s->model.next, next_bytes);
+    if (!guarded(counts, 8 * ORDERSET_COUNTS) || !guarded(heads, heads_bytes) || !guarded(next, next_bytes))
+        differ("counting wrote outside what it was lent");
+    counted += !recovered->refusal;
+    give_back(counts);
+    give_back(heads);
+    give_back(next);
+    free(heads_lent);
+    free(next_lent);
+}
+
 static int try_recover(struct set *s) {
     uint32_t count_lent = (uint32_t)chance(), at_lent[ORDERSET_OPENINGS];
     uint64_t value_lent[ORDERSET_OPENINGS];
@@ -342,6 +379,7 @@ static int try_recover(struct set *s) {
     same_code(ORDERSET_REFUSAL(code), recovered.refusal, DONE);
     same_number("the slot named", named, recovered.slot);
     compare_openings(s, &recovered, count_lent, at_lent, value_lent);
+    compare_counts(s, &recovered, code);
     compare(s);
     if (s->n > SMALL)
         compare_all(s);
@@ -1999,8 +2037,8 @@ int main(int count, char **word) {
     far_least = least_met(far_met, far_answers);
     printf("%" PRIu64 " calls, %" PRIu64 " of them struck with all 81 pairs of counts, %" PRIu64
            " questions about lines, %" PRIu64 " baskets and %" PRIu64 " that a cut struck, %" PRIu64
-           " opening stores, each answer of the rules at least %" PRIu64 " times, %" PRIu64
+           " opening stores, %" PRIu64 " images counted, each answer of the rules at least %" PRIu64 " times, %" PRIu64
            " with 2 or more slots compared, up to %" PRIu64 ": no difference (%.0f s)\n",
-           calls, strikes, queries, baskets, half_baskets, openings, least, far_least, longest, seconds());
-    return least == 0 || far_least == 0 || baskets == 0 || half_baskets == 0 || openings == 0;
+           calls, strikes, queries, baskets, half_baskets, openings, counted, least, far_least, longest, seconds());
+    return least == 0 || far_least == 0 || baskets == 0 || half_baskets == 0 || openings == 0 || counted == 0;
 }

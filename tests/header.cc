@@ -2,7 +2,8 @@
 // not found; an insert of a held key, a replace of one that is not held and a value that is too long are refused and
 // store nothing; the slots compared are read from answers and from refusals; an order is sent, acknowledged,
 // acknowledged again and filled; a record of a basket that a cut left is opened; a basket is made durable and found, and
-// baskets are refused. Before the stores of a call are made, and after that, its lines are asked about.
+// baskets are refused; the slots are counted. Before the stores of a call are made, and after that, its lines are asked
+// about.
 #include <cstdio>
 #include <cstring>
 #include <vector>
@@ -37,12 +38,20 @@ bool start() {
            && orderset_aligned(image) && orderset_persist_image(image, sizeof image, best) == 0 && recover(0);
 }
 
+bool counts(uint64_t live, uint64_t hidden, uint64_t removes, uint64_t voids, uint64_t broken, uint64_t empty) {
+    const uint64_t due[ORDERSET_COUNTS] = {live, hidden, removes, voids, broken, empty};
+    uint64_t told[ORDERSET_COUNTS];
+    return orderset_count_slots(image, sizeof image, heads.data(), heads.size(), next.data(), next.size(), told)
+               == ORDERSET_OK
+           && !std::memcmp(told, due, sizeof due);
+}
+
 // Key 20 was to be inserted by a basket of two, of which one record stands, in slot 1: nothing of it is held.
 bool opens_void() {
     const uint64_t line_a[] = {0, 20, 1 + (2 << 16), 0, 0, 0, 0, 2}, line_b[] = {0, 0, 0, 0, 0, 0, 0, 2};
     std::memcpy(image + ORDERSET_SLOT_BYTES, line_a, sizeof line_a);
     std::memcpy(image + ORDERSET_SLOT_BYTES + ORDERSET_LINE_BYTES, line_b, sizeof line_b);
-    return recover(1) && open_at[0] == 16 && open_value[0] == 1 && state[ORDERSET_LIVE] == 0 && recover(0)
+    return counts(0, 0, 0, 1, 0, 3) && recover(1) && counts(0, 0, 0, 0, 1, 3) && open_at[0] == 16 && open_value[0] == 1 && state[ORDERSET_LIVE] == 0 && recover(0)
            && state[ORDERSET_LIVE] == 0;
 }
 
@@ -199,8 +208,8 @@ int main() {
                       && refused_stores_nothing("buy")
                       && replace(7, "sell", 4) == ORDERSET_OK && lines_foretell() && made_durable(ORDERSET_OK)
                       && lines_tell() && finds(7, "sell") && refused_stores_nothing("sell")
-                      && counts_slots() && made_durable(drop(7)) && finds(7, nullptr) && drop(7) == ORDERSET_OK
-                      && answer[0] == ORDERSET_ABSENT && keeps_book(9) && keeps_basket();
+                      && counts_slots() && counts(1, 2, 1, 0, 0, 0) && made_durable(drop(7)) && finds(7, nullptr)
+                      && drop(7) == ORDERSET_OK && answer[0] == ORDERSET_ABSENT && keeps_book(9) && keeps_basket();
     std::printf("header: a set through the headers in C++: %s\n", good ? "as it should be" : "NOT SO");
     return good ? 0 : 1;
 }

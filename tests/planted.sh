@@ -7,6 +7,7 @@ export LC_ALL=C
 cd "$(dirname "$0")/.."
 archive=target/staticlib/liborderset_c.a
 log_archive=target/staticlib/liblog_c.a
+report=target/bin/report
 tree=target/planted/tree
 log=target/planted/log
 only=${1:-}
@@ -18,6 +19,7 @@ copy_tree() {
     mkdir -p "$tree/target" "$tree/crates"
     cp -r Makefile crates.txt include examples tests "$tree"
     ln -s "$PWD/target/staticlib" "$tree/target/staticlib"
+    ln -s "$PWD/target/bin" "$tree/target/bin"
 }
 
 not_seen() {
@@ -36,7 +38,7 @@ fault() {
     if cmp -s "$file" "$tree/$file"; then
         echo "the edit changes nothing" >"$log"
         not_seen "$test" "$what"
-    elif make -s -C "$tree" -o "$archive" -o "$log_archive" "run-$test" SEED=1 >"$log" 2>&1 ||
+    elif make -s -C "$tree" -o "$archive" -o "$log_archive" -o "$report" "run-$test" SEED=1 >"$log" 2>&1 ||
         ! grep -qE "$message" "$log"; then
         not_seen "$test" "$what"
     else
@@ -65,6 +67,8 @@ fault header 'a basket with an item of kind 4 is to be taken' tests/header.cc \
     's/(basket\(2, 1, 30, 4, 31, room\)), ORDERSET_NO_BASKET/\1, ORDERSET_OK/' 'NOT SO'
 fault header 'the version of a basket is looked for among its slots' tests/header.cc \
     's/given\[ORDERSET_BASKET_VERSION\] \+ 1 == /given[ORDERSET_BASKET_VERSION + 1] + 1 == /' 'NOT SO'
+fault header 'a void slot is to be counted as broken' tests/header.cc 's/counts\(0, 0, 0, 1, 0, 3\)/counts(0, 0, 0, 0, 1, 3)/' \
+    'NOT SO'
 fault header 'the lines are asked about after the stores' tests/header.cc \
     's/lines_foretell\(\) \&\& made_durable\(ORDERSET_OK\)/made_durable(ORDERSET_OK) \&\& lines_foretell()/' 'NOT SO'
 fault header 'a line of 63 bytes is to be taken' tests/header.cc \
@@ -147,6 +151,26 @@ fault heads 'the average is that of the counts' $gateway 's/held \+= found\[comp
 fault heads 'heads opens the file for writing' $gateway \
     's/start\(\&set, path, 0\);/start(\&set, path, 1);/' 'NOT SO: it recovers [0-9]+ keys and reads only'
 
+fault report 'a hidden put is counted as live' tests/model.c 's/live\[s\] \? IS_LIVE : IS_HIDDEN/IS_LIVE/' \
+    'NOT SO: of [0-9]+ bytes it prints what is due'
+fault report 'a remove is counted as a hidden put' tests/model.c 's/count\[IS_REMOVE\]/count[IS_HIDDEN]/' \
+    'NOT SO: of [0-9]+ bytes it prints what is due'
+fault report 'void slots are counted as broken' tests/model.c 's/count\[IS_VOID\]/count[IS_BROKEN]/' \
+    'NOT SO: of [0-9]+ bytes it prints what is due'
+fault report 'a refused image is in the totals' tests/report.c 's/^        refusals\+\+;/&\n        total[5]++;/' \
+    'NOT SO: of [0-9]+ bytes it prints what is due'
+fault report 'a cut image is passed over' tests/report.c 's/^            print\("no 1.*;//' \
+    'NOT SO: of [0-9]+ bytes it prints what is due'
+fault report 'an image of 512 slots is read' tests/report.c 's/n > MOST \|\|/n > MOST + 1 ||/; s/MOST - LEAST/MOST - LEAST + 1/' \
+    'NOT SO: of [0-9]+ bytes it prints what is due'
+fault report 'a million and one images are read' tests/report.c 's/MILLION = 1000000/MILLION = 1000001/' \
+    'NOT SO: a million images are read'
+fault report 'the gateway opens void slots before it counts' $gateway \
+    '/^static int run_count/,/^}/s/^    uint64_t returned/    open_voids(\&set, path, 0);\n&/' \
+    "NOT SO: the gateway says '[0-9]+ live"
+fault report 'the gateway counts hidden puts as live' $gateway 's/counts\[0\], counts\[1\],/counts[0] + counts[1], 0ul,/' \
+    "NOT SO: the gateway says '[0-9]+ live"
+
 fault storm 'a start does not make the image durable' tests/storm.c \
     's/\(after_kill \|\| below\(2\)\) \&\& orderset_persist_image\(.*\)\)/0)/' 'LOST (key|recovery refuses)'
 fault storm 'a start makes every other line durable' $header 's/i \+= ORDERSET_LINE_BYTES/i += 128/' \
@@ -228,6 +252,10 @@ fault guard 'the answer of an insert one word shorter' tests/guard.c 's/return O
     'NOT SO: (signal 11: answer is touched|answer changed, after what was lent)'
 fault guard 'one opening store less' tests/guard.c 's/place\(OPEN_AT, 4 \* ORDERSET_OPENINGS\)/place(OPEN_AT, 28)/' \
     "NOT SO: (signal 11: the opening stores' words is touched|the opening stores' words changed, after)"
+fault guard 'five counts' tests/guard.c 's/place\(COUNTS, 8 \* ORDERSET_COUNTS\)/place(COUNTS, 40)/' \
+    'NOT SO: (signal 11: counts is touched|counts changed, after what was lent)'
+fault guard 'a count is lost' tests/guard.c 's/sum \+= \(\(uint64_t \*\)w\(COUNTS\)\)\[i\]/sum += i ? ((uint64_t *)w(COUNTS))[i] : 0/' \
+    'NOT SO: the counts add up to [0-9]+'
 fault guard 'a state of three numbers' tests/guard.c 's/place\(STATE, 4 \* ORDERSET_STATE\)/place(STATE, 12)/' \
     'NOT SO: (signal 11: state is touched|state changed, after what was lent)'
 fault guard 'a refused recovery changes the count' tests/guard.c \
@@ -538,6 +566,15 @@ fault differential '9 is tested before 33' tests/model.c \
     'DIFFERENCE in the code: archive 33, model 9'
 fault differential 'a longer answer is taken' tests/model.c 's/room != 8/room < 8/' \
     'DIFFERENCE in the code: archive 33, model 0'
+fault differential 'a hidden put is counted as live' tests/model.c 's/live\[s\] \? IS_LIVE : IS_HIDDEN/IS_LIVE/' \
+    'DIFFERENCE in the counts'
+fault differential 'void and broken slots are swapped' tests/model.c 's/IS_VOID, IS_BROKEN/IS_BROKEN, IS_VOID/' \
+    'DIFFERENCE in the counts'
+fault differential 'the newest put is live, whatever removes it' tests/model.c \
+    '/^void m_count/,/^}/s/if \(slot\[s\].kind == PUT \|\| slot\[s\].kind == REMOVE\)/if (slot[s].kind == PUT)/' \
+    'DIFFERENCE in the counts'
+fault differential 'a refused count clears the counts' tests/differential.c \
+    's/same_bytes\("the counts", counts,/memset(counts, 0, recovered->refusal ? 8 : 0); &/' 'DIFFERENCE in the counts'
 fault differential 'a longer line is taken' tests/model.c 's/length != 64 \|\|/length < 64 ||/' \
     'DIFFERENCE in the code: archive 33, model 0'
 fault differential 'a refused question clears the answer' tests/model.c \

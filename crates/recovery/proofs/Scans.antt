@@ -26,7 +26,7 @@ use Rattle.layout.specs.declared.Verdict.{Verdict}
 use Rattle.layout.specs.declared.Verdict.the-variants.{Valid, Empty, Broken}
 use Rattle.layout.proofs.KeyWords.{no-high, key-parts}
 use Rattle.table.specs.Table.{keyIn, brokenCount}
-use Rattle.table.specs.inner.Class.{isPut}
+use Rattle.table.specs.Class.{isPut}
 use Rattle.table.specs.Taking.{isRemove}
 use Rattle.table.proofs.Broken.{rank-broken}
 use Rattle.table.proofs.Classes.{rank-empty, classes-add}
