@@ -6,8 +6,9 @@
  * once, and any other key of that head has their number. In histories that are book steps only, total ordered is total
  * filled plus total withdrawn plus what is open. In the other histories there are baskets too, whose stores are made, all
  * of them or as a cut leaves them: recovery must give all of the basket or nothing of it, also after cuts among the
- * stores that open void slots. Beside each recovery the slots are counted. With an index that is not the image's own, the slots of a basket and the index that it
- * leaves are free, and of a single call whose slot is not the reuse chain's first all but the refusal. Ends with status
+ * stores that open void slots. Beside each recovery the slots are counted. With an index that is not the image's own,
+ * the slots of a basket and the index that it leaves are free, and of a single call whose slot is not the reuse chain's
+ * first all but the refusal. Ends with status
  * 1 at the first difference and prints the case.
  *
  *     differential [SEED [CALLS]]
