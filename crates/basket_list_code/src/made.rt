@@ -2,7 +2,7 @@
 ghost use mathlib.Core.Path.{_≡_};
 ghost use Prim.Native.Nat.{_≤_, min};
 ghost use Rattle.calls.specs.Basket.{changesOf, basketResult};
-ghost use Rattle.calls.specs.inner.Basket.{storeCount, MadeOf};
+ghost use Rattle.calls.specs.inner.Basket.{basketStoreCount, MadeOf};
 use basket_code::basket::basket;
 use calls::BasketItem;
 use calls::BasketMade;
@@ -11,7 +11,7 @@ use index::State;
 
 // How many stores are handed out.
 fn store_count(outcome: BasketOutcome, count: usize) -> usize
-    ensures { λ r. ⌜ (r ≡ storeCount outcome count) × (r ≤ 128) ⌝ }
+    ensures { λ r. ⌜ (r ≡ basketStoreCount outcome count) × (r ≤ 128) ⌝ }
 {
     if 8 < count {
         return 0;

@@ -25,7 +25,7 @@ use Rattle.index.proofs.BasketInside.{taking-inside}
 use Rattle.taking.specs.Taking.{choiceOf}
 use Rattle.calls.specs.Change.{ChangeResult, unchanged}
 use Rattle.calls.specs.Basket.{KeyChange, changesOf, keyCountFault, anyTwice, listsFault, givenFault, basketFault, recordsFor, basketMade, basketDone, basketResult, basketSays, BasketLeft, basketEnd, atFront, leftInLists, BasketListLeft, basketListEnd, leftWith, leftInList}
-use Rattle.calls.specs.inner.Basket.{storesBy, storeCount, madeEnd, MadeOf}
+use Rattle.calls.specs.inner.Basket.{storesBy, basketStoreCount, madeEnd, MadeOf}
 use Rattle.calls.specs.declared.BasketItem.{BasketItem}
 use Rattle.calls.specs.declared.BasketAnswer.{BasketAnswer}
 use Rattle.calls.specs.declared.BasketMade.{BasketMade}
@@ -58,17 +58,17 @@ result-room l image heads next s changes room = rw (given-room changes room) ref
 
 -- ---- how many stores there are
 
-pub too-many : (outcome : BasketOutcome) (count : ℕ) → 8 < count → (0 ≡ storeCount outcome count) × (0 ≤ 128)
-unfolding storeCount
+pub too-many : (outcome : BasketOutcome) (count : ℕ) → 8 < count → (0 ≡ basketStoreCount outcome count) × (0 ≤ 128)
+unfolding basketStoreCount
 too-many outcome count h = (sym (pick-true (ltb 8 count) _ _ (lt-ltb 8 count h)), omega arith)
 
-pub all-stored : (outcome : BasketOutcome) (count version : ℕ) → outcome ≡ Stored version → count ≤ 8 → (16 * count ≡ storeCount outcome count) × (16 * count ≤ 128)
-unfolding storeCount storesBy
+pub all-stored : (outcome : BasketOutcome) (count version : ℕ) → outcome ≡ Stored version → count ≤ 8 → (16 * count ≡ basketStoreCount outcome count) × (16 * count ≤ 128)
+unfolding basketStoreCount storesBy
 all-stored outcome count version e h =
     (ap (λ (o : BasketOutcome). storesBy o count) (sym e) ∙ sym (pick-false (ltb 8 count) _ _ (le-ltb 8 count h)), omega arith)
 
-pub none-stored : (outcome : BasketOutcome) (count number : ℕ) → outcome ≡ Refused number → count ≤ 8 → (0 ≡ storeCount outcome count) × (0 ≤ 128)
-unfolding storeCount storesBy
+pub none-stored : (outcome : BasketOutcome) (count number : ℕ) → outcome ≡ Refused number → count ≤ 8 → (0 ≡ basketStoreCount outcome count) × (0 ≤ 128)
+unfolding basketStoreCount storesBy
 none-stored outcome count number e h =
     (ap (λ (o : BasketOutcome). storesBy o count) (sym e) ∙ sym (pick-false (ltb 8 count) _ _ (le-ltb 8 count h)), omega arith)
 
@@ -172,7 +172,7 @@ module _ (l : ℕ) (image heads next : List ℕ) (s : State) (count : ℕ) (item
   made-by b list = record { answer = b .answer; slots = b .slots; state = b .state; list = list; heads = b .heads; next = b .next }
 
   module _ (a : BasketAnswer) (at₀ words₀ at₁ words₁ heads₁ next₁ : List ℕ) (stored : ℕ) (rest rest′ : List ℕ) (en : length at₀ ≡ min 128 room) (em : length words₀ ≡ min 128 room)
-      (es : stored ≡ storeCount (a .outcome) count)
+      (es : stored ≡ basketStoreCount (a .outcome) count)
       (e : basketEnd count a at₁ words₁ heads₁ next₁ ≡ leftInLists at₀ words₀ (basketResult l image heads next s changes (length at₀) (length words₀))) where
     left-by : basketEnd count a at₁ words₁ heads₁ next₁ ≡ leftInLists at₀ words₀ result
     left-by =
@@ -180,7 +180,7 @@ module _ (l : ℕ) (image heads next : List ℕ) (s : State) (count : ℕ) (item
         ∙ ap (leftInLists at₀ words₀) (ap₂ (basketResult l image heads next s changes) en em ∙ result-room l image heads next s changes room)
 
     as-many : stored ≡ length (result .stores)
-    unfolding storeCount leftInLists
+    unfolding basketStoreCount leftInLists
     as-many =
         es
         ∙ ap (λ (n : ℕ). cond (ltb 8 count) 0 n)

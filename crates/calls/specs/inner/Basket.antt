@@ -156,8 +156,8 @@ storesBy (Stored version) count = 16 * count
 storesBy (Refused number) count = 0
 
 -- no basket has more than eight keys
-unfoldable pub storeCount : BasketOutcome → (count : ℕ) → ℕ
-storeCount outcome count = cond (ltb 8 count) 0 (storesBy outcome count)
+unfoldable pub basketStoreCount : BasketOutcome → (count : ℕ) → ℕ
+basketStoreCount outcome count = cond (ltb 8 count) 0 (storesBy outcome count)
 
 -- what a call that made its stores in arrays left
 abbrev pub madeEnd : (count : ℕ) → BasketMade → (heads next : List ℕ) → BasketListLeft

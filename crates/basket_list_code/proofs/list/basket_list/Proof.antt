@@ -48,7 +48,7 @@ use Rattle.walks.proofs.Locals.{Blocks, block, envOf, Frame, allocates, freed, 
 use Rattle.walks.proofs.Statements.{copied, field-of, sets}
 use Rattle.stores.specs.Store.{Store}
 use Rattle.stores.proofs.Store as T
-use Rattle.store_list.specs.List.{storesPut}
+use Rattle.stores.specs.inner.List.{storesPut}
 use Rattle.index.specs.declared.State.{State}
 use Rattle.index.proofs.State as S
 use Rattle.index.proofs.State.Laws as S′

@@ -1,7 +1,7 @@
 -- `put_stores` meets its contract: a walk of its MIR, by hand. The three lent slices are opened before the loop and closed after it; a turn reads a word number and a value, and stores the struct of them.
 use mathlib.Core.Path.{_≡_, refl, sym, _∙_, ap, subst}
 use mathlib.Core.Option.{Option, none, some}
-use Prim.Native.Nat.{ℕ, suc, _<_, _≤_, _^_, _+_, zero-le}
+use Prim.Native.Nat.{ℕ, suc, _<_, _≤_, _^_, _+_, zero-le, _*_}
 use native.Mathlib.Nat.{lt-of-le-of-lt, lt-of-lt-of-le, le-trans, add-suc, add-zero}
 use mathlib.Core.List.{[], _∷_, _++_, List}
 use lib.Dec.{lit<}
@@ -39,10 +39,10 @@ use denote.Triple.Table.{entered}
 use denote.Triple.Walked.{says, needs, Stays, stay-dropped, stay-slice, walkOf, goes-dropped, goes-slice, Walks, ends-at, walked, walk-meets}
 use denote.Exit.{yes}
 use Rattle.stores.specs.Store.{Store}
-use Rattle.store_list.specs.List.{storesPut}
-use Rattle.store_list.proofs.List.{put-none, put-length, put-next}
+use Rattle.stores.specs.inner.List.{storesPut}
+use Rattle.stores.proofs.ListPut.{put-none, put-length, put-next}
 use Rattle.walks.proofs.Lent.{number, lentAt, OwnsMut, Shuts, dropped, opened, closed, looked, taken, offset-fits}
-use Rattle.walks.proofs.Locals.{Blocks, envOf, Frame, allocates, freed, behind}
+use Rattle.walks.proofs.Locals.{Blocks, block, envOf, Frame, allocates, freed, behind}
 use Rattle.walks.proofs.Loop.{Upto, Nearer, nearer-wf, next, nearer, at-end, Turned, tests}
 use Rattle.walks.proofs.Statements.{copied, field-of, sets}
 use Rattle.stores.proofs.Store as T
@@ -125,11 +125,32 @@ module _ {M : Type 1} (𝓤 : URA M) (H : Heap 𝓤) (A : Atoms 𝓤) (W : Given
       made : Is u32 (getD at (i .0) 0) (vint w32 (getD at (i .0) 0) ∷ []) → Is u64 (getD words (i .0) 0) (vint w64 (getD words (i .0) 0) ∷ []) → Is T.the-row d (struct .vals d)
       made is₁ is₂ = LL.owes T.the-type T′.the-laws d ((refl, is₁ .1), ((refl, is₂ .1), tt))
 
+      in₀ : i .0 < length list
+      in₀ = lt-of-lt-of-le more (within .0)
+
+      in₁ : i .0 < length at
+      in₁ = lt-of-lt-of-le more (within .1)
+
+      in₂ : i .0 < length words
+      in₂ = lt-of-lt-of-le more (within .2)
+
+      byte₀ : i .0 * 16 < 2 ^ 64
+      byte₀ = offset-fits 16 (i .0) (length list) in₀ (room .1)
+
+      byte₁ : i .0 * 4 < 2 ^ 64
+      byte₁ = offset-fits 4 (i .0) (length at) in₁ (room₁ .1)
+
+      byte₂ : i .0 * 8 < 2 ^ 64
+      byte₂ = offset-fits 8 (i .0) (length words) in₂ (room₂ .1)
+
+      next-fits : i .0 + 1 < 2 ^ 64
+      next-fits = lt-of-le-of-lt (next n i more .1) n-fits
+
       one-put : set (put (i .0)) (i .0) d ≡ put (i .0 + 1)
-      one-put = put-next at words list (i .0) (lt-of-lt-of-le more (within .0)) (lt-of-lt-of-le more (within .1)) (lt-of-lt-of-le more (within .2)) ∙ ap put (sym (add-suc (i .0) 0 ∙ ap suc (add-zero (i .0))))
+      one-put = put-next at words list (i .0) in₀ in₁ in₂ ∙ ap put (sym (add-suc (i .0) 0 ∙ ap suc (add-zero (i .0))))
 
       in-list : i .0 < length (put (i .0))
-      in-list = subst (λ (k : ℕ). i .0 < k) (sym (put-length at words list (i .0) (le-trans (i .1) (within .0)) (le-trans (i .1) (within .1)) (le-trans (i .1) (within .2)))) (lt-of-lt-of-le more (within .0))
+      in-list = subst (λ (k : ℕ). i .0 < k) (sym (put-length at words list (i .0) (le-trans (i .1) (within .0)) (le-trans (i .1) (within .1)) (le-trans (i .1) (within .2)))) in₀
 
     turns : (i : Upto n) → Sq W (At i) (runs (𝓣 .C) (𝓣 .Λ) En body.turn-1 (anyQ (Turned 𝓤 H A 𝓣 En body.t-3 Post n At i)))
     unfolding afterTurn
@@ -138,29 +159,29 @@ module _ {M : Type 1} (𝓤 : URA M) (H : Heap 𝓤) (A : Atoms 𝓤) (W : Given
         tests ! (copied ! 12 refl)
         (λ more.
         -- at[i]
-        sets ! 14 (bin ! (copied ! 10 refl) (lit ! tt) (record { fits = offset-fits 4 (i .0) (length at) (lt-of-lt-of-le more (within .1)) (room₁ .1) })) refl (tt, record { fits = offset-fits 4 (i .0) (length at) (lt-of-lt-of-le more (within .1)) (room₁ .1) }) $
+        sets ! 14 (bin ! (copied ! 10 refl) (lit ! tt) (record { fits = byte₁ i more })) refl (tt, record { fits = byte₁ i more }) $
         sets ! 16 (bin ! (field-of ! 4 0 refl refl refl) (copied ! 14 refl) tt) refl (tt, tt) $
-        rewrite ! 16 (λ (p : ℕ). ‵ (fat fullShare tyPtr (bs .1 .1 .1 .1 .1 .1 .1 .1 .0) 0 (vptr b₁ p))) (sym (place-is 4 o₁ (i .0))) refl $
-        move ! (37 ∷ []) $ taken ! u32 (number w32) p₁ at (i .0) 0 b₁ o₁ (lt-of-lt-of-le more (within .1)) (λ is₁.
+        rewrite ! 16 (λ (p : ℕ). ‵ (fat fullShare tyPtr (block body.locals bs 8) 0 (vptr b₁ p))) (sym (place-is 4 o₁ (i .0))) refl $
+        move ! (37 ∷ []) $ taken ! u32 (number w32) p₁ at (i .0) 0 b₁ o₁ (in₁ i more) (λ is₁.
         sets ! 21 (of-opd ! (load ! (from ! (hop ! (look ! 19 refl) (stop !))) (look ! 0 refl))) refl (tt, record { fits = is₁ .1 }) $
-        elem-back ! u32 p₁ at (i .0) 0 (vint w32 (getD at (i .0) 0) ∷ []) b₁ o₁ (lt-of-lt-of-le more (within .1)) $ behind ! 1 $
+        elem-back ! u32 p₁ at (i .0) 0 (vint w32 (getD at (i .0) 0) ∷ []) b₁ o₁ (in₁ i more) $ behind ! 1 $
         -- words[i]
-        sets ! 20 (bin ! (copied ! 10 refl) (lit ! tt) (record { fits = offset-fits 8 (i .0) (length words) (lt-of-lt-of-le more (within .2)) (room₂ .1) })) refl (tt, record { fits = offset-fits 8 (i .0) (length words) (lt-of-lt-of-le more (within .2)) (room₂ .1) }) $
+        sets ! 20 (bin ! (copied ! 10 refl) (lit ! tt) (record { fits = byte₂ i more })) refl (tt, record { fits = byte₂ i more }) $
         sets ! 22 (bin ! (field-of ! 6 0 refl refl refl) (copied ! 20 refl) tt) refl (tt, tt) $
-        rewrite ! 22 (λ (p : ℕ). ‵ (fat fullShare tyPtr (bs .1 .1 .1 .1 .1 .1 .1 .1 .1 .1 .1 .0) 0 (vptr b₂ p))) (sym (place-is 8 o₂ (i .0))) refl $
-        move ! (37 ∷ []) $ taken ! u64 (number w64) p₂ words (i .0) 0 b₂ o₂ (lt-of-lt-of-le more (within .2)) (λ is₂.
+        rewrite ! 22 (λ (p : ℕ). ‵ (fat fullShare tyPtr (block body.locals bs 11) 0 (vptr b₂ p))) (sym (place-is 8 o₂ (i .0))) refl $
+        move ! (37 ∷ []) $ taken ! u64 (number w64) p₂ words (i .0) 0 b₂ o₂ (in₂ i more) (λ is₂.
         sets ! 27 (of-opd ! (load ! (from ! (hop ! (look ! 25 refl) (stop !))) (look ! 0 refl))) refl (tt, record { fits = is₂ .1 }) $
-        elem-back ! u64 p₂ words (i .0) 0 (vint w64 (getD words (i .0) 0) ∷ []) b₂ o₂ (lt-of-lt-of-le more (within .2)) $ behind ! 1 $
+        elem-back ! u64 p₂ words (i .0) 0 (vint w64 (getD words (i .0) 0) ∷ []) b₂ o₂ (in₂ i more) $ behind ! 1 $
         -- list[i]
         sets ! 26 (agg ! (and-then ! (copied ! 18 refl) (and-then ! (copied ! 24 refl) (no-more !)))) refl (LL.lawful T.the-type T′.the-laws 𝓤 H A W .typed (d i more) _ (made i more is₁ is₂) .0) $
-        sets ! 28 (bin ! (copied ! 10 refl) (lit ! tt) (record { fits = offset-fits 16 (i .0) (length list) (lt-of-lt-of-le more (within .0)) (room .1) })) refl (tt, record { fits = offset-fits 16 (i .0) (length list) (lt-of-lt-of-le more (within .0)) (room .1) }) $
+        sets ! 28 (bin ! (copied ! 10 refl) (lit ! tt) (record { fits = byte₀ i more })) refl (tt, record { fits = byte₀ i more }) $
         sets ! 30 (bin ! (field-of ! 2 0 refl refl refl) (copied ! 28 refl) tt) refl (tt, tt) $
-        rewrite ! 30 (λ (p : ℕ). ‵ (fat fullShare tyPtr (bs .1 .1 .1 .1 .1 .1 .1 .1 .1 .1 .1 .1 .1 .1 .1 .0) 0 (vptr b p))) (sym (place-is 16 o (i .0))) refl $
+        rewrite ! 30 (λ (p : ℕ). ‵ (fat fullShare tyPtr (block body.locals bs 15) 0 (vptr b p))) (sym (place-is 16 o (i .0))) refl $
         move ! (37 ∷ []) $ taken ! T.the-row struct fullShare (put (i .0)) (i .0) (d i more) b o (in-list i more) (λ _.
         assigns ! (of-opd ! (copied ! 29 refl)) (from ! (hop ! (look ! 33 refl) (stop !))) (store-raw ! 0 refl (LL.lawful T.the-type T′.the-laws 𝓤 H A W .typed (d i more) _ (made i more is₁ is₂) .0)) $
         move ! (1 ∷ []) $ drop ! $ owned ! T.the-row (Is T.the-row) (LL.makes T.the-type T′.the-plain 𝓤 H A) (d i more) _ (made i more is₁ is₂) $ move ! (1 ∷ 0 ∷ []) $ elem-put ! T.the-row fullShare (put (i .0)) (i .0) (d i more) (struct .vals (d i more)) b o (in-list i more) $
         rewrite ! 0 (λ (l : List Store). ‵ (row T.the-row fullShare l b o)) (one-put i more) refl $ behind ! 1 $
-        assigns-last ! (bin ! (copied ! 10 refl) (lit ! tt) (record { fits = lt-of-le-of-lt (next n i more .1) n-fits })) (from ! (stop !)) (store ! 10 refl (tt, record { fits = lt-of-le-of-lt (next n i more .1) n-fits })) $
+        assigns-last ! (bin ! (copied ! 10 refl) (lit ! tt) (record { fits = next-fits i more })) (from ! (stop !)) (store ! 10 refl (tt, record { fits = next-fits i more })) $
         forget ! 12 refl $ forget ! 14 refl $ forget ! 16 refl $ forget ! 18 refl $ forget ! 20 refl $ forget ! 22 refl $ forget ! 24 refl $ forget ! 26 refl $ forget ! 28 refl $ forget ! 30 refl $
         again ! (Nearer n) At i (next n i more) (nearer n i more)))))
         (λ over. exec ! (𝓣 .C) (𝓣 .Λ) En body.t-3 (atRet En Post) $

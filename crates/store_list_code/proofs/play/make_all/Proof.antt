@@ -53,8 +53,8 @@ use Rattle.stores.specs.Store.{Store, played}
 use Rattle.stores.proofs.Bytes.{played-length}
 use Rattle.stores.proofs.Store as T
 use Rattle.stores.proofs.Store.Laws as T′
-use Rattle.store_list.specs.List.{AllInside}
-use Rattle.store_list.proofs.Play.{none as past, play-none, play-next, play-all}
+use Rattle.stores.specs.inner.List.{AllInside}
+use Rattle.stores.proofs.ListPlay.{none as past, play-none, play-next, play-all}
 use Rattle.words_code.proofs.write_word as write
 use Rattle.words_code.proofs.write_word.Symbol as write-def
 use Rattle.words_code.proofs.write_word.Symbol.{name as #write-word}

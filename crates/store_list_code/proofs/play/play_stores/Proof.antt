@@ -44,7 +44,7 @@ use Rattle.stores.specs.Store.{Store, played}
 use Rattle.stores.specs.Play.{wordNumbers, values, listFault, playEnd, playListResult}
 use Rattle.stores.proofs.Plays.{list-refused}
 use Rattle.stores.proofs.Store as T
-use Rattle.store_list.proofs.Play.{all-inside, play-done}
+use Rattle.stores.proofs.ListPlay.{all-inside, play-done}
 use Rattle.store_list_code.proofs.play.stores_fault as fault
 use Rattle.store_list_code.proofs.play.stores_fault.Symbol as fault-def
 use Rattle.store_list_code.proofs.play.stores_fault.Symbol.{name as #stores-fault}

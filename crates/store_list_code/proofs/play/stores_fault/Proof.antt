@@ -49,7 +49,7 @@ use Rattle.prelude.specs.Refusal.{say}
 use Rattle.stores.specs.Store.{Store}
 use Rattle.stores.proofs.Store as T
 use Rattle.stores.proofs.Store.Laws as T′
-use Rattle.store_list.proofs.Play.{none as past, faultTo, fault-none, fault-fits, fault-next, fault-all}
+use Rattle.stores.proofs.ListPlay.{none as past, faultTo, fault-none, fault-fits, fault-next, fault-all}
 use Rattle.store_list_code.proofs.Struct.{struct}
 use Rattle.store_list_code.proofs.play.fault_with as fault
 use Rattle.store_list_code.proofs.play.fault_with.Symbol as fault-def
