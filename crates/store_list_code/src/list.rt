@@ -2,7 +2,7 @@
 ghost use mathlib.Core.Path.{_≡_};
 ghost use Prim.Native.Nat.{_≤_};
 ghost use lib.ListN.{length};
-ghost use Rattle.store_list.specs.inner.List.{storesPut};
+ghost use Rattle.stores.specs.inner.List.{storesPut};
 use stores::Store;
 
 // The first count elements become the stores that at and words name.

@@ -6,7 +6,7 @@ ghost use lib.ListN.{length};
 ghost use Rattle.prelude.specs.Refusal.{say};
 ghost use Rattle.stores.specs.Store.{played};
 ghost use Rattle.stores.specs.Play.{wordNumbers, values, listFault, playEnd, playListResult};
-ghost use Rattle.store_list.specs.inner.List.{AllInside};
+ghost use Rattle.stores.specs.inner.List.{AllInside};
 use stores::Store;
 use words_code::write_word;
 

@@ -3,3 +3,4 @@ pub mod Arrays
 pub mod Lent
 pub mod Locals
 pub mod Loop
+pub mod Statements

@@ -4,8 +4,8 @@ use mathlib.Core.List.{List, [], _∷_}
 use Prim.Native.Nat.{ℕ, zero, suc, _≤_, _<_}
 use native.Mathlib.Omega.{arith}
 use lib.ListN.{length, getD, set}
 use Rattle.stores.specs.Store.{Store, zipped}
-use Rattle.store_list.specs.inner.List.{storesPut}
+use Rattle.stores.specs.inner.List.{storesPut}
 
 pub put-none : (at words : List ℕ) (list : List Store) → storesPut at words 0 list ≡ list
 unfolding zipped

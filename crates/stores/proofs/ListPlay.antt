@@ -14,10 +14,10 @@ use Rattle.prelude.specs.Range.{anyOf}
 use Rattle.prelude.proofs.Refusals.{say-false, say-zero, taken-leaves, alike}
 use Rattle.prelude.proofs.Any.{any-none}
 use Rattle.words.specs.Word.{setWord}
 use Rattle.stores.specs.Store.{Store, zipped, played}
 use Rattle.stores.specs.Play.{wordNumbers, values, listFault, playEnd, playListResult}
 use Rattle.stores.proofs.Lists.{zipped-back, numbers-length, values-length}
-use Rattle.store_list.specs.inner.List.{AllInside}
+use Rattle.stores.specs.inner.List.{AllInside}
 
 -- past the end of a list
 abbrev pub none : Store
