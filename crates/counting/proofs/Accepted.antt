@@ -1,9 +1,7 @@
 -- The counts of an accepted image, from what its slots alone tell and what recovery left. Assumes nothing.
-use mathlib.Core.Path.{_≡_, refl, sym, ap, ap₂, _∙_, subst}
+use mathlib.Core.Path.{_≡_, sym, ap, _∙_, subst}
 use mathlib.Core.List.{List}
 use Prim.Native.Nat.{ℕ, _-_, _≤_}
-use lib.ListN.{length}
-use Rattle.words.specs.Word.{word}
 use Rattle.prelude.specs.Range.{count}
 use Rattle.prelude.proofs.Count.{count-filter}
 use Rattle.layout.specs.Size.{slotsIn}

@@ -27,7 +27,7 @@ use Rattle.recovery.proofs.Clear.{slots-clear}
 use Rattle.recovery.proofs.Lent.{recovery-taken}
 use Rattle.recovery.proofs.Void.{few-void}
 use Rattle.counting.specs.Count.{CountResult, countValues, countsIn, countEnd, countSays, countResult}
-use Rattle.counting.specs.inner.Classes.{OpensVoid, Countable}
+use Rattle.counting.specs.inner.Classes.{Countable}
 use Rattle.counting.specs.declared.SlotCounts.{SlotCounts}
 use Rattle.counting.specs.declared.CountAnswer.the-variants.{Counted, Refused as NotCounted}
 

@@ -5,7 +5,6 @@ use Prim.Native.Nat.{ℕ, zero, suc, _+_, _≤_, _<_}
 use native.Mathlib.Omega.{arith}
 use lib.Dec.{eqb}
 use Rattle.prelude.specs.Range.{count}
-use Rattle.prelude.proofs.Choice.{pick-true, pick-false}
 use Rattle.layout.specs.Line.{lineA, lineB}
 use Rattle.layout.specs.Slot.{slotVerdict}
 use Rattle.layout.specs.Record.{kindOf, keyOf, valueOf}

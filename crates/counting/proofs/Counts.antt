@@ -4,12 +4,11 @@ use mathlib.Core.Bool.{Bool, true, false, cond, not, _&&_}
 use Prim.Native.Nat.{ℕ, _+_, _-_, _≤_}
 use native.Mathlib.Omega.{arith}
 use Rattle.prelude.specs.Range.{count}
-use Rattle.prelude.specs.Members.{Slot}
 use Rattle.prelude.proofs.Choice.{pick-true, pick-false, true-false, is-false, both-left, false-left}
 use Rattle.prelude.proofs.Count.{count-same, count-fewer, count-both}
 use Rattle.layout.specs.Size.{slotsIn}
 use Rattle.layout.specs.Content.{Content, broken, empty, putRecord, removeRecord, Table, contentsOf, numbersOf}
-use Rattle.table.specs.Table.{isRecord, live, liveCount, brokenCount}
+use Rattle.table.specs.Table.{isRecord, live, liveCount}
 use Rattle.table.specs.Class.{isEmpty, isPut}
 use Rattle.table.specs.Taking.{isRemove}
 use Rattle.table.specs.Complete.{Numbers, isVoid, settled}
@@ -21,7 +20,6 @@ use Rattle.recovery.specs.declared.Classes.{Classes}
 use Rattle.recovery.proofs.Void.{broken-with-void}
 use Rattle.counting.specs.Count.{hiddenPut, countsOf, countsIn, SixAddUp}
 use Rattle.counting.specs.inner.Classes.{voidRemoves}
-use Rattle.counting.specs.declared.SlotCounts.{SlotCounts}
 
 -- ---- one slot
 

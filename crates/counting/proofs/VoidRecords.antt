@@ -1,7 +1,7 @@
 -- The removes among the void records, by the stores that open their slots. Assumes nothing.
 use mathlib.Core.Path.{_≡_, refl, sym, ap, _∙_}
 use mathlib.Core.Bool.{Bool, true, false, cond, _&&_}
-use mathlib.Core.List.{List, [], _∷_, _++_}
+use mathlib.Core.List.{List, [], _∷_}
 use Prim.Native.Nat.{ℕ, zero, suc, _+_, _*_, _/_, _≤_, _<_}
 use native.Mathlib.Numerals.{add-one}
 use native.Mathlib.Omega.{arith}
@@ -10,7 +10,7 @@ use lib.ListN.{length, getD, take, length-append}
 use lib.Seq.{take-suc, take-all}
 use borrow.Author.Tests.{eq-eqb, ne-eqb}
 use Rattle.words.specs.Word.{word}
-use Rattle.prelude.specs.Range.{count, tabulate}
+use Rattle.prelude.specs.Range.{count}
 use Rattle.prelude.specs.Filter.{filter}
 use Rattle.prelude.specs.Members.{In, Slot, slotNumbers}
 use Rattle.prelude.proofs.Choice.{pick-true, pick-false, true-false}
@@ -21,11 +21,11 @@ use Rattle.sorting.proofs.Order.{filter-in, filter-holds, at-in}
 use Rattle.layout.specs.Size.{slotsIn}
 use Rattle.layout.specs.Line.{lineA, lineB}
 use Rattle.layout.specs.Record.{kindOf}
-use Rattle.layout.specs.Content.{Content, content, contentOf, contentsOf, numbersOf, Table}
+use Rattle.layout.specs.Content.{content, contentOf, contentsOf, numbersOf}
 use Rattle.layout.proofs.Content.{Reading, reads-broken, reads-empty, reads-put, reads-remove, reading}
 use Rattle.table.specs.Table.{isRecord}
 use Rattle.table.specs.Taking.{isRemove}
-use Rattle.table.specs.Complete.{Numbers, isVoid}
+use Rattle.table.specs.Complete.{isVoid}
 use Rattle.table.proofs.Complete.{void-record}
 use Rattle.stores.specs.Play.{wordNumbers}
 use Rattle.stores.specs.Opening.{openingStore, openingStores}

@@ -1,26 +1,26 @@
 -- The report block by block: one image more, and the end. Assumes nothing.
-use mathlib.Core.Path.{_≡_, refl, sym, ap, ap₂, _∙_, subst}
-use mathlib.Core.Bool.{Bool, true, false, cond}
-use mathlib.Core.Logic.{by-cases}
-use mathlib.Core.List.{List, [], _∷_, _++_, append-nil, append-assoc}
+use mathlib.Core.Path.{_≡_, refl, sym, ap, ap₂, _∙_}
+use mathlib.Core.Bool.{true, _&&_}
+use mathlib.Core.List.{List, [], _++_, append-nil, append-assoc}
 use Prim.Native.Nat.{ℕ, zero, suc, _+_, _-_, _*_, _/_, _≤_, _<_}
-use native.Mathlib.Decide.{ℕ-discrete}
 use native.Mathlib.Omega.{arith}
 use lib.Dec.{eqb, leb}
 use lib.ListN.{length, take, drop, length-drop, length-append}
 use lib.Seq.{take-all, take-append-le, drop-append-le, drop-drop, length-take-le}
-use borrow.Author.Tests.{eq-eqb, ne-eqb}
+use borrow.Author.Tests.{eq-eqb, ne-eqb, eqb-true, leb-true}
 use Rattle.prelude.specs.Answer.{Answer}
-use Rattle.prelude.proofs.Choice.{pick-true, pick-false}
+use Rattle.prelude.proofs.Choice.{pick-true, pick-false, both-left, both-right}
+use Rattle.text.specs.Output.{no, text}
 use Rattle.text.specs.inner.Output.{Wrote}
 use Rattle.text.proofs.Storing.{written-front}
-use Rattle.reporting.specs.Report.{wholeSize, imageAnswer, answerText, totalsWith, totalsText, unreadText, reportFrom}
-use Rattle.reporting.specs.inner.Blocks.{Held, readable, progressWith, Reportable, ImageReported, Readable, BlockReported, Buffers}
+use Rattle.reporting.specs.Report.{imageSize, wholeSize, imageAnswer, answerText, totalsWith, totalsText, unreadText, reportFrom, reportOf}
+use Rattle.reporting.specs.Blocks.{Held, readable, BlockLent, BlockReported, endsReading, Prints, block, last, ended, PrintsReport}
+use Rattle.reporting.specs.inner.Images.{progressWith, Reportable, ImageReported, Buffers}
 use Rattle.reporting.specs.declared.Totals.{Totals}
 use Rattle.reporting.specs.declared.Progress.{Progress}
 use Rattle.reporting.specs.declared.Reported.{Reported}
 use Rattle.reporting.specs.declared.Block.{Block}
-use Rattle.reporting.proofs.Sizes.{Image, readable-image, whole-more}
+use Rattle.reporting.proofs.Sizes.{Image, no-size, readable-image, size-more, whole-more}
 use Rattle.reporting.proofs.Texts.{answer-length, totals-length, unread-length}
 
 -- ---- the report on an input
@@ -75,7 +75,7 @@ pub record Blocking (input next : List ℕ) (p : Progress) (room : ℕ) (progres
 pub entries-few : (image next : List ℕ) (p : Progress) (out : List ℕ) (at : ℕ) → Reportable image next p out at → length image / 128 ≤ length next
 entries-few image next p out at g = omega (arith, g .size, g .high, g .next-size)
 
-pub block-start : (input next : List ℕ) (p : Progress) (out : List ℕ) (size : ℕ) → Readable input next p out → size ≡ readable (p .left) input
+pub block-start : (input next : List ℕ) (p : Progress) (out : List ℕ) (size : ℕ) → BlockLent input next p out → size ≡ readable (p .left) input
     → Blocking input next p (length out) p 0 0 size out
 block-start input next p out size g e =
     record {
@@ -226,7 +226,7 @@ last-reported input p out₁ out₂ out₃ b end r g u w fits same same₃ = (pr
 -- ---- what the program keeps: the first `have` bytes of the input, and after a read n more
 
 -- at the end of the input
-pub kept-readable : (p : Progress) (have : ℕ) (input next out : List ℕ) → Buffers p have input next out → Readable (take have input) next p out
+pub kept-readable : (p : Progress) (have : ℕ) (input next out : List ℕ) → Buffers p have input next out → BlockLent (take have input) next p out
 kept-readable p have input next out g =
     record { next-size = g .next-size; held = g .held; room = omega (arith, length-take-le have input (g .inside), g .inside, g .room) }
 
@@ -235,7 +235,7 @@ module _ (p : Progress) (have n : ℕ) (input next out : List ℕ) (g : Buffers 
   pub front-size : have + n ≡ length (take (have + n) input′)
   front-size = sym (length-take-le (have + n) input′ (omega arith))
 
-  pub front-readable : Readable (take (have + n) input′) next p out
+  pub front-readable : BlockLent (take (have + n) input′) next p out
   front-readable = record { next-size = g .next-size; held = g .held; room = omega (arith, front-size, g .room) }
 
   module _ (b : Block) (next′ out′ : List ℕ) (r : BlockReported (take (have + n) input′) p out′ b) (same-out : length out′ ≡ length out) where
@@ -255,3 +255,41 @@ module _ (p : Progress) (have n : ℕ) (input next out : List ℕ) (g : Buffers 
           next-size = same-next ∙ g .next-size;
           room = omega (arith, g .room);
         }
+
+-- ---- the whole input
+
+-- where the reading ends, what follows changes nothing
+ends-same : (left : ℕ) (rest more : List ℕ) (t : Totals) → endsReading left rest ≡ true → reportFrom left (rest ++ more) t ≡ reportFrom left rest t
+unfolding reportFrom unreadText endsReading
+ends-same zero rest more t d = refl
+ends-same (suc left) rest more t d =
+    from-none (suc left) (rest ++ more) t (unreadable (rest ++ more) (size-more rest more long ∙ none))
+    ∙ ap (λ (x : List ℕ). x ++ totalsText t) (some (rest ++ more) (omega (arith, long, length-append rest more)) ∙ sym (some rest long))
+    ∙ sym (from-none (suc left) rest t (unreadable rest none))
+  where
+    tests : leb 8 (length rest) && eqb (imageSize rest) 0 ≡ true
+    tests = sym (pick-false (eqb (suc left) 0) true _ (ne-eqb (suc left) 0 (λ z. omega arith))) ∙ d
+
+    long : 8 ≤ length rest
+    long = leb-true 8 (length rest) (both-left (leb 8 (length rest)) _ tests)
+
+    none : imageSize rest ≡ 0
+    none = eqb-true (imageSize rest) 0 (both-right (leb 8 (length rest)) _ tests)
+
+    unreadable : (input : List ℕ) → imageSize input ≡ 0 → readable (suc left) input ≡ 0
+    unreadable input z = no-size input (suc left) z
+
+    some : (input : List ℕ) → 8 ≤ length input → unreadText (suc left) (length input) ≡ text (no 1)
+    some input h =
+        pick-false (eqb (suc left) 0) _ _ (ne-eqb (suc left) 0 (λ z. omega arith))
+        ∙ pick-false (eqb (length input) 0) _ _ (ne-eqb (length input) 0 (λ z. omega arith))
+
+prints : {p : Progress} {input output : List ℕ} → Prints p input output → output ≡ reportFrom (p .left) input (p .totals)
+prints (block p front more output out b r w) = ap (λ (x : List ℕ). take (b .end) out ++ x) (prints w) ∙ sym (r .goes-on more)
+prints (last p input out r d) = d
+prints (ended p rest more out r d c) = c ∙ sym (ends-same (p .left) rest more (p .totals) d)
+
+-- HOWEVER THE INPUT COMES, its report is printed
+pub prints-report : PrintsReport
+unfolding reportOf
+prints-report input output w = prints w

@@ -14,7 +14,7 @@ use Rattle.words.specs.Word.{word}
 use Rattle.words.proofs.Laws.{word-take}
 use Rattle.prelude.proofs.Choice.{pick-true, pick-false, true-false}
 use Rattle.reporting.specs.Report.{outside, imageSize, wholeSize}
-use Rattle.reporting.specs.inner.Blocks.{readable}
+use Rattle.reporting.specs.Blocks.{readable}
 
 -- ---- by word 0
 
@@ -49,6 +49,15 @@ module _ (input : List ℕ) (left : ℕ) where
   pub readable-none : left ≡ 0 → 0 ≡ readable left input
   unfolding readable
   readable-none e = sym (pick-true (eqb left 0) _ _ (eq-eqb left 0 e))
+
+  pub no-size : imageSize input ≡ 0 → readable left input ≡ 0
+  unfolding readable wholeSize
+  no-size z = go (eqb left 0) (leb (imageSize input) (length input))
+    where
+      go : (x y : Bool) → cond x 0 (cond y (imageSize input) 0) ≡ 0
+      go true y = refl
+      go false true = z
+      go false false = refl
 
   module _ (some : left ≡ 0 → ⊥) (size : ℕ) (e : size ≡ imageSize input) where
     pub readable-part : length input < size → 0 ≡ readable left input

@@ -15,7 +15,8 @@ use Rattle.text.specs.inner.Output.{Wrote}
 use Rattle.text.proofs.Storing.{decimal-length, numbers-length}
 use Rattle.face.specs.Set.{SlotCounts, CountAnswer, Counted, NotCounted, CountResult, countValues, countEnd, countSays, countResult}
 use Rattle.reporting.specs.Report.{imageAnswer, answerText, totalsWith, totalsText, unreadText}
-use Rattle.reporting.specs.inner.Blocks.{Below, Held, totalsAdded, progressWith, ImageReported}
+use Rattle.reporting.specs.Blocks.{Below, Held}
+use Rattle.reporting.specs.inner.Images.{totalsAdded, progressWith, ImageReported}
 use Rattle.reporting.specs.declared.Totals.{Totals}
 use Rattle.reporting.specs.declared.Progress.{Progress}
 

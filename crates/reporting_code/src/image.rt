@@ -2,7 +2,8 @@
 ghost use mathlib.Core.Path.{_≡_};
 ghost use Prim.Native.Nat.{ℕ, _+_, _^_};
 ghost use Rattle.reporting.specs.Report.{outside, imageSize};
-ghost use Rattle.reporting.specs.inner.Blocks.{Below, totalsAdded, readable, Reportable, ImageReported};
+ghost use Rattle.reporting.specs.Blocks.{Below, readable};
+ghost use Rattle.reporting.specs.inner.Images.{totalsAdded, Reportable, ImageReported};
 use crate::storing::store_counts;
 use crate::storing::store_refusal;
 use orderset::CountAnswer;

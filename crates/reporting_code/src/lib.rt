@@ -6,7 +6,7 @@ ghost use mathlib.Core.Path.{_≡_};
 ghost use Prim.Native.Nat.{_≤_};
 ghost use lib.ListN.{length, take};
 ghost use Rattle.reporting.specs.Report.{noTotals, reportFrom};
-ghost use Rattle.reporting.specs.inner.Blocks.{Held, Readable, BlockReported};
+ghost use Rattle.reporting.specs.Blocks.{Held, BlockLent, BlockReported};
 pub use crate::image::image_size;
 use crate::image::readable_size;
 use crate::image::report_image;
@@ -35,7 +35,7 @@ pub fn start() -> Progress
 
 // The whole images at the front of the input are reported.
 pub fn report_block(input: &[u8], next: &mut [u32], p: Progress, out: &mut [u8]) -> Block
-    requires { ⌜ Readable (now input) (now next) p (now out) ⌝ }
+    requires { ⌜ BlockLent (now input) (now next) p (now out) ⌝ }
     ensures { λ r. ⌜ BlockReported (now (input .entry)) p (now (out .exit)) r ⌝ }
 {
     let mut progress = p;
@@ -59,7 +59,7 @@ pub fn report_block(input: &[u8], next: &mut [u32], p: Progress, out: &mut [u8])
 
 // The end of the input is reported: its whole images, `no 1` where something is left, and the totals. Returned is how many bytes of output there are.
 pub fn report_last(input: &[u8], next: &mut [u32], p: Progress, out: &mut [u8]) -> usize
-    requires { ⌜ Readable (now input) (now next) p (now out) ⌝ }
+    requires { ⌜ BlockLent (now input) (now next) p (now out) ⌝ }
     ensures { λ r. ⌜ (take r (now (out .exit)) ≡ reportFrom (p .left) (now (input .entry)) (p .totals)) × (r ≤ length (now (out .exit))) ⌝ }
 {
     let block = report_block(input, next, p, out);

@@ -1,5 +1,4 @@
 // The lines of the report.
-ghost use mathlib.Core.Path.{_≡_};
 ghost use Prim.Native.Nat.{_+_, _≤_};
 ghost use lib.ListN.{length};
 ghost use Rattle.text.specs.Output.{no, text, lineText};

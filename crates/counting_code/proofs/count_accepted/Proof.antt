@@ -1,5 +1,4 @@
 -- `counting_code::count_accepted` meets its contract. Assumes nothing.
-use mathlib.Core.Path.{sym, _∙_}
 use native.Mathlib.Omega.{arith}
 use borrow.Author.Needs.{needs}
 use Rattle.counting.proofs.Accepted.{accepted-void, accepted-puts, accepted-live, accepted-removes, accepted-counts}
