@@ -1,5 +1,5 @@
 /* What the program `report` prints, byte for byte, against the model: of random images one after another, accepted,
- * damaged and cut short, from a file and through a pipe; and of a million and one. What `gateway FILE count` prints of
+ * damaged and cut short, from a file and through a pipe; of the fewest and the most slots; and of a million and more. What `gateway FILE count` prints of
  * the first image. Ends with status 1 at the first thing that is otherwise.
  *
  *     report REPORT GATEWAY FILE [SEED [INPUTS]]
@@ -126,6 +126,22 @@ static void reads_from(const char *how) {
     expect(end_of(&child) == 0, "it ends");
 }
 
+/* Empty images of the fewest and the most slots, and of one fewer and one more; an image of two slots follows each. */
+static void reads_limits(void) {
+    static const uint64_t slots[] = {0, 1, 2, 511, 512, 1ull << 32 | 2};
+    for (size_t k = 0; k < sizeof slots / sizeof *slots; k++) {
+        memset(input, 0, sizeof input);
+        length = 128 * ((slots[k] & 1023) + 1);
+        m_set_word(input, 0, slots[k]);
+        m_set_word(input, 1, 1);
+        m_format(input + length, 384);
+        length += 384;
+        make_due();
+        write_file(input, length);
+        reads_from("exec \"$0\" <\"$1\" 2>/dev/null");
+    }
+}
+
 /* Images of two empty slots, ten thousand in the file and 101 times that in the input: a million are read. */
 static void reads_a_million(void) {
     static const char all[] = "i=0; while [ $i -lt 101 ]; do cat \"$1\"; i=$((i + 1)); done 2>/dev/null | \"$0\" 2>/dev/null";
@@ -179,6 +195,7 @@ int main(int count, char **word) {
     gateway = word[2];
     file = word[3];
     begin_chance("report", count > 4 ? word[4] : NULL);
+    reads_limits();
     for (uint64_t k = 0; k < wanted; k++) {
         make_input();
         make_due();
