@@ -60,8 +60,8 @@
  * Recover, count_slots, insert, replace, remove, get and locate return 64 bits: that number in the low 32, read by
  * ORDERSET_REFUSAL, and above them the slot that recover and count_slots name (ORDERSET_FAULT_SLOT), or the count of
  * slots that the other calls compared (below). So compare ORDERSET_REFUSAL of the result with a number, and the result
- * itself with 0 alone. In get, locate
- * and remove a key that is not held is no refusal: the call returns 0 and answer[0] is ORDERSET_ABSENT.
+ * itself with 0 alone. In get, locate and remove a key that is not held is no refusal: the call returns 0 and answer[0]
+ * is ORDERSET_ABSENT.
  *
  * Slots compared: insert, replace, remove, get and locate report how many slots of the key's chain were compared with
  * the key: the key's place in the chain, from 1, or the length of the chain where the key is not held. With an index
@@ -84,15 +84,17 @@
  *
  * Pointers: none may be null, also where a length is 0, and each is aligned for its type. What a function writes
  * through one pointer must not overlap what it is lent through any other; two regions that are only read may overlap.
- * So in every call image, heads, next, state, version, the value or the output, count, at, value and answer are
+ * So in every call image, heads, next, state, version, the value or the output, count, counts, at, value and answer are
  * separate pieces of memory; a basket's kinds, keys, lengths and bytes, which may overlap each other, overlap none of
  * these that it writes.
  *
- * Stack: recovery needs up to 2.24 MB (see there). Of the other calls, measured: a basket 2.4 KB, any other below 1 KB.
+ * Stack: recovery and count_slots need up to 2.24 MB (see orderset_recover). Of the other calls, measured: a basket 2.4
+ * KB, any other below 1 KB.
  *
  * Threads: the set has no locks. Gets and locates may run beside each other, each with an output and an answer of its
  * own, and beside nothing else: from the start of an insert, a replace, a remove, a basket, a step of the book, a
- * recovery or a play until its stores are made, no other call runs. The questions about a line may run at any time on a
+ * recovery or a play until its stores are made, no other call runs; nor while slots are counted with the set's own heads
+ * and next. The questions about a line may run at any time on a
  * copy of the line; a copy that is taken while another thread or process stores is taken from word 7 down to word 0
  * (see examples/sender.c).
  *
@@ -260,10 +262,11 @@ ORDERSET_CALL uint64_t orderset_recover(const uint8_t *image, size_t image_lengt
 /* Counts the slots of an image that recovery accepts, by what they hold. counts: {live slots, hidden puts, remove
  * records, void slots, broken slots, empty slots}; they add up to N. A live slot has the value of a held key, a hidden
  * put one that a later record of its key hides; a remove record is counted whether it hides anything or not. A record
- * that is void is counted as void alone: to know how many a cut left, count before recovery's stores are made. heads
- * and next become those of orderset_recover; state, version and the stores that open void slots come from there alone.
- * The image is only read. Returns what orderset_recover returns, with the same stack; of a refused image counts, heads
- * and next stay as they were. Refusals: those of orderset_recover. */
+ * that is void is counted as void alone: to know how many a cut left, count before recovery's stores are made. The
+ * image is only read. heads and next become those of orderset_recover, while no state is written, and the chains of a
+ * set in use go in another order: lend it heads and next of its own, or call orderset_recover before any other call.
+ * Returns what orderset_recover returns, with the same stack; of a refused image counts, heads and next stay as they
+ * were. Refusals: those of orderset_recover. */
 ORDERSET_CALL uint64_t orderset_count_slots(const uint8_t *image, size_t image_length, uint32_t *heads,
                                             size_t heads_length, uint32_t *next, size_t next_length,
                                             uint64_t counts[ORDERSET_COUNTS]);

@@ -1,6 +1,7 @@
 /* What the program `report` prints, byte for byte, against the model: of random images one after another, accepted,
- * damaged and cut short, from a file and through a pipe; of the fewest and the most slots; and of a million and more. What `gateway FILE count` prints of
- * the first image. Ends with status 1 at the first thing that is otherwise.
+ * damaged and cut short, from a file, through a pipe and in pieces of 100 bytes; of the fewest and the most slots; and
+ * of a million and more. What `gateway FILE count` prints of the first image. Ends with status 1 at the first thing that
+ * is otherwise.
  *
  *     report REPORT GATEWAY FILE [SEED [INPUTS]]
  */
@@ -158,7 +159,7 @@ static void reads_a_million(void) {
         lines++;
     expect(lines == MILLION && !strcmp(line, last), "a million images are read: %" PRIu64 ", then '%s'", lines, line);
     expect(!hear(&child, line), "nothing follows the totals: '%s'", line);
-    end_of(&child);
+    expect(end_of(&child) == 0, "it ends");
 }
 
 /* The gateway's count of the first image says what the model does. */
@@ -187,6 +188,11 @@ static void gateway_counts(void) {
     expect(end_of(&child) == (recovered.refusal ? 1 : 0), "the gateway's status");
 }
 
+/* Whole, in the blocks of a pipe, and in pieces that do not end where a word does. */
+enum { WAYS = 3 };
+static const char *const ways[WAYS] = {"exec \"$0\" <\"$1\" 2>/dev/null", "cat \"$1\" 2>/dev/null | \"$0\" 2>/dev/null",
+                                       "dd bs=100 if=\"$1\" 2>/dev/null | \"$0\" 2>/dev/null"};
+
 int main(int count, char **word) {
     if (count < 4)
         return 2;
@@ -200,7 +206,7 @@ int main(int count, char **word) {
         make_input();
         make_due();
         write_file(input, length);
-        reads_from(below(2) ? "exec \"$0\" <\"$1\" 2>/dev/null" : "cat \"$1\" 2>/dev/null | \"$0\" 2>/dev/null");
+        reads_from(ways[below(WAYS)]);
         if (below(5) == 0)
             gateway_counts();
     }
