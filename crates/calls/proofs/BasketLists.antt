@@ -100,11 +100,11 @@ records-length (c ∷ cs) [] e = absurd (omega arith)
 records-length (c ∷ cs) (t ∷ ts) e = omega (arith, records-length cs ts (omega arith))
 
 -- the stores of a result are as many as its answer says, and a list with this room holds them
-record Counted (count room : ℕ) (r : ChangeResult) : Type 0 where
+record StoresCounted (count room : ℕ) (r : ChangeResult) : Type 0 where
   number : cond (ltb 8 count) 0 (countIn (r .answer) count) ≡ length (r .stores)
   in-room : length (r .stores) ≤ room
 
-none-handed : (count room number : ℕ) (s : State) (heads next : List ℕ) → Counted count room (unchanged (refused number) s heads next)
+none-handed : (count room number : ℕ) (s : State) (heads next : List ℕ) → StoresCounted count room (unchanged (refused number) s heads next)
 unfolding unchanged countIn
 none-handed count room number s heads next = record { number = same (ltb 8 count); in-room = omega arith }
   where
@@ -127,7 +127,7 @@ module _ (l : ℕ) (image heads next : List ℕ) (s : State) (count : ℕ) (item
       )
 
   all-handed : (count ≤ 8) × (16 * count ≤ room) → (t : Taking) → choiceOf l image next (slotsIn image) (s .first) (length changes) ≡ t
-      → Counted count room (basketDone l image heads next s changes t)
+      → StoresCounted count room (basketDone l image heads next s changes t)
   unfolding basketDone basketMade choiceOf countIn
   all-handed h (taken ts) e =
       record {
@@ -145,12 +145,12 @@ module _ (l : ℕ) (image heads next : List ℕ) (s : State) (count : ℕ) (item
   abbrev result : ChangeResult
   result = basketResult l image heads next s changes room room
 
-  counted : Counted count room result
+  counted : StoresCounted count room result
   unfolding basketResult basketBy basketFault unlessRefused
   counted = go (basketFault l image heads next s changes room room) refl
     where
       go : (k : ℕ) → basketFault l image heads next s changes room room ≡ k
-          → Counted count room
+          → StoresCounted count room
           (unlessRefused k (basketDone l image heads next s changes (choiceOf l image next (slotsIn image) (s .first) (length changes)))
           (unchanged (refused k) s heads next))
       go zero e = all-handed (few (orElse-zero _ _ e .0)) _ refl

@@ -42,10 +42,10 @@ use denote.Triple.Clauses.{Lasts, ensured, lasts}
 use denote.Triple.Table.{entered, cited}
 use denote.Triple.Walked.{says, Stays, stay-dropped, gave-slice, walkOf, goes-dropped, goes-gave-slice, Walks, ends-at, walked, walk-meets}
 use denote.Exit.{yes}
-use Rattle.walks.proofs.Arrays.{array-lent, array-back}
-use Rattle.walks.proofs.Lent.{lentAt, OwnsMut, OwnsShr, counted}
-use Rattle.walks.proofs.Locals.{Blocks, block, envOf, Frame, allocates, freed, behind, sinks}
-use Rattle.walks.proofs.Statements.{copied, field-of, sets}
+use Rattle.mir_steps.proofs.Arrays.{array-lent, array-back}
+use Rattle.mir_steps.proofs.Lent.{lentAt, OwnsMut, OwnsShr, number-owned}
+use Rattle.mir_steps.proofs.Locals.{Blocks, block, envOf, Frame, allocates, freed, behind, sinks}
+use Rattle.mir_steps.proofs.Statements.{copied, field-of, sets}
 use Rattle.stores.specs.Store.{Store}
 use Rattle.stores.proofs.Store as T
 use Rattle.stores.specs.inner.List.{storesPut}
@@ -168,7 +168,7 @@ module _ {M : Type 1} (𝓤 : URA M) (H : Heap 𝓤) (A : Atoms 𝓤) (W : Given
       qed W (Tokens₄ ∷ Owned ∷ []) ∵
       -- what the parameters own, one by one, and the list's length in its place
       move ! (1 ∷ []) $ fsplit ! $ move ! (1 ∷ []) $ fsplit ! $ move ! (1 ∷ []) $ fsplit ! $ move ! (1 ∷ []) $ fsplit ! $ move ! (1 ∷ []) $ fsplit ! $ move ! (1 ∷ []) $ fsplit ! $ move ! (1 ∷ []) $ fsplit ! $ move ! (1 ∷ []) $ fsplit ! $
-      move ! (1 ∷ []) $ counted ! w64 (length list) (room .0) $ fjoin ! $
+      move ! (1 ∷ []) $ number-owned ! w64 (length list) (room .0) $ fjoin ! $
       move ! (2 ∷ 0 ∷ []) $ fjoin ! $ move ! (2 ∷ 0 ∷ []) $ fjoin ! $ move ! (2 ∷ 0 ∷ []) $ fjoin ! $ move ! (2 ∷ 0 ∷ []) $ fjoin ! $ move ! (2 ∷ 0 ∷ []) $ fjoin ! $ move ! (2 ∷ 0 ∷ []) $ fjoin ! $ move ! (2 ∷ 0 ∷ []) $ fjoin ! $
       -- the tokens, one by one, and those of the image and the index
       move ! (2 ∷ []) $ split ! $ move ! (1 ∷ []) $ split ! $ move ! (1 ∷ []) $ split ! $ move ! (1 ∷ []) $ split ! $
@@ -249,7 +249,7 @@ module _ {M : Type 1} (𝓤 : URA M) (H : Heap 𝓤) (A : Atoms 𝓤) (W : Given
       goes-put : ent 𝓤 (⋆ 𝓤 H A Passed) (Put 𝓤 H A mem run .pre to-put)
       goes-put =
           qed W Passed ∵ says ! within $ nothing ! $ move ! (3 ∷ 0 ∷ []) $ join ! $ move ! (2 ∷ 0 ∷ []) $ join ! $ move ! (1 ∷ 0 ∷ []) $ join ! $ frame ! $
-          nothing ! $ counted ! w64 (m .stored) stored-fits $ fjoin ! $ move ! (3 ∷ 0 ∷ []) $ fjoin ! $ move ! (2 ∷ 0 ∷ []) $ fjoin ! $ move ! (1 ∷ 0 ∷ []) $ fjoin ! $ done !
+          nothing ! $ number-owned ! w64 (m .stored) stored-fits $ fjoin ! $ move ! (3 ∷ 0 ∷ []) $ fjoin ! $ move ! (2 ∷ 0 ∷ []) $ fjoin ! $ move ! (1 ∷ 0 ∷ []) $ fjoin ! $ done !
 
     -- ---- what is had at exit
 

@@ -25,7 +25,7 @@ use denote.Slice.{sliceVal, Room}
 use denote.Lend.{lends-shr-slice}
 use denote.Steps.{owned}
 use denote.Struct.Steps.{spelt}
-use Rattle.walks.proofs.Lent.{OwnsShr}
+use Rattle.mir_steps.proofs.Lent.{OwnsShr}
 
 -- the lender's part
 abbrev pub LentArray : (w : Width) → Lft → List ℕ → ℕ → Fml

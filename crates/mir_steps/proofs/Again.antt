@@ -21,7 +21,7 @@ use denote.Memory.{mem}
 use denote.Slice.{sliceVal, heres, Room, finally, codedHoleys}
 use denote.Lend.{Held, lends-slice, slice-back}
 use denote.Index.{row, whole-out, whole-in}
-use Rattle.walks.proofs.Lent.{OwnsMut, opened, closed}
+use Rattle.mir_steps.proofs.Lent.{OwnsMut, opened, closed}
 
 abbrev pub LentAgain : (R : RattleType) → Lft → Lft → Share → ℕ → ℕ → GName → GName → List (R .Denot) → Fml
 LentAgain R κ κ′ q b o γ γ₁ ys =

@@ -65,8 +65,8 @@ Shuts R κ q q′ ys b o = fobor κ q (arr-parts (shares R) (length ys) .part q�
 
 module _ {M : Type 1} {𝓤 : URA M} {H : Heap 𝓤} {A : Atoms 𝓤} {K : Type 0} {W : Given 𝓤 H A} {Γ : List (Item 𝓤)} {G : Goal 𝓤 H} where
   -- what a number owns is had for nothing
-  pub counted : K → (w : Width) (n : ℕ) → n < 2 ^ bits w → Step K W (‵ (UInt w .own n (vint w n ∷ [])) ∷ Γ) G Γ G
-  counted t w n fits = owned t (UInt w) (Is (UInt w)) (uint-makes 𝓤 H A W w) n (vint w n ∷ []) (refl, fits)
+  pub number-owned : K → (w : Width) (n : ℕ) → n < 2 ^ bits w → Step K W (‵ (UInt w .own n (vint w n ∷ [])) ∷ Γ) G Γ G
+  number-owned t w n fits = owned t (UInt w) (Is (UInt w)) (uint-makes 𝓤 H A W w) n (vint w n ∷ []) (refl, fits)
 
   -- what is had at exit of n parameters of which nothing is asked, after the last that is asked for
   pub dropped : K → (n : ℕ) → Step K W (‵ (trues n) ∷ Γ) G Γ G
