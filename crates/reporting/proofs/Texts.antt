@@ -16,7 +16,7 @@ use Rattle.text.proofs.Storing.{decimal-length, numbers-length}
 use Rattle.face.specs.Set.{SlotCounts, CountAnswer, Counted, NotCounted, CountResult, countValues, countEnd, countSays, countResult}
 use Rattle.reporting.specs.Report.{imageAnswer, answerText, totalsWith, totalsText, unreadText}
 use Rattle.reporting.specs.Blocks.{Below, TotalsBounded}
-use Rattle.reporting.specs.inner.Images.{totalsAdded, progressWith, ImageReported}
+use Rattle.reporting.specs.inner.Images.{progressWith, ImageReported}
 use Rattle.reporting.specs.declared.SlotTotals.{SlotTotals}
 use Rattle.reporting.specs.declared.ReportProgress.{ReportProgress}
 
@@ -97,9 +97,9 @@ held-room p h = below-wider (p .totals) _ _ (omega (arith, h .few)) (h .low)
 module _ (image : List ℕ) (p : ReportProgress) (old new : List ℕ) (at end : ℕ) (held : TotalsBounded p) (some : 1 ≤ p .left) where
   -- an accepted image
   pub image-counted : (c : SlotCounts) (t : SlotTotals) → gives (countValues c) ≡ imageAnswer image → Wrote old new at end (lineText (countValues c))
-      → t ≡ totalsAdded (p .totals) c → ((bound : ℕ) → Below (p .totals) bound → Below t (bound + 2 ^ 32))
+      → t ≡ totalsWith (gives (countValues c)) (p .totals) → ((bound : ℕ) → Below (p .totals) bound → Below t (bound + 2 ^ 32))
       → ImageReported image p old at new (record { progress = record { left = p .left - 1; totals = t }; end = end })
-  unfolding answerText progressWith totalsWith totalsAdded countValues
+  unfolding answerText progressWith totalsWith countValues
   image-counted c t a w e more =
       record {
         wrote = subst (λ (x : Answer). Wrote old new at end (answerText x)) a w;

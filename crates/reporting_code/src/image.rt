@@ -1,9 +1,11 @@
 // One image: its size, its line, and the totals with its counts.
 ghost use mathlib.Core.Path.{_≡_};
 ghost use Prim.Native.Nat.{ℕ, _+_, _^_};
-ghost use Rattle.reporting.specs.Report.{outside, imageSize};
+ghost use Rattle.prelude.specs.Answer.{gives};
+ghost use Rattle.face.specs.Set.{countValues};
+ghost use Rattle.reporting.specs.Report.{outside, imageSize, totalsWith};
 ghost use Rattle.reporting.specs.Blocks.{Below, readable};
-ghost use Rattle.reporting.specs.inner.Images.{totalsAdded, Reportable, ImageReported};
+ghost use Rattle.reporting.specs.inner.Images.{Reportable, ImageReported};
 use crate::storing::store_counts;
 use crate::storing::store_refusal;
 use orderset::CountAnswer;
@@ -55,7 +57,7 @@ pub fn readable_size(input: &[u8], left: u32) -> usize
 // The totals with the counts of one more image.
 fn add_counts(t: SlotTotals, c: SlotCounts) -> SlotTotals
     requires { ⌜ Below t (2 ^ 63) ⌝ }
-    ensures { λ r. ⌜ (r ≡ totalsAdded t c) × ((bound : ℕ) → Below t bound → Below r (bound + 2 ^ 32)) ⌝ }
+    ensures { λ r. ⌜ (r ≡ totalsWith (gives (countValues c)) t) × ((bound : ℕ) → Below t bound → Below r (bound + 2 ^ 32)) ⌝ }
 {
     SlotTotals {
         live: t.live + c.live as u64,

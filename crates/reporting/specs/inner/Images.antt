@@ -5,24 +5,10 @@ use Prim.Native.Nat.{ℕ, _+_, _-_, _*_, _≤_}
 use lib.ListN.{length}
 use Rattle.prelude.specs.Answer.{Answer}
 use Rattle.text.specs.inner.Output.{Wrote}
-use Rattle.face.specs.Set.{SlotCounts}
 use Rattle.reporting.specs.Report.{imageAnswer, answerText, totalsWith}
 use Rattle.reporting.specs.Blocks.{TotalsBounded}
-use Rattle.reporting.specs.declared.SlotTotals.{SlotTotals}
 use Rattle.reporting.specs.declared.ReportProgress.{ReportProgress}
 use Rattle.reporting.specs.declared.ImageReport.{ImageReport}
-
--- the totals with the counts of one more image
-unfoldable pub totalsAdded : SlotTotals → SlotCounts → SlotTotals
-totalsAdded t c =
-    record {
-      live = t .live + c .live;
-      hidden = t .hidden + c .hidden;
-      removes = t .removes + c .removes;
-      void = t .void + c .void;
-      broken = t .broken + c .broken;
-      empty = t .empty + c .empty;
-    }
 
 -- one image more
 unfoldable pub progressWith : Answer → ReportProgress → ReportProgress
