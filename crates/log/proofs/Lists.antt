@@ -147,10 +147,13 @@ unfolding handedOut handingList unlessRefused
 filled zero number ss list = refl
 filled (suc k) number ss list = refl
 
-pub in-list : (size room fault number : ℕ) (ss : List Store) (a : Handed) (stored : ℕ) (at value : List ℕ) → StoresMade size room fault number ss a stored at value
-    → stored ≤ length at → stored ≤ length value → (list : List Store)
-    → logListEnd (handedSays a) (storesPut at value stored list) ≡ handingList fault number ss list
-in-list size room fault number ss a stored at value it h k list =
-    ap (λ (n : ℕ). logListEnd (handedSays a) (zipped (take stored at) (take stored value) ++ drop n list)) (sym (front-length at value stored h k))
+-- the numbers that are put are those of the arrays
+pub in-list : (size room fault number : ℕ) (ss : List Store) (a : Handed) (stored : ℕ) (at value at′ value′ : List ℕ) → StoresMade size room fault number ss a stored at value
+    → at′ ≡ at → value′ ≡ value → length at′ ≡ size → length value′ ≡ size → (list zs : List Store) → zs ≡ storesPut at′ value′ stored list
+    → logListEnd (handedSays a) zs ≡ handingList fault number ss list
+in-list size room fault number ss a stored at value at′ value′ it ea ev na nv list zs e =
+    ap (logListEnd (handedSays a)) (e ∙ ap₂ (λ (x y : List ℕ). storesPut x y stored list) ea ev)
+    ∙ ap (λ (n : ℕ). logListEnd (handedSays a) (zipped (take stored at) (take stored value) ++ drop n list))
+    (sym (front-length at value stored (omega (arith, it .in-arrays, ap length ea, na)) (omega (arith, it .in-arrays, ap length ev, nv))))
     ∙ ap (λ (r : LogListResult). logListEnd (r .answer) (r .list ++ drop (length (r .list)) list)) (it .left)
     ∙ filled fault number ss list
