@@ -1,5 +1,5 @@
 -- A basket whose stores are made in arrays of 128 numbers and go to a lent list of records. Assumes nothing.
-use mathlib.Core.Path.{_≡_, refl, sym, ap, ap₂, _∙_, subst}
+use mathlib.Core.Path.{_≡_, refl, sym, ap, ap₂, _∙_}
 use mathlib.Core.Bool.{Bool, cond, false, true}
 use mathlib.Core.List.{List, [], _∷_, _++_}
 use Prim.Native.Nat.{ℕ, zero, suc, _+_, _*_, _≤_, _<_, min}
@@ -25,7 +25,7 @@ use Rattle.index.proofs.BasketInside.{taking-inside}
 use Rattle.taking.specs.Taking.{choiceOf}
 use Rattle.calls.specs.Change.{ChangeResult, unchanged}
 use Rattle.calls.specs.Basket.{KeyChange, changesOf, keyCountFault, anyTwice, listsFault, givenFault, basketFault, recordsFor, basketMade, basketDone, basketBy, basketResult, basketSays, BasketLeft, basketEnd, atFront, leftInLists, BasketListLeft, basketListEnd, leftWith, leftInList}
-use Rattle.calls.specs.inner.Basket.{storesBy, basketStoreCount, madeEnd, MadeOf}
+use Rattle.calls.specs.inner.Basket.{storesBy, basketStoreCount, MadeOf}
 use Rattle.calls.specs.declared.BasketItem.{BasketItem}
 use Rattle.calls.specs.declared.BasketAnswer.{BasketAnswer}
 use Rattle.calls.specs.declared.BasketMade.{BasketMade}

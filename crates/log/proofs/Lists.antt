@@ -3,7 +3,7 @@ use mathlib.Core.Path.{_≡_, refl, sym, ap, ap₂, _∙_}
 use mathlib.Core.Bool.{Bool}
 use mathlib.Core.Logic.{by-cases}
 use mathlib.Core.List.{List, [], _∷_, _++_}
-use Prim.Native.Nat.{ℕ, zero, suc, _≤_, _<_, min}
+use Prim.Native.Nat.{ℕ, zero, suc, _≤_, min}
 use native.Mathlib.Omega.{arith}
 use borrow.Author.Tests.{lt-ltb, ltb-true, ltb-false}
 use native.Mathlib.Decide.{decLt}
@@ -15,7 +15,6 @@ use Rattle.prelude.proofs.Choice.{same-test}
 use Rattle.words.specs.Word.{word}
 use Rattle.layout.specs.Line.{versionFault}
 use Rattle.stores.specs.Store.{Store, zipped}
-use Rattle.stores.specs.Play.{wordNumbers, values}
 use Rattle.stores.specs.inner.List.{storesPut}
 use Rattle.stores.proofs.ListPut.{front-length, front-stores}
 use Rattle.log.specs.Area.{cellsIn, areaFault}
@@ -23,7 +22,7 @@ use Rattle.log.specs.Message.{highest}
 use Rattle.log.specs.Handed.{handedSays, shortFault, LogResult, logEnd, handing, LogListResult, logListEnd, handingList}
 use Rattle.log.specs.Append.{nextMessage, appendStores, messageFault, appendFault, appendResult}
 use Rattle.log.specs.Recover.{recoveryStores, logRecoverFault, logRecoverResult}
-use Rattle.log.specs.inner.List.{handedCount, handedOut, StoresMade}
+use Rattle.log.specs.inner.List.{handedCount, storesHanded, StoresMade}
 use Rattle.log.specs.declared.Handed.{Handed}
 use Rattle.log.specs.declared.Handed.the-variants.{Given, Refused}
 use Rattle.log.proofs.Openings.{open-length}
@@ -63,7 +62,7 @@ made : (size room fault number : ℕ) (ss : List Store) → length ss ≤ size �
     → (a : Handed) (at₀ value₀ at₁ value₁ rest rest′ : List ℕ) (stored : ℕ) → stored ≡ handedCount a
     → logEnd (handedSays a) at₁ value₁ ≡ handing fault number ss at₀ value₀
     → StoresMade size room fault number ss a stored (at₁ ++ rest) (value₁ ++ rest′)
-unfolding handing handedOut unlessRefused countIn zipped
+unfolding handing storesHanded unlessRefused countIn zipped
 made size room zero number ss few fits a at₀ value₀ at₁ value₁ rest rest′ stored es e =
     record {
       left =
@@ -142,8 +141,8 @@ module _ (area : List ℕ) (room : ℕ) (a : Handed) (at₀ value₀ at₁ value
 -- ---- what the call that puts them into a list leaves
 
 filled : (fault number : ℕ) (ss list : List Store)
-    → logListEnd (handedOut fault number ss .answer) (handedOut fault number ss .list ++ drop (length (handedOut fault number ss .list)) list) ≡ handingList fault number ss list
-unfolding handedOut handingList unlessRefused
+    → logListEnd (storesHanded fault number ss .answer) (storesHanded fault number ss .list ++ drop (length (storesHanded fault number ss .list)) list) ≡ handingList fault number ss list
+unfolding storesHanded handingList unlessRefused
 filled zero number ss list = refl
 filled (suc k) number ss list = refl
 

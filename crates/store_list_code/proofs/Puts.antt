@@ -55,10 +55,10 @@ pub record Arrays (size : ℕ) (at words : List ℕ) (n room : ℕ) : Type 2 whe
   pub in-arrays : n ≤ size
 
 module _ (size : ℕ) (at words : List ℕ) (n room : ℕ) (h : Arrays size at words n room) where
-  pub at-size : length at ≡ size
+  at-size : length at ≡ size
   at-size = h .is-at .1 .0 .1
 
-  pub words-size : length words ≡ size
+  words-size : length words ≡ size
   words-size = h .is-words .1 .0 .1
 
   at-room : Room u32 (length at)

@@ -16,11 +16,11 @@ handedCount (Given number count) = count
 handedCount (Refused number) = 0
 
 -- what is handed out, before it stands in a list
-unfoldable pub handedOut : (fault number : ℕ) → List Store → LogListResult
-handedOut fault number ss = unlessRefused fault (logListEnd (gives (number ∷ length ss ∷ [])) ss) (logListEnd (refused fault) [])
+unfoldable pub storesHanded : (fault number : ℕ) → List Store → LogListResult
+storesHanded fault number ss = unlessRefused fault (logListEnd (gives (number ∷ length ss ∷ [])) ss) (logListEnd (refused fault) [])
 
 -- it is made in the first `stored` numbers of two arrays of this size, and a list with this room holds it
 pub record StoresMade (size room fault number : ℕ) (ss : List Store) (answer : Handed) (stored : ℕ) (at value : List ℕ) : Type 0 where
-  pub left : logListEnd (handedSays answer) (zipped (take stored at) (take stored value)) ≡ handedOut fault number ss
+  pub left : logListEnd (handedSays answer) (zipped (take stored at) (take stored value)) ≡ storesHanded fault number ss
   pub in-room : stored ≤ room
   pub in-arrays : stored ≤ size
