@@ -3,14 +3,14 @@ use mathlib.Core.Path.{_≡_, refl, sym, ap, ap₂, _∙_}
 use mathlib.Core.Bool.{not}
 use mathlib.Core.Logic.{by-cases}
 use mathlib.Core.List.{List}
-use Prim.Native.Nat.{ℕ, _+_}
+use Prim.Native.Nat.{ℕ, _+_, _≤_}
 use native.Mathlib.Decide.{ℕ-discrete}
 use native.Mathlib.Omega.{arith}
-use lib.Dec.{eqb}
+use lib.Dec.{eqb, ltb}
 use lib.ListN.{length}
-use borrow.Author.Tests.{eq-eqb}
+use borrow.Author.Tests.{eq-eqb, le-ltb}
 use Rattle.words.specs.Word.{word}
-use Rattle.prelude.specs.Refusal.{say, orElse}
+use Rattle.prelude.specs.Refusal.{orElse}
 use Rattle.prelude.specs.Answer.{refusalIn}
 use Rattle.prelude.proofs.Refusals.{say-false, orElse-zero, refused-keeps}
 use Rattle.layout.specs.Size.{slotsIn}
@@ -32,9 +32,14 @@ use Rattle.cutcount.specs.declared.Indexed.{Indexed}
 use Rattle.cutcount.specs.declared.Indexed.the-variants.{Map, Nothing}
 
 -- an index of the right size is not what recovery refuses
-index-fine : (n : ℕ) → indexFault n 1 (n + 1) ≡ 0
-unfolding indexFault say
-index-fine n = say-false (not (eqb (n + 1) (n + 1))) 4 0 (ap not (eq-eqb (n + 1) (n + 1) refl))
+pub index-sizes : (n heads next : ℕ) → 1 ≤ heads → heads ≤ 65536 → next ≡ n + 1 → indexFault n heads next ≡ 0
+unfolding indexFault
+index-sizes n heads next low high e =
+    say-false (ltb heads 1) 4 _ (le-ltb heads 1 low) ∙ say-false (ltb 65536 heads) 4 _ (le-ltb 65536 heads high)
+    ∙ say-false (not (eqb next (n + 1))) 4 0 (ap not (eq-eqb next (n + 1) e))
+
+pub index-fine : (n : ℕ) → indexFault n 1 (n + 1) ≡ 0
+index-fine n = index-sizes n 1 (n + 1) (omega arith) (omega arith) refl
 
 module _ (l : ℕ) (image heads next : List ℕ) (fits : FitsIndex image heads next) where
   abbrev fault : ℕ
@@ -43,13 +48,16 @@ module _ (l : ℕ) (image heads next : List ℕ) (fits : FitsIndex image heads n
   own-fault : fault ≡ ownFault l image
   unfolding ownFault recoverFault lentFault
   own-fault =
-      ap (λ (k : ℕ). orElse (orElse (imageFault l image) k) (slotsFault l (word image) (slotsIn image))) (fits ∙ sym (index-fine (slotsIn image)))
+      ap (λ (k : ℕ). orElse (orElse (imageFault l image) k) (slotsFault l (word image) (slotsIn image))) (fits .size ∙ sym (index-fine (slotsIn image)))
 
   refusal-is : refusalIn (recoverResult l image heads next .answer) ≡ fault
   unfolding refusalIn recovered recoverResult
   refusal-is =
       by-cases (ℕ-discrete fault 0) (λ z. ap (λ (r : Result). refusalIn (r .answer)) (recovery-taken l image heads next z) ∙ sym z)
       (λ nz. ap (λ (r : Result). refusalIn (r .answer)) (refused-keeps _ _ fault nz))
+
+  pub accepted-own : refusalIn (recoverResult l image heads next .answer) ≡ 0 → ownFault l image ≡ 0
+  accepted-own e = sym own-fault ∙ sym refusal-is ∙ e
 
   module _ (x : Recovered) (o : Openings) (heads′ next′ : List ℕ) (left : recoverEnd x o heads′ next′ ≡ recoverResult l image heads next) where
     abbrev end-with : Recovered → Result
@@ -114,5 +122,5 @@ module _ (l : ℕ) (image heads next : List ℕ) where
   mapped-clear live m =
       sym
       (own-fault l image heads next
-      (orElse-zero (imageFault l image) _ (orElse-zero (lentFault l image (length heads) (length next)) _ (m .index .clear) .0) .1))
+      (record { size = orElse-zero (imageFault l image) _ (orElse-zero (lentFault l image (length heads) (length next)) _ (m .index .clear) .0) .1 }))
       ∙ m .index .clear

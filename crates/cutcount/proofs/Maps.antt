@@ -40,14 +40,14 @@ bytes-same (x ∷ v) = both (eqb x x) _ (eq-eqb x x refl) (bytes-same v)
 pub equal-bytes : (v w : List ℕ) → v ≡ w → sameBytes v w ≡ true
 equal-bytes v w e = ap (sameBytes v) (sym e) ∙ bytes-same v
 
-same-value : (o p : Option (List ℕ)) → sameValue o p ≡ true → o ≡ p
+pub same-value : (o p : Option (List ℕ)) → sameValue o p ≡ true → o ≡ p
 unfolding sameValue
 same-value none none e = refl
 same-value none (some w) e = absurd (true-false e refl)
 same-value (some v) none e = absurd (true-false e refl)
 same-value (some v) (some w) e = ap some (same-bytes v w e)
 
-value-same : (o : Option (List ℕ)) → sameValue o o ≡ true
+pub value-same : (o : Option (List ℕ)) → sameValue o o ≡ true
 unfolding sameValue
 value-same none = refl
 value-same (some v) = bytes-same v

@@ -9,6 +9,8 @@ pub use calls::Outcome;
 pub use change_code::remove::remove;
 pub use change_code::write::insert;
 pub use change_code::write::replace;
+pub use cutcount::CutCounts;
+pub use cutcount_code::count_cuts;
 pub use get_code::get::get;
 pub use get_code::locate::locate;
 pub use image_code::format::format;

@@ -10,8 +10,8 @@ use Rattle.cutcount.specs.CutCount.{haveOneMap, cutImage, countBelow}
 use Rattle.cutcount.specs.declared.Tally.{Tally}
 
 -- heads and next have the sizes of an index of the image
-abbrev pub FitsIndex : (image heads next : List ℕ) → Type 0
-FitsIndex image heads next = indexFault (slotsIn image) (length heads) (length next) ≡ 0
+pub record FitsIndex (image heads next : List ℕ) : Type 0 where
+  pub size : indexFault (slotsIn image) (length heads) (length next) ≡ 0
 
 -- one pair more, which left the earlier map, the later one, both or neither
 unfoldable pub tallied : Tally → (earlier later : Bool) → Tally
