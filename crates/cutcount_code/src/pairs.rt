@@ -93,7 +93,17 @@ pub fn count_pairs(
     let mut i = 0;
     while i < 81 {
         let cut = cut_copy(image, l, stores, i / 9, i % 9, copy, copy_heads, copy_next);
-        let x = have_one_map(image, heads, next, index, copy, copy_heads, copy_next, cut, l);
+        let x = have_one_map(
+            image,
+            heads,
+            next,
+            index,
+            copy,
+            copy_heads,
+            copy_next,
+            cut,
+            l,
+        );
         let y = have_one_map(
             later,
             later_heads,

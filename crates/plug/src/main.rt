@@ -48,10 +48,11 @@ fn after_byte(trace: Trace, out: &[u8]) -> Status {
 fn take_bytes(
     t: Status,
     input: &[u8],
-    image: &mut [u8],
-    next: &mut [u32],
-    copy: &mut [u8],
-    later: &mut [u8],
+    image: &mut [u8; 65536],
+    heads: &mut [u32; 1],
+    next: &mut [u32; 512],
+    copy: &mut [u8; 65536],
+    later: &mut [u8; 65536],
     out: &mut [u8],
 ) -> Status {
     let mut u = t;
@@ -61,7 +62,7 @@ fn take_bytes(
         let byte = input[i];
         i += 1;
         let trace = u.trace;
-        let after = take_byte(trace, byte, image, next, copy, later, out);
+        let after = take_byte(trace, byte, image, heads, next, copy, later, out);
         u = after_byte(after, out);
     }
     u
@@ -74,6 +75,7 @@ fn main() {
     let mut image = [0u8; 65536];
     let mut copy = [0u8; 65536];
     let mut later = [0u8; 65536];
+    let mut heads = [0u32; 1];
     let mut next = [0u32; 512];
     let mut t = Status {
         trace: start_trace(),
@@ -84,12 +86,29 @@ fn main() {
     while reads > 0 && t.reading {
         let got = libc::read(STDIN_FILENO, &mut input);
         let n = io::count(got, &input);
-        t = take_bytes(t, &input[..n], &mut image, &mut next, &mut copy, &mut later, &mut out);
+        t = take_bytes(
+            t,
+            &input[..n],
+            &mut image,
+            &mut heads,
+            &mut next,
+            &mut copy,
+            &mut later,
+            &mut out,
+        );
         reads -= 1;
     }
     if t.written {
         let trace = t.trace;
-        let last = take_end(trace, &mut image, &mut next, &mut copy, &mut later, &mut out);
+        let last = take_end(
+            trace,
+            &mut image,
+            &mut heads,
+            &mut next,
+            &mut copy,
+            &mut later,
+            &mut out,
+        );
         flush(last, &out);
     }
 }

@@ -1,5 +1,5 @@
 // The steps of the trial session.
 pub mod lines;
-pub mod refusal;
+mod refusal;
 pub mod start;
 pub mod step;
