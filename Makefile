@@ -11,6 +11,7 @@
 RT ?= rt
 OUT := target/c
 ARCHIVE := target/staticlib/liborderset_c.a
+PLUG := target/bin/plug
 LOG_ARCHIVE := target/staticlib/liblog_c.a
 # CC, CXX, CFLAGS, CXXFLAGS and LDFLAGS are the caller's, from the environment or the command line
 ifeq ($(origin CC),default)
@@ -28,7 +29,7 @@ CRATES := crates.txt $(shell find crates -name '*.rt' -o -name '*.antt')
 
 .PHONY: test planted gateway recorder heads bench archive run-names run-header run-persist run-guard run-storm run-lock \
 	run-watch run-kills run-heads run-differential run-log_header run-log_storm run-log_guard run-log_kills \
-	run-log_differential
+	run-log_differential run-plug
 archive: $(ARCHIVE) $(LOG_ARCHIVE)
 
 $(ARCHIVE): $(CRATES)
@@ -37,15 +38,19 @@ $(ARCHIVE): $(CRATES)
 $(LOG_ARCHIVE): $(CRATES)
 	$(RT) staticlib log_c
 
+$(PLUG): $(CRATES)
+	$(RT) check plug
+
 $(OUT):
 	mkdir -p $(OUT)
 
 # the tests: docs/TESTS.md; SEED=... repeats a run, and run-storm and the like run one of them
-TESTS := persist guard storm lock kills heads watch differential
+TESTS := persist guard storm lock kills heads watch plug differential
 LOG_TESTS := log_storm log_guard log_kills log_differential
 $(OUT)/persist: tests/persist.c tests/chance.c $(LOG_ARCHIVE)
 $(OUT)/guard: tests/guard.c tests/pieces.c tests/images.c tests/model.c tests/chance.c
 $(OUT)/differential: tests/differential.c tests/images.c tests/model.c tests/chance.c
+$(OUT)/plug: tests/plug.c tests/model.c tests/child.c tests/chance.c
 $(OUT)/storm: tests/storm.c tests/cache.c tests/model.c tests/chance.c
 $(OUT)/lock $(OUT)/heads: $(OUT)/%: tests/%.c tests/child.c tests/chance.c
 $(OUT)/kills $(OUT)/watch: $(OUT)/%: tests/%.c tests/model.c tests/child.c tests/chance.c
@@ -73,7 +78,7 @@ $(OUT)/gateway_on_disk: examples/gateway.c tests/disk.c $(HEADERS) $(ARCHIVE) | 
 	$(C) examples/gateway.c tests/disk.c $(ARCHIVE) -Wl,--wrap=mmap,--wrap=msync,--wrap=fsync,--wrap=renameat2 -o $@
 
 .NOTPARALLEL:
-test: run-names run-header run-persist run-lock run-watch run-heads run-storm run-kills run-guard run-differential \
+test: run-names run-header run-persist run-lock run-watch run-heads run-plug run-storm run-kills run-guard run-differential \
 	run-log_header run-log_storm run-log_kills run-log_guard run-log_differential
 run-names:
 	@tests/names
@@ -85,6 +90,8 @@ run-lock run-heads: run-%: $(OUT)/% $(OUT)/gateway
 	@$(OUT)/$* $(OUT)/gateway $(OUT)/$*.img $(SEED)
 run-watch: $(OUT)/watch $(OUT)/sender
 	@$(OUT)/watch $(OUT)/sender $(OUT)/watch.img $(SEED)
+run-plug: $(OUT)/plug $(PLUG)
+	@$(OUT)/plug $(PLUG) $(OUT)/plug.trace $(SEED)
 run-kills: $(OUT)/kills $(OUT)/gateway $(OUT)/gateway_on_disk
 	@$(OUT)/kills $(OUT)/gateway $(OUT)/gateway_on_disk $(OUT)/kills.img $(SEED)
 run-log_kills: $(OUT)/log_kills $(OUT)/recorder

@@ -20,7 +20,7 @@ use Rattle.stores.specs.Store.{played, zipped}
 use Rattle.stores.specs.Play.{Played, playEnd, playFault, counted, playResult}
 use Rattle.stores.proofs.Bytes.{played-length}
 use Rattle.cutcount.specs.Maps.{sameMap}
-use Rattle.cutcount.specs.CutCount.{ownFault, haveOneMap, cutImage, countBelow, countPairs, earlierCount, laterCount, lentCopiesFault, cutCountFault, CutCountResult, cutCountSays, cutCountEnd, cutCountBy, cutCountResult}
+use Rattle.cutcount.specs.CutCount.{ownFault, haveOneMap, cutImage, countFirst, countPairs, earlierCount, laterCount, lentCopiesFault, cutCountFault, CutCountResult, cutCountSays, cutCountEnd, cutCountBy, cutCountResult}
 use Rattle.cutcount.specs.declared.CutCounts.the-variants.{Counted, Refused}
 use Rattle.cutcount.specs.inner.Indexed.{Mapped, IndexedBy}
 use Rattle.cutcount.specs.inner.Pairs.{FitsIndex, tallied, tallyOf, copyBefore}
@@ -97,19 +97,19 @@ zeros-fit image size n e h low =
 
 -- ---- the tally
 
-below-low : (p : ℕ → Bool) (n : ℕ) → countBelow p n ≤ n
-unfolding countBelow
+below-low : (p : ℕ → Bool) (n : ℕ) → countFirst p n ≤ n
+unfolding countFirst
 below-low p zero = omega arith
 below-low p (suc n) = go (p n) (below-low p n)
   where
-    go : (b : Bool) → countBelow p n ≤ n → cond b (suc (countBelow p n)) (countBelow p n) ≤ suc n
+    go : (b : Bool) → countFirst p n ≤ n → cond b (suc (countFirst p n)) (countFirst p n) ≤ suc n
     go true h = omega arith
     go false h = omega arith
 
-below-next : (p : ℕ → Bool) (n : ℕ) (b : Bool) → b ≡ p n → cond b (countBelow p n + 1) (countBelow p n) ≡ countBelow p (n + 1)
-unfolding countBelow
+below-next : (p : ℕ → Bool) (n : ℕ) (b : Bool) → b ≡ p n → cond b (countFirst p n + 1) (countFirst p n) ≡ countFirst p (n + 1)
+unfolding countFirst
 below-next p n b e =
-    ap₂ (λ (x : Bool) (y : ℕ). cond x y (countBelow p n)) e (add-one (countBelow p n)) ∙ ap (countBelow p) (sym (add-one n))
+    ap₂ (λ (x : Bool) (y : ℕ). cond x y (countFirst p n)) e (add-one (countFirst p n)) ∙ ap (countFirst p) (sym (add-one n))
 
 pub tallied-by : (t : Tally) (x y : Bool) (a b : ℕ) → a ≡ cond x (t .earlier + 1) (t .earlier) → b ≡ cond y (t .later + 1) (t .later)
     → record { earlier = a; later = b } ≡ tallied t x y
@@ -118,7 +118,7 @@ tallied-by t x y a b p q = ap₂ (λ (u v : ℕ). record { earlier = u; later = 
 
 module _ (l : ℕ) (image at value last : List ℕ) where
   tally-none : (t : Tally) → t .earlier ≡ 0 → t .later ≡ 0 → t ≡ tallyOf l image at value last 0
-  unfolding tallyOf countBelow
+  unfolding tallyOf countFirst
   tally-none t p q = ap₂ (λ (x y : ℕ). record { earlier = x; later = y }) p q
 
   tally-low : (t : Tally) (n : ℕ) → t ≡ tallyOf l image at value last n → (t .earlier ≤ n) × (t .later ≤ n)

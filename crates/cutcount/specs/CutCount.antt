@@ -29,13 +29,13 @@ unfoldable pub cutImage : (image at value : List ℕ) → (a b : ℕ) → List �
 cutImage image at value a b = playResult image at value a b .bytes
 
 -- how many of the numbers below n pass a test
-unfoldable pub countBelow : (ℕ → Bool) → (n : ℕ) → ℕ
-countBelow p zero = 0
-countBelow p (suc n) = cond (p n) (suc (countBelow p n)) (countBelow p n)
+unfoldable pub countFirst : (ℕ → Bool) → (n : ℕ) → ℕ
+countFirst p zero = 0
+countFirst p (suc n) = cond (p n) (suc (countFirst p n)) (countFirst p n)
 
 -- "all 81 pairs of counts": 0 to 8 for each line, number 9 a + b is the pair of a and b. How many of them pass a test
 unfoldable pub countPairs : (ℕ → ℕ → Bool) → ℕ
-countPairs p = countBelow (λ i. p (i / 9) (i % 9)) 81
+countPairs p = countFirst (λ i. p (i / 9) (i % 9)) 81
 
 -- "how many gave the earlier map"
 unfoldable pub earlierCount : (l : ℕ) → (image at value : List ℕ) → ℕ

@@ -19,10 +19,10 @@ fn copy_bytes(from: &[u8], to: &mut [u8])
     requires { ⌜ length (now to) ≡ length (now from) ⌝ }
     ensures { λ _. ⌜ now (to .exit) ≡ now (from .entry) ⌝ }
 {
-    let mut i = 0;
-    while i < from.len() {
-        to[i] = from[i];
-        i += 1;
+    let mut k = 0;
+    while k < from.len() {
+        to[k] = from[k];
+        k += 1;
     }
 }
 

@@ -27,7 +27,7 @@ use Rattle.stores.proofs.AllStand.{stand-lines, lines-stand}
 use Rattle.stores.proofs.Table.{record-carries, record-off}
 use Rattle.cutcount.specs.Maps.{sameValue, sameMap}
 use Rattle.recovery.specs.Recover.{recoverFault}
-use Rattle.cutcount.specs.CutCount.{ownFault, haveOneMap, cutImage, countBelow, countPairs, earlierCount, laterCount}
+use Rattle.cutcount.specs.CutCount.{ownFault, haveOneMap, cutImage, countFirst, countPairs, earlierCount, laterCount}
 use Rattle.cutcount.proofs.Maps.{decides-equal, same-value, value-same}
 use Rattle.cutcount.proofs.Indexes.{index-fine, accepted-own}
 use Rattle.cutcount.proofs.Pairs.{cut-length}
@@ -271,15 +271,15 @@ module _ (l : ℕ) (lay : Layout l) (w : World) (m : PlainMap) (g : Agrees l w m
 
   -- ---- all pairs
 
-  below-same : (p q : ℕ → Bool) (n : ℕ) → ((i : ℕ) → i < n → p i ≡ q i) → countBelow p n ≡ countBelow q n
-  unfolding countBelow
+  below-same : (p q : ℕ → Bool) (n : ℕ) → ((i : ℕ) → i < n → p i ≡ q i) → countFirst p n ≡ countFirst q n
+  unfolding countFirst
   below-same p q zero h = refl
   below-same p q (suc n) h = ap₂ (λ (x : Bool) (y : ℕ). cond x (suc y) y) (h n (omega arith)) (below-same p q n (λ i j. h i (omega arith)))
 
   all-pairs : (x : Bool)
-      → countBelow (λ i. cond (isFull (i / 9) (i % 9)) x true) 81 ∷ countBelow (λ i. cond (isFull (i / 9) (i % 9)) true x) 81 ∷ []
+      → countFirst (λ i. cond (isFull (i / 9) (i % 9)) x true) 81 ∷ countFirst (λ i. cond (isFull (i / 9) (i % 9)) true x) 81 ∷ []
       ≡ cond x (81 ∷ 81 ∷ []) (80 ∷ 1 ∷ [])
-  unfolding countBelow
+  unfolding countFirst
   all-pairs true = refl
   all-pairs false = refl
 

@@ -6,7 +6,7 @@ use Prim.Native.Nat.{ℕ, zero, suc, _+_, _/_, _%_}
 use lib.ListN.{length}
 use Rattle.layout.specs.Size.{slotsIn}
 use Rattle.layout.specs.Header.{indexFault}
-use Rattle.cutcount.specs.CutCount.{haveOneMap, cutImage, countBelow}
+use Rattle.cutcount.specs.CutCount.{haveOneMap, cutImage, countFirst}
 use Rattle.cutcount.specs.declared.Tally.{Tally}
 
 -- heads and next have the sizes of an index of the image
@@ -22,8 +22,8 @@ tallied t earlier later =
 unfoldable pub tallyOf : (l : ℕ) → (image at value last : List ℕ) → (n : ℕ) → Tally
 tallyOf l image at value last n =
     record {
-      earlier = countBelow (λ i. haveOneMap l image (cutImage image at value (i / 9) (i % 9))) n;
-      later = countBelow (λ i. haveOneMap l last (cutImage image at value (i / 9) (i % 9))) n;
+      earlier = countFirst (λ i. haveOneMap l image (cutImage image at value (i / 9) (i % 9))) n;
+      later = countFirst (λ i. haveOneMap l last (cutImage image at value (i / 9) (i % 9))) n;
     }
 
 -- what the copy holds before pair n

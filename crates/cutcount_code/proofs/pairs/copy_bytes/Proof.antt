@@ -9,10 +9,10 @@ use Rattle.cutcount_code.proofs.pairs.copy_bytes.Statement.{statement}
 use Rattle.cutcount_code.proofs.pairs.copy_bytes.Tie as tie
 
 abbrev Inv-loop : tie.InvT-loop
-Inv-loop from to₀ i₀ to i = Filling from to (length to₀) i
+Inv-loop from to₀ k₀ to k = Filling from to (length to₀) k
 
 abbrev μ-loop : tie.MeasureT-loop
-μ-loop from to₀ i₀ to i = length to₀ - i
+μ-loop from to₀ k₀ to k = length to₀ - k
 
 pub copy-bytes-spec : {M : Type 1} → statement M
 copy-bytes-spec =
