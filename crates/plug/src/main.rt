@@ -48,11 +48,11 @@ fn after_byte(trace: Trace, out: &[u8]) -> Status {
 fn take_bytes(
     t: Status,
     input: &[u8],
-    image: &mut [u8; 65536],
-    heads: &mut [u32; 1],
-    next: &mut [u32; 512],
-    copy: &mut [u8; 65536],
-    later: &mut [u8; 65536],
+    image: &mut [u8],
+    heads: &mut [u32],
+    next: &mut [u32],
+    copy: &mut [u8],
+    later: &mut [u8],
     out: &mut [u8],
 ) -> Status {
     let mut u = t;

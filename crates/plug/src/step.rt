@@ -1,4 +1,5 @@
 // One line of a trace: a call is made, its cuts are tried, and all its stores are played.
+ghost use Prim.Native.Nat.{_≤_};
 use orderset::Change;
 use orderset::CutCounts;
 use orderset::Outcome;
@@ -135,51 +136,75 @@ fn remove_call(
     carry_out(change, stores, trace, image, heads, next, copy, later, out)
 }
 
-// A call on the set of the session, if it has one.
-fn take_call(
+// A call on an image and an index of the set's size. A get, a cut and a line of none of the forms change nothing.
+fn make_call(
     line: Line,
     trace: Trace,
-    image: &mut [u8; 65536],
-    heads: &mut [u32; 1],
-    next: &mut [u32; 512],
-    copy: &mut [u8; 65536],
-    later: &mut [u8; 65536],
+    image: &mut [u8],
+    heads: &mut [u32],
+    next: &mut [u32],
+    copy: &mut [u8],
+    later: &mut [u8],
     out: &mut [u8],
 ) -> Trace {
-    let session = trace.session;
-    let n = session.n;
-    if n < 2 || 511 < n {
-        return trace;
-    }
-    let m = n as usize + 1;
-    let bytes = 128 * m;
     match line {
-        Line::Write { key, word } => write_call(
-            key,
-            word,
-            trace,
-            &mut image[..bytes],
-            &mut heads[..1],
-            &mut next[..m],
-            &mut copy[..bytes],
-            &mut later[..bytes],
-            out,
-        ),
-        Line::Remove(key) => remove_call(
-            key,
-            trace,
-            &mut image[..bytes],
-            &mut heads[..1],
-            &mut next[..m],
-            &mut copy[..bytes],
-            &mut later[..bytes],
-            out,
-        ),
+        Line::Write { key, word } => {
+            write_call(key, word, trace, image, heads, next, copy, later, out)
+        }
+        Line::Remove(key) => remove_call(key, trace, image, heads, next, copy, later, out),
         Line::New(_) => trace,
         Line::Get(_) => trace,
         Line::Cut { a: _, b: _ } => trace,
         Line::Bad => trace,
     }
+}
+
+// The lesser number.
+fn lesser(a: usize, b: usize) -> usize
+    ensures { λ r. ⌜ (r ≤ a) × (r ≤ b) ⌝ }
+{
+    if a < b {
+        return a;
+    }
+    b
+}
+
+// A line on the set of the session, if it has one and what is lent is long enough for it.
+fn take_call(
+    line: Line,
+    trace: Trace,
+    image: &mut [u8],
+    heads: &mut [u32],
+    next: &mut [u32],
+    copy: &mut [u8],
+    later: &mut [u8],
+    out: &mut [u8],
+) -> Trace {
+    let session = trace.session;
+    let n = session.n;
+    let room = lesser(image.len(), lesser(copy.len(), later.len())) / 128;
+    let most = lesser(next.len(), room);
+    if n < 2 {
+        return trace;
+    }
+    if most as u64 <= n {
+        return trace;
+    }
+    if heads.len() < 1 {
+        return trace;
+    }
+    let m = n as usize + 1;
+    let bytes = 128 * m;
+    make_call(
+        line,
+        trace,
+        &mut image[..bytes],
+        &mut heads[..1],
+        &mut next[..m],
+        &mut copy[..bytes],
+        &mut later[..bytes],
+        out,
+    )
 }
 
 // A new set.
@@ -196,14 +221,14 @@ fn take_new(
     next_line(after, trace.at)
 }
 
-// A line ends. A get, a cut and a line of none of the forms change nothing.
+// A line ends.
 fn take_line(
     trace: Trace,
-    image: &mut [u8; 65536],
-    heads: &mut [u32; 1],
-    next: &mut [u32; 512],
-    copy: &mut [u8; 65536],
-    later: &mut [u8; 65536],
+    image: &mut [u8],
+    heads: &mut [u32],
+    next: &mut [u32],
+    copy: &mut [u8],
+    later: &mut [u8],
     out: &mut [u8],
 ) -> Trace {
     let parse = trace.parse;
@@ -220,11 +245,11 @@ fn take_line(
 pub fn take_byte(
     trace: Trace,
     byte: u8,
-    image: &mut [u8; 65536],
-    heads: &mut [u32; 1],
-    next: &mut [u32; 512],
-    copy: &mut [u8; 65536],
-    later: &mut [u8; 65536],
+    image: &mut [u8],
+    heads: &mut [u32],
+    next: &mut [u32],
+    copy: &mut [u8],
+    later: &mut [u8],
     out: &mut [u8],
 ) -> Trace {
     if byte == 10 {
@@ -243,11 +268,11 @@ pub fn take_byte(
 // The end of the input: a last line may lack its end.
 pub fn take_end(
     trace: Trace,
-    image: &mut [u8; 65536],
-    heads: &mut [u32; 1],
-    next: &mut [u32; 512],
-    copy: &mut [u8; 65536],
-    later: &mut [u8; 65536],
+    image: &mut [u8],
+    heads: &mut [u32],
+    next: &mut [u32],
+    copy: &mut [u8],
+    later: &mut [u8],
     out: &mut [u8],
 ) -> Trace {
     if trace.begun {
