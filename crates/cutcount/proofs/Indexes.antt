@@ -26,7 +26,7 @@ use Rattle.recovery.specs.declared.Recovered.{Recovered}
 use Rattle.recovery.specs.declared.Recovered.the-variants.{Rebuilt, Refused}
 use Rattle.recovery.proofs.Lent.{recovery-taken}
 use Rattle.cutcount.specs.CutCount.{ownFault}
-use Rattle.cutcount.specs.inner.Indexed.{OwnIndex, Mapped, IndexedBy, is-map, no-map}
+use Rattle.cutcount.specs.inner.Indexed.{Mapped, IndexedBy, is-map, no-map}
 use Rattle.cutcount.specs.inner.Pairs.{FitsIndex}
 use Rattle.cutcount.specs.declared.Indexed.{Indexed}
 use Rattle.cutcount.specs.declared.Indexed.the-variants.{Map, Nothing}

@@ -1,5 +1,5 @@
 -- The pairs are gone through one by one. Assumes nothing.
-use mathlib.Core.Path.{_≡_, refl, sym, ap, ap₂, _∙_, subst}
+use mathlib.Core.Path.{_≡_, refl, sym, ap, ap₂, _∙_}
 use mathlib.Core.Bool.{Bool, true, false, not, cond, _&&_}
 use mathlib.Core.List.{List, [], _∷_}
 use Prim.Native.Nat.{ℕ, zero, suc, _+_, _/_, _%_, _≤_, _<_}
@@ -20,9 +20,9 @@ use Rattle.stores.specs.Store.{played, zipped}
 use Rattle.stores.specs.Play.{Played, playEnd, playFault, counted, playResult}
 use Rattle.stores.proofs.Bytes.{played-length}
 use Rattle.cutcount.specs.Maps.{sameMap}
-use Rattle.cutcount.specs.CutCount.{ownFault, haveOneMap, cutImage, countFirst, countPairs, earlierCount, laterCount, lentCopiesFault, cutCountFault, CutCountResult, cutCountSays, cutCountEnd, cutCountBy, cutCountResult}
+use Rattle.cutcount.specs.CutCount.{ownFault, haveOneMap, cutImage, countFirst, countPairs, earlierCount, laterCount, lentCopiesFault, cutCountFault, cutCountSays, cutCountEnd, cutCountResult}
 use Rattle.cutcount.specs.declared.CutCounts.the-variants.{Counted, Refused}
-use Rattle.cutcount.specs.inner.Indexed.{Mapped, IndexedBy}
+use Rattle.cutcount.specs.inner.Indexed.{IndexedBy}
 use Rattle.cutcount.specs.inner.Pairs.{FitsIndex, tallied, tallyOf, copyBefore}
 use Rattle.cutcount.specs.declared.Tally.{Tally}
 use Rattle.cutcount.specs.declared.Indexed.{Indexed}

@@ -17,8 +17,7 @@ use Rattle.layout.specs.Size.{slotsIn}
 use Rattle.layout.specs.Line.{lineA, lineB}
 use Rattle.layout.specs.Record.{Layout, valueOf}
 use Rattle.layout.specs.Header.{lentFault}
-use Rattle.layout.specs.Content.{putRecord, content, contentsOf, numbersOf}
-use Rattle.layout.specs.Fault.{recordFault}
+use Rattle.layout.specs.Content.{content, contentsOf, numbersOf}
 use Rattle.layout.specs.inner.Inside.{SlotInside}
 use Rattle.layout.specs.inner.Key.{keyWith, highWord}
 use Rattle.layout.specs.inner.Sized.{Sized}

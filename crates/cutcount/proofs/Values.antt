@@ -1,17 +1,17 @@
 -- Two values are compared word by word: a byte past the length is zero, so the words agree exactly where the bytes do. Assumes nothing.
 use mathlib.Core.Path.{_≡_, refl, sym, ap, ap₂, _∙_}
-use mathlib.Core.Bool.{Bool, true, false, not}
+use mathlib.Core.Bool.{true, false, not}
 use mathlib.Core.Logic.{by-cases}
-use mathlib.Core.List.{List, [], _∷_}
+use mathlib.Core.List.{List, _∷_}
 use Prim.Native.Nat.{ℕ, zero, suc, _+_, _-_, _*_, _/_, _%_, _^_, _≤_, _<_}
-use native.Mathlib.Nat.{pow-suc, mul-comm, div-div-eq-div-mul, div-lt-iff-lt-mul}
+use native.Mathlib.Nat.{pow-suc, mul-comm, div-div-eq-div-mul}
 use native.Mathlib.Decide.{decLt}
 use native.Mathlib.Omega.{arith}
 use lib.Dec.{eqb}
 use lib.ListN.{length, getD}
 use borrow.Author.Tests.{eqb-true, not-false}
 use Rattle.prelude.specs.Range.{tabulate}
-use Rattle.prelude.proofs.Choice.{true-false, is-false}
+use Rattle.prelude.proofs.Choice.{is-false}
 use Rattle.prelude.proofs.Refusals.{orElse-zero, say-zero}
 use Rattle.prelude.proofs.Tabulate.{tabulate-get}
 use Rattle.prelude.proofs.Any.{any-none}

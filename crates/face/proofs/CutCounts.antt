@@ -3,24 +3,24 @@ use mathlib.Core.Path.{_≡_, refl, sym, ap, ap₂, _∙_, subst}
 use mathlib.Core.Bool.{Bool, true, false, cond, _&&_}
 use mathlib.Core.Logic.{_⊎_, inl, inr, by-cases}
 use mathlib.Core.Option.{Option, some, none}
-use mathlib.Core.List.{List, [], _∷_, _++_}
+use mathlib.Core.List.{List, [], _∷_}
 use Prim.Native.Nat.{ℕ, zero, suc, _+_, _*_, _/_, _%_, _≤_, _<_}
 use native.Mathlib.Decide.{ℕ-discrete}
 use native.Mathlib.Omega.{arith}
 use lib.Dec.{eqb}
 use lib.ListN.{length, replicate, length-replicate}
-use borrow.Author.Tests.{eqb-true, eqb-false, eq-eqb, ne-eqb}
+use borrow.Author.Tests.{eqb-true, eq-eqb, ne-eqb}
 use Rattle.words.specs.Word.{word}
 use Rattle.prelude.specs.Members.{none-left}
-use Rattle.prelude.specs.Answer.{absent, refuses}
-use Rattle.prelude.proofs.Choice.{pick-true, pick-false, split, true-false, both, both-of, false-left, false-right, is-false, same-test}
+use Rattle.prelude.specs.Answer.{refuses}
+use Rattle.prelude.proofs.Choice.{pick-true, pick-false, split, true-false, both, both-of, is-false, same-test}
 use Rattle.layout.specs.Size.{slotsOf, slotsIn}
 use Rattle.layout.specs.Header.{indexFault}
 use Rattle.layout.specs.Line.{line}
 use Rattle.layout.specs.Record.{Layout}
-use Rattle.table.specs.Table.{mapOf, isHeld}
+use Rattle.table.specs.Table.{isHeld}
 use Rattle.table.specs.Complete.{tableOf}
-use Rattle.stores.specs.Store.{Store, played, standing, allStand, onLine}
+use Rattle.stores.specs.Store.{Store, allStand, onLine}
 use Rattle.stores.specs.Written.{run, lineStores, recordStores}
 use Rattle.stores.specs.Play.{wordNumbers, values, playing, halfCounts}
 use Rattle.stores.proofs.AllStand.{stand-lines, lines-stand}

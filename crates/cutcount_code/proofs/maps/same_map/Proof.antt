@@ -1,9 +1,8 @@
 -- `cutcount_code::maps::same_map` meets its contract. Assumes nothing.
-use mathlib.Core.Path.{sym, _∙_}
 use Prim.Native.Nat.{_+_, _-_}
 use native.Mathlib.Omega.{arith}
 use borrow.Author.Needs.{needs}
-use Rattle.cutcount.proofs.Slots.{own-inside, own-sized, Passed, none-passed, slot-apart, slot-passed, live-apart, all-passed}
+use Rattle.cutcount.proofs.Slots.{own-sized, Passed, none-passed, slot-apart, slot-passed, live-apart, all-passed}
 use Rattle.cutcount_code.proofs.maps.same_map.Statement.{statement}
 use Rattle.cutcount_code.proofs.maps.same_map.Tie as tie
 

@@ -2,7 +2,6 @@
 use mathlib.Core.Path.{refl}
 use Prim.Native.Nat.{_-_}
 use native.Mathlib.Omega.{arith}
-use borrow.Author.Needs.{needs}
 use Rattle.cutcount.proofs.Pairs.{Going, going-first, going-copy, going-fits, going-length, going-low, going-next, going-last}
 use Rattle.cutcount_code.proofs.pairs.count_pairs.Statement.{statement}
 use Rattle.cutcount_code.proofs.pairs.count_pairs.Tie as tie

@@ -1,5 +1,4 @@
 -- `cutcount_code::slots::differ_at` meets its contract. Assumes nothing.
-use native.Mathlib.Omega.{arith}
 use borrow.Author.Needs.{needs}
 use Rattle.cutcount.proofs.Slots.{own-inside, not-first, first-alone, held-both}
 use Rattle.cutcount_code.proofs.slots.differ_at.Statement.{statement}
