@@ -11,6 +11,7 @@
 RT ?= rt
 OUT := target/c
 ARCHIVE := target/staticlib/liborderset_c.a
+PLUG := target/bin/plug
 LOG_ARCHIVE := target/staticlib/liblog_c.a
 REPORT := target/bin/report
 # CC, CXX, CFLAGS, CXXFLAGS and LDFLAGS are the caller's, from the environment or the command line
@@ -28,8 +29,8 @@ HEADERS := include/orderset.h include/orderset_log.h include/orderset_persist.h
 CRATES := crates.txt $(shell find crates -name '*.rt' -o -name '*.antt')
 
 .PHONY: test planted gateway recorder heads bench archive run-names run-header run-persist run-guard run-storm run-lock \
-	run-watch run-kills run-heads run-report run-differential run-log_header run-log_storm run-log_guard run-log_kills \
-	run-log_differential
+	run-watch run-kills run-heads run-report run-plug run-differential run-log_header run-log_storm run-log_guard \
+	run-log_kills run-log_differential
 archive: $(ARCHIVE) $(LOG_ARCHIVE)
 
 $(ARCHIVE): $(CRATES)
@@ -41,15 +42,19 @@ $(LOG_ARCHIVE): $(CRATES)
 $(REPORT): $(CRATES)
 	$(RT) check report
 
+$(PLUG): $(CRATES)
+	$(RT) check plug
+
 $(OUT):
 	mkdir -p $(OUT)
 
 # the tests: docs/TESTS.md; SEED=... repeats a run, and run-storm and the like run one of them
-TESTS := persist guard storm lock kills heads watch report differential
+TESTS := persist guard storm lock kills heads watch report plug differential
 LOG_TESTS := log_storm log_guard log_kills log_differential
 $(OUT)/persist: tests/persist.c tests/chance.c $(LOG_ARCHIVE)
 $(OUT)/guard: tests/guard.c tests/pieces.c tests/images.c tests/model.c tests/chance.c
 $(OUT)/differential: tests/differential.c tests/images.c tests/model.c tests/chance.c
+$(OUT)/plug: tests/plug.c tests/model.c tests/child.c tests/chance.c
 $(OUT)/storm: tests/storm.c tests/cache.c tests/model.c tests/chance.c
 $(OUT)/lock $(OUT)/heads $(OUT)/kills: $(OUT)/%: tests/%.c tests/child.c tests/chance.c
 $(OUT)/report: tests/report.c tests/images.c tests/model.c tests/child.c tests/chance.c
@@ -78,7 +83,7 @@ $(OUT)/gateway_on_disk: examples/gateway.c tests/disk.c $(HEADERS) $(ARCHIVE) | 
 	$(C) examples/gateway.c tests/disk.c $(ARCHIVE) -Wl,--wrap=mmap,--wrap=msync,--wrap=fsync,--wrap=renameat2 -o $@
 
 .NOTPARALLEL:
-test: run-names run-header run-persist run-lock run-watch run-heads run-report run-storm run-kills run-guard \
+test: run-names run-header run-persist run-lock run-watch run-heads run-report run-plug run-storm run-kills run-guard \
 	run-differential run-log_header run-log_storm run-log_kills run-log_guard run-log_differential
 run-names:
 	@tests/names
@@ -92,6 +97,9 @@ run-watch: $(OUT)/watch $(OUT)/sender
 	@$(OUT)/watch $(OUT)/sender $(OUT)/watch.img $(SEED)
 run-report: $(OUT)/report $(OUT)/gateway $(REPORT)
 	@$(OUT)/report $(REPORT) $(OUT)/gateway $(OUT)/report.img $(SEED)
+
+run-plug: $(OUT)/plug $(PLUG)
+	@$(OUT)/plug $(PLUG) $(OUT)/plug.trace $(SEED)
 run-kills: $(OUT)/kills $(OUT)/gateway $(OUT)/gateway_on_disk
 	@$(OUT)/kills $(OUT)/gateway $(OUT)/gateway_on_disk $(OUT)/kills.img $(SEED)
 run-log_kills: $(OUT)/log_kills $(OUT)/recorder

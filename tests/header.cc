@@ -133,7 +133,7 @@ bool refused_stores_nothing(const char *of_seven) {
 }
 
 // Key 7 is held; key 10 joins its chain and leaves it again.
-bool counts_slots() {
+bool reports_compared() {
     return made_durable(insert(10, "x", 1)) && answer[ORDERSET_COMPARED] == 1 && finds(7, "sell")
            && found[ORDERSET_GET_COMPARED] == 1 && finds(10, "x") && found[ORDERSET_GET_COMPARED] == 2
            && finds(4, nullptr) && found[ORDERSET_GET_COMPARED] == 2 && finds(8, nullptr)
@@ -212,7 +212,7 @@ int main() {
                       && refused_stores_nothing("buy")
                       && replace(7, "sell", 4) == ORDERSET_OK && lines_foretell() && made_durable(ORDERSET_OK)
                       && lines_tell() && finds(7, "sell") && refused_stores_nothing("sell")
-                      && counts_slots() && counts(1, 2, 1, 0, 0, 0) && made_durable(drop(7)) && finds(7, nullptr)
+                      && reports_compared() && counts(1, 2, 1, 0, 0, 0) && made_durable(drop(7)) && finds(7, nullptr)
                       && drop(7) == ORDERSET_OK && answer[0] == ORDERSET_ABSENT && keeps_book(9) && keeps_basket();
     std::printf("header: a set through the headers in C++: %s\n", good ? "as it should be" : "NOT SO");
     return good ? 0 : 1;

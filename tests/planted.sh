@@ -8,6 +8,7 @@ cd "$(dirname "$0")/.."
 archive=target/staticlib/liborderset_c.a
 log_archive=target/staticlib/liblog_c.a
 report=target/bin/report
+plug=target/bin/plug
 tree=target/planted/tree
 log=target/planted/log
 only=${1:-}
@@ -38,7 +39,7 @@ fault() {
     if cmp -s "$file" "$tree/$file"; then
         echo "the edit changes nothing" >"$log"
         not_seen "$test" "$what"
-    elif make -s -C "$tree" -o "$archive" -o "$log_archive" -o "$report" "run-$test" SEED=1 >"$log" 2>&1 ||
+    elif make -s -C "$tree" -o "$archive" -o "$log_archive" -o "$report" -o "$plug" "run-$test" SEED=1 >"$log" 2>&1 ||
         ! grep -qE "$message" "$log"; then
         not_seen "$test" "$what"
     else
@@ -170,6 +171,13 @@ fault report 'the gateway opens void slots before it counts' $gateway \
     "NOT SO: the gateway says '[0-9]+ live"
 fault report 'the gateway counts hidden puts as live' $gateway 's/counts\[0\], counts\[1\],/counts[0] + counts[1], 0ul,/' \
     "NOT SO: the gateway says '[0-9]+ live"
+fault plug 'a pair is left out' tests/plug.c 's/b <= 8; b\+\+/b < 8; b++/' 'NOT SO: of the trace'
+fault plug 'the counts are swapped' tests/plug.c 's/as_before, as_after\);/as_after, as_before);/' 'NOT SO: of the trace'
+fault plug 'the image is not restored' tests/plug.c 's/memcpy\(copy, image, size\);/if (a + b == 0) &/' 'NOT SO: of the trace'
+fault plug 'keys are compared and not values' tests/plug.c 's/ \&\& !memcmp\(x, y, p.length\)//' 'NOT SO: of the trace'
+fault plug 'a cut line is carried out' tests/plug.c "s/of_form\(line, 'n', 1, a\)/of_form(line, 'c', 2, a) ? size = 0 : &/" \
+    'NOT SO: of the trace'
+fault plug 'a store is missing' tests/plug.c 's/for \(int i = 0; i < 16; i\+\+\)$/for (int i = 15; i > 0; i--)/' 'NOT SO'
 
 fault storm 'a start does not make the image durable' tests/storm.c \
     's/\(after_kill \|\| below\(2\)\) \&\& orderset_persist_image\(.*\)\)/0)/' 'LOST (key|recovery refuses)'

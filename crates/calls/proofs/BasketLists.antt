@@ -1,5 +1,5 @@
 -- A basket whose stores are made in arrays of 128 numbers and go to a lent list of records. Assumes nothing.
-use mathlib.Core.Path.{_≡_, refl, sym, ap, ap₂, _∙_, subst}
+use mathlib.Core.Path.{_≡_, refl, sym, ap, ap₂, _∙_}
 use mathlib.Core.Bool.{Bool, cond, false, true}
 use mathlib.Core.List.{List, [], _∷_, _++_}
 use Prim.Native.Nat.{ℕ, zero, suc, _+_, _*_, _≤_, _<_, min}
@@ -18,14 +18,14 @@ use Rattle.stores.specs.Store.{Store, zipped}
 use Rattle.stores.specs.Play.{wordNumbers, values}
 use Rattle.stores.specs.Basket.{BasketRecord, basketStores}
 use Rattle.stores.specs.Written.{recordStores, lineStores, run}
-use Rattle.stores.proofs.Lists.{zipped-back}
+use Rattle.stores.proofs.ListPut.{front-length, front-stores}
 use Rattle.index.specs.Taking.{Taken, Taking, taken, tooFew, badLink}
 use Rattle.index.specs.declared.State.{State}
 use Rattle.index.proofs.BasketInside.{taking-inside}
 use Rattle.taking.specs.Taking.{choiceOf}
 use Rattle.calls.specs.Change.{ChangeResult, unchanged}
 use Rattle.calls.specs.Basket.{KeyChange, changesOf, keyCountFault, anyTwice, listsFault, givenFault, basketFault, recordsFor, basketMade, basketDone, basketBy, basketResult, basketSays, BasketLeft, basketEnd, atFront, leftInLists, BasketListLeft, basketListEnd, leftWith, leftInList}
-use Rattle.calls.specs.inner.Basket.{storesBy, basketStoreCount, madeEnd, MadeOf}
+use Rattle.calls.specs.inner.Basket.{storesBy, basketStoreCount, MadeOf}
 use Rattle.calls.specs.declared.BasketItem.{BasketItem}
 use Rattle.calls.specs.declared.BasketAnswer.{BasketAnswer}
 use Rattle.calls.specs.declared.BasketMade.{BasketMade}
@@ -100,11 +100,11 @@ records-length (c ∷ cs) [] e = absurd (omega arith)
 records-length (c ∷ cs) (t ∷ ts) e = omega (arith, records-length cs ts (omega arith))
 
 -- the stores of a result are as many as its answer says, and a list with this room holds them
-record Counted (count room : ℕ) (r : ChangeResult) : Type 0 where
+record StoresCounted (count room : ℕ) (r : ChangeResult) : Type 0 where
   number : cond (ltb 8 count) 0 (countIn (r .answer) count) ≡ length (r .stores)
   in-room : length (r .stores) ≤ room
 
-none-handed : (count room number : ℕ) (s : State) (heads next : List ℕ) → Counted count room (unchanged (refused number) s heads next)
+none-handed : (count room number : ℕ) (s : State) (heads next : List ℕ) → StoresCounted count room (unchanged (refused number) s heads next)
 unfolding unchanged countIn
 none-handed count room number s heads next = record { number = same (ltb 8 count); in-room = omega arith }
   where
@@ -127,7 +127,7 @@ module _ (l : ℕ) (image heads next : List ℕ) (s : State) (count : ℕ) (item
       )
 
   all-handed : (count ≤ 8) × (16 * count ≤ room) → (t : Taking) → choiceOf l image next (slotsIn image) (s .first) (length changes) ≡ t
-      → Counted count room (basketDone l image heads next s changes t)
+      → StoresCounted count room (basketDone l image heads next s changes t)
   unfolding basketDone basketMade choiceOf countIn
   all-handed h (taken ts) e =
       record {
@@ -145,28 +145,18 @@ module _ (l : ℕ) (image heads next : List ℕ) (s : State) (count : ℕ) (item
   abbrev result : ChangeResult
   result = basketResult l image heads next s changes room room
 
-  counted : Counted count room result
+  counted : StoresCounted count room result
   unfolding basketResult basketBy basketFault unlessRefused
   counted = go (basketFault l image heads next s changes room room) refl
     where
       go : (k : ℕ) → basketFault l image heads next s changes room room ≡ k
-          → Counted count room
+          → StoresCounted count room
           (unlessRefused k (basketDone l image heads next s changes (choiceOf l image next (slotsIn image) (s .first) (length changes)))
           (unchanged (refused k) s heads next))
       go zero e = all-handed (few (orElse-zero _ _ e .0)) _ refl
       go (suc k) e = none-handed count room (suc k) s heads next
 
   -- ---- what the call that makes the stores in arrays leaves
-
-  front-numbers : (ss : List Store) (x y : List ℕ) → take (length ss) ((wordNumbers ss ++ x) ++ y) ≡ wordNumbers ss
-  unfolding wordNumbers
-  front-numbers [] x y = refl
-  front-numbers (t ∷ ss) x y = ap (λ (r : List ℕ). t .word ∷ r) (front-numbers ss x y)
-
-  front-values : (ss : List Store) (x y : List ℕ) → take (length ss) ((values ss ++ x) ++ y) ≡ values ss
-  unfolding values
-  front-values [] x y = refl
-  front-values (t ∷ ss) x y = ap (λ (r : List ℕ). t .value ∷ r) (front-values ss x y)
 
   made-by : BasketLeft → List Store → BasketListLeft
   made-by b list = record { answer = b .answer; slots = b .slots; state = b .state; list = list; heads = b .heads; next = b .next }
@@ -190,10 +180,8 @@ module _ (l : ℕ) (image heads next : List ℕ) (s : State) (count : ℕ) (item
     stores-are : zipped (take stored (at₁ ++ rest)) (take stored (words₁ ++ rest′)) ≡ result .stores
     unfolding leftInLists atFront
     stores-are =
-        ap₂ zipped
-        (ap₂ (λ (n : ℕ) (x : List ℕ). take n (x ++ rest)) as-many (ap (λ (b : BasketLeft). b .at) left-by) ∙ front-numbers (result .stores) (drop (length (wordNumbers (result .stores))) at₀) rest)
-        (ap₂ (λ (n : ℕ) (x : List ℕ). take n (x ++ rest′)) as-many (ap (λ (b : BasketLeft). b .words) left-by) ∙ front-values (result .stores) (drop (length (values (result .stores))) words₀) rest′)
-        ∙ zipped-back (result .stores)
+        ap₂ (λ (n : ℕ) (b : BasketLeft). zipped (take n (b .at ++ rest)) (take n (b .words ++ rest′))) as-many left-by
+        ∙ front-stores (result .stores) (drop (length (wordNumbers (result .stores))) at₀) rest (drop (length (values (result .stores))) words₀) rest′
 
     pub made : stored ≤ 128
         → MadeOf result room count (record { answer = a; stored = stored; at = at₁ ++ rest; words = words₁ ++ rest′ }) heads₁ next₁
@@ -202,18 +190,11 @@ module _ (l : ℕ) (image heads next : List ℕ) (s : State) (count : ℕ) (item
 
 -- ---- what the call that puts them into a list leaves
 
-zipped-length : (at words : List ℕ) (k : ℕ) → k ≤ length at → k ≤ length words → length (zipped (take k at) (take k words)) ≡ k
-unfolding zipped
-zipped-length at words zero h m = refl
-zipped-length [] words (suc k) h m = absurd (omega arith)
-zipped-length (a ∷ at) [] (suc k) h m = absurd (omega arith)
-zipped-length (a ∷ at) (w ∷ words) (suc k) h m = ap suc (zipped-length at words k (omega arith) (omega arith))
-
 pub in-list : (r : ChangeResult) (room count : ℕ) (m : BasketMade) (heads next : List ℕ) → MadeOf r room count m heads next
     → m .stored ≤ length (m .at) → m .stored ≤ length (m .words) → (list : List Store)
     → basketListEnd count (m .answer) (zipped (take (m .stored) (m .at)) (take (m .stored) (m .words)) ++ drop (m .stored) list) heads next ≡ leftInList list r
 unfolding leftInList leftWith atFront
 in-list r room count m heads next made h k list =
     ap (λ (n : ℕ). basketListEnd count (m .answer) (zipped (take (m .stored) (m .at)) (take (m .stored) (m .words)) ++ drop n list) heads next)
-    (sym (zipped-length (m .at) (m .words) (m .stored) h k))
+    (sym (front-length (m .at) (m .words) (m .stored) h k))
     ∙ ap (λ (b : BasketListLeft). record { answer = b .answer; slots = b .slots; state = b .state; list = b .list ++ drop (length (b .list)) list; heads = b .heads; next = b .next }) (made .left)

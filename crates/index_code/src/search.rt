@@ -68,7 +68,7 @@ pub fn looked_up(fault: u32, found: Found) -> Lookup
                     compared,
                 };
             }
-            Lookup::Open {
+            Lookup::Allowed {
                 place: Place::Held { slot, prev },
                 compared,
             }
@@ -80,7 +80,7 @@ pub fn looked_up(fault: u32, found: Found) -> Lookup
                     compared,
                 };
             }
-            Lookup::Open {
+            Lookup::Allowed {
                 place: Place::NotHeld { prev },
                 compared,
             }

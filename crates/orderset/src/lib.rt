@@ -17,6 +17,8 @@ pub use change_code::write::replace;
 pub use counting::CountAnswer;
 pub use counting::SlotCounts;
 pub use counting_code::count_slots;
+pub use cutcount::CutCounts;
+pub use cutcount_code::count_cuts;
 pub use get_code::get::get;
 pub use get_code::locate::locate;
 pub use image_code::format::format;

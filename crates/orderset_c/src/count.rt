@@ -2,7 +2,7 @@
 ghost use mathlib.Core.Path.{_≡_};
 ghost use Rattle.face.specs.Set.{countResult};
 ghost use Rattle.exports.specs.Count.{countLeft, countCall};
-use crate::answer::refused_with;
+use exports_code::answer::refused_with;
 use orderset::CountAnswer;
 use orderset::count_slots;
 

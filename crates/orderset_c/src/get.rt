@@ -2,7 +2,7 @@
 ghost use mathlib.Core.Path.{_≡_};
 ghost use Rattle.face.specs.Set.{getResult, keyCompared};
 ghost use Rattle.exports.specs.Call.{getLeft, getCall};
-use crate::answer::refused_with;
+use exports_code::answer::refused_with;
 use orderset::Got;
 use orderset::get;
 

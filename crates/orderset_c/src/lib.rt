@@ -1,5 +1,4 @@
 // The calls for a program in C, C++ or Rust. Each returns 0 or the number of its refusal; recover and the calls of the set that walk a chain return a second number above it. What a call answers goes into lent numbers.
-mod answer;
 pub mod basket;
 pub mod count;
 pub mod format;
@@ -9,6 +8,5 @@ pub mod locate;
 pub mod play;
 pub mod recover;
 pub mod remove;
-mod state;
 pub mod steps;
 pub mod write;

@@ -2,7 +2,7 @@
 ghost use mathlib.Core.Path.{_≡_};
 ghost use Rattle.face.specs.Set.{locateResult, keyCompared};
 ghost use Rattle.exports.specs.Call.{locateLeft, locateCall};
-use crate::answer::refused_with;
+use exports_code::answer::refused_with;
 use orderset::Located;
 use orderset::locate;
 

@@ -4,27 +4,11 @@ ghost use Rattle.face.specs.Set.{recoverResult};
 ghost use Rattle.exports.specs.State.{stateFrom};
 ghost use Rattle.exports.specs.Opening.{openingsFrom};
 ghost use Rattle.exports.specs.Call.{recoverLeft, recoverCall};
-use crate::answer::refused_with;
-use crate::state::keep_state;
-use orderset::Openings;
+use exports_code::answer::refused_with;
+use exports_code::opening::keep_openings;
+use exports_code::state::keep_state;
 use orderset::Recovered;
 use orderset::recover;
-
-// The lent numbers become those of the opening stores.
-pub fn keep_openings(
-    openings: Openings,
-    count: &mut [u32; 1],
-    at: &mut [u32; 8],
-    value: &mut [u64; 8],
-)
-    ensures { λ _. ⌜ openingsFrom (now (count .exit)) (now (at .exit)) (now (value .exit)) ≡ openings ⌝ }
-{
-    let words = openings.at;
-    let values = openings.value;
-    *count = [openings.count];
-    *at = words;
-    *value = values;
-}
 
 // The index of the image is rebuilt; the answer is the state beside it, with the opening stores, which are to be made by the caller. Returned is 0, or
 // the refusal + 2^32 × the slot that it names.

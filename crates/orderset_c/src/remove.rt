@@ -3,8 +3,8 @@ ghost use mathlib.Core.Path.{_≡_};
 ghost use Rattle.face.specs.Set.{zipped, removeResult, keyCompared};
 ghost use Rattle.exports.specs.State.{stateFrom};
 ghost use Rattle.exports.specs.Call.{changeLeft, changeCall};
-use crate::answer::hand_out;
-use crate::state::state_from;
+use exports_code::answer::hand_out;
+use exports_code::state::state_from;
 use orderset::remove;
 
 // The key is dropped; the answer is the slot taken and the version, or absent, each with the slots compared, and the stores are to be made by the caller.

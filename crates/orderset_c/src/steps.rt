@@ -5,12 +5,12 @@ ghost use Rattle.book.specs.Steps.{newResult, acknowledgeResult, fillResult, wi
 ghost use Rattle.exports.specs.State.{stateFrom};
 ghost use Rattle.exports.specs.Call.{changeLeft};
 ghost use Rattle.exports.specs.Book.{bookCall};
-use crate::answer::hand_out_step;
-use crate::state::state_from;
 use book_code::acknowledge;
 use book_code::fill;
 use book_code::new;
 use book_code::withdraw;
+use exports_code::answer::hand_out_step;
+use exports_code::state::state_from;
 
 // A new order of this quantity; the answer is the slot taken and the version, and the stores are to be made by the caller.
 #[no_mangle]

@@ -4,8 +4,8 @@ ghost use lib.ListN.{length};
 ghost use Rattle.face.specs.Set.{zipped, Insert, Replace, writeResult, writeCompared};
 ghost use Rattle.exports.specs.State.{stateFrom};
 ghost use Rattle.exports.specs.Call.{changeLeft, changeCall};
-use crate::answer::hand_out;
-use crate::state::state_from;
+use exports_code::answer::hand_out;
+use exports_code::state::state_from;
 use orderset::insert;
 use orderset::replace;
 

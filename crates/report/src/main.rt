@@ -7,7 +7,7 @@ ghost use Rattle.reporting.specs.inner.Images.{Buffers};
 use libc::STDERR_FILENO;
 use libc::STDIN_FILENO;
 use libc::STDOUT_FILENO;
-use reporting::Progress;
+use reporting::ReportProgress;
 use reporting_code::image_size;
 use reporting_code::report_block;
 use reporting_code::report_last;
@@ -16,7 +16,7 @@ use reporting_code::start;
 // How far the report is; the bytes at the front of the input that are not read yet; whether there may be more, and whether every write succeeded; and the
 // second of the last line on standard error.
 struct Status {
-    progress: Progress,
+    progress: ReportProgress,
     have: usize,
     going: bool,
     written: bool,

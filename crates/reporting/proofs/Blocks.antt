@@ -14,11 +14,11 @@ use Rattle.text.specs.Output.{no, text}
 use Rattle.text.specs.inner.Output.{Wrote}
 use Rattle.text.proofs.Storing.{written-front}
 use Rattle.reporting.specs.Report.{imageSize, wholeSize, imageAnswer, answerText, totalsWith, totalsText, unreadText, reportFrom, reportOf}
-use Rattle.reporting.specs.Blocks.{Held, readable, BlockLent, BlockReported, endsReading, Prints, block, last, ended, PrintsReport}
+use Rattle.reporting.specs.Blocks.{TotalsBounded, readable, BlockLent, BlockReported, endsReading, Prints, block, last, ended, PrintsReport}
 use Rattle.reporting.specs.inner.Images.{progressWith, Reportable, ImageReported, Buffers}
-use Rattle.reporting.specs.declared.Totals.{Totals}
-use Rattle.reporting.specs.declared.Progress.{Progress}
-use Rattle.reporting.specs.declared.Reported.{Reported}
+use Rattle.reporting.specs.declared.SlotTotals.{SlotTotals}
+use Rattle.reporting.specs.declared.ReportProgress.{ReportProgress}
+use Rattle.reporting.specs.declared.ImageReport.{ImageReport}
 use Rattle.reporting.specs.declared.Block.{Block}
 use Rattle.reporting.proofs.Sizes.{Image, no-size, readable-image, size-more, whole-more}
 use Rattle.reporting.proofs.Texts.{answer-length, totals-length, unread-length}
@@ -26,7 +26,7 @@ use Rattle.reporting.proofs.Texts.{answer-length, totals-length, unread
 -- ---- the report on an input
 
 -- its first image is whole and may be read
-from-image : (left size : ℕ) (input more : List ℕ) (t : Totals) → Image left size input
+from-image : (left size : ℕ) (input more : List ℕ) (t : SlotTotals) → Image left size input
     → reportFrom left (input ++ more) t
     ≡ answerText (imageAnswer (take size input))
     ++ reportFrom (left - 1) (drop size input ++ more) (totalsWith (imageAnswer (take size input)) t)
@@ -51,7 +51,7 @@ from-image (suc left) size input more t g =
         ++ reportFrom left (drop n (input ++ more)) (totalsWith (imageAnswer (take n (input ++ more))) t)
 
 -- no image may be read
-from-none : (left : ℕ) (input : List ℕ) (t : Totals) → readable left input ≡ 0 → reportFrom left input t ≡ unreadText left (length input) ++ totalsText t
+from-none : (left : ℕ) (input : List ℕ) (t : SlotTotals) → readable left input ≡ 0 → reportFrom left input t ≡ unreadText left (length input) ++ totalsText t
 unfolding reportFrom readable
 from-none zero input t e = refl
 from-none (suc left) input t e =
@@ -61,21 +61,21 @@ from-none (suc left) input t e =
 -- ---- image by image
 
 -- the images before position at are reported; size is that of the next one
-pub record Blocking (input next : List ℕ) (p : Progress) (room : ℕ) (progress : Progress) (at end size : ℕ) (out : List ℕ) : Type 0 where
+pub record Blocking (input next : List ℕ) (p : ReportProgress) (room : ℕ) (progress : ReportProgress) (at end size : ℕ) (out : List ℕ) : Type 0 where
   pub inside : at ≤ length input
   pub thirds : 3 * end ≤ at
   pub out-size : length out ≡ room
   pub next-size : length next ≡ 512
-  pub held : Held progress
+  pub held : TotalsBounded progress
   pub size-is : size ≡ readable (progress .left) (drop at input)
   pub goes-on : (more : List ℕ)
       → reportFrom (p .left) (input ++ more) (p .totals) ≡ take end out ++ reportFrom (progress .left) (drop at input ++ more) (progress .totals)
 
 -- there is an entry of next for each slot of an image
-pub entries-few : (image next : List ℕ) (p : Progress) (out : List ℕ) (at : ℕ) → Reportable image next p out at → length image / 128 ≤ length next
+pub entries-few : (image next : List ℕ) (p : ReportProgress) (out : List ℕ) (at : ℕ) → Reportable image next p out at → length image / 128 ≤ length next
 entries-few image next p out at g = omega (arith, g .size, g .high, g .next-size)
 
-pub block-start : (input next : List ℕ) (p : Progress) (out : List ℕ) (size : ℕ) → BlockLent input next p out → size ≡ readable (p .left) input
+pub block-start : (input next : List ℕ) (p : ReportProgress) (out : List ℕ) (size : ℕ) → BlockLent input next p out → size ≡ readable (p .left) input
     → Blocking input next p (length out) p 0 0 size out
 block-start input next p out size g e =
     record {
@@ -88,7 +88,7 @@ block-start input next p out size g e =
       goes-on = λ more. refl;
     }
 
-module _ (input next : List ℕ) (p progress : Progress) (at end size room : ℕ) (out : List ℕ) (g : Blocking input next p room progress at end size out)
+module _ (input next : List ℕ) (p progress : ReportProgress) (at end size room : ℕ) (out : List ℕ) (g : Blocking input next p room progress at end size out)
     (positive : 0 < size) where
   image : Image (progress .left) size (drop at input)
   image = readable-image (drop at input) (progress .left) size (g .size-is) positive
@@ -121,7 +121,7 @@ module _ (input next : List ℕ) (p progress : Progress) (at end size room : ℕ
       taken = length-take-le size (drop at input) (image .inside)
 
   -- and then it is
-  pub block-next : (r : Reported) (out′ next′ : List ℕ)
+  pub block-next : (r : ImageReport) (out′ next′ : List ℕ)
       → ImageReported part progress out end out′ r → length out′ ≡ length out → length next′ ≡ length next
       → length input + 768 ≤ 3 * room → (size′ : ℕ)
       → size′ ≡ readable (r .progress .left) (take (length input - (at + size)) (drop (at + size) input))
@@ -164,9 +164,9 @@ module _ (input next : List ℕ) (p progress : Progress) (at end size room : ℕ
           (sym e))
           ∙ sym (append-assoc (take end out) (answerText a) _)
           ∙ ap₂ (λ (x y : List ℕ). x ++ reportFrom (progress .left - 1) (y ++ more) (totalsWith a (progress .totals))) (sym stored) after
-          ∙ ap (λ (q : Progress). take (r .end) out′ ++ reportFrom (q .left) (drop (at + size) input ++ more) (q .totals)) (sym (w .progress-is))
+          ∙ ap (λ (q : ReportProgress). take (r .end) out′ ++ reportFrom (q .left) (drop (at + size) input ++ more) (q .totals)) (sym (w .progress-is))
 
-pub block-end : (input next : List ℕ) (p progress : Progress) (at end size room : ℕ) (out : List ℕ) → Blocking input next p room progress at end size out
+pub block-end : (input next : List ℕ) (p progress : ReportProgress) (at end size room : ℕ) (out : List ℕ) → Blocking input next p room progress at end size out
     → size ≤ 0 → BlockReported input p out (record { progress = progress; used = at; end = end })
 block-end input next p progress at end size room out g h =
     record {
@@ -180,14 +180,14 @@ block-end input next p progress at end size room out g h =
 -- ---- the end of the input
 
 -- there is room for the totals
-pub totals-room : (input : List ℕ) (p : Progress) (out₁ out₂ : List ℕ) (b : Block) (end : ℕ) → BlockReported input p out₁ b
+pub totals-room : (input : List ℕ) (p : ReportProgress) (out₁ out₂ : List ℕ) (b : Block) (end : ℕ) → BlockReported input p out₁ b
     → Wrote out₁ out₂ (b .end) end (unreadText (b .progress .left) (length input - b .used)) → length input + 768 ≤ 3 * length out₁
     → length out₂ ≡ length out₁ → end + 126 ≤ length out₂
 totals-room input p out₁ out₂ b end g u fits same =
     omega (arith, g .thirds, g .inside, u .end, unread-length (b .progress .left) (length input - b .used))
 
 -- the whole images, what is left of the input, and the totals
-pub last-reported : (input : List ℕ) (p : Progress) (out₁ out₂ out₃ : List ℕ) (b : Block) (end r : ℕ) → BlockReported input p out₁ b
+pub last-reported : (input : List ℕ) (p : ReportProgress) (out₁ out₂ out₃ : List ℕ) (b : Block) (end r : ℕ) → BlockReported input p out₁ b
     → Wrote out₁ out₂ (b .end) end (unreadText (b .progress .left) (length input - b .used)) → Wrote out₂ out₃ end r (totalsText (b .progress .totals))
     → length input + 768 ≤ 3 * length out₁ → length out₂ ≡ length out₁ → length out₃ ≡ length out₂
     → (take r out₃ ≡ reportFrom (p .left) input (p .totals)) × (r ≤ length out₃)
@@ -226,11 +226,11 @@ last-reported input p out₁ out₂ out₃ b end r g u w fits same same₃ = (pr
 -- ---- what the program keeps: the first `have` bytes of the input, and after a read n more
 
 -- at the end of the input
-pub kept-readable : (p : Progress) (have : ℕ) (input next out : List ℕ) → Buffers p have input next out → BlockLent (take have input) next p out
+pub kept-readable : (p : ReportProgress) (have : ℕ) (input next out : List ℕ) → Buffers p have input next out → BlockLent (take have input) next p out
 kept-readable p have input next out g =
     record { next-size = g .next-size; held = g .held; room = omega (arith, length-take-le have input (g .inside), g .inside, g .room) }
 
-module _ (p : Progress) (have n : ℕ) (input next out : List ℕ) (g : Buffers p have input next out) (come : have + n ≤ length input)
+module _ (p : ReportProgress) (have n : ℕ) (input next out : List ℕ) (g : Buffers p have input next out) (come : have + n ≤ length input)
     (input′ : List ℕ) (same : length input′ ≡ length input) where
   pub front-size : have + n ≡ length (take (have + n) input′)
   front-size = sym (length-take-le (have + n) input′ (omega arith))
@@ -259,7 +259,7 @@ module _ (p : Progress) (have n : ℕ) (input next out : List ℕ) (g : Buffers 
 -- ---- the whole input
 
 -- where the reading ends, what follows changes nothing
-ends-same : (left : ℕ) (rest more : List ℕ) (t : Totals) → endsReading left rest ≡ true → reportFrom left (rest ++ more) t ≡ reportFrom left rest t
+ends-same : (left : ℕ) (rest more : List ℕ) (t : SlotTotals) → endsReading left rest ≡ true → reportFrom left (rest ++ more) t ≡ reportFrom left rest t
 unfolding reportFrom unreadText endsReading
 ends-same zero rest more t d = refl
 ends-same (suc left) rest more t d =
@@ -284,7 +284,7 @@ ends-same (suc left) rest more t d =
         pick-false (eqb (suc left) 0) _ _ (ne-eqb (suc left) 0 (λ z. omega arith))
         ∙ pick-false (eqb (length input) 0) _ _ (ne-eqb (length input) 0 (λ z. omega arith))
 
-prints : {p : Progress} {input output : List ℕ} → Prints p input output → output ≡ reportFrom (p .left) input (p .totals)
+prints : {p : ReportProgress} {input output : List ℕ} → Prints p input output → output ≡ reportFrom (p .left) input (p .totals)
 prints (block p front more output out b r w) = ap (λ (x : List ℕ). take (b .end) out ++ x) (prints w) ∙ sym (r .goes-on more)
 prints (last p input out r d) = d
 prints (ended p rest more out r d c) = c ∙ sym (ends-same (p .left) rest more (p .totals) d)

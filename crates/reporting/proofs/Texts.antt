@@ -15,10 +15,10 @@ use Rattle.text.specs.inner.Output.{Wrote}
 use Rattle.text.proofs.Storing.{decimal-length, numbers-length}
 use Rattle.face.specs.Set.{SlotCounts, CountAnswer, Counted, NotCounted, CountResult, countValues, countEnd, countSays, countResult}
 use Rattle.reporting.specs.Report.{imageAnswer, answerText, totalsWith, totalsText, unreadText}
-use Rattle.reporting.specs.Blocks.{Below, Held}
-use Rattle.reporting.specs.inner.Images.{totalsAdded, progressWith, ImageReported}
-use Rattle.reporting.specs.declared.Totals.{Totals}
-use Rattle.reporting.specs.declared.Progress.{Progress}
+use Rattle.reporting.specs.Blocks.{Below, TotalsBounded}
+use Rattle.reporting.specs.inner.Images.{progressWith, ImageReported}
+use Rattle.reporting.specs.declared.SlotTotals.{SlotTotals}
+use Rattle.reporting.specs.declared.ReportProgress.{ReportProgress}
 
 -- ---- how long a line is
 
@@ -68,8 +68,8 @@ module _ (image heads next : List ℕ) (one : length heads ≡ 1) (entries : len
 -- ---- the totals
 
 -- the bound after one image more
-pub held-more : (p : Progress) (t : Totals) → Held p → 1 ≤ p .left → ((bound : ℕ) → Below (p .totals) bound → Below t (bound + 2 ^ 32))
-    → Held (record { left = p .left - 1; totals = t })
+pub held-more : (p : ReportProgress) (t : SlotTotals) → TotalsBounded p → 1 ≤ p .left → ((bound : ℕ) → Below (p .totals) bound → Below t (bound + 2 ^ 32))
+    → TotalsBounded (record { left = p .left - 1; totals = t })
 held-more p t h some more =
     record {
       few = omega (arith, h .few);
@@ -79,7 +79,7 @@ held-more p t h some more =
     sums : (left : ℕ) → 1 ≤ left → left ≤ 1000000 → 2 ^ 32 * (1000000 - left) + 2 ^ 32 ≡ 2 ^ 32 * (1000000 - (left - 1))
     sums left a b = omega arith
 
-below-wider : (t : Totals) (a b : ℕ) → a ≤ b → Below t a → Below t b
+below-wider : (t : SlotTotals) (a b : ℕ) → a ≤ b → Below t a → Below t b
 below-wider t a b h g =
     record {
       live-low = omega (arith, g .live-low);
@@ -91,20 +91,20 @@ below-wider t a b h g =
     }
 
 -- no sum loses part of a number
-pub held-room : (p : Progress) → Held p → Below (p .totals) (2 ^ 63)
+pub held-room : (p : ReportProgress) → TotalsBounded p → Below (p .totals) (2 ^ 63)
 held-room p h = below-wider (p .totals) _ _ (omega (arith, h .few)) (h .low)
 
-module _ (image : List ℕ) (p : Progress) (old new : List ℕ) (at end : ℕ) (held : Held p) (some : 1 ≤ p .left) where
+module _ (image : List ℕ) (p : ReportProgress) (old new : List ℕ) (at end : ℕ) (held : TotalsBounded p) (some : 1 ≤ p .left) where
   -- an accepted image
-  pub image-counted : (c : SlotCounts) (t : Totals) → gives (countValues c) ≡ imageAnswer image → Wrote old new at end (lineText (countValues c))
-      → t ≡ totalsAdded (p .totals) c → ((bound : ℕ) → Below (p .totals) bound → Below t (bound + 2 ^ 32))
+  pub image-counted : (c : SlotCounts) (t : SlotTotals) → gives (countValues c) ≡ imageAnswer image → Wrote old new at end (lineText (countValues c))
+      → t ≡ totalsWith (gives (countValues c)) (p .totals) → ((bound : ℕ) → Below (p .totals) bound → Below t (bound + 2 ^ 32))
       → ImageReported image p old at new (record { progress = record { left = p .left - 1; totals = t }; end = end })
-  unfolding answerText progressWith totalsWith totalsAdded countValues
+  unfolding answerText progressWith totalsWith countValues
   image-counted c t a w e more =
       record {
         wrote = subst (λ (x : Answer). Wrote old new at end (answerText x)) a w;
         progress-is =
-            ap (λ (x : Totals). record { left = p .left - 1; totals = x }) e
+            ap (λ (x : SlotTotals). record { left = p .left - 1; totals = x }) e
             ∙ ap (λ (x : Answer). record { left = p .left - 1; totals = totalsWith x (p .totals) }) a;
         held = held-more p t held some more;
       }
@@ -122,7 +122,7 @@ module _ (image : List ℕ) (p : Progress) (old new : List ℕ) (at end : ℕ) (
 
 -- ---- the end of the input
 
-pub totals-length : (t : Totals) → length (totalsText t) ≤ 126
+pub totals-length : (t : SlotTotals) → length (totalsText t) ≤ 126
 unfolding totalsText
 totals-length t = omega (arith, line-length (t .live) (t .hidden ∷ t .removes ∷ t .void ∷ t .broken ∷ t .empty ∷ []))
 

@@ -6,12 +6,12 @@ use Prim.Native.Nat.{ℕ, _+_, _-_, _*_, _^_, _≤_}
 use lib.Dec.{eqb, leb}
 use lib.ListN.{length, take, drop}
 use Rattle.reporting.specs.Report.{imageSize, wholeSize, noTotals, reportFrom, reportOf}
-use Rattle.reporting.specs.declared.Totals.{Totals}
-use Rattle.reporting.specs.declared.Progress.{Progress}
+use Rattle.reporting.specs.declared.SlotTotals.{SlotTotals}
+use Rattle.reporting.specs.declared.ReportProgress.{ReportProgress}
 use Rattle.reporting.specs.declared.Block.{Block}
 
 -- no total is above this bound
-pub record Below (t : Totals) (bound : ℕ) : Type 0 where
+pub record Below (t : SlotTotals) (bound : ℕ) : Type 0 where
   pub live-low : t .live ≤ bound
   pub hidden-low : t .hidden ≤ bound
   pub removes-low : t .removes ≤ bound
@@ -20,7 +20,7 @@ pub record Below (t : Totals) (bound : ℕ) : Type 0 where
   pub empty-low : t .empty ≤ bound
 
 -- at most a million images are read in all, and each adds less than 2^32 to a total
-pub record Held (p : Progress) : Type 0 where
+pub record TotalsBounded (p : ReportProgress) : Type 0 where
   pub few : p .left ≤ 1000000
   pub low : Below (p .totals) (2 ^ 32 * (1000000 - p .left))
 
@@ -29,16 +29,16 @@ unfoldable pub readable : (left : ℕ) → (input : List ℕ) → ℕ
 readable left input = cond (eqb left 0) 0 (wholeSize input)
 
 -- a block of input, and room for the lines of its images and for two more
-pub record BlockLent (input next : List ℕ) (p : Progress) (out : List ℕ) : Type 0 where
+pub record BlockLent (input next : List ℕ) (p : ReportProgress) (out : List ℕ) : Type 0 where
   pub next-size : length next ≡ 512
-  pub held : Held p
+  pub held : TotalsBounded p
   pub room : length input + 768 ≤ 3 * length out
 
 -- WHATEVER INPUT FOLLOWS, the output goes on with what is left; no whole image is left that may be read
-pub record BlockReported (input : List ℕ) (p : Progress) (out : List ℕ) (b : Block) : Type 0 where
+pub record BlockReported (input : List ℕ) (p : ReportProgress) (out : List ℕ) (b : Block) : Type 0 where
   pub inside : b .used ≤ length input
   pub thirds : 3 * b .end ≤ b .used
-  pub held : Held (b .progress)
+  pub held : TotalsBounded (b .progress)
   pub none-left : readable (b .progress .left) (drop (b .used) input) ≡ 0
   pub goes-on : (more : List ℕ)
       → reportFrom (p .left) (input ++ more) (p .totals)
@@ -50,11 +50,11 @@ endsReading left rest = cond (eqb left 0) true (leb 8 (length rest) && eqb (imag
 
 -- what is printed of an input, from this progress on, by the promises of `report_block` and `report_last`: block by block, each the front of what is not read yet,
 -- and then the last one, at the end of the input or where the reading ends
-pub data Prints : Progress → (input output : List ℕ) → Type 0 where
-  block : (p : Progress) (front more output out : List ℕ) (b : Block) → BlockReported front p out b
+pub data Prints : ReportProgress → (input output : List ℕ) → Type 0 where
+  block : (p : ReportProgress) (front more output out : List ℕ) (b : Block) → BlockReported front p out b
       → Prints (b .progress) (drop (b .used) front ++ more) output → Prints p (front ++ more) (take (b .end) out ++ output)
-  last : (p : Progress) (input out : List ℕ) (r : ℕ) → take r out ≡ reportFrom (p .left) input (p .totals) → Prints p input (take r out)
-  ended : (p : Progress) (rest more out : List ℕ) (r : ℕ) → endsReading (p .left) rest ≡ true → take r out ≡ reportFrom (p .left) rest (p .totals)
+  last : (p : ReportProgress) (input out : List ℕ) (r : ℕ) → take r out ≡ reportFrom (p .left) input (p .totals) → Prints p input (take r out)
+  ended : (p : ReportProgress) (rest more out : List ℕ) (r : ℕ) → endsReading (p .left) rest ≡ true → take r out ≡ reportFrom (p .left) rest (p .totals)
       → Prints p (rest ++ more) (take r out)
 
 -- HOWEVER THE INPUT COMES, its report is printed

@@ -10,7 +10,7 @@ use Rattle.words.specs.Word.{word}
 use Rattle.prelude.specs.Answer.{Answer, gives, absent, refused}
 use Rattle.text.specs.Output.{no, text, lineText}
 use Rattle.face.specs.Set.{countSays}
-use Rattle.reporting.specs.declared.Totals.{Totals}
+use Rattle.reporting.specs.declared.SlotTotals.{SlotTotals}
 
 -- ---- an image
 
@@ -38,11 +38,11 @@ answerText (refused number) = text (no number)
 
 -- ---- the totals
 
-unfoldable pub noTotals : Totals
+unfoldable pub noTotals : SlotTotals
 noTotals = record { live = 0; hidden = 0; removes = 0; void = 0; broken = 0; empty = 0 }
 
 -- "totals of the accepted ones": with the six of an accepted image
-unfoldable pub totalsWith : Answer → Totals → Totals
+unfoldable pub totalsWith : Answer → SlotTotals → SlotTotals
 totalsWith (gives values) t =
     record {
       live = t .live + getD values 0 0;
@@ -56,7 +56,7 @@ totalsWith absent t = t
 totalsWith (refused number) t = t
 
 -- "a last line of totals"
-unfoldable pub totalsText : Totals → List ℕ
+unfoldable pub totalsText : SlotTotals → List ℕ
 totalsText t = lineText (t .live ∷ t .hidden ∷ t .removes ∷ t .void ∷ t .broken ∷ t .empty ∷ [])
 
 -- ---- the whole input
@@ -66,7 +66,7 @@ unfoldable pub unreadText : (left input : ℕ) → List ℕ
 unreadText left input = cond (eqb left 0) [] (cond (eqb input 0) [] (text (no 1)))
 
 -- the output for an input of which at most `left` images are still read, with these totals so far
-unfoldable pub reportFrom : (left : ℕ) → (input : List ℕ) → Totals → List ℕ
+unfoldable pub reportFrom : (left : ℕ) → (input : List ℕ) → SlotTotals → List ℕ
 reportFrom zero input t = unreadText 0 (length input) ++ totalsText t
 reportFrom (suc left) input t =
     cond (eqb (wholeSize input) 0) (unreadText (suc left) (length input) ++ totalsText t)

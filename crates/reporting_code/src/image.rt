@@ -1,17 +1,19 @@
 // One image: its size, its line, and the totals with its counts.
 ghost use mathlib.Core.Path.{_≡_};
 ghost use Prim.Native.Nat.{ℕ, _+_, _^_};
-ghost use Rattle.reporting.specs.Report.{outside, imageSize};
+ghost use Rattle.prelude.specs.Answer.{gives};
+ghost use Rattle.face.specs.Set.{countValues};
+ghost use Rattle.reporting.specs.Report.{outside, imageSize, totalsWith};
 ghost use Rattle.reporting.specs.Blocks.{Below, readable};
-ghost use Rattle.reporting.specs.inner.Images.{totalsAdded, Reportable, ImageReported};
+ghost use Rattle.reporting.specs.inner.Images.{Reportable, ImageReported};
 use crate::storing::store_counts;
 use crate::storing::store_refusal;
 use orderset::CountAnswer;
 use orderset::SlotCounts;
 use orderset::count_slots;
-use reporting::Progress;
-use reporting::Reported;
-use reporting::Totals;
+use reporting::ImageReport;
+use reporting::ReportProgress;
+use reporting::SlotTotals;
 use words_code::read_word;
 
 // Is the word outside 2 to 511?
@@ -53,11 +55,11 @@ pub fn readable_size(input: &[u8], left: u32) -> usize
 }
 
 // The totals with the counts of one more image.
-fn add_counts(t: Totals, c: SlotCounts) -> Totals
+fn add_counts(t: SlotTotals, c: SlotCounts) -> SlotTotals
     requires { ⌜ Below t (2 ^ 63) ⌝ }
-    ensures { λ r. ⌜ (r ≡ totalsAdded t c) × ((bound : ℕ) → Below t bound → Below r (bound + 2 ^ 32)) ⌝ }
+    ensures { λ r. ⌜ (r ≡ totalsWith (gives (countValues c)) t) × ((bound : ℕ) → Below t bound → Below r (bound + 2 ^ 32)) ⌝ }
 {
-    Totals {
+    SlotTotals {
         live: t.live + c.live as u64,
         hidden: t.hidden + c.hidden as u64,
         removes: t.removes + c.removes as u64,
@@ -71,10 +73,10 @@ fn add_counts(t: Totals, c: SlotCounts) -> Totals
 pub fn report_image(
     image: &[u8],
     next: &mut [u32],
-    p: Progress,
+    p: ReportProgress,
     out: &mut [u8],
     at: usize,
-) -> Reported
+) -> ImageReport
     requires { ⌜ Reportable (now image) (now next) p (now out) at ⌝ }
     ensures { λ r. ⌜ ImageReported (now (image .entry)) p (now (out .entry)) at (now (out .exit)) r ⌝ }
 {
@@ -85,8 +87,8 @@ pub fn report_image(
     match answer {
         CountAnswer::Counted(counts) => {
             let end = store_counts(counts, out, at);
-            Reported {
-                progress: Progress {
+            ImageReport {
+                progress: ReportProgress {
                     left: p.left - 1,
                     totals: add_counts(totals, counts),
                 },
@@ -95,8 +97,8 @@ pub fn report_image(
         }
         CountAnswer::Refused { number, slot: _ } => {
             let end = store_refusal(number, out, at);
-            Reported {
-                progress: Progress {
+            ImageReport {
+                progress: ReportProgress {
                     left: p.left - 1,
                     totals,
                 },

@@ -6,23 +6,23 @@ ghost use mathlib.Core.Path.{_≡_};
 ghost use Prim.Native.Nat.{_≤_};
 ghost use lib.ListN.{length, take};
 ghost use Rattle.reporting.specs.Report.{noTotals, reportFrom};
-ghost use Rattle.reporting.specs.Blocks.{Held, BlockLent, BlockReported};
+ghost use Rattle.reporting.specs.Blocks.{TotalsBounded, BlockLent, BlockReported};
 pub use crate::image::image_size;
 use crate::image::readable_size;
 use crate::image::report_image;
 use crate::storing::store_totals;
 use crate::storing::store_unread;
 use reporting::Block;
-use reporting::Progress;
-use reporting::Totals;
+use reporting::ReportProgress;
+use reporting::SlotTotals;
 
 // Before the first image.
-pub fn start() -> Progress
-    ensures { λ r. ⌜ (r ≡ record { left = 1000000; totals = noTotals }) × Held r ⌝ }
+pub fn start() -> ReportProgress
+    ensures { λ r. ⌜ (r ≡ record { left = 1000000; totals = noTotals }) × TotalsBounded r ⌝ }
 {
-    Progress {
+    ReportProgress {
         left: 1000000,
-        totals: Totals {
+        totals: SlotTotals {
             live: 0,
             hidden: 0,
             removes: 0,
@@ -34,7 +34,7 @@ pub fn start() -> Progress
 }
 
 // The whole images at the front of the input are reported.
-pub fn report_block(input: &[u8], next: &mut [u32], p: Progress, out: &mut [u8]) -> Block
+pub fn report_block(input: &[u8], next: &mut [u32], p: ReportProgress, out: &mut [u8]) -> Block
     requires { ⌜ BlockLent (now input) (now next) p (now out) ⌝ }
     ensures { λ r. ⌜ BlockReported (now (input .entry)) p (now (out .exit)) r ⌝ }
 {
@@ -58,7 +58,7 @@ pub fn report_block(input: &[u8], next: &mut [u32], p: Progress, out: &mut [u8])
 }
 
 // The end of the input is reported: its whole images, `no 1` where something is left, and the totals. Returned is how many bytes of output there are.
-pub fn report_last(input: &[u8], next: &mut [u32], p: Progress, out: &mut [u8]) -> usize
+pub fn report_last(input: &[u8], next: &mut [u32], p: ReportProgress, out: &mut [u8]) -> usize
     requires { ⌜ BlockLent (now input) (now next) p (now out) ⌝ }
     ensures { λ r. ⌜ (take r (now (out .exit)) ≡ reportFrom (p .left) (now (input .entry)) (p .totals)) × (r ≤ length (now (out .exit))) ⌝ }
 {

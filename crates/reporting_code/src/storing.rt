@@ -6,7 +6,7 @@ ghost use Rattle.text.specs.inner.Output.{Wrote};
 ghost use Rattle.face.specs.Set.{countValues};
 ghost use Rattle.reporting.specs.Report.{totalsText, unreadText};
 use orderset::SlotCounts;
-use reporting::Totals;
+use reporting::SlotTotals;
 use text_code::output::store_numbers;
 use text_code::output::store_one;
 
@@ -38,7 +38,7 @@ pub fn store_refusal(number: u32, out: &mut [u8], at: usize) -> usize
 }
 
 // The totals.
-pub fn store_totals(t: Totals, out: &mut [u8], at: usize) -> usize
+pub fn store_totals(t: SlotTotals, out: &mut [u8], at: usize) -> usize
     requires { ⌜ at + 126 ≤ length (now out) ⌝ }
     ensures { λ r. ⌜ Wrote (now (out .entry)) (now (out .exit)) at r (totalsText t) ⌝ }
 {

@@ -1,6 +1,6 @@
 -- A store as an element of a lent slice.
 use denote.Struct.Laws as LL
-use Rattle.walks.proofs.Lent.{Element}
+use Rattle.mir_steps.proofs.Lent.{Element}
 use Rattle.stores.proofs.Store as T
 use Rattle.stores.proofs.Store.Laws as T′
 

@@ -3,7 +3,7 @@ use mathlib.Core.Path.{_≡_, refl, sym, ap, ap₂, _∙_, subst}
 use mathlib.Core.Bool.{Bool, true, false, cond, not}
 use mathlib.Core.List.{List, [], _∷_}
 use Prim.Native.Nat.{ℕ, zero, suc, _+_, _*_, _≤_, _<_, _^_}
-use native.Mathlib.Nat.{add-zero, zero-add, add-suc, suc-add}
+use native.Mathlib.Nat.{add-zero, zero-add, add-suc}
 use native.Mathlib.Omega.{arith}
 use borrow.Author.Tests.{ltb-false}
 use lib.Dec.{eqb, ltb}
@@ -12,7 +12,7 @@ use lib.Seq.{take-length}
 use Rattle.prelude.specs.Refusal.{say}
 use Rattle.prelude.specs.Range.{anyOf}
 use Rattle.prelude.proofs.Refusals.{say-false, say-zero, taken-leaves, alike}
-use Rattle.prelude.proofs.Any.{any-none}
+use Rattle.prelude.proofs.Any.{any-none, any-last}
 use Rattle.words.specs.Word.{setWord}
 use Rattle.stores.specs.Store.{Store, zipped, played}
 use Rattle.stores.specs.Play.{wordNumbers, values, listFault, playEnd, playListResult}
@@ -47,23 +47,12 @@ small false = omega arith
 pub fault-fits : (len : ℕ) (list : List Store) (i : ℕ) → faultTo len list i < 2 ^ 32
 fault-fits len list i = small (anyOf (λ k. ltb len (8 * getD (wordNumbers list) k 0 + 8)) 0 i)
 
-swap : (a b c : Bool) → cond a true (cond b true c) ≡ cond b true (cond a true c)
-swap true true c = refl
-swap true false c = refl
-swap false true c = refl
-swap false false c = refl
-
-any-last : (p : ℕ → Bool) (k n : ℕ) → anyOf p k (suc n) ≡ cond (p (k + n)) true (anyOf p k n)
-unfolding anyOf
-any-last p k zero = ap (λ (j : ℕ). cond (p j) true false) (sym (add-zero k))
-any-last p k (suc n) =
-    ap (λ (b : Bool). cond (p k) true b) (any-last p (suc k) n) ∙ swap (p k) (p (suc k + n)) (anyOf p (suc k) n)
-    ∙ ap (λ (j : ℕ). cond (p j) true (cond (p k) true (anyOf p (suc k) n))) (suc-add k n ∙ sym (add-suc k n))
-
-say-either : (a b : Bool) → say a 15 (say b 15 0) ≡ say (cond a true b) 15 0
+say-either : (a b : Bool) → say a 15 (say b 15 0) ≡ say (cond b true a) 15 0
 unfolding say
-say-either true b = refl
-say-either false b = refl
+say-either true true = refl
+say-either true false = refl
+say-either false true = refl
+say-either false false = refl
 
 pub fault-next : (len : ℕ) (list : List Store) (i : ℕ) → say (ltb len (8 * getD list i none .word + 8)) 15 (faultTo len list i) ≡ faultTo len list (i + 1)
 fault-next len list i =

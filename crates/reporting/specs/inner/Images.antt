@@ -5,49 +5,35 @@ use Prim.Native.Nat.{ℕ, _+_, _-_, _*_, _≤_}
 use lib.ListN.{length}
 use Rattle.prelude.specs.Answer.{Answer}
 use Rattle.text.specs.inner.Output.{Wrote}
-use Rattle.face.specs.Set.{SlotCounts}
 use Rattle.reporting.specs.Report.{imageAnswer, answerText, totalsWith}
-use Rattle.reporting.specs.Blocks.{Held}
-use Rattle.reporting.specs.declared.Totals.{Totals}
-use Rattle.reporting.specs.declared.Progress.{Progress}
-use Rattle.reporting.specs.declared.Reported.{Reported}
-
--- the totals with the counts of one more image
-unfoldable pub totalsAdded : Totals → SlotCounts → Totals
-totalsAdded t c =
-    record {
-      live = t .live + c .live;
-      hidden = t .hidden + c .hidden;
-      removes = t .removes + c .removes;
-      void = t .void + c .void;
-      broken = t .broken + c .broken;
-      empty = t .empty + c .empty;
-    }
+use Rattle.reporting.specs.Blocks.{TotalsBounded}
+use Rattle.reporting.specs.declared.ReportProgress.{ReportProgress}
+use Rattle.reporting.specs.declared.ImageReport.{ImageReport}
 
 -- one image more
-unfoldable pub progressWith : Answer → Progress → Progress
+unfoldable pub progressWith : Answer → ReportProgress → ReportProgress
 progressWith a p = record { left = p .left - 1; totals = totalsWith a (p .totals) }
 
 -- the image is one of 2 to 511 slots, there is an entry of next for each, and room for a line
-pub record Reportable (image next : List ℕ) (p : Progress) (out : List ℕ) (at : ℕ) : Type 0 where
+pub record Reportable (image next : List ℕ) (p : ReportProgress) (out : List ℕ) (at : ℕ) : Type 0 where
   pub slots : ℕ
   pub low : 2 ≤ slots
   pub high : slots ≤ 511
   pub size : length image ≡ 128 * (slots + 1)
   pub next-size : length next ≡ 512
   pub some-left : 1 ≤ p .left
-  pub held : Held p
+  pub held : TotalsBounded p
   pub room : at + 128 ≤ length out
 
 -- its line was stored, and it was counted
-pub record ImageReported (image : List ℕ) (p : Progress) (old : List ℕ) (at : ℕ) (new : List ℕ) (r : Reported) : Type 0 where
+pub record ImageReported (image : List ℕ) (p : ReportProgress) (old : List ℕ) (at : ℕ) (new : List ℕ) (r : ImageReport) : Type 0 where
   pub wrote : Wrote old new at (r .end) (answerText (imageAnswer image))
   pub progress-is : r .progress ≡ progressWith (imageAnswer image) p
-  pub held : Held (r .progress)
+  pub held : TotalsBounded (r .progress)
 
 -- what the program keeps between reads: the first `have` bytes of the input are not read yet
-pub record Buffers (p : Progress) (have : ℕ) (input next out : List ℕ) : Type 0 where
-  pub held : Held p
+pub record Buffers (p : ReportProgress) (have : ℕ) (input next out : List ℕ) : Type 0 where
+  pub held : TotalsBounded p
   pub inside : have ≤ length input
   pub next-size : length next ≡ 512
   pub room : length input + 768 ≤ 3 * length out

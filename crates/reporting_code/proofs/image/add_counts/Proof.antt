@@ -2,12 +2,13 @@
 use mathlib.Core.Path.{refl}
 use native.Mathlib.Omega.{arith}
 use borrow.Author.Needs.{needs}
-use Rattle.reporting.specs.inner.Images.{totalsAdded}
+use Rattle.face.specs.Set.{countValues}
+use Rattle.reporting.specs.Report.{totalsWith}
 use Rattle.reporting_code.proofs.image.add_counts.Statement.{statement}
 use Rattle.reporting_code.proofs.image.add_counts.Tie as tie
 
 returns : tie.Need-returns
-unfolding totalsAdded
+unfolding totalsWith countValues
 returns c = (
   refl,
   λ bound h.

@@ -41,10 +41,10 @@ use denote.Exit.{yes}
 use Rattle.stores.specs.Store.{Store}
 use Rattle.stores.specs.inner.List.{storesPut}
 use Rattle.stores.proofs.ListPut.{put-none, put-length, put-next}
-use Rattle.walks.proofs.Lent.{number, lentAt, OwnsMut, Shuts, dropped, opened, closed, looked, taken, offset-fits}
-use Rattle.walks.proofs.Locals.{Blocks, block, envOf, Frame, allocates, freed, behind}
-use Rattle.walks.proofs.Loop.{Upto, Nearer, nearer-wf, next, nearer, at-end, Turned, tests}
-use Rattle.walks.proofs.Statements.{copied, field-of, sets}
+use Rattle.mir_steps.proofs.Lent.{number, lentAt, OwnsMut, Shuts, dropped, opened, closed, looked, taken, offset-fits}
+use Rattle.mir_steps.proofs.Locals.{Blocks, block, envOf, Frame, allocates, freed, behind}
+use Rattle.mir_steps.proofs.Loop.{Upto, Nearer, nearer-wf, next, nearer, at-end, Turned, tests}
+use Rattle.mir_steps.proofs.Statements.{copied, field-of, sets}
 use Rattle.stores.proofs.Store as T
 use Rattle.stores.proofs.Store.Laws as T′
 use Rattle.store_list_code.proofs.Struct.{struct}

@@ -43,11 +43,11 @@ use denote.Triple.Clauses.{ensured, lasts}
 use denote.Triple.Table.{entered, cited}
 use denote.Triple.Walked.{says, needs, Stays, stay-dropped, stay-slice, walkOf, goes-dropped, goes-slice, Walks, ends-at, walked, walk-meets}
 use denote.Exit.{yes}
-use Rattle.walks.proofs.Again.{lent-again, comes-back}
-use Rattle.walks.proofs.Lent.{lentAt, OwnsMut, Shuts, counted, dropped, looked, taken, offset-fits}
-use Rattle.walks.proofs.Locals.{Blocks, block, envOf, Frame, allocates, freed, behind, sinks}
-use Rattle.walks.proofs.Loop.{Upto, Nearer, nearer-wf, next, nearer, at-end, Turned, tests}
-use Rattle.walks.proofs.Statements.{copied, field-of, sets, resets}
+use Rattle.mir_steps.proofs.Again.{lent-again, comes-back}
+use Rattle.mir_steps.proofs.Lent.{lentAt, OwnsMut, Shuts, number-owned, dropped, looked, taken, offset-fits}
+use Rattle.mir_steps.proofs.Locals.{Blocks, block, envOf, Frame, allocates, freed, behind, sinks}
+use Rattle.mir_steps.proofs.Loop.{Upto, Nearer, nearer-wf, next, nearer, at-end, Turned, tests}
+use Rattle.mir_steps.proofs.Statements.{copied, field-of, sets, resets}
 use Rattle.words.specs.Word.{setWord}
 use Rattle.stores.specs.Store.{Store, played}
 use Rattle.stores.proofs.Bytes.{played-length}
@@ -135,7 +135,7 @@ module _ {M : Type 1} (𝓤 : URA M) (H : Heap 𝓤) (A : Atoms 𝓤) (W : Given
     goes-write : ent 𝓤 (sep 𝓤 (A .lft (α ∷ []) fullShare) (sem 𝓤 H A (OwnsMut u8 (α ∷ []) b₀ o₀ δ (made i) (s₀ ∷ [])))) (Write 𝓤 H A mem run .pre to-write)
     goes-write =
         qed W (‵ (flft (α ∷ []) fullShare) ∷ ‵ (OwnsMut u8 (α ∷ []) b₀ o₀ δ (made i) (s₀ ∷ [])) ∷ []) ∵ says ! (subst (λ (k : ℕ). 8 * d .word + 8 ≤ k) (sym (size i)) (within i more)) $
-        nothing ! $ move ! (1 ∷ 0 ∷ []) $ join ! $ frame ! $ nothing ! $ counted ! w64 (d .value) value-fits $ fjoin ! $ counted ! w64 (d .word) wide $ fjoin ! $ move ! (1 ∷ 0 ∷ []) $ fjoin ! $ done !
+        nothing ! $ move ! (1 ∷ 0 ∷ []) $ join ! $ frame ! $ nothing ! $ number-owned ! w64 (d .value) value-fits $ fjoin ! $ number-owned ! w64 (d .word) wide $ fjoin ! $ move ! (1 ∷ 0 ∷ []) $ fjoin ! $ done !
 
   module _ (𝓣 : Tables 𝓤 H) (known : Triple 𝓤 (𝓣 .C #write-word) (Write 𝓤 H A mem run)) (p : Share) (bs : Blocks body.locals) where
     abbrev En : Env 𝓤 H

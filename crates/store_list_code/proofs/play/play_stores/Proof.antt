@@ -37,9 +37,9 @@ use denote.Triple.Clauses.{ensured, lasts}
 use denote.Triple.Table.{entered, cited}
 use denote.Triple.Walked.{says, Stays, stay-dropped, gave-slice, walkOf, goes-dropped, goes-gave-slice, Walks, ends-at, walked, walk-meets}
 use denote.Exit.{yes}
-use Rattle.walks.proofs.Lent.{lentAt, OwnsMut, OwnsShr, counted, dropped, given-up}
-use Rattle.walks.proofs.Locals.{block, envOf, allocates, freed, behind}
-use Rattle.walks.proofs.Statements.{copied, field-of, sets}
+use Rattle.mir_steps.proofs.Lent.{lentAt, OwnsMut, OwnsShr, number-owned, dropped, given-up}
+use Rattle.mir_steps.proofs.Locals.{block, envOf, allocates, freed, behind}
+use Rattle.mir_steps.proofs.Statements.{copied, field-of, sets}
 use Rattle.stores.specs.Store.{Store, played}
 use Rattle.stores.specs.Play.{wordNumbers, values, listFault, playEnd, playListResult}
 use Rattle.stores.proofs.Plays.{list-refused}
@@ -114,7 +114,7 @@ module _ {M : Type 1} (𝓤 : URA M) (H : Heap 𝓤) (A : Atoms 𝓤) (W : Given
   exits r zs fits ez e =
       qed W (Tokens ∷ ‵ (finally u8 γ₀ zs) ∷ []) ∵
       suffices ! _ (ends-at 𝓤 H A f.ended stayed (f.clauses 𝓤 H A mem run) W bound (vint w32 r) r (zs, (tt, tt)) (ez, (tt, tt))) $ says ! e $
-      frame ! $ dropped ! 1 $ move ! (1 ∷ 0 ∷ []) $ fjoin ! $ counted ! w32 r fits $ move ! (1 ∷ 0 ∷ []) $ done !
+      frame ! $ dropped ! 1 $ move ! (1 ∷ 0 ∷ []) $ fjoin ! $ number-owned ! w32 r fits $ move ! (1 ∷ 0 ∷ []) $ done !
 
   -- ---- `stores_fault`
 
@@ -126,7 +126,7 @@ module _ {M : Type 1} (𝓤 : URA M) (H : Heap 𝓤) (A : Atoms 𝓤) (W : Given
 
   goes-fault : ent 𝓤 (⋆ 𝓤 H A ((‵ (flft κ₁ q₁) ⊛ ‵ ftrue) ∷ Shared ∷ [])) (Fault 𝓤 H A mem run .pre to-fault)
   goes-fault =
-      qed W ((‵ (flft κ₁ q₁) ⊛ ‵ ftrue) ∷ Shared ∷ []) ∵ nothing ! $ counted ! w64 (length image) (room₀ .0) $ fjoin ! $ move ! (2 ∷ 0 ∷ []) $ fjoin ! $
+      qed W ((‵ (flft κ₁ q₁) ⊛ ‵ ftrue) ∷ Shared ∷ []) ∵ nothing ! $ number-owned ! w64 (length image) (room₀ .0) $ fjoin ! $ move ! (2 ∷ 0 ∷ []) $ fjoin ! $
       move ! (1 ∷ 0 ∷ []) $ join ! $ nothing ! $ move ! (1 ∷ 0 ∷ []) $ join ! $ done !
 
   -- the refusal

@@ -41,10 +41,10 @@ use denote.Triple.Clauses.{ensured, lasts}
 use denote.Triple.Table.{entered, cited}
 use denote.Triple.Walked.{says, Stays, stay-dropped, walkOf, goes-dropped, Walks, ends-at, walked, walk-meets}
 use denote.Exit.{yes}
-use Rattle.walks.proofs.Lent.{lentAt, Shuts, counted, dropped, looked, taken, offset-fits}
-use Rattle.walks.proofs.Locals.{Blocks, block, envOf, Frame, allocates, freed, behind, sinks}
-use Rattle.walks.proofs.Loop.{Upto, Nearer, nearer-wf, next, nearer, at-end, Turned, tests}
-use Rattle.walks.proofs.Statements.{copied, field-of, sets, resets}
+use Rattle.mir_steps.proofs.Lent.{lentAt, Shuts, number-owned, dropped, looked, taken, offset-fits}
+use Rattle.mir_steps.proofs.Locals.{Blocks, block, envOf, Frame, allocates, freed, behind, sinks}
+use Rattle.mir_steps.proofs.Loop.{Upto, Nearer, nearer-wf, next, nearer, at-end, Turned, tests}
+use Rattle.mir_steps.proofs.Statements.{copied, field-of, sets, resets}
 use Rattle.prelude.specs.Refusal.{say}
 use Rattle.stores.specs.Store.{Store}
 use Rattle.stores.proofs.Store as T
@@ -93,7 +93,7 @@ module _ {M : Type 1} (𝓤 : URA M) (H : Heap 𝓤) (A : Atoms 𝓤) (W : Given
   exits =
       qed W (‵ (flft κ q) ∷ []) ∵
       suffices ! _ (ends-at 𝓤 H A f.ended stayed (f.clauses 𝓤 H A mem run) W bound (vint w32 (found (length list))) (found (length list)) (tt, (tt, tt)) (tt, (tt, tt))) $ says ! (fault-all len list) $
-      nothing ! $ move ! (1 ∷ 0 ∷ []) $ join ! $ frame ! $ dropped ! 2 $ frame ! $ counted ! w32 (found (length list)) (fault-fits len list (length list)) $ done !
+      nothing ! $ move ! (1 ∷ 0 ∷ []) $ join ! $ frame ! $ dropped ! 2 $ frame ! $ number-owned ! w32 (found (length list)) (fault-fits len list (length list)) $ done !
 
   -- ---- `fault_with`
 
@@ -112,7 +112,7 @@ module _ {M : Type 1} (𝓤 : URA M) (H : Heap 𝓤) (A : Atoms 𝓤) (W : Given
 
     goes-fault : ent 𝓤 (emp 𝓤) (Fault 𝓤 H A mem run .pre to-fault)
     goes-fault =
-        qed W [] ∵ nothing ! $ nothing ! $ counted ! w32 word word-fits $ fjoin ! $ counted ! w64 len len-fits $ fjoin ! $ counted ! w32 (found i) (fault-fits len list i) $ fjoin ! $
+        qed W [] ∵ nothing ! $ nothing ! $ number-owned ! w32 word word-fits $ fjoin ! $ number-owned ! w64 len len-fits $ fjoin ! $ number-owned ! w32 (found i) (fault-fits len list i) $ fjoin ! $
         nothing ! $ join ! $ join ! $ done !
 
     comes-fault : (r : ℕ) → ent 𝓤 (ensured 𝓤 H A fault.ended (fault.clauses 𝓤 H A mem run) tt given tt r) (fact 𝓤 (r ≡ say (ltb len (8 * word + 8)) 15 (found i)))
