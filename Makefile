@@ -12,7 +12,9 @@ RT ?= rt
 OUT := target/c
 ARCHIVE := target/staticlib/liborderset_c.a
 ARCHIVE2 := target/staticlib/liborderset2_c.a
+PLUG := target/bin/plug
 LOG_ARCHIVE := target/staticlib/liblog_c.a
+REPORT := target/bin/report
 # CC, CXX, CFLAGS, CXXFLAGS and LDFLAGS are the caller's, from the environment or the command line
 ifeq ($(origin CC),default)
 CC := gcc
@@ -28,8 +30,8 @@ HEADERS := include/orderset.h include/orderset2.h include/orderset_log.h include
 CRATES := crates.txt $(shell find crates -name '*.rt' -o -name '*.antt')
 
 .PHONY: test planted gateway recorder heads bench archive run-names run-header run-persist run-guard run-storm run-lock \
-	run-guard2 run-storm2 run-kills2 run-differential2 run-watch run-kills run-heads run-differential run-log_header run-log_storm run-log_guard run-log_kills \
-	run-log_differential
+	run-guard2 run-storm2 run-kills2 run-report2 run-differential2 run-watch run-kills run-heads run-report run-plug \
+	run-differential run-log_header run-log_storm run-log_guard run-log_kills run-log_differential
 archive: $(ARCHIVE) $(ARCHIVE2) $(LOG_ARCHIVE)
 
 $(ARCHIVE): $(CRATES)
@@ -41,20 +43,28 @@ $(ARCHIVE2): $(CRATES)
 $(LOG_ARCHIVE): $(CRATES)
 	$(RT) staticlib log_c
 
+$(REPORT): $(CRATES)
+	$(RT) check report
+
+$(PLUG): $(CRATES)
+	$(RT) check plug
+
 $(OUT):
 	mkdir -p $(OUT)
 
 # the tests: docs/TESTS.md; SEED=... repeats a run, and run-storm and the like run one of them
-TESTS := persist guard storm lock kills heads watch differential
+TESTS := persist guard storm lock kills heads watch report plug differential
 # built for layout 2 too, under these names
-TESTS2 := guard2 storm2 kills2 differential2
+TESTS2 := guard2 storm2 kills2 report2 differential2
 LOG_TESTS := log_storm log_guard log_kills log_differential
 $(OUT)/persist: tests/persist.c tests/chance.c $(LOG_ARCHIVE)
 $(OUT)/guard $(OUT)/guard2: tests/guard.c tests/pieces.c tests/images.c tests/model.c tests/chance.c
 $(OUT)/differential $(OUT)/differential2: tests/differential.c tests/images.c tests/model.c tests/chance.c
+$(OUT)/plug: tests/plug.c tests/model.c tests/child.c tests/chance.c
 $(OUT)/storm $(OUT)/storm2: tests/storm.c tests/cache.c tests/model.c tests/chance.c
 $(OUT)/lock $(OUT)/heads $(OUT)/kills: $(OUT)/%: tests/%.c tests/child.c tests/chance.c
 $(OUT)/kills2: tests/kills.c tests/child.c tests/chance.c
+$(OUT)/report $(OUT)/report2: tests/report.c tests/images.c tests/model.c tests/child.c tests/chance.c
 $(OUT)/watch: tests/watch.c tests/model.c tests/child.c tests/chance.c
 
 $(TESTS:%=$(OUT)/%): $(wildcard tests/*.h) $(HEADERS) $(ARCHIVE) | $(OUT)
@@ -83,8 +93,8 @@ $(OUT)/gateway_on_disk: examples/gateway.c tests/disk.c $(HEADERS) $(ARCHIVE2) $
 	$(C) examples/gateway.c tests/disk.c $(ARCHIVE2) $(ARCHIVE) -Wl,--wrap=mmap,--wrap=msync,--wrap=fsync,--wrap=renameat2 -o $@
 
 .NOTPARALLEL:
-test: run-names run-header run-persist run-lock run-watch run-heads run-storm run-storm2 run-kills run-kills2 run-guard run-guard2 \
-	run-differential run-differential2 \
+test: run-names run-header run-persist run-lock run-watch run-heads run-report run-report2 run-plug run-storm run-storm2 \
+	run-kills run-kills2 run-guard run-guard2 run-differential run-differential2 \
 	run-log_header run-log_storm run-log_kills run-log_guard run-log_differential
 run-names:
 	@tests/names
@@ -96,13 +106,17 @@ run-lock run-heads: run-%: $(OUT)/% $(OUT)/gateway
 	@$(OUT)/$* $(OUT)/gateway $(OUT)/$*.img $(SEED)
 run-watch: $(OUT)/watch $(OUT)/sender
 	@$(OUT)/watch $(OUT)/sender $(OUT)/watch.img $(SEED)
+run-report run-report2: run-%: $(OUT)/% $(OUT)/gateway $(REPORT)
+	@$(OUT)/$* $(REPORT) $(OUT)/gateway $(OUT)/$*.img $(SEED)
+run-plug: $(OUT)/plug $(PLUG)
+	@$(OUT)/plug $(PLUG) $(OUT)/plug.trace $(SEED)
 run-kills run-kills2: run-%: $(OUT)/% $(OUT)/gateway $(OUT)/gateway_on_disk
 	@$(OUT)/$* $(OUT)/gateway $(OUT)/gateway_on_disk $(OUT)/$*.img $(SEED)
 run-log_kills: $(OUT)/log_kills $(OUT)/recorder
 	@$(OUT)/log_kills $(OUT)/recorder $(OUT)/log_kills.log $(SEED)
 
 # every test fails where a fault is planted
-planted: $(ARCHIVE) $(ARCHIVE2) $(LOG_ARCHIVE)
+planted: $(ARCHIVE) $(ARCHIVE2) $(LOG_ARCHIVE) $(REPORT) $(PLUG)
 	tests/planted.sh
 
 $(OUT)/gateway $(OUT)/sender: $(OUT)/%: examples/%.c $(HEADERS) $(ARCHIVE2) $(ARCHIVE) | $(OUT)

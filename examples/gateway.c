@@ -5,6 +5,7 @@
  *     gateway FILE               the same commands from standard input, one a line
  *     gateway FILE heads [B]     how many held keys are found with each count of slots compared, their average and the
  *                                longest, with B heads (1 to 65536), or as many as the gateway takes for the file
+ *     gateway FILE count         how many slots are live, hidden puts, remove records, void, broken and empty
  *
  *     new KEY QUANTITY           an order is sent
  *     acknowledge KEY            the exchange has acknowledged it; once is enough, and again stores nothing
@@ -15,15 +16,16 @@
  *     show KEY, list             an order, all orders
  *
  * QUANTITY is a 64-bit number in decimal digits, and so is KEY in a file of layout 1; in a file of layout 2 it is an order
- * number of 16 bytes: 0x and 32 hexadecimal digits. The file's header tells which layout it has. Each command is answered on standard output, and what it
- * changed is durable before the answer is written. A refused line of standard input is answered by its number and its
- * words, and the next one is read; of commands that are arguments, none is carried out after a refused one. Status 0:
- * all done. 1: something was refused or failed. 2: the arguments are no commands, and nothing was done.
+ * number of 16 bytes: 0x and 32 hexadecimal digits. The file's header tells which layout it has. Each command is answered
+ * on standard output, and what it changed is durable before the answer is written. A refused line of standard input is
+ * answered by its number and its words, and the next one is read; of commands that are arguments, none is carried out
+ * after a refused one. Status 0: all done. 1: something was refused or failed. 2: the arguments are no commands, and
+ * nothing was done.
  *
  * On a file system on non-volatile memory (DAX) a write is two line flushes, in a basket two for each item, and one
- * fence; on any other it is msync, the fallback. One gateway writes at a time, alone; those that only read (heads, and
- * show and list as arguments) open the file read-only, and several of them may run. What they show was perhaps not
- * durable yet if the last writer was killed.
+ * fence; on any other it is msync, the fallback. One gateway writes at a time, alone; those that only read (heads,
+ * count, and show and list as arguments) open the file read-only, and several of them may run. What they show was
+ * perhaps not durable yet if the last writer was killed.
  *
  * The calls of the archive are proved; this program, the headers and what lies below them are not. It is made so that a
  * power cut, a kill, a full disk and a failed msync lose nothing that was answered. Each start that writes makes
@@ -92,7 +94,7 @@ struct command {
     enum kind kind;
     struct key key;
     uint64_t number;
-    struct item item[ORDERSET_BASKET];
+    struct item item[ORDERSET_BASKET_MAX];
 };
 
 /* ---- what is said */
@@ -108,7 +110,7 @@ static const char *const refusals[] = {
     "of valid slots with one version the numbers of records differ, there are more than that number, or two have one key",
     "no slot is spare",
     "the next version is 2^63 or more",
-    "the value exceeds 80 bytes",
+    "the value exceeds 80 bytes, or 72 in layout 2",
     "the key's chain or the reuse chain is not one of this image, or the live count is zero where an order is removed",
     NULL,
     "the output is shorter than the value",
@@ -121,7 +123,7 @@ static const char *const refusals[] = {
     "the key of an insert is held",
     "the key of a replace is not held",
     "its kind is neither put nor remove",
-    "its length is over 80, or it is a remove with a length",
+    "its length is over 80, or 72 in layout 2, or it is a remove with a length",
     "a value byte past its length is not zero",
     "more than eight slots are broken or void; no power cut leaves that: look at the memory, and whether all was made "
     "durable",
@@ -344,7 +346,8 @@ static uint64_t load(struct set *s, int file, const char *path, int writing) {
     return recover(s);
 }
 
-static void start(struct set *s, const char *path, int writing) {
+/* Stops where recovery refuses. */
+static void recover_file(struct set *s, const char *path, int writing) {
     if (access(path, F_OK) && errno == ENOENT)
         stop(FAILED, "%s: %s; 'gateway %s make N' makes one", path, strerror(errno), path);
     int file = open_image(path, writing, &s->length);
@@ -354,6 +357,10 @@ static void start(struct set *s, const char *path, int writing) {
         stop(FAILED, "%s: recovery says no %" PRIu32 " of slot %" PRIu32 ": %s", path, number, slot, words_of(number));
     if (number)
         stop(FAILED, "%s: recovery says no %" PRIu32 ": %s", path, number, words_of(number));
+}
+
+static void start(struct set *s, const char *path, int writing) {
+    recover_file(s, path, writing);
     open_voids(s, path, writing);
     printf("recovered %" PRIu32 " held keys; next version %" PRIu64 "; %s\n", s->state[ORDERSET_LIVE], s->version[0],
            !writing ? "reading only" : s->flushes ? "flush and fence" : "msync (fallback)");
@@ -587,11 +594,12 @@ static void print_basket(uint64_t items, const uint64_t answer[ORDERSET_BASKET_A
 
 /* All items or none: one call of the set, and one fence. */
 static uint32_t basket(struct set *s, const struct command *c) {
-    enum { ROOM = ORDERSET_BASKET_STORES(ORDERSET_BASKET) };
-    uint32_t kinds[ORDERSET_BASKET] = {0}, at[ROOM], number = key_twice(c) ? ORDERSET_KEY_TWICE : ORDERSET_OK;
-    uint64_t lows[ORDERSET_BASKET] = {0}, highs[ORDERSET_BASKET] = {0}, value[ROOM], answer[ORDERSET_BASKET_ANSWER];
-    size_t lengths[ORDERSET_BASKET] = {0}, items = (size_t)c->number;
-    uint8_t values[ORDERSET_BASKET_VALUES] = {0};
+    enum { ROOM = ORDERSET_BASKET_STORES(ORDERSET_BASKET_MAX) };
+    uint32_t kinds[ORDERSET_BASKET_MAX] = {0}, at[ROOM], number = key_twice(c) ? ORDERSET_KEY_TWICE : ORDERSET_OK;
+    uint64_t lows[ORDERSET_BASKET_MAX] = {0}, highs[ORDERSET_BASKET_MAX] = {0}, value[ROOM];
+    uint64_t answer[ORDERSET_BASKET_ANSWER];
+    size_t lengths[ORDERSET_BASKET_MAX] = {0}, items = (size_t)c->number;
+    uint8_t values[ORDERSET_BASKET_BYTES] = {0};
     for (size_t i = 0; i < items && !number; i++) {
         uint8_t *order = values + ORDERSET_VALUE_MAX * i;
         kinds[i] = c->item[i].kind == NEW ? ORDERSET_INSERT : ORDERSET_REMOVE;
@@ -667,6 +675,25 @@ static void print_counts(const struct set *s, const uint64_t *found) {
     printf("average %.2f, longest %" PRIu64 "\n", held ? (double)sum / (double)held : 0, longest);
 }
 
+/* ---- how many slots are of each class, as the file has them: void slots are not opened before */
+
+static int run_count(const char *path, int count) {
+    static struct set set;
+    uint64_t counts[ORDERSET_COUNTS];
+    if (count)
+        stop(USAGE, "count: nothing follows");
+    recover_file(&set, path, 0);
+    uint64_t returned = (set.layout == ORDERSET2_LAYOUT ? orderset2_count_slots : orderset_count_slots)(
+        set.image, set.length, set.heads, set.heads_length, set.next, set.next_length, counts);
+    if (returned)
+        stop(FAILED, "%s: no %" PRIu32, path, ORDERSET_REFUSAL(returned));
+    printf("%" PRIu64 " live, %" PRIu64 " hidden puts, %" PRIu64 " remove records, %" PRIu64 " void, %" PRIu64
+           " broken, %" PRIu64 " empty\n",
+           counts[0], counts[1], counts[2], counts[3], counts[4], counts[5]);
+    answered();
+    return 0;
+}
+
 /* ---- commands from words and from lines */
 
 static int kind_of(const char *name, size_t length) {
@@ -730,11 +757,12 @@ static struct item item_of(const struct command *c) {
 }
 
 static int good_count(const struct command *c) {
-    return c->kind != BASKET || (c->number > 0 && c->number <= ORDERSET_BASKET);
+    return c->kind != BASKET || (c->number > 0 && c->number <= ORDERSET_BASKET_MAX);
 }
 
-/* The command at the front of the words; answers how many words it has. */
-static int command_of_words(char **word, int count, struct command *c) {
+/* A command's name, key and number at the front of the words, without a basket's items; answers how many words they
+ * are. */
+static int head_of_words(char **word, int count, struct command *c) {
     int kind = kind_of(word[0], strlen(word[0]));
     if (kind == KINDS)
         stop(USAGE, "not a command: %s", word[0]);
@@ -746,12 +774,18 @@ static int command_of_words(char **word, int count, struct command *c) {
         stop(USAGE, "not a key: %s", word[1]);
     if (forms[kind].number && (number_of(word[used - 1], strlen(word[used - 1]), &c->number) || !good_count(c)))
         stop(USAGE, "not a %s: %s", kind == BASKET ? "number of items" : "quantity", word[used - 1]);
-    for (uint64_t i = 0; kind == BASKET && i < c->number; i++) {
+    return used;
+}
+
+/* The command at the front of the words; answers how many words it has. */
+static int command_of_words(char **word, int count, struct command *c) {
+    int used = head_of_words(word, count, c);
+    for (uint64_t i = 0; c->kind == BASKET && i < c->number; i++) {
         struct command item;
         if (used == count)
             stop(USAGE, "not a command, words are missing: %s", word[0]);
         const char *name = word[used];
-        used += command_of_words(word + used, count - used, &item);
+        used += head_of_words(word + used, count - used, &item);
         if (!in_basket(&item))
             stop(USAGE, "not an item of a basket: %s", name);
         c->item[i] = item_of(&item);
@@ -767,8 +801,9 @@ static const char *next_word(const char **line, const char *end, size_t *length)
     return word;
 }
 
-/* The command at the front of a line, one space between its words. Answers 0, or -1. */
-static int front_command(const char **line, const char *end, struct command *c) {
+/* A command's name, key and number at the front of a line, one space between its words, without a basket's items. Answers
+ * 0, or -1. */
+static int front_head(const char **line, const char *end, struct command *c) {
     size_t length;
     const char *word = next_word(line, end, &length);
     int kind = word ? kind_of(word, length) : KINDS;
@@ -779,11 +814,16 @@ static int front_command(const char **line, const char *end, struct command *c) 
         return -1;
     if (forms[kind].number && (!(word = next_word(line, end, &length)) || number_of(word, length, &c->number)))
         return -1;
-    if (!good_count(c))
+    return good_count(c) ? 0 : -1;
+}
+
+/* The command at the front of a line. Answers 0, or -1. */
+static int front_command(const char **line, const char *end, struct command *c) {
+    if (front_head(line, end, c))
         return -1;
-    for (uint64_t i = 0; kind == BASKET && i < c->number; i++) {
+    for (uint64_t i = 0; c->kind == BASKET && i < c->number; i++) {
         struct command item;
-        if (front_command(line, end, &item) || !in_basket(&item))
+        if (front_head(line, end, &item) || !in_basket(&item))
             return -1;
         c->item[i] = item_of(&item);
     }
@@ -909,7 +949,7 @@ int main(int count, char **word) {
     signal(SIGPIPE, SIG_IGN); /* a reader that is gone is a failed write */
     hold_streams();
     if (count < 2)
-        stop(USAGE, "usage: gateway FILE [make N [L] | heads [B] | new KEY QUANTITY | acknowledge KEY | "
+        stop(USAGE, "usage: gateway FILE [make N [L] | heads [B] | count | new KEY QUANTITY | acknowledge KEY | "
                     "fill KEY QUANTITY | withdraw KEY | basket N ITEM... | show KEY | list]...");
     if (count == 2)
         return run_lines(word[1]);
@@ -917,5 +957,7 @@ int main(int count, char **word) {
         return run_make(word[1], word + 3, count - 3);
     if (!strcmp(word[2], "heads"))
         return run_heads(word[1], word + 3, count - 3);
+    if (!strcmp(word[2], "count"))
+        return run_count(word[1], count - 3);
     return run_words(word[1], word + 2, count - 2);
 }

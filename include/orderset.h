@@ -41,9 +41,9 @@
  * tell that it does not count. A later call with a higher version would hide that, and half of the basket would be there
  * after all; with an open line the record is gone for good.
  *
- * Baskets: orderset_basket inserts, replaces and removes 1 to ORDERSET_BASKET distinct keys, all or none: after a cut
- * that left any number of first stores on each of its up to sixteen lines, recovery gives all of its changes where all
- * stores stand, and else none of them. The records that it writes have one version, and each tells in bits 16 to 23 of
+ * Baskets: orderset_basket inserts, replaces and removes 1 to ORDERSET_BASKET_MAX distinct keys, all or none: after a
+ * cut that left any number of first stores on each of its up to sixteen lines, recovery gives all of its changes where
+ * all stores stand, and else none of them. The records that it writes have one version, and each tells in bits 16 to 23 of
  * its kind word how many they are, from 2 to 8; a record that was written alone, also by a basket of one key, has 0
  * there. Of valid slots the highest version counts if as many of them have it as its records tell. Otherwise these
  * records are void, and the next version down is judged in turn. A void record holds nothing for its key, and its slot
@@ -53,16 +53,18 @@
  * the highest version among valid slots, nor a record of a remove while an older valid record of its key is in the
  * image. 28 says that too few slots may be taken, or that new keys would leave no spare slot. In a set that was
  * formatted and then changed by these calls alone, an insert is refused with 28 only where one slot is spare, and a
- * replace or a remove never is; a basket may be refused with 28 at any live count, since it needs a slot for each key.
- * An image from elsewhere that recovery accepts may have no slot to take; there they are refused with 28 too.
+ * replace or a remove never is; a basket can also be refused with 28 where as many slots are spare as it has keys, or
+ * more, since some of them may not be taken. An image from elsewhere that recovery accepts may have no slot to take;
+ * there they are refused with 28 too.
  *
  * What a call returns: 0 where it is not refused. A refused call leaves everything that it was lent as it was. Format,
  * play, baskets, the book's steps and the questions about a line return the number of the refusal (enum
  * orderset_refusal).
- * Recover, insert, replace, remove, get and locate return 64 bits: that number in the low 32, read by ORDERSET_REFUSAL,
- * and above them the slot that recover names (ORDERSET_FAULT_SLOT), or the count of slots that the other calls compared
- * (below). So compare ORDERSET_REFUSAL of the result with a number, and the result itself with 0 alone. In get, locate
- * and remove a key that is not held is no refusal: the call returns 0 and answer[0] is ORDERSET_ABSENT.
+ * Recover, count_slots, insert, replace, remove, get and locate return 64 bits: that number in the low 32, read by
+ * ORDERSET_REFUSAL, and above them the slot that recover and count_slots name (ORDERSET_FAULT_SLOT), or the count of
+ * slots that the other calls compared (below). So compare ORDERSET_REFUSAL of the result with a number, and the result
+ * itself with 0 alone. In get, locate and remove a key that is not held is no refusal: the call returns 0 and answer[0]
+ * is ORDERSET_ABSENT.
  *
  * Slots compared: insert, replace, remove, get and locate report how many slots of the key's chain were compared with
  * the key: the key's place in the chain, from 1, or the length of the chain where the key is not held. With an index
@@ -75,8 +77,8 @@
  * of 8 bytes, low byte first: its state (ORDERSET_SENT or ORDERSET_ACKNOWLEDGED), the ordered quantity and the filled
  * quantity, and filled is below ordered. Any other value is no order. The steps are orderset_book_new,
  * orderset_book_acknowledge, orderset_book_fill and orderset_book_withdraw; orderset_get reads an order. An order that
- * is filled in full or withdrawn is removed. Over any history of steps since an empty set, with no insert, replace or
- * remove among them, all that was ordered is filled, withdrawn or open.
+ * is filled in full or withdrawn is removed. Over any history of steps since an empty set, with no insert, replace,
+ * remove or basket among them, all that was ordered is filled, withdrawn or open.
  *
  * A single line can be asked about, as 64 bytes and nothing else of the image: orderset_line_whole,
  * orderset_line_version, orderset_line_first and orderset_line_last. The answers are the set's own rules: a slot is
@@ -85,14 +87,17 @@
  *
  * Pointers: none may be null, also where a length is 0, and each is aligned for its type. What a function writes
  * through one pointer must not overlap what it is lent through any other; two regions that are only read may overlap.
- * So in every call image, heads, next, state, version, the value or the output, count, at, value and answer are
- * separate pieces of memory.
+ * So in every call image, heads, next, state, version, the value or the output, count, counts, at, value and answer are
+ * separate pieces of memory; a basket's kinds, keys, lengths and bytes, which may overlap each other, overlap none of
+ * these that it writes.
  *
- * Stack: recovery needs up to 2.24 MB (see there). Of the other calls, measured: a basket 2.4 KB, any other below 1 KB.
+ * Stack: recovery and count_slots need up to 2.24 MB (see orderset_recover). Of the other calls, measured: a basket 2.4
+ * KB, any other below 1 KB.
  *
  * Threads: the set has no locks. Gets and locates may run beside each other, each with an output and an answer of its
  * own, and beside nothing else: from the start of an insert, a replace, a remove, a basket, a step of the book, a
- * recovery or a play until its stores are made, no other call runs. The questions about a line may run at any time on a
+ * recovery or a play until its stores are made, no other call runs; nor while slots are counted with the set's own heads
+ * and next. The questions about a line may run at any time on a
  * copy of the line; a copy that is taken while another thread or process stores is taken from word 7 down to word 0
  * (see examples/sender.c).
  *
@@ -131,11 +136,12 @@ extern "C" {
 #define ORDERSET_STORES 16u /* the stores of a call, the first half for line A and the second for line B */
 #define ORDERSET_LINE_STORES 8u
 #define ORDERSET_OPENINGS 8u /* the most stores that recovery hands out */
+#define ORDERSET_COUNTS 6u /* the counts of orderset_count_slots */
 
 /* a basket: its keys, at the most; the bytes of its values, 80 for each key; and the stores of one of so many keys */
-#define ORDERSET_BASKET 8u
-#define ORDERSET_BASKET_VALUES 640u
-#define ORDERSET_BASKET_STORES(keys) ((size_t)ORDERSET_STORES * (size_t)(keys))
+#define ORDERSET_BASKET_MAX 8u
+#define ORDERSET_BASKET_BYTES 640u
+#define ORDERSET_BASKET_STORES(count) ((size_t)ORDERSET_STORES * (count))
 
 /* what a basket does with a key */
 #define ORDERSET_INSERT 1u
@@ -260,6 +266,18 @@ ORDERSET_CALL uint64_t orderset_recover(const uint8_t *image, size_t image_lengt
                                         uint64_t version[1], uint32_t count[1], uint32_t at[ORDERSET_OPENINGS],
                                         uint64_t value[ORDERSET_OPENINGS]);
 
+/* Counts the slots of an image that recovery accepts, by what they hold. counts: {live slots, hidden puts, remove
+ * records, void slots, broken slots, empty slots}; they add up to N. A live slot has the value of a held key, a hidden
+ * put one that a later record of its key hides; a remove record is counted whether it hides anything or not. A record
+ * that is void is counted as void alone: to know how many a cut left, count before recovery's stores are made. The
+ * image is only read. heads and next become those of orderset_recover, while no state is written, and the chains of a
+ * set in use go in another order: lend it heads and next of its own, or call orderset_recover before any other call.
+ * Returns what orderset_recover returns, with the same stack; of a refused image counts, heads and next stay as they
+ * were. Refusals: those of orderset_recover. */
+ORDERSET_CALL uint64_t orderset_count_slots(const uint8_t *image, size_t image_length, uint32_t *heads,
+                                            size_t heads_length, uint32_t *next, size_t next_length,
+                                            uint64_t counts[ORDERSET_COUNTS]);
+
 /* Gives the key, which is not held, the value. answer: {ORDERSET_GIVEN, slot, version, slots compared}; the stores are
  * at[i], a word number counted from the start of the image, and value[i]. Refusals: 1, 2, 3, 4, 10, 11 (chain), and
  * with the slots compared 20, 11 (reuse), 28, 9. */
@@ -285,8 +303,8 @@ ORDERSET_CALL uint64_t orderset_remove(const uint8_t *image, size_t image_length
                                        uint64_t version[1], uint64_t key, uint32_t at[ORDERSET_STORES],
                                        uint64_t value[ORDERSET_STORES], uint64_t answer[ORDERSET_CHANGE_ANSWER]);
 
-/* Changes count keys, 1 to ORDERSET_BASKET, all or none. Item i is kinds[i] (ORDERSET_INSERT, ORDERSET_REPLACE or
- * ORDERSET_REMOVE), keys[i] and, where it is not removed, the first lengths[i] bytes of values from byte 80 * i on. All
+/* Changes count keys, 1 to ORDERSET_BASKET_MAX, all or none. Item i is kinds[i] (ORDERSET_INSERT, ORDERSET_REPLACE or
+ * ORDERSET_REMOVE), keys[i] and, where it is not removed, the first lengths[i] of bytes from byte 80 * i on. All
  * eight places of these arrays are lent, and what stands from place count on does not matter. answer: {version, slots}:
  * answer[ORDERSET_BASKET_SLOTS + i] is the slot of item i, and zeros follow. The stores, ORDERSET_BASKET_STORES(count),
  * are at[i] and value[i], sixteen for each item in order; the entries past them stay as they were. They are made in
@@ -299,9 +317,10 @@ ORDERSET_CALL uint64_t orderset_remove(const uint8_t *image, size_t image_length
  * removes), 28, 9. Each is tested for all keys before the next. */
 ORDERSET_CALL uint32_t orderset_basket(const uint8_t *image, size_t image_length, uint32_t *heads, size_t heads_length,
                                        uint32_t *next, size_t next_length, uint32_t state[ORDERSET_STATE],
-                                       uint64_t version[1], size_t count, const uint32_t kinds[ORDERSET_BASKET],
-                                       const uint64_t keys[ORDERSET_BASKET], const size_t lengths[ORDERSET_BASKET],
-                                       const uint8_t values[ORDERSET_BASKET_VALUES], uint32_t *at, size_t at_length,
+                                       uint64_t version[1], size_t count, const uint32_t kinds[ORDERSET_BASKET_MAX],
+                                       const uint64_t keys[ORDERSET_BASKET_MAX],
+                                       const size_t lengths[ORDERSET_BASKET_MAX],
+                                       const uint8_t bytes[ORDERSET_BASKET_BYTES], uint32_t *at, size_t at_length,
                                        uint64_t *value, size_t value_length, uint64_t answer[ORDERSET_BASKET_ANSWER]);
 
 /* Copies the key's value to the front of the output; the bytes after it stay as they were. answer: {ORDERSET_GIVEN,

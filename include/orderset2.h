@@ -15,8 +15,9 @@
  * by orderset_persist.h, orderset_play and orderset_play_list, which know nothing of a layout; so do the questions about
  * a line.
  *
- * Stack: as in layout 1, and for recovery 8 bytes more for each entry of its scratch lists: 173 KB for N below 4,096,
- * 796 KB below 16,384 and 2.77 MB from there on. Give the thread 3 MiB, or 1 MiB where N is below 16,384. */
+ * Stack: as in layout 1, and for recovery and count_slots 8 bytes more for each entry of their scratch lists: 173 KB for
+ * N below 4,096, 796 KB below 16,384 and 2.77 MB from there on. Give the thread 3 MiB, or 1 MiB where N is below
+ * 16,384. */
 #ifndef ORDERSET2_H
 #define ORDERSET2_H
 
@@ -34,6 +35,11 @@ ORDERSET_CALL uint64_t orderset2_recover(const uint8_t *image, size_t image_leng
                                          size_t heads_length, uint32_t *next, size_t next_length,
                                          uint32_t state[ORDERSET_STATE], uint64_t version[1], uint32_t count[1],
                                          uint32_t at[ORDERSET_OPENINGS], uint64_t value[ORDERSET_OPENINGS]);
+
+/* As orderset_count_slots. */
+ORDERSET_CALL uint64_t orderset2_count_slots(const uint8_t *image, size_t image_length, uint32_t *heads,
+                                             size_t heads_length, uint32_t *next, size_t next_length,
+                                             uint64_t counts[ORDERSET_COUNTS]);
 
 /* As orderset_insert; 10 is for a value of more than ORDERSET2_VALUE_MAX bytes. */
 ORDERSET_CALL uint64_t orderset2_insert(const uint8_t *image, size_t image_length, uint32_t *heads, size_t heads_length,
@@ -56,14 +62,15 @@ ORDERSET_CALL uint64_t orderset2_remove(const uint8_t *image, size_t image_lengt
                                         uint64_t version[1], uint64_t low, uint64_t high, uint32_t at[ORDERSET_STORES],
                                         uint64_t value[ORDERSET_STORES], uint64_t answer[ORDERSET_CHANGE_ANSWER]);
 
-/* As orderset_basket, with the key lows[i] + 2^64 * highs[i] for item i, and its value from byte 80 * i on too; 10 as in
- * insert, of an insert or a replace. 27 where two items have the same two words. */
+/* As orderset_basket, with the key lows[i] + 2^64 * highs[i] for item i, and its value in bytes from byte 80 * i on too;
+ * 10 as in insert, of an insert or a replace. 27 where two items have the same two words. */
 ORDERSET_CALL uint32_t orderset2_basket(const uint8_t *image, size_t image_length, uint32_t *heads, size_t heads_length,
                                         uint32_t *next, size_t next_length, uint32_t state[ORDERSET_STATE],
-                                        uint64_t version[1], size_t count, const uint32_t kinds[ORDERSET_BASKET],
-                                        const uint64_t lows[ORDERSET_BASKET], const uint64_t highs[ORDERSET_BASKET],
-                                        const size_t lengths[ORDERSET_BASKET],
-                                        const uint8_t values[ORDERSET_BASKET_VALUES], uint32_t *at, size_t at_length,
+                                        uint64_t version[1], size_t count, const uint32_t kinds[ORDERSET_BASKET_MAX],
+                                        const uint64_t lows[ORDERSET_BASKET_MAX],
+                                        const uint64_t highs[ORDERSET_BASKET_MAX],
+                                        const size_t lengths[ORDERSET_BASKET_MAX],
+                                        const uint8_t bytes[ORDERSET_BASKET_BYTES], uint32_t *at, size_t at_length,
                                         uint64_t *value, size_t value_length, uint64_t answer[ORDERSET_BASKET_ANSWER]);
 
 /* As orderset_get. An output of ORDERSET2_VALUE_MAX bytes is always long enough; 23 is for a length above that. */

@@ -11,13 +11,14 @@
  *     if (orderset_insert(image, length, ..., at, value, answer) == ORDERSET_OK &&
  *         orderset_persist(image, length, at, value, flush) == 0)
  *         ...answer the client
- *     if (orderset_basket(image, length, ..., keys, ..., at, room, value, room, answer) == ORDERSET_OK &&
- *         orderset_persist_list(image, length, at, value, ORDERSET_BASKET_STORES(keys), flush) == 0)
+ *     if (orderset_basket(image, length, ..., items, kinds, keys, ..., answer) == ORDERSET_OK &&
+ *         orderset_persist_list(image, length, at, value, ORDERSET_BASKET_STORES(items), flush) == 0)
  *         ...answer the client
  *
  * The image is mapped from non-volatile memory and 64-byte aligned, so that the eight words of a line are one cache
  * line. What mmap gives is; of other memory orderset_aligned tells it, and orderset_persist_image tests it. at and
- * value are as an insert, a replace, a remove or a step of the book handed them out for this image. A refused call, a
+ * value are as an insert, a replace, a remove or a step of the book handed them out for this image; those of
+ * orderset_persist_list as a basket, recovery or the log did, with as many stores as it told. A refused call, a
  * remove that answers absent and a second acknowledge hand out nothing, and nothing is to be persisted.
  *
  * The order (section 2 of Cohen, Friedman and Larus, Efficient Logging in Non-Volatile Memory by Exploiting Coherency
@@ -150,10 +151,10 @@ static inline void orderset_store_list(void *bytes, const uint32_t *at, const ui
 /* Whether each of these words is in a whole line of the bytes. */
 static inline int orderset_inside(size_t bytes_length, const uint32_t *at, size_t count) {
     const size_t words = bytes_length / ORDERSET_LINE_BYTES * ORDERSET_LINE_STORES;
+    int outside = 0; /* without a branch: the compiler tests several words at once */
     for (size_t i = 0; i < count; i++)
-        if (at[i] >= words)
-            return 0;
-    return 1;
+        outside |= at[i] >= words;
+    return !outside;
 }
 
 /* Makes a list of stores durable: store i sets word at[i] of the bytes, which begin a line, to value[i]. First all
@@ -169,10 +170,12 @@ ORDERSET_CALL static inline int orderset_persist_list(void *bytes, size_t bytes_
         return -1;
     }
     orderset_store_list(bytes, at, value, count);
+    uint32_t last = UINT32_MAX; /* no line has this number */
     for (size_t i = 0; i < count; i++) {
-        const size_t line = at[i] / ORDERSET_LINE_STORES;
-        if (i == 0 || line != at[i - 1] / ORDERSET_LINE_STORES)
-            orderset_flush_line((char *)bytes + line * ORDERSET_LINE_BYTES, flush);
+        const uint32_t line = at[i] / ORDERSET_LINE_STORES;
+        if (line != last)
+            orderset_flush_line((char *)bytes + (size_t)line * ORDERSET_LINE_BYTES, flush);
+        last = line;
     }
     orderset_fence();
     return 0;

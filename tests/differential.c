@@ -6,9 +6,9 @@
  * once, and any other key of that head has their number. In histories that are book steps only, total ordered is total
  * filled plus total withdrawn plus what is open. In the other histories there are baskets too, whose stores are made, all
  * of them or as a cut leaves them: recovery must give all of the basket or nothing of it, also after cuts among the
- * stores that open void slots. With an index that is not the image's own, the slots of a basket and the index that it
- * leaves are free, and of a single call whose slot is not the reuse chain's first all but the refusal. Ends with status
- * 1 at the first difference and prints the case.
+ * stores that open void slots. Beside each recovery the slots are counted. With an index that is not the image's own,
+ * the slots of a basket and the index that it leaves are free, and of a single call whose slot is not the reuse chain's
+ * first all but the refusal. Ends with status 1 at the first difference and prints the case.
  *
  *     differential [SEED [CALLS]]
  *     differential SEED CALLS damaged    recovers damaged images alone, one a call
@@ -81,6 +81,7 @@ static uint64_t baskets, half_baskets, openings; /* whole, struck by a cut, stor
 static uint64_t calls, strikes, queries, met[WHICH][ANSWERS]; /* queries: of lines; met: by the answer */
 static uint64_t compared, longest, far_met[WHICH][ANSWERS]; /* slots: of the last call, the most; with 2 or more */
 static uint32_t named; /* the slot that the last recovery named */
+static uint64_t counted; /* accepted images whose slots were counted */
 static const char *phase = "";
 static enum which call;
 static const struct set *now;
@@ -325,6 +326,42 @@ static void compare_openings(const struct set *s, const struct m_recovered *reco
     openings += recovered->count;
 }
 
+/* The six counts of the same image, with an index of the same size: what recovery returned and left. */
+static void compare_counts(const struct set *s, const struct m_recovered *recovered, uint64_t recovery_code) {
+    const size_t heads_bytes = 4 * s->model.heads_length, next_bytes = 4 * s->model.next_length;
+    uint64_t *counts = lend(8 * ORDERSET_COUNTS), expected[ORDERSET_COUNTS], sum = 0;
+    uint32_t *heads = lend(heads_bytes), *next = lend(next_bytes);
+    uint8_t *heads_lent = malloc(heads_bytes + 1), *next_lent = malloc(next_bytes + 1);
+    if (!heads_lent || !next_lent)
+        abort();
+    fill(expected, sizeof expected);
+    fill(heads, heads_bytes);
+    fill(next, next_bytes);
+    memcpy(counts, expected, sizeof expected);
+    memcpy(heads_lent, heads, heads_bytes);
+    memcpy(next_lent, next, next_bytes);
+    uint64_t code = SET(count_slots)(s->image, s->length, heads, s->model.heads_length, next, s->model.next_length,
+                                     counts);
+    same_number("what counting returned", code, recovery_code);
+    if (!recovered->refusal) {
+        m_count(s->model_image, s->length, recovered, expected);
+        for (unsigned i = 0; i < ORDERSET_COUNTS; i++)
+            sum += counts[i];
+        same_number("the sum of the counts", sum, s->n);
+    }
+    same_bytes("the counts", counts, expected, sizeof expected);
+    same_bytes("the heads of counting", heads, recovered->refusal ? (void *)heads_lent : s->model.heads, heads_bytes);
+    same_bytes("the next of counting", next, recovered->refusal ? (void *)next_lent : s->model.next, next_bytes);
+    if (!guarded(counts, 8 * ORDERSET_COUNTS) || !guarded(heads, heads_bytes) || !guarded(next, next_bytes))
+        differ("counting wrote outside what it was lent");
+    counted += !recovered->refusal;
+    give_back(counts);
+    give_back(heads);
+    give_back(next);
+    free(heads_lent);
+    free(next_lent);
+}
+
 static int try_recover(struct set *s) {
     uint32_t count_lent = (uint32_t)chance(), at_lent[ORDERSET_OPENINGS];
     uint64_t value_lent[ORDERSET_OPENINGS];
@@ -341,6 +378,7 @@ static int try_recover(struct set *s) {
     same_code(ORDERSET_REFUSAL(code), recovered.refusal, DONE);
     same_number("the slot named", named, recovered.slot);
     compare_openings(s, &recovered, count_lent, at_lent, value_lent);
+    compare_counts(s, &recovered, code);
     compare(s);
     if (s->n > SMALL)
         compare_all(s);
@@ -455,22 +493,22 @@ static unsigned try_change(struct set *s, const struct request *r) {
     return compare_change(s, code, answer, answer_lent, at_lent, value_lent, c);
 }
 
-enum { PLACES = ORDERSET_BASKET * ORDERSET_STORES }; /* the stores of a basket, at the most */
+enum { PLACES = ORDERSET_BASKET_MAX * ORDERSET_STORES }; /* the stores of a basket, at the most */
 
 /* A basket: how many of the items are asked, and the lengths of the two lists that are lent. */
 struct basket {
     size_t count, places, values;
-    struct m_item item[ORDERSET_BASKET];
+    struct m_item item[ORDERSET_BASKET_MAX];
 };
 
 static uint32_t archive_basket(const struct set *s, const struct basket *b, uint32_t *at, uint64_t *value,
                                uint64_t answer[ORDERSET_BASKET_ANSWER]) {
-    uint32_t kinds[ORDERSET_BASKET];
-    uint64_t lows[ORDERSET_BASKET], highs[ORDERSET_BASKET];
-    size_t lengths[ORDERSET_BASKET];
-    uint8_t values[ORDERSET_BASKET_VALUES];
+    uint32_t kinds[ORDERSET_BASKET_MAX];
+    uint64_t lows[ORDERSET_BASKET_MAX], highs[ORDERSET_BASKET_MAX];
+    size_t lengths[ORDERSET_BASKET_MAX];
+    uint8_t values[ORDERSET_BASKET_BYTES];
     fill(values, sizeof values);
-    for (size_t i = 0; i < ORDERSET_BASKET; i++) {
+    for (size_t i = 0; i < ORDERSET_BASKET_MAX; i++) {
         const struct m_item *item = &b->item[i];
         kinds[i] = item->kind;
         lows[i] = low_word(item->key);
@@ -522,7 +560,7 @@ static unsigned compare_basket(struct set *s, const struct basket *b, uint32_t c
     const unsigned answered = same_code(code, s->basket.refusal, DONE);
     if (answered == DONE && !s->own)
         take_slots(s, b, answer);
-    for (size_t i = 0; i < ORDERSET_BASKET; i++)
+    for (size_t i = 0; i < ORDERSET_BASKET_MAX; i++)
         expected[ORDERSET_BASKET_SLOTS + i] = s->basket.slot[i];
     same_bytes("the answer", answer, s->basket.refusal ? lent : expected, sizeof expected);
     if (answered == DONE && s->own)
@@ -946,7 +984,7 @@ static size_t any_places(size_t count) {
 
 /* Distinct keys of the plain map, each to be inserted, replaced or removed, and what that does. */
 static struct basket any_basket(const struct plain *p, struct effect *e) {
-    const uint32_t wanted = 1 + (uint32_t)below(ORDERSET_BASKET), first = (uint32_t)below(p->keys);
+    const uint32_t wanted = 1 + (uint32_t)below(ORDERSET_BASKET_MAX), first = (uint32_t)below(p->keys);
     struct basket b = {0};
     for (uint32_t k = 0; k < p->keys && b.count < wanted; k++) {
         const uint32_t i = (first + k) % p->keys, kind = any_kind(p->size[i] >= 0);
@@ -999,7 +1037,7 @@ static int make_basket(struct set *s, size_t count, int struck) {
 /* A basket: refused exactly where the rules refuse it, but for 28 by the slots that may be taken, which the model tells.
  * All of it is there, or after a cut perhaps nothing. */
 static struct set *basket(struct set *s, struct plain *p, unsigned cuts) {
-    struct effect e[ORDERSET_BASKET];
+    struct effect e[ORDERSET_BASKET_MAX];
     const struct basket b = any_basket(p, e);
     const int struck = cuts && below(s->n > 3000 ? 200 : 4) == 0;
     unsigned want = plain_basket(s, p, &b, e), got = try_basket(s, &b);
@@ -1147,8 +1185,8 @@ static uint32_t kind_near(const struct set *s, m_key key) {
 /* Mostly a basket that is not refused for what is given, with an index that is the image's own. */
 static struct basket basket_near(const struct set *s, uint64_t keys, const uint8_t *bytes) {
     struct basket b = {.count = below(40) ? 1 + below(below(2) ? 2 : 8) : below(2) ? below(11) : (size_t)chance()};
-    const size_t few = b.count <= ORDERSET_BASKET ? b.count : ORDERSET_BASKET;
-    for (size_t i = 0; i < ORDERSET_BASKET; i++) {
+    const size_t few = b.count <= ORDERSET_BASKET_MAX ? b.count : ORDERSET_BASKET_MAX;
+    for (size_t i = 0; i < ORDERSET_BASKET_MAX; i++) {
         const m_key key = key_near(s, keys);
         b.item[i] = (struct m_item){i < few ? kind_near(s, key) : (uint32_t)chance(), key, bytes,
                                     below(20) ? below(VALUE_MAX + 1) : any_size()};
@@ -1715,7 +1753,7 @@ static const struct basket_case {
         uint32_t kind;
         uint64_t key;
         size_t size;
-    } item[ORDERSET_BASKET];
+    } item[ORDERSET_BASKET_MAX];
 } basket_cases[] = {
     {DONE, SOUND, 1, {0, 0}, {{R, 7, VALUE_MAX}}},
     {DONE, SOUND, 1, {0, 0}, {{I, 10, 0}}},
@@ -1784,11 +1822,11 @@ static const struct basket_case {
 static void directed_basket(const struct basket_case *c) {
     struct set *s = directed_set(c->fault);
     uint8_t bytes[ORDERSET_VALUE_MAX];
-    const size_t stores = ORDERSET_STORES * (c->count > ORDERSET_BASKET ? 1 : c->count);
+    const size_t stores = ORDERSET_STORES * (c->count > ORDERSET_BASKET_MAX ? 1 : c->count);
     struct basket b = {.count = c->count, .places = stores - c->less[0], .values = stores - c->less[1]};
     const uint64_t before = met[BASKET][c->answer];
     fill(bytes, sizeof bytes);
-    for (size_t i = 0; i < ORDERSET_BASKET; i++)
+    for (size_t i = 0; i < ORDERSET_BASKET_MAX; i++)
         b.item[i] = (struct m_item){c->item[i].kind, directed_key(c->item[i].key), bytes, c->item[i].size};
     s->own = c->fault == SOUND;
     try_basket(s, &b);
@@ -2028,8 +2066,8 @@ int main(int count, char **word) {
     far_least = least_met(far_met, far_answers);
     printf("%" PRIu64 " calls, %" PRIu64 " of them struck with all 81 pairs of counts, %" PRIu64
            " questions about lines, %" PRIu64 " baskets and %" PRIu64 " that a cut struck, %" PRIu64
-           " opening stores, each answer of the rules at least %" PRIu64 " times, %" PRIu64
+           " opening stores, %" PRIu64 " images counted, each answer of the rules at least %" PRIu64 " times, %" PRIu64
            " with 2 or more slots compared, up to %" PRIu64 ": no difference (%.0f s)\n",
-           calls, strikes, queries, baskets, half_baskets, openings, least, far_least, longest, seconds());
-    return least == 0 || far_least == 0 || baskets == 0 || half_baskets == 0 || openings == 0;
+           calls, strikes, queries, baskets, half_baskets, openings, counted, least, far_least, longest, seconds());
+    return least == 0 || far_least == 0 || baskets == 0 || half_baskets == 0 || openings == 0 || counted == 0;
 }

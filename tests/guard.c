@@ -16,11 +16,12 @@
 enum { CALLS = 5000000 };
 enum which {
     FORMAT, RECOVER, INSERT, REPLACE, REMOVE, NEW, ACKNOWLEDGE, FILL, WITHDRAW, GET, LOCATE, PLAY, PLAY_LIST, BASKET,
-    LINE_WHOLE, LINE_VERSION, LINE_FIRST, LINE_LAST, WHICH
+    LINE_WHOLE, LINE_VERSION, LINE_FIRST, LINE_LAST, COUNT_SLOTS, WHICH
 };
 static const char *const name[WHICH] = {"format",      "recover", "insert",     "replace",      "remove",     "new",
                                         "acknowledge", "fill",    "withdraw",   "get",          "locate",     "play",
-                                        "play_list",   "basket",  "line_whole", "line_version", "line_first", "line_last"};
+                                        "play_list",   "basket",  "line_whole", "line_version", "line_first", "line_last",
+                                        "count_slots"};
 
 static uint64_t already, opened;   /* second acknowledges, stores that open void slots */
 static uint64_t answers[WHICH][2]; /* [0] not refused, [1] refused */
@@ -30,7 +31,7 @@ static enum which call;
 
 enum what {
     IMAGE, HEADS, NEXT, STATE, VERSION, BYTES, OUTPUT, AT, VALUE, ANSWER, COUNT, OPEN_AT, OPEN_VALUE, KINDS, LOWS, HIGHS,
-    LENGTHS, VALUES, PIECES
+    LENGTHS, VALUES, COUNTS, PIECES
 };
 
 struct piece piece[PIECES] = {
@@ -52,6 +53,7 @@ struct piece piece[PIECES] = {
     {"high words", PAGE, NULL, NULL, NULL, 0, 0},
     {"lengths", PAGE, NULL, NULL, NULL, 0, 0},
     {"values", PAGE, NULL, NULL, NULL, 0, 0},
+    {"counts", PAGE, NULL, NULL, NULL, 0, 0},
 };
 
 const int pieces = PIECES;
@@ -116,6 +118,22 @@ static void call_recover(void) {
     }
 }
 
+/* The counts add up to the number of slots. */
+static void call_count(void) {
+    static const int writable[] = {HEADS, NEXT, COUNTS, NONE};
+    uint64_t sum = 0;
+    begin(COUNT_SLOTS, writable);
+    if (end(SET(count_slots)(r(IMAGE), piece[IMAGE].length, w(HEADS), heads_length, w(NEXT), next_length, w(COUNTS)),
+            writable))
+        return;
+    for (unsigned i = 0; i < ORDERSET_COUNTS; i++)
+        sum += ((uint64_t *)w(COUNTS))[i];
+    if (sum != next_length - 1) {
+        show("the counts add up to %" PRIu64, sum);
+        exit(1);
+    }
+}
+
 static void call_play(size_t a, size_t b) {
     static const int writable[] = {IMAGE, NONE};
     begin(PLAY, writable);
@@ -171,13 +189,13 @@ static m_key key_of_image(uint64_t keys) {
 
 /* The items of a basket, the first `count` of them mostly as the rules ask for. */
 static void place_items(uint64_t keys, size_t count) {
-    place(KINDS, 4 * ORDERSET_BASKET);
-    place(LOWS, 8 * ORDERSET_BASKET);
-    place(HIGHS, 8 * ORDERSET_BASKET);
-    place(LENGTHS, sizeof(size_t) * ORDERSET_BASKET);
-    place(VALUES, ORDERSET_BASKET_VALUES);
-    fill(w(VALUES), ORDERSET_BASKET_VALUES);
-    for (size_t i = 0; i < ORDERSET_BASKET; i++) {
+    place(KINDS, 4 * ORDERSET_BASKET_MAX);
+    place(LOWS, 8 * ORDERSET_BASKET_MAX);
+    place(HIGHS, 8 * ORDERSET_BASKET_MAX);
+    place(LENGTHS, sizeof(size_t) * ORDERSET_BASKET_MAX);
+    place(VALUES, ORDERSET_BASKET_BYTES);
+    fill(w(VALUES), ORDERSET_BASKET_BYTES);
+    for (size_t i = 0; i < ORDERSET_BASKET_MAX; i++) {
         uint32_t kind = i < count && below(100) ? 1 + (uint32_t)below(3) : (uint32_t)chance();
         const m_key key = key_of_image(keys);
         const uint64_t low = low_word(key), high = high_word(key);
@@ -340,8 +358,9 @@ static void lend_for_one_call(void) {
     place(COUNT, 4);
     place(OPEN_AT, 4 * ORDERSET_OPENINGS);
     place(OPEN_VALUE, 8 * ORDERSET_OPENINGS);
+    place(COUNTS, 8 * ORDERSET_COUNTS);
     place(BYTES, any_size());
-    if (call >= LINE_WHOLE)
+    if (call >= LINE_WHOLE && call <= LINE_LAST)
         place_line();
     place(OUTPUT, below(3) ? below(ORDERSET_VALUE_MAX + 17) : ORDERSET_VALUE_MAX);
     fill(w(AT), piece[AT].length);
@@ -352,18 +371,21 @@ static void lend_for_one_call(void) {
     fill(w(COUNT), piece[COUNT].length);
     fill(w(OPEN_AT), piece[OPEN_AT].length);
     fill(w(OPEN_VALUE), piece[OPEN_VALUE].length);
+    fill(w(COUNTS), piece[COUNTS].length);
 }
 
 static void any_call(uint64_t keys) {
     static const enum which often[] = {RECOVER, RECOVER, INSERT,      INSERT,      INSERT, REPLACE, REPLACE, REPLACE,
                                        REMOVE,  REMOVE,  NEW,         NEW,         FILL,   FILL,    FILL,    WITHDRAW,
                                        GET,     GET,     ACKNOWLEDGE, ACKNOWLEDGE, GET,    LOCATE,  PLAY,    PLAY_LIST,
-                                       LINE_WHOLE, LINE_VERSION, LINE_FIRST, LINE_LAST, BASKET, BASKET, BASKET, BASKET};
+                                       LINE_WHOLE, LINE_VERSION, LINE_FIRST, LINE_LAST, BASKET, BASKET, BASKET, BASKET,
+                                       COUNT_SLOTS};
     call = below(40) ? often[below(sizeof often / sizeof *often)] : FORMAT;
     lend_for_one_call();
     switch (call) {
     case FORMAT: call_format(); break;
     case RECOVER: call_recover(); break;
+    case COUNT_SLOTS: call_count(); break;
     case GET: call_get(key_of_image(keys)); break;
     case LOCATE: call_locate(key_of_image(keys)); break;
     case PLAY: any_stores(), call_play(below(10), below(10)); break;

@@ -2,8 +2,9 @@
 // not found; an insert of a held key, a replace of one that is not held and a value that is too long are refused and
 // store nothing; the slots compared are read from answers and from refusals; an order is sent, acknowledged,
 // acknowledged again and filled; a record of a basket that a cut left is opened; a basket is made durable and found, and
-// baskets are refused. Before the stores of a call are made, and after that, its lines are asked about. In layout 2 two
-// keys that share their low word are inserted, found, and removed by a basket, and each layout refuses the other's image.
+// baskets are refused; the slots are counted. Before the stores of a call are made, and after that, its lines are asked
+// about. In layout 2 two keys that share their low word are inserted, found, and removed by a basket, the slots are
+// counted, and each layout refuses the other's image.
 #include <cstdio>
 #include <cstring>
 #include <vector>
@@ -43,13 +44,27 @@ bool start() {
            && orderset_aligned(image) && orderset_persist_image(image, sizeof image, best) == 0 && recover(0);
 }
 
+// With heads and next of its own: those of the set in use go on with its state.
+bool counts_by(decltype(&orderset_count_slots) count_slots, const uint64_t (&due)[ORDERSET_COUNTS]) {
+    uint64_t told[ORDERSET_COUNTS];
+    auto own_heads = heads;
+    auto own_next = next;
+    return count_slots(image, sizeof image, own_heads.data(), own_heads.size(), own_next.data(), own_next.size(), told)
+               == ORDERSET_OK
+           && !std::memcmp(told, due, sizeof due);
+}
+
+bool counts(uint64_t live, uint64_t hidden, uint64_t removes, uint64_t voids, uint64_t broken, uint64_t empty) {
+    return counts_by(orderset_count_slots, {live, hidden, removes, voids, broken, empty});
+}
+
 // Key 20 was to be inserted by a basket of two, of which one record stands, in slot 1: nothing of it is held.
 bool opens_void() {
     const uint64_t line_a[] = {0, 20, 1 + (2 << 16), 0, 0, 0, 0, 2}, line_b[] = {0, 0, 0, 0, 0, 0, 0, 2};
     std::memcpy(image + ORDERSET_SLOT_BYTES, line_a, sizeof line_a);
     std::memcpy(image + ORDERSET_SLOT_BYTES + ORDERSET_LINE_BYTES, line_b, sizeof line_b);
-    return recover(1) && open_at[0] == 16 && open_value[0] == 1 && state[ORDERSET_LIVE] == 0 && recover(0)
-           && state[ORDERSET_LIVE] == 0;
+    return counts(0, 0, 0, 1, 0, 3) && recover(1) && counts(0, 0, 0, 0, 1, 3) && open_at[0] == 16 && open_value[0] == 1
+           && state[ORDERSET_LIVE] == 0 && recover(0) && state[ORDERSET_LIVE] == 0;
 }
 
 // The stores are made only where the call was accepted and handed some out.
@@ -126,7 +141,7 @@ bool refused_stores_nothing(const char *of_seven) {
 }
 
 // Key 7 is held; key 10 joins its chain and leaves it again.
-bool counts_slots() {
+bool reports_compared() {
     return made_durable(insert(10, "x", 1)) && answer[ORDERSET_COMPARED] == 1 && finds(7, "sell")
            && found[ORDERSET_GET_COMPARED] == 1 && finds(10, "x") && found[ORDERSET_GET_COMPARED] == 2
            && finds(4, nullptr) && found[ORDERSET_GET_COMPARED] == 2 && finds(8, nullptr)
@@ -137,10 +152,10 @@ bool counts_slots() {
 
 // Two keys at once, in a list of two baskets' length.
 uint32_t basket(size_t keys, uint32_t first_kind, uint64_t first, uint32_t second_kind, uint64_t second, size_t room) {
-    const uint32_t kinds[ORDERSET_BASKET] = {first_kind, second_kind};
-    const uint64_t key[ORDERSET_BASKET] = {first, second};
-    const size_t lengths[ORDERSET_BASKET] = {4, 6};
-    uint8_t values[ORDERSET_BASKET_VALUES] = "twin";
+    const uint32_t kinds[ORDERSET_BASKET_MAX] = {first_kind, second_kind};
+    const uint64_t key[ORDERSET_BASKET_MAX] = {first, second};
+    const size_t lengths[ORDERSET_BASKET_MAX] = {4, 6};
+    uint8_t values[ORDERSET_BASKET_BYTES] = "twin";
     std::memcpy(values + ORDERSET_VALUE_MAX, "second", 6);
     std::memset(list_at, 1, sizeof list_at);
     return orderset_basket(image, sizeof image, heads.data(), heads.size(), next.data(), next.size(), state, version,
@@ -222,10 +237,10 @@ bool finds2(uint64_t high, const char *text, uint64_t compared) {
 }
 
 bool drops_both() {
-    const uint32_t kinds[ORDERSET_BASKET] = {ORDERSET_REMOVE, ORDERSET_REMOVE};
-    const uint64_t lows[ORDERSET_BASKET] = {7, 7}, highs[ORDERSET_BASKET] = {2, 1};
-    const size_t lengths[ORDERSET_BASKET] = {0, 0};
-    const uint8_t values[ORDERSET_BASKET_VALUES] = {0};
+    const uint32_t kinds[ORDERSET_BASKET_MAX] = {ORDERSET_REMOVE, ORDERSET_REMOVE};
+    const uint64_t lows[ORDERSET_BASKET_MAX] = {7, 7}, highs[ORDERSET_BASKET_MAX] = {2, 1};
+    const size_t lengths[ORDERSET_BASKET_MAX] = {0, 0};
+    const uint8_t values[ORDERSET_BASKET_BYTES] = {0};
     const size_t stores = ORDERSET_BASKET_STORES(2);
     return orderset2_basket(image, sizeof image, heads.data(), heads.size(), next.data(), next.size(), state, version, 2,
                             kinds, lows, highs, lengths, values, list_at, stores, list_value, stores, given)
@@ -245,7 +260,8 @@ bool keeps_second_layout() {
            && made_durable(insert2(1, "buy", 3)) && made_durable(insert2(2, "sell", 4))
            && refused(insert2(2, "x", 1), ORDERSET_INSERT_HELD, 2) && finds2(1, "buy", 1) && finds2(2, "sell", 2)
            && finds2(3, nullptr, 2) && recover2() == ORDERSET_OK && finds2(1, "buy", 1) && finds2(2, "sell", 2)
-           && drops_both() && finds2(1, nullptr, 0)
+           && counts_by(orderset2_count_slots, {2, 0, 0, 0, 0, 2}) && drops_both() && finds2(1, nullptr, 0)
+           && counts_by(orderset2_count_slots, {0, 2, 2, 0, 0, 0})
            && made_durable(orderset2_book_new(image, sizeof image, heads.data(), heads.size(), next.data(), next.size(),
                                               state, version, 7, 9, 100, at, value, answer))
            && made_durable(orderset2_book_withdraw(image, sizeof image, heads.data(), heads.size(), next.data(),
@@ -259,8 +275,9 @@ int main() {
                       && refused_stores_nothing("buy")
                       && replace(7, "sell", 4) == ORDERSET_OK && lines_foretell() && made_durable(ORDERSET_OK)
                       && lines_tell() && finds(7, "sell") && refused_stores_nothing("sell")
-                      && counts_slots() && made_durable(drop(7)) && finds(7, nullptr) && drop(7) == ORDERSET_OK
-                      && answer[0] == ORDERSET_ABSENT && keeps_book(9) && keeps_basket() && keeps_second_layout();
+                      && reports_compared() && counts(1, 2, 1, 0, 0, 0) && made_durable(drop(7)) && finds(7, nullptr)
+                      && drop(7) == ORDERSET_OK && answer[0] == ORDERSET_ABSENT && keeps_book(9) && keeps_basket()
+                      && keeps_second_layout();
     std::printf("header: a set through the headers in C++: %s\n", good ? "as it should be" : "NOT SO");
     return good ? 0 : 1;
 }

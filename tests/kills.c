@@ -348,16 +348,16 @@ static void make_some(uint64_t *words, const uint32_t *at, const uint64_t *value
 static void half_basket(uint64_t *words, size_t length) {
     enum { ROOM = BASKET * ORDERSET_STORES };
     uint32_t heads[1], next[SLOTS + 1], state[ORDERSET_STATE], voids[1], open_at[ORDERSET_OPENINGS], at[ROOM],
-        kinds[ORDERSET_BASKET], count = 2 + (uint32_t)below(BASKET - 1), first = (uint32_t)below(KEYS);
-    uint64_t version[1], open_value[ORDERSET_OPENINGS], value[ROOM], lows[ORDERSET_BASKET], highs[ORDERSET_BASKET],
-        answer[ORDERSET_BASKET_ANSWER];
-    size_t lengths[ORDERSET_BASKET];
-    uint8_t values[ORDERSET_BASKET_VALUES] = {0};
+        kinds[ORDERSET_BASKET_MAX], count = 2 + (uint32_t)below(BASKET - 1), first = (uint32_t)below(KEYS);
+    uint64_t version[1], open_value[ORDERSET_OPENINGS], value[ROOM], lows[ORDERSET_BASKET_MAX],
+        highs[ORDERSET_BASKET_MAX], answer[ORDERSET_BASKET_ANSWER];
+    size_t lengths[ORDERSET_BASKET_MAX];
+    uint8_t values[ORDERSET_BASKET_BYTES] = {0};
     const uint8_t *image = (const uint8_t *)words;
     uint64_t refusal = SET(recover)(image, length, heads, 1, next, SLOTS + 1, state, version, voids, open_at,
                                     open_value);
     expect(refusal == 0, "recovery takes the file; refusal %" PRIu32, ORDERSET_REFUSAL(refusal));
-    for (uint32_t i = 0; i < ORDERSET_BASKET; i++) {
+    for (uint32_t i = 0; i < ORDERSET_BASKET_MAX; i++) {
         const int key = (int)((first + i) % KEYS);
         kinds[i] = map[key].state ? ORDERSET_REPLACE : ORDERSET_INSERT;
         lows[i] = low_word(number_of(key));

@@ -1,4 +1,4 @@
-/* The order set of document 01 as document 02 changes it (A.2, A.4 to A.7, A.11, A.12), and its order book (A.1), as a
+/* The order set of document 01 as document 02 changes it (A.2, A.4 to A.8, A.11, A.12), and its order book (A.1), as a
  * plain program. The quotations are their sentences. */
 #include "model.h"
 
@@ -289,6 +289,38 @@ struct m_recovered m_recover(const uint8_t *image, size_t length, struct m_index
     free(valid);
     free(live);
     return recovered;
+}
+
+/* ---- counting the slots (A.8) */
+
+/* "live slots, hidden puts, remove records, void, broken and empty slots. Each is counted by its definition" */
+void m_count(const uint8_t *image, size_t length, const struct m_recovered *recovered, uint64_t count[6]) {
+    enum { IS_LIVE, IS_HIDDEN, IS_REMOVE, IS_VOID, IS_BROKEN, IS_EMPTY };
+    const uint32_t n = m_slots(length);
+    struct slot *slot = calloc(n + 1ul, sizeof *slot);
+    struct entry *counted = calloc(n + 1ul, sizeof *counted);
+    uint8_t *live = calloc(n + 1ul, 1);
+    uint32_t records = 0;
+    memset(count, 0, 6 * sizeof *count);
+    for (uint32_t s = 1; s <= n; s++)
+        slot[s] = look(image, s);
+    for (uint32_t i = 0; i < recovered->count; i++)
+        slot[recovered->opening[i].at / 16].kind = VOID;
+    for (uint32_t s = 1; s <= n; s++)
+        if (slot[s].kind == PUT || slot[s].kind == REMOVE)
+            counted[records++] = (struct entry){slot[s].key, slot[s].version, s};
+    mark_live(slot, counted, records, live);
+    for (uint32_t s = 1; s <= n; s++)
+        switch (slot[s].kind) {
+        case PUT: count[live[s] ? IS_LIVE : IS_HIDDEN]++; break;
+        case REMOVE: count[IS_REMOVE]++; break;
+        case VOID: count[IS_VOID]++; break;
+        case EMPTY: count[IS_EMPTY]++; break;
+        default: count[IS_BROKEN]++; break;
+        }
+    free(slot);
+    free(counted);
+    free(live);
 }
 
 /* ---- the key's chain */

@@ -81,6 +81,8 @@ struct m_recovered {
 uint32_t m_slots(size_t length); /* N, or 0 where no image has that length */
 int m_format(uint8_t *image, size_t length, uint64_t layout);
 struct m_recovered m_recover(const uint8_t *image, size_t length, struct m_index *index);
+/* Of an image that recovery accepted: live slots, hidden puts, remove records, void, broken and empty slots. */
+void m_count(const uint8_t *image, size_t length, const struct m_recovered *recovered, uint64_t count[6]);
 struct m_change m_insert(const uint8_t *image, size_t length, struct m_index *index, m_key key, const uint8_t *bytes, size_t size);
 struct m_change m_replace(const uint8_t *image, size_t length, struct m_index *index, m_key key, const uint8_t *bytes, size_t size);
 struct m_change m_remove(const uint8_t *image, size_t length, struct m_index *index, m_key key);

@@ -383,10 +383,10 @@ static void open_voids(uint32_t voids, enum orderset_flush flush, int watching) 
 
 /* A basket of 1 to 8 keys: sixteen stores for each key, two lines, each flushed once, and one fence for all. */
 static void basket(enum orderset_flush flush, int watching) {
-    uint32_t kinds[ORDERSET_BASKET] = {0};
-    uint64_t keys[ORDERSET_BASKET] = {0}, given[ORDERSET_BASKET_ANSWER];
-    size_t lengths[ORDERSET_BASKET] = {0}, count = 1 + below(ORDERSET_BASKET), first = below(N);
-    uint8_t values[ORDERSET_BASKET_VALUES];
+    uint32_t kinds[ORDERSET_BASKET_MAX] = {0};
+    uint64_t keys[ORDERSET_BASKET_MAX] = {0}, given[ORDERSET_BASKET_ANSWER];
+    size_t lengths[ORDERSET_BASKET_MAX] = {0}, count = 1 + below(ORDERSET_BASKET_MAX), first = below(N);
+    uint8_t values[ORDERSET_BASKET_BYTES];
     fill(values, sizeof values);
     for (size_t i = 0; i < count; i++) {
         keys[i] = (first + i) % (N / 2);

@@ -8,6 +8,8 @@ cd "$(dirname "$0")/.."
 archive=target/staticlib/liborderset_c.a
 archive2=target/staticlib/liborderset2_c.a
 log_archive=target/staticlib/liblog_c.a
+report=target/bin/report
+plug=target/bin/plug
 tree=target/planted/tree
 log=target/planted/log
 only=${1:-}
@@ -19,6 +21,7 @@ copy_tree() {
     mkdir -p "$tree/target" "$tree/crates"
     cp -r Makefile crates.txt include examples tests "$tree"
     ln -s "$PWD/target/staticlib" "$tree/target/staticlib"
+    ln -s "$PWD/target/bin" "$tree/target/bin"
 }
 
 not_seen() {
@@ -37,7 +40,8 @@ fault() {
     if cmp -s "$file" "$tree/$file"; then
         echo "the edit changes nothing" >"$log"
         not_seen "$test" "$what"
-    elif make -s -C "$tree" -o "$archive" -o "$archive2" -o "$log_archive" "run-$test" SEED=1 >"$log" 2>&1 ||
+    elif make -s -C "$tree" -o "$archive" -o "$archive2" -o "$log_archive" -o "$report" -o "$plug" "run-$test" SEED=1 \
+        >"$log" 2>&1 ||
         ! grep -qE "$message" "$log"; then
         not_seen "$test" "$what"
     else
@@ -66,6 +70,8 @@ fault header 'a basket with an item of kind 4 is to be taken' tests/header.cc \
     's/(basket\(2, 1, 30, 4, 31, room\)), ORDERSET_NO_BASKET/\1, ORDERSET_OK/' 'NOT SO'
 fault header 'the version of a basket is looked for among its slots' tests/header.cc \
     's/given\[ORDERSET_BASKET_VERSION\] \+ 1 == /given[ORDERSET_BASKET_VERSION + 1] + 1 == /' 'NOT SO'
+fault header 'a void slot is to be counted as broken' tests/header.cc 's/counts\(0, 0, 0, 1, 0, 3\)/counts(0, 0, 0, 0, 1, 3)/' \
+    'NOT SO'
 fault header 'the lines are asked about after the stores' tests/header.cc \
     's/lines_foretell\(\) \&\& made_durable\(ORDERSET_OK\)/made_durable(ORDERSET_OK) \&\& lines_foretell()/' 'NOT SO'
 fault header 'a line of 63 bytes is to be taken' tests/header.cc \
@@ -105,9 +111,9 @@ backwards='/orderset_store_list\(void/,/^}/s/\(size_t i = 0; i < count; i\+\+\)/
 fault persist 'a store of a list is left out' $header "$left_out" 'NOT SO: store i is the one of the list'
 fault persist 'the stores of a list are made from the last one on' $header "$backwards" \
     'NOT SO: store i is the one of the list'
-fault persist 'only the first line of a list is flushed' $header "${list}s/if \(i == 0 \|\| .*/if (i == 0)/" \
+fault persist 'only the first line of a list is flushed' $header "${list}s/if \(line != last\)/if (i == 0)/" \
     'NOT SO: then each line of the list is flushed'
-fault persist 'a line of a list is flushed for each store' $header "${list}s/if \(i == 0 \|\| .*/if (i < count)/" \
+fault persist 'a line of a list is flushed for each store' $header "${list}s/if \(line != last\)/if (i < count)/" \
     'NOT SO: (then each line of the list is flushed|after a list there is one fence)'
 fault persist 'no fence after a list' $header "${list}{/orderset_fence/d}" 'NOT SO: after a list there is one fence'
 fault persist 'a word past the end of a list is taken' $header 's/at\[i\] >= words/at[i] > words/' \
@@ -148,6 +154,33 @@ fault heads 'the average is that of the counts' $gateway 's/held \+= found\[comp
 fault heads 'heads opens the file for writing' $gateway \
     's/start\(\&set, path, 0\);/start(\&set, path, 1);/' 'NOT SO: it recovers [0-9]+ keys and reads only'
 
+fault report 'a hidden put is counted as live' tests/model.c 's/live\[s\] \? IS_LIVE : IS_HIDDEN/IS_LIVE/' \
+    'NOT SO: of [0-9]+ bytes it prints what is due'
+fault report 'a remove is counted as a hidden put' tests/model.c 's/count\[IS_REMOVE\]/count[IS_HIDDEN]/' \
+    'NOT SO: of [0-9]+ bytes it prints what is due'
+fault report 'void slots are counted as broken' tests/model.c 's/count\[IS_VOID\]/count[IS_BROKEN]/' \
+    'NOT SO: of [0-9]+ bytes it prints what is due'
+fault report 'a refused image is in the totals' tests/report.c 's/^        refusals\+\+;/&\n        total[5]++;/' \
+    'NOT SO: of [0-9]+ bytes it prints what is due'
+fault report 'a cut image is passed over' tests/report.c 's/^            print\("no 1.*;//' \
+    'NOT SO: of [0-9]+ bytes it prints what is due'
+fault report 'an image of 512 slots is read' tests/report.c 's/MOST = 511/MOST = 512/' \
+    'NOT SO: of [0-9]+ bytes it prints what is due'
+fault report 'a million and one images are read' tests/report.c 's/MILLION = 1000000/MILLION = 1000001/' \
+    'NOT SO: a million images are read'
+fault report 'the gateway opens void slots before it counts' $gateway \
+    '/^static int run_count/,/^}/s/^    uint64_t returned/    open_voids(\&set, path, 0);\n&/' \
+    "NOT SO: the gateway says '[0-9]+ live"
+fault report 'the gateway counts hidden puts as live' $gateway 's/counts\[0\], counts\[1\],/counts[0] + counts[1], 0ul,/' \
+    "NOT SO: the gateway says '[0-9]+ live"
+fault plug 'a pair is left out' tests/plug.c 's/b <= 8; b\+\+/b < 8; b++/' 'NOT SO: of the trace'
+fault plug 'the counts are swapped' tests/plug.c 's/as_before, as_after\);/as_after, as_before);/' 'NOT SO: of the trace'
+fault plug 'the image is not restored' tests/plug.c 's/memcpy\(copy, image, size\);/if (a + b == 0) &/' 'NOT SO: of the trace'
+fault plug 'keys are compared and not values' tests/plug.c 's/ \&\& !memcmp\(x, y, p.length\)//' 'NOT SO: of the trace'
+fault plug 'a cut line is carried out' tests/plug.c "s/of_form\(line, 'n', 1, a\)/of_form(line, 'c', 2, a) ? size = 0 : &/" \
+    'NOT SO: of the trace'
+fault plug 'a store is missing' tests/plug.c 's/for \(int i = 0; i < 16; i\+\+\)$/for (int i = 15; i > 0; i--)/' 'NOT SO'
+
 fault storm 'a start does not make the image durable' tests/storm.c \
     's/\(after_kill \|\| below\(2\)\) \&\& orderset_persist_image\(.*\)\)/0)/' 'LOST (key|recovery refuses)'
 fault storm 'a start makes every other line durable' $header 's/i \+= ORDERSET_LINE_BYTES/i += 128/' \
@@ -179,7 +212,7 @@ fault storm 'too few slots that may be taken are not looked at' tests/storm.c 's
     'LOST a basket of [0-9]+ keys answers 28'
 fault storm 'every slot may be taken' tests/model.c '/^int m_may_take/,/^}/s/if \(version == 0\)/if (n > 0)/' \
     'LOST a basket of [0-9]+ keys answers 28'
-fault storm 'one line of a basket is not flushed' $header "${list}s/if \(i == 0 \|\|/if (i > 0 \&\&/" 'LOST key'
+fault storm 'one line of a basket is not flushed' $header "${list}s/if \(line != last\)/if (line != last \&\& i > 0)/" 'LOST key'
 fault storm 'an insert of a held key should be done' tests/storm.c \
     's/return ORDERSET_INSERT_HELD;/return ORDERSET_OK;/' 'LOST a call of key [0-9a-f:]+ answers 20'
 fault storm 'a replace of a key that is not held should be done' tests/storm.c 's/ORDERSET_NOT_HELD;/ORDERSET_OK;/' \
@@ -229,6 +262,10 @@ fault guard 'the answer of an insert one word shorter' tests/guard.c 's/return O
     'NOT SO: (signal 11: answer is touched|answer changed, after what was lent)'
 fault guard 'one opening store less' tests/guard.c 's/place\(OPEN_AT, 4 \* ORDERSET_OPENINGS\)/place(OPEN_AT, 28)/' \
     "NOT SO: (signal 11: the opening stores' words is touched|the opening stores' words changed, after)"
+fault guard 'five counts' tests/guard.c 's/place\(COUNTS, 8 \* ORDERSET_COUNTS\)/place(COUNTS, 40)/' \
+    'NOT SO: (signal 11: counts is touched|counts changed, after what was lent)'
+fault guard 'a count is lost' tests/guard.c 's/sum \+= \(\(uint64_t \*\)w\(COUNTS\)\)\[i\]/sum += i ? ((uint64_t *)w(COUNTS))[i] : 0/' \
+    'NOT SO: the counts add up to [0-9]+'
 fault guard 'a state of three numbers' tests/guard.c 's/place\(STATE, 4 \* ORDERSET_STATE\)/place(STATE, 12)/' \
     'NOT SO: (signal 11: state is touched|state changed, after what was lent)'
 fault guard 'a refused recovery changes the count' tests/guard.c \
@@ -250,10 +287,10 @@ fault guard 'in a basket word numbers one longer than lent' tests/guard.c \
 fault guard 'in a basket values one longer than lent' tests/guard.c \
     's/w\(VALUE\), piece\[VALUE\].length \/ 8,/w(VALUE), piece[VALUE].length \/ 8 + 1,/' \
     'NOT SO: (signal 11: value is touched|value changed, after what was lent)'
-fault guard 'seven keys for a basket' tests/guard.c 's/place\(LOWS, 8 \* ORDERSET_BASKET\)/place(LOWS, 56)/' \
+fault guard 'seven keys for a basket' tests/guard.c 's/place\(LOWS, 8 \* ORDERSET_BASKET_MAX\)/place(LOWS, 56)/' \
     'NOT SO: signal 11: low words is touched'
-fault guard2 'seven high words for a basket' tests/guard.c 's/place\(HIGHS, 8 \* ORDERSET_BASKET\)/place(HIGHS, 56)/' \
-    'NOT SO: signal 11: high words is touched'
+fault guard2 'seven high words for a basket' tests/guard.c \
+    's/place\(HIGHS, 8 \* ORDERSET_BASKET_MAX\)/place(HIGHS, 56)/' 'NOT SO: signal 11: high words is touched'
 fault guard 'the answer of a basket one word shorter' tests/guard.c 's/return ORDERSET_BASKET_ANSWER;/return 8;/' \
     'NOT SO: (signal 11: answer is touched|answer changed, after what was lent)'
 fault guard 'a refused basket changes the version' tests/guard.c \
@@ -541,6 +578,15 @@ fault differential '9 is tested before 33' tests/model.c \
     'DIFFERENCE in the code: archive 33, model 9'
 fault differential 'a longer answer is taken' tests/model.c 's/room != 8/room < 8/' \
     'DIFFERENCE in the code: archive 33, model 0'
+fault differential 'a hidden put is counted as live' tests/model.c 's/live\[s\] \? IS_LIVE : IS_HIDDEN/IS_LIVE/' \
+    'DIFFERENCE in the counts'
+fault differential 'void and broken slots are swapped' tests/model.c 's/IS_VOID, IS_BROKEN/IS_BROKEN, IS_VOID/' \
+    'DIFFERENCE in the counts'
+fault differential 'the newest put is live, whatever removes it' tests/model.c \
+    '/^void m_count/,/^}/s/if \(slot\[s\].kind == PUT \|\| slot\[s\].kind == REMOVE\)/if (slot[s].kind == PUT)/' \
+    'DIFFERENCE in the counts'
+fault differential 'a refused count clears the counts' tests/differential.c \
+    's/same_bytes\("the counts", counts,/memset(counts, 0, recovered->refusal ? 8 : 0); &/' 'DIFFERENCE in the counts'
 fault differential 'a longer line is taken' tests/model.c 's/length != 64 \|\|/length < 64 ||/' \
     'DIFFERENCE in the code: archive 33, model 0'
 fault differential 'a refused question clears the answer' tests/model.c \
@@ -561,6 +607,14 @@ fault differential2 'a value of 73 bytes is taken' tests/model.c \
     'DIFFERENCE in the code: archive 10, model'
 fault differential2 'the value begins at word 3' tests/model.c \
     's/slot\[8 \* VALUE_WORD \+ i\]/slot[8 * (VALUE_WORD - 1) + i]/' 'DIFFERENCE'
+fault differential2 'a hidden put is counted as live' tests/model.c 's/live\[s\] \? IS_LIVE : IS_HIDDEN/IS_LIVE/' \
+    'DIFFERENCE in the counts'
+fault guard2 'five counts' tests/guard.c 's/place\(COUNTS, 8 \* ORDERSET_COUNTS\)/place(COUNTS, 40)/' \
+    'NOT SO: (signal 11: counts is touched|counts changed, after what was lent)'
+fault report2 'the gateway counts by the calls of layout 1' $gateway 's/orderset2_count_slots : /orderset_count_slots : /' \
+    "NOT SO: the gateway says '[0-9]+ live"
+fault report2 'the program is to count the slots of layout 2' tests/report.c '/if \(LAYOUT != ORDERSET_LAYOUT\)/,+1d' \
+    'NOT SO: of [0-9]+ bytes it prints what is due'
 for layout in '' 2; do
     fault "differential$layout" "an image of the other layout is taken" tests/model.c \
         's/m_word\(image, i\) != header\[i\]/& \&\& i != 1/' 'DIFFERENCE in the code: archive 3, model'
@@ -568,7 +622,10 @@ done
 fault differential '32 is tested before 1' tests/model.c \
     '/^int m_format/,/^}/s/if \(m_slots\(length\) == 0\)/if (m_slots(length) == 0 \&\& layout - 1 < 2)/' \
     'DIFFERENCE in the code: archive 1, model 32'
-fault header 'the high words of a basket are left out' tests/header.cc 's/highs\[ORDERSET_BASKET\] = \{2, 1\}/highs[ORDERSET_BASKET] = {0, 0}/' 'NOT SO'
+fault header 'the high words of a basket are left out' tests/header.cc \
+    's/(highs\[ORDERSET_BASKET_MAX\]) = \{2, 1\}/\1 = {0, 0}/' 'NOT SO'
+fault header 'in layout 2 hidden puts are to be counted as live' tests/header.cc \
+    's/(orderset2_count_slots, \{)0, 2, 2, 0, 0, 0/\12, 0, 2, 0, 0, 0/' 'NOT SO'
 fault storm2 'a key is inserted by its low word alone' tests/storm.c \
     's/return SET\(insert\)\((.*)KEY\(key\)/return SET(insert)(\1KEY((m_key)low_word(key))/' 'LOST'
 
@@ -590,8 +647,8 @@ fault log_storm "recovery's stores are made and not flushed" $storm \
     's/if \(orderset_persist_list\(.*, count, flush\)\)/if (orderset_store_list(visible, at, value, count), 0)/' \
     'LOST message'
 fault log_storm 'the first line of a list is not flushed' $header \
-    "${list}s/if \(i == 0 \|\|/if (i > 0 \&\&/" 'LOST message'
-fault log_storm 'only the first line of a list is flushed' $header "${list}s/if \(i == 0 \|\| .*/if (i == 0)/" \
+    "${list}s/if \(line != last\)/if (line != last \&\& i > 0)/" 'LOST message'
+fault log_storm 'only the first line of a list is flushed' $header "${list}s/if \(line != last\)/if (i == 0)/" \
     'LOST message'
 fault log_storm 'the stores of a list are made from the last one on' $header "$backwards" 'LOST message'
 fault log_storm 'no fence after a list' $header "${list}{/orderset_fence/d}" 'LOST persist_list: .* fence seen: 0'

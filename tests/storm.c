@@ -21,7 +21,7 @@
 #include "model.h"
 
 enum { MAX_N = 300, MAX_HEADS = 40, MAX_KEYS = MAX_N + 3, STRIKES = 1000000 };
-enum { BASKET = ORDERSET_BASKET };
+enum { BASKET = ORDERSET_BASKET_MAX };
 
 static uint64_t strikes, cuts, kills, in_start, in_call, in_basket, in_opening, acknowledged, baskets, opened,
     refused_baskets;
@@ -260,7 +260,7 @@ static struct {
     uint32_t count, kinds[BASKET];
     uint64_t lows[BASKET], highs[BASKET];
     size_t lengths[BASKET];
-    uint8_t values[ORDERSET_BASKET_VALUES];
+    uint8_t values[ORDERSET_BASKET_BYTES];
 } asked;
 
 /* Distinct keys, each with a kind that is mostly the one that it asks for. */

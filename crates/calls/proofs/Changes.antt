@@ -15,7 +15,7 @@ use Rattle.index.specs.declared.Place.{Place}
 use Rattle.index.specs.declared.State.{State}
 use Rattle.calls.specs.Change.{ChangeResult, handedOut, leftIn, changed}
 use Rattle.index.specs.declared.Lookup.{Lookup}
-use Rattle.index.specs.declared.Lookup.the-variants.{Open}
+use Rattle.index.specs.declared.Lookup.the-variants.{Allowed}
 use Rattle.calls.specs.inner.Lookup.{Writable, OpenAt, WriteReady}
 
 -- a key whose high word is 0 is its low word
@@ -36,7 +36,7 @@ left a t ss heads next = record { answer = a; state = t; stores = ss; heads = he
 
 -- an insert or a replace that is not refused, r being its lookup
 module _ (l : ℕ) (image heads next : List ℕ) (s : State) (key size : ℕ) {r : Lookup} (ready : WriteReady l image heads next s key size r)
-    {place : Place} {compared : ℕ} (e : r ≡ Open place compared) where
+    {place : Place} {compared : ℕ} (e : r ≡ Allowed place compared) where
   pub opened : OpenAt l image heads next s key size place
   opened = subst (WriteReady l image heads next s key size) e ready
 

@@ -6,5 +6,7 @@ pub mod Formats
 pub mod BasketChecks
 pub mod BasketPlans
 pub mod BasketLinks
+pub mod BasketLists
 pub mod BasketStores
 pub mod BasketEnds
+pub mod BasketRefusal

@@ -207,9 +207,9 @@ module _ (l : ℕ) (image heads next : List ℕ) (key n : ℕ) (sized : Sized im
           slot-in = omega (arith, ends .first-high, sized .image-size);
         }
 
-    open-at : (place : Place) (size : ℕ) → size ≤ limit l → {prev old : ℕ} → Writable image heads next s key prev old
+    allowed-at : (place : Place) (size : ℕ) → size ≤ limit l → {prev old : ℕ} → Writable image heads next s key prev old
         → PlaceInside heads next s (headOf key (length heads)) place → OpenAt l image heads next s key size place
-    open-at place size h u p =
+    allowed-at place size h u p =
         record { inside = p; some-head = sized .some-head; recordable = (h, u .index .version-fits, u .slot-fits, u .slot-in) }
 
     -- a new key is counted
@@ -229,13 +229,13 @@ module _ (l : ℕ) (image heads next : List ℕ) (key n : ℕ) (sized : Sized im
         let z = orElse-zero _ _ (orElse-zero _ _ (sym q) .1) .1 in
         let i = at-inside l image heads next n key (sized .slot-count) slot prev compared (sym e) in
         let u = writable taking (insertsOf mode) 0 prev slot z (i .2) (i .1) in
-        open-at (Held slot prev) size h u (u .index)
+        allowed-at (Held slot prev) size h u (u .index)
     write-ready taking mode size h (At slot prev compared) e (suc k) q = tt
     write-ready taking Insert size h (Missing prev compared) e zero q =
         let z = orElse-zero _ _ (orElse-zero _ _ (sym q) .1) .1 in
         let i = absent-inside l image heads next n key (sized .slot-count) prev compared (sym e) in
         let u = writable taking 1 0 prev prev z i i in
-        open-at (NotHeld prev) size h u (u .index, counted taking z)
+        allowed-at (NotHeld prev) size h u (u .index, counted taking z)
     write-ready taking Replace size h (Missing prev compared) e zero q =
         let z : _≡_ {A = ℕ} 21 0 = orElse-zero _ _ (orElse-zero _ _ (sym q) .1) .0 in absurd (omega arith)
     write-ready taking mode size h (Missing prev compared) e (suc k) q = tt

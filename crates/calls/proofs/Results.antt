@@ -21,7 +21,7 @@ use Rattle.index.specs.declared.Mode.{Mode}
 use Rattle.index.specs.declared.Place.{Place}
 use Rattle.index.specs.declared.Place.the-variants.{Held, NotHeld}
 use Rattle.index.specs.declared.Lookup.{Lookup}
-use Rattle.index.specs.declared.Lookup.the-variants.{Refused, Open}
+use Rattle.index.specs.declared.Lookup.the-variants.{Refused, Allowed}
 use Rattle.index.specs.declared.Found.{Found}
 use Rattle.index.specs.declared.Found.the-variants.{At, Missing, BadChain}
 use Rattle.calls.specs.Change.{unchanged, changed, writeLaterFault, writeFault, writeDone, writeResult, removeLaterFault, removeFault, removeDone, removeResult}
@@ -33,8 +33,8 @@ use Rattle.calls.specs.inner.Lookup.{lookupOf, LooksUp, WriteLookup, Rem
 -- what a lookup says of the call's refusal and of what was found
 abbrev Says : (fault : ℕ) → Found → Lookup → Type 0
 Says fault found (Refused number compared) = (fault ≡ number) × (fault ≡ 0 → ⊥)
-Says fault found (Open (Held slot prev) compared) = (fault ≡ 0) × (found ≡ At slot prev compared)
-Says fault found (Open (NotHeld prev) compared) = (fault ≡ 0) × (found ≡ Missing prev compared)
+Says fault found (Allowed (Held slot prev) compared) = (fault ≡ 0) × (found ≡ At slot prev compared)
+Says fault found (Allowed (NotHeld prev) compared) = (fault ≡ 0) × (found ≡ Missing prev compared)
 
 says : (fault lent : ℕ) (found : Found) → (fault ≡ 0 → lent ≡ 0) → (fault ≡ 0 → found ≡ BadChain → ⊥)
     → Says fault found (lookupOf fault lent found)
@@ -61,21 +61,21 @@ module _
   result-refused number compared e h =
       let t = told (Refused number compared) e in h ∙ ap keep (sym (t .0)) ∙ sym (refused-keeps _ _ fault (t .1))
 
-  result-held : (slot prev compared : ℕ) → r ≡ Open (Held slot prev) compared → left ≡ done (At slot prev compared)
+  result-held : (slot prev compared : ℕ) → r ≡ Allowed (Held slot prev) compared → left ≡ done (At slot prev compared)
       → left ≡ unlessRefused fault (done found) (keep fault)
   result-held slot prev compared e h =
-      let t = told (Open (Held slot prev) compared) e in h ∙ ap done (sym (t .1)) ∙ sym (taken-leaves _ _ fault (t .0))
+      let t = told (Allowed (Held slot prev) compared) e in h ∙ ap done (sym (t .1)) ∙ sym (taken-leaves _ _ fault (t .0))
 
-  result-not-held : (prev compared : ℕ) → r ≡ Open (NotHeld prev) compared → left ≡ done (Missing prev compared)
+  result-not-held : (prev compared : ℕ) → r ≡ Allowed (NotHeld prev) compared → left ≡ done (Missing prev compared)
       → left ≡ unlessRefused fault (done found) (keep fault)
   result-not-held prev compared e h =
-      let t = told (Open (NotHeld prev) compared) e in h ∙ ap done (sym (t .1)) ∙ sym (taken-leaves _ _ fault (t .0))
+      let t = told (Allowed (NotHeld prev) compared) e in h ∙ ap done (sym (t .1)) ∙ sym (taken-leaves _ _ fault (t .0))
 
 -- ---- the count of slots compared, by the lookup
 
 abbrev counted : Lookup → ℕ
 counted (Refused number compared) = compared
-counted (Open place compared) = compared
+counted (Allowed place compared) = compared
 
 lookup-counted : (fault lent : ℕ) (found : Found) → counted (lookupOf fault lent found) ≡ comparedAfter lent found
 unfolding lookupOf lookupBy unlessRefused comparedAfter comparedIn
@@ -93,8 +93,8 @@ module _ {fault lent : ℕ} {found : Found} {Ready : Lookup → Type 0} {r : Loo
   pub refused-count : (number compared : ℕ) → r ≡ Refused number compared → compared ≡ comparedAfter lent found
   refused-count number compared e = told-count (Refused number compared) e
 
-  pub open-count : (place : Place) (compared : ℕ) → r ≡ Open place compared → compared ≡ comparedAfter lent found
-  open-count place compared e = told-count (Open place compared) e
+  pub allowed-count : (place : Place) (compared : ℕ) → r ≡ Allowed place compared → compared ≡ comparedAfter lent found
+  allowed-count place compared e = told-count (Allowed place compared) e
 
 -- ---- insert and replace: h is the key's head as the code finds it
 
@@ -111,7 +111,7 @@ module _ (l : ℕ) (image heads next : List ℕ) (s : State) (mode : Mode) (key 
         result-refused (writeDone l image heads next s key value) (λ k. unchanged (refused k) s heads next)
         (λ none. orElse-zero _ _ none .0) write-bad u _ number compared e refl
 
-    pub write-open : (place : Place) (compared h : ℕ) → r ≡ Open place compared → h ≡ headOf key (length heads)
+    pub write-open : (place : Place) (compared h : ℕ) → r ≡ Allowed place compared → h ≡ headOf key (length heads)
         → changed l image s key 1 value (writeAt (indexOf heads next s) h place) (liveAt (s .live) place) ≡ writeResult l image heads next s mode key value
     unfolding writeResult writeFault writeDone writeAt liveAt
     write-open (Held old prev) compared h e eh =
@@ -138,7 +138,7 @@ module _ (l : ℕ) (image heads next : List ℕ) (s : State) (key : ℕ) where
         result-refused (removeDone l image heads next s key) (λ k. unchanged (refused k) s heads next)
         (λ none. orElse-zero _ _ none .0) remove-bad u _ number compared e refl
 
-    pub remove-held : (old prev compared h : ℕ) → r ≡ Open (Held old prev) compared → h ≡ headOf key (length heads)
+    pub remove-held : (old prev compared h : ℕ) → r ≡ Allowed (Held old prev) compared → h ≡ headOf key (length heads)
         → changed l image s key 2 [] (removeHeld (indexOf heads next s) h prev old) (s .live - 1) ≡ removeResult l image heads next s key
     unfolding removeResult removeFault removeDone
     remove-held old prev compared h e eh =
@@ -146,7 +146,7 @@ module _ (l : ℕ) (image heads next : List ℕ) (s : State) (key : ℕ) where
         (λ none. orElse-zero _ _ none .0) remove-bad u _ old prev compared e
         (ap (λ (x : ℕ). changed l image s key 2 [] (removeHeld (indexOf heads next s) x prev old) (s .live - 1)) eh)
 
-    pub remove-not-held : (prev compared : ℕ) → r ≡ Open (NotHeld prev) compared → unchanged absent s heads next ≡ removeResult l image heads next s key
+    pub remove-not-held : (prev compared : ℕ) → r ≡ Allowed (NotHeld prev) compared → unchanged absent s heads next ≡ removeResult l image heads next s key
     unfolding removeResult removeFault removeDone
     remove-not-held prev compared e =
         result-not-held (removeDone l image heads next s key) (λ k. unchanged (refused k) s heads next)
@@ -167,7 +167,7 @@ module _ (l : ℕ) (image heads next : List ℕ) (key : ℕ) (out : List ℕ) wh
         result-refused (getDone l image out) (λ k. record { answer = refused k; out = out })
         (λ none. orElse-zero _ _ none .0) get-bad u _ number compared e refl
 
-    pub get-held : (slot prev compared : ℕ) → r ≡ Open (Held slot prev) compared → (n : ℕ) → n ≡ slotLength l image slot → (bytes : List ℕ)
+    pub get-held : (slot prev compared : ℕ) → r ≡ Allowed (Held slot prev) compared → (n : ℕ) → n ≡ slotLength l image slot → (bytes : List ℕ)
         → bytes ≡ valueFront l (lineA (word image) slot) (lineB (word image) slot) n ++ drop n out
         → record { answer = gives (n ∷ []); out = bytes } ≡ getResult l image heads next key out
     unfolding getResult getFault getDone valueOf
@@ -179,7 +179,7 @@ module _ (l : ℕ) (image heads next : List ℕ) (key : ℕ) (out : List ℕ) wh
         ended : ℕ → List ℕ → GetResult
         ended x bytes = record { answer = gives (x ∷ []); out = bytes }
 
-    pub get-not-held : (prev compared : ℕ) → r ≡ Open (NotHeld prev) compared
+    pub get-not-held : (prev compared : ℕ) → r ≡ Allowed (NotHeld prev) compared
         → record { answer = absent; out = out } ≡ getResult l image heads next key out
     unfolding getResult getFault getDone
     get-not-held prev compared e =

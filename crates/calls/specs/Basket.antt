@@ -11,6 +11,7 @@ use Rattle.prelude.specs.Range.{tabulate}
 use Rattle.layout.specs.Size.{slotsIn}
 use Rattle.layout.specs.Record.{keyWith, limit}
 use Rattle.layout.specs.Header.{lentFault}
+use Rattle.stores.specs.Store.{Store}
 use Rattle.stores.specs.Play.{wordNumbers, values}
 use Rattle.stores.specs.Basket.{BasketRecord, basketStores}
 use Rattle.table.specs.Complete.{numberFor}
@@ -268,9 +269,9 @@ eightSlots (gives (version ∷ slots)) = slots ++ replicate (8 - length slots) 0
 eightSlots absent = replicate 8 0
 eightSlots (refused number) = replicate 8 0
 
--- "records past them are kept": numbers at the front of a lent list
-unfoldable pub atFront : (numbers lent : List ℕ) → List ℕ
-atFront numbers lent = numbers ++ drop (length numbers) lent
+-- "records past them are kept": what stands at the front of a lent list
+unfoldable pub atFront : {X : Type 0} → (front lent : List X) → List X
+atFront front lent = front ++ drop (length front) lent
 
 -- what a call with this result leaves, lent these two lists
 unfoldable pub leftInLists : (at words : List ℕ) → ChangeResult → BasketLeft
@@ -284,3 +285,42 @@ leftInLists at words r =
       heads = r .heads;
       next = r .next;
     }
+
+-- ---- the stores are lent as a list of records
+
+-- the answer, the slots as eight numbers, the state, a list of stores and the index at exit
+pub record BasketListLeft : Type 0 where
+  pub answer : Answer
+  pub slots : List ℕ
+  pub state : State
+  pub list : List Store
+  pub heads : List ℕ
+  pub next : List ℕ
+
+-- what a call with so many keys and this answer left
+abbrev pub basketListEnd : (count : ℕ) → BasketAnswer → (list : List Store) → (heads next : List ℕ) → BasketListLeft
+basketListEnd count r list heads next =
+    record {
+      answer = basketSays (take count (r .slots)) (r .outcome);
+      slots = r .slots;
+      state = r .state;
+      list = list;
+      heads = heads;
+      next = next;
+    }
+
+-- what a call with this result leaves, and a list of stores
+unfoldable pub leftWith : ChangeResult → (list : List Store) → BasketListLeft
+leftWith r list =
+    record {
+      answer = r .answer;
+      slots = eightSlots (r .answer);
+      state = r .state;
+      list = list;
+      heads = r .heads;
+      next = r .next;
+    }
+
+-- "The stores are lent as a list of records, each a word number and a value, sixteen for each key; records past them are kept": lent this list
+unfoldable pub leftInList : (list : List Store) → ChangeResult → BasketListLeft
+leftInList list r = leftWith r (atFront (r .stores) list)

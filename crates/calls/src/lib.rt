@@ -89,3 +89,11 @@ pub struct Plan {
     pub slots: [u32; 8],
     pub prevs: [u32; 8],
 }
+
+// What a basket gives back, with its stores: the first `stored` numbers of `at` are their word numbers, and those of `words` their values.
+pub struct BasketMade {
+    pub answer: BasketAnswer,
+    pub stored: usize,
+    pub at: [u32; 128],
+    pub words: [u64; 128],
+}

@@ -12,6 +12,7 @@ use orderset::format;
 use orderset::play;
 use orderset::play_list;
 use orderset::recover;
+use show::fronts::values_of;
 use words_code::read_word;
 
 pub fn formatted(set: Set) -> Set {
@@ -127,23 +128,13 @@ pub fn played(set: Set, n: [u64; 5]) -> Set {
     after
 }
 
-// So many of these, or all.
-fn some_of(n: usize, list: &[u64]) -> usize
-    ensures { λ r. ⌜ Counts r (now (list .entry)) ⌝ }
-{
-    if n < list.len() {
-        return n;
-    }
-    list.len()
-}
-
 pub fn listed(set: Set, n: [u64; 5]) -> Set {
     let mut image = set.image;
     let fronts = lent(set);
     let i = fronts.image;
     let at = [(n[1] % 65536) as u32, (n[2] % 65536) as u32];
     let value = [513, 18446744073709551615];
-    let v = some_of(n[3] as usize, &value);
+    let v = values_of(n[3] as usize, &value);
     show::number(play_list(&mut image[..i], &at, &value[..v]) as u64);
     let mut after = set;
     after.image = image;

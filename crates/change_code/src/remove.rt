@@ -96,7 +96,7 @@ pub fn remove_in(
             state,
             compared,
         },
-        Lookup::Open { place, compared } => match place {
+        Lookup::Allowed { place, compared } => match place {
             Place::NotHeld { prev: _ } => Change {
                 outcome: Outcome::Absent,
                 state,

@@ -130,7 +130,7 @@ pub fn write_in(
             state,
             compared,
         },
-        Lookup::Open { place, compared } => {
+        Lookup::Allowed { place, compared } => {
             let h = head_of(low, heads.len());
             let after = write_place(heads, next, state, h, place);
             record_stores(

@@ -12,7 +12,7 @@ use Rattle.layout.specs.Slot.{paired, slotTop, verdictOf, lineVerdict, slotVerd
 use Rattle.layout.specs.Record.{keyFrom, keyOf, valuePlace, slotWord, valueWord, valueByte, valueFront, valueOf}
 use Rattle.layout.specs.Content.{made, contentBy, contentOf, content, top, topOf}
 use Rattle.layout.specs.Header.{headerWord, headerFault, imageFault, indexFault, lentFault}
-use Rattle.layout.specs.Fault.{markFault, kindFault, longest, wordFault, tailFault, faultOf, recordFault, bitsFault}
+use Rattle.layout.specs.Fault.{markFault, kindFault, kindLimit, wordFault, tailFault, faultOf, recordFault, bitsFault}
 use Rattle.stores.specs.Store.{zipped, played}
 use Rattle.stores.specs.Play.{wordNumbers, values}
 use Rattle.stores.specs.Written.{marked, placedWord, bodyA, bodyB, run, lineStores, recordStores}
@@ -22,7 +22,7 @@ use Rattle.table.specs.Table.{isRecord, keyIn, weight, nextVersion, decider, va
 use Rattle.table.specs.Order.{rankOf, ordered, chainOf, reuseOf}
 use Rattle.table.specs.Complete.{said, hasVersion, sharers, complete, versionIfComplete, highestComplete, isVoid, settled}
 use Rattle.table.specs.Shared.{clashes, sharersFault}
-use Rattle.table.specs.Taking.{validVersion, highestValid, isRemove, older, mayTake}
+use Rattle.table.specs.Taking.{validVersion, highestValid, isRemove, older, mayTake, takeableIf}
 use Rattle.index.specs.Index.{setNext, setStart, setLast, link}
 use Rattle.index.specs.Chained.{firstOf, lastOf, after, nextIn, chained}
 use Rattle.index.specs.Walk.{walk, search, chainFault}
@@ -39,5 +39,5 @@ use Rattle.plainmap.specs.World.{calledChange, calledGet, called, finished, wor
 use Rattle.examples.specs.Examples.{bit, answer, verdict, held, formatNumbers, ends, words, over, leftover, recoveredIn, afterCalls, answersIn, liveCounts, blank, emptySet, lateSet, removal, removedSet, get7, secondSet, keyA, keyB, examples, equal, agree}
 
 pub examples-hold : agree examples ≡ true
-unfolding word setBytes setWord filter slotNumbers anyOf tabulate greatest topmost lowest atLowest count say orElse unlessRefused made contentBy contentOf content top topOf markFault kindFault longest bitsFault wordFault tailFault faultOf recordFault headerWord headerFault imageFault indexFault lentFault lineTop versionFault keyFrom keyOf valuePlace slotWord valueWord valueByte valueFront valueOf slotsOf paired slotTop verdictOf lineVerdict slotVerdict isValid insert sorted openingStore openingStores wordNumbers values zipped played marked placedWord bodyA bodyB run lineStores recordStores said hasVersion sharers complete versionIfComplete highestComplete isVoid settled rankOf ordered chainOf reuseOf clashes sharersFault isRecord isBroken keyIn weight nextVersion decider valueIn valueAt mapOf decidingPut live spare liveCount brokenCount brokenLimit manyBroken allLive validVersion highestValid isRemove older mayTake firstOf lastOf after nextIn chained takeFirst linkNew append insertAt replaceAt removeAt insertNew replaceHeld removeHeld keyFault isFound setNext setStart setLast link withTaken atEnd takeWalk takeFrom endsFault linkFault fewFault reuseFault roomFault walk search chainFault takingOf voidSlots openingsOf storesIn noState settledFault slotsFault slotsNamed recoverFault recoverSlot chainsOf placeOf recoveredIndex recoveredState recovered recoverResult unchanged storeFault changed writeLentFault insertsOf writeLaterFault writeFault writeDone writeResult removeLaterFault removeFault removeDone removeResult layoutFault formatFault formatted formatResult lengthFault getLaterFault getFault getDone getResult locateFault locateDone locateResult calledChange calledGet calledLocate called finished worldAfter openedWorld bit answer verdict held formatNumbers ends words over leftover recoveredIn afterCalls answersIn liveCounts blank emptySet lateSet removal removedSet get7 secondSet keyA keyB examples equal agree
+unfolding word setBytes setWord filter slotNumbers anyOf tabulate greatest topmost lowest atLowest count say orElse unlessRefused made contentBy contentOf content top topOf markFault kindFault kindLimit bitsFault wordFault tailFault faultOf recordFault headerWord headerFault imageFault indexFault lentFault lineTop versionFault keyFrom keyOf valuePlace slotWord valueWord valueByte valueFront valueOf slotsOf paired slotTop verdictOf lineVerdict slotVerdict isValid insert sorted openingStore openingStores wordNumbers values zipped played marked placedWord bodyA bodyB run lineStores recordStores said hasVersion sharers complete versionIfComplete highestComplete isVoid settled rankOf ordered chainOf reuseOf clashes sharersFault isRecord isBroken keyIn weight nextVersion decider valueIn valueAt mapOf decidingPut live spare liveCount brokenCount brokenLimit manyBroken allLive validVersion highestValid isRemove older mayTake firstOf lastOf after nextIn chained takeFirst linkNew append insertAt replaceAt removeAt insertNew replaceHeld removeHeld keyFault isFound setNext setStart setLast link withTaken atEnd takeWalk takeFrom endsFault linkFault fewFault reuseFault roomFault walk search chainFault takingOf voidSlots openingsOf storesIn noState settledFault slotsFault slotsNamed recoverFault recoverSlot chainsOf placeOf recoveredIndex recoveredState recovered recoverResult unchanged storeFault changed writeLentFault insertsOf writeLaterFault writeFault writeDone writeResult removeLaterFault removeFault removeDone removeResult layoutFault formatFault formatted formatResult lengthFault getLaterFault getFault getDone getResult locateFault locateDone locateResult calledChange calledGet calledLocate called finished worldAfter openedWorld bit answer verdict held formatNumbers ends words over leftover recoveredIn afterCalls answersIn liveCounts blank emptySet lateSet removal removedSet get7 secondSet keyA keyB examples equal agree takeableIf
 examples-hold = refl

@@ -16,7 +16,7 @@ use Rattle.layout.specs.Slot.{paired, slotTop, verdictOf, lineVerdict, isValid}
 use Rattle.layout.specs.Record.{Layout, keyFrom, keyOf, keyWith, valuePlace, slotWord, valueWord, valueByte, valueFront, valueOf}
 use Rattle.layout.specs.Content.{made, contentBy, contentOf, content, topOf, top}
 use Rattle.layout.specs.Header.{headerWord, headerFault, imageFault, indexFault, lentFault}
-use Rattle.layout.specs.Fault.{markFault, kindFault, longest, wordFault, tailFault, faultOf, recordFault, bitsFault}
+use Rattle.layout.specs.Fault.{markFault, kindFault, kindLimit, wordFault, tailFault, faultOf, recordFault, bitsFault}
 use Rattle.stores.specs.Store.{zipped, played, less, standing}
 use Rattle.stores.specs.Written.{marked, placedWord, bodyA, bodyB, run, lineStores, recordStores}
 use Rattle.stores.specs.Play.{wordNumbers, values}
@@ -26,7 +26,7 @@ use Rattle.table.specs.Table.{isRecord, keyIn, weight, nextVersion, decider, de
 use Rattle.table.specs.Order.{rankOf, ordered, chainOf, reuseOf}
 use Rattle.table.specs.Complete.{said, hasVersion, sharers, complete, versionIfComplete, highestComplete, isVoid, settled}
 use Rattle.table.specs.Shared.{clashes, sharersFault}
-use Rattle.table.specs.Taking.{validVersion, highestValid, isRemove, older, mayTake}
+use Rattle.table.specs.Taking.{validVersion, highestValid, isRemove, older, mayTake, takeableIf}
 use Rattle.index.specs.declared.Mode.{Mode}
 use Rattle.index.specs.Index.{setNext, setStart, setLast, link}
 use Rattle.index.specs.Chained.{firstOf, lastOf, after, nextIn, chained}
@@ -54,7 +54,7 @@ session-computed : (answers 1 (fresh 1) session ≡ expected) × (outputs 1 (fre
     × (recoverFault 1 (formatted 1 384) (length oneHead) (length twoSlots) ≡ 0) × (slotsIn (formatted 1 384) ≡ 2)
     × (answers 2 (fresh 2) secondSession ≡ expected) × (outputs 2 (fresh 2) secondSession ≡ expectedOutputs)
     × (recoverFault 2 (formatted 2 384) (length oneHead) (length twoSlots) ≡ 0) × (slotsIn (formatted 2 384) ≡ 2)
-unfolding word setBytes setWord filter slotNumbers anyOf tabulate greatest topmost lowest atLowest count say orElse unlessRefused made contentBy contentOf content top topOf markFault kindFault longest bitsFault wordFault tailFault faultOf recordFault headerWord headerFault imageFault indexFault lentFault lineTop versionFault keyFrom keyOf valuePlace slotWord valueWord valueByte valueFront valueOf slotsOf paired slotTop verdictOf lineVerdict isValid insert sorted openingStore openingStores wordNumbers values zipped played less standing marked placedWord bodyA bodyB run lineStores recordStores said hasVersion sharers complete versionIfComplete highestComplete isVoid settled rankOf ordered chainOf reuseOf clashes sharersFault isRecord isBroken keyIn weight nextVersion decider decidingPut live spare liveCount brokenCount brokenLimit manyBroken allLive validVersion highestValid isRemove older mayTake firstOf lastOf after nextIn chained takeFirst linkNew append insertAt replaceAt removeAt insertNew replaceHeld removeHeld keyFault isFound setNext setStart setLast link withTaken atEnd takeWalk takeFrom endsFault linkFault fewFault reuseFault roomFault walk search chainFault takingOf voidSlots openingsOf storesIn noState settledFault slotsFault slotsNamed recoverFault recoverSlot chainsOf placeOf recoveredIndex recoveredState recovered recoverResult unchanged storeFault changed writeLentFault insertsOf writeLaterFault writeFault writeDone writeResult removeLaterFault removeFault removeDone removeResult formatted lengthFault getLaterFault getFault getDone getResult locateFault locateDone locateResult calledChange calledGet calledLocate called worldAfter afterRound afterRounds openedWorld restarted imageCut stepBy answers outputs small oneHead twoSlots recovering cutAt fresh sessionWith expected expectedOutputs
+unfolding word setBytes setWord filter slotNumbers anyOf tabulate greatest topmost lowest atLowest count say orElse unlessRefused made contentBy contentOf content top topOf markFault kindFault kindLimit bitsFault wordFault tailFault faultOf recordFault headerWord headerFault imageFault indexFault lentFault lineTop versionFault keyFrom keyOf valuePlace slotWord valueWord valueByte valueFront valueOf slotsOf paired slotTop verdictOf lineVerdict isValid insert sorted openingStore openingStores wordNumbers values zipped played less standing marked placedWord bodyA bodyB run lineStores recordStores said hasVersion sharers complete versionIfComplete highestComplete isVoid settled rankOf ordered chainOf reuseOf clashes sharersFault isRecord isBroken keyIn weight nextVersion decider decidingPut live spare liveCount brokenCount brokenLimit manyBroken allLive validVersion highestValid isRemove older mayTake firstOf lastOf after nextIn chained takeFirst linkNew append insertAt replaceAt removeAt insertNew replaceHeld removeHeld keyFault isFound setNext setStart setLast link withTaken atEnd takeWalk takeFrom endsFault linkFault fewFault reuseFault roomFault walk search chainFault takingOf voidSlots openingsOf storesIn noState settledFault slotsFault slotsNamed recoverFault recoverSlot chainsOf placeOf recoveredIndex recoveredState recovered recoverResult unchanged storeFault changed writeLentFault insertsOf writeLaterFault writeFault writeDone writeResult removeLaterFault removeFault removeDone removeResult formatted lengthFault getLaterFault getFault getDone getResult locateFault locateDone locateResult calledChange calledGet calledLocate called worldAfter afterRound afterRounds openedWorld restarted imageCut stepBy answers outputs small oneHead twoSlots recovering cutAt fresh sessionWith expected expectedOutputs takeableIf
 session-computed = (refl, refl, refl, refl, refl, refl, refl, refl)
 
 pub session-answers : answers 1 (fresh 1) session ≡ expected

@@ -1,4 +1,5 @@
 pub mod Call
+pub mod Count
 pub mod State
 pub mod Opening
 pub mod Book

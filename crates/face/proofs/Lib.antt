@@ -7,3 +7,4 @@ pub mod Numbers
 pub mod Located
 pub mod Rooms
 pub mod defs
+pub mod CutCounts

@@ -11,9 +11,11 @@ use Rattle.stores.specs.Play.{playEnd, wordNumbers, values, playFault, playList
 use Rattle.recovery.specs.Recover.{stateValues, recoverFault, recoverResult}
 use Rattle.stores.specs.Store.{Store, played, standing}
 use Rattle.calls.specs.Change.{handedOut}
+use Rattle.calls.specs.Basket.{KeyChange, basketFault, basketResult}
 use Rattle.calls.specs.Format.{formatted}
 use Rattle.plainmap.specs.World.{World, Call, write, remove, called, finished, Restart, openedWorld, restarted, recoveredWorld}
 use Rattle.index.specs.declared.Mode.{Mode}
+use Rattle.index.specs.declared.State.{State}
 use Rattle.plainmap.specs.Plain.{PlainMap}
 use Rattle.plainmap.specs.Accepted.{RightSize}
 use Rattle.plainmap.specs.Claims.{Typed, slotsMap, Right, Reads}
@@ -42,6 +44,9 @@ pub record CallLaws (l : ℕ) : Type 0 where
   -- a call that writes and answers a slot hands out stores, which take the place of those lent to it
   pub hands-out : (w : World) (call : Call) → Writes call → (given : List ℕ) → called l w call .answer ≡ gives given
       → (lent : List Store) → handedOut (called l w call .stores) lent ≡ called l w call .stores
+  -- a basket is refused with the rules' number, whatever index it is given: "with an index not the image's own, only refusals are fixed"
+  pub basket-refusal : (image heads next : List ℕ) (s : State) (changes : List KeyChange) (at words : ℕ)
+      → refusalIn (basketResult l image heads next s changes at words .answer) ≡ basketFault l image heads next s changes at words
   -- a call and recovery leave as many heads as they were lent
   pub call-heads : (w : World) (call : Call) → length (called l w call .heads) ≡ length (w .heads)
   pub recovery-heads : (image heads next : List ℕ) → length (recoveredWorld l image heads next .heads) ≡ length heads
@@ -102,7 +107,7 @@ pub record SetLaws (l : ℕ) (Inv : World → PlainMap → Type 0) : Type 0 wher
       → slotsIn (step l w event .image) ≡ slotsIn (w .image)
   -- ---- baskets
 
-  -- a basket is refused exactly where the rules refuse it, and otherwise answers its version and slots
+  -- a basket is refused exactly where the rules refuse it, and otherwise answers its version and slots; the whole call is that of the taking rule
   pub answers-basket : (w : World) (m : PlainMap) → Inv w m → (b : Basket) → TypedBasket l b → BasketRight l w m b
   -- every event of a basket, struck or not, keeps the invariant, with all of its changes or none, and recovery gives that map of each image on the way
   pub keeps-basket : (w : World) (m : PlainMap) → Inv w m → (event : Event Basket) → FitsBy (TypedBasket l) (slotsIn (w .image)) event

@@ -4,3 +4,4 @@ pub mod Recovers
 pub mod Laws
 pub mod Numbers
 pub mod Room
+pub mod CutCount

@@ -22,6 +22,11 @@ pub use Rattle.recovery.specs.Recover.{recoverFault, recoverResult}
 unfoldable pub use Rattle.recovery.specs.Recover.{noState, recoverEnd}
 pub use Rattle.recovery.specs.declared.Openings.{Openings}
 unfoldable pub use Rattle.recovery.specs.Opening.{storesIn}
+pub use Rattle.counting.specs.declared.SlotCounts.{SlotCounts}
+pub use Rattle.counting.specs.declared.CountAnswer.{CountAnswer}
+pub use Rattle.counting.specs.declared.CountAnswer.the-variants.{Counted, Refused as NotCounted}
+pub use Rattle.counting.specs.Count.{CountResult}
+unfoldable pub use Rattle.counting.specs.Count.{countValues, countEnd, countSays, countResult}
 pub use Rattle.calls.specs.Format.{FormatResult}
 pub use Rattle.calls.specs.Format.{formatted}
 unfoldable pub use Rattle.calls.specs.Format.{formatSays, layoutFault, formatFault, formatResult}

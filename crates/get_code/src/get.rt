@@ -94,7 +94,7 @@ pub fn get_in(
             got: Got::Refused(number),
             compared,
         },
-        Lookup::Open { place, compared } => match place {
+        Lookup::Allowed { place, compared } => match place {
             Place::NotHeld { prev: _ } => GetAnswer {
                 got: Got::Absent,
                 compared,

@@ -5,11 +5,14 @@ use Prim.Native.Nat.{ℕ, _+_, _*_, _≤_, _<_}
 use native.Mathlib.Omega.{arith}
 use lib.ListN.{length}
 use Rattle.words.specs.Word.{word}
-use Rattle.prelude.specs.Members.{All, In, Once, Slot}
+use Rattle.prelude.specs.Members.{All, Once, Slot}
+use Rattle.prelude.proofs.Choice.{pick-true}
 use Rattle.layout.specs.Line.{lineA, lineB}
+use Rattle.layout.specs.Slot.{lineVerdict, isValid}
 use Rattle.layout.specs.Record.{Layout}
 use Rattle.layout.specs.Content.{content, numberIn}
-use Rattle.layout.specs.Fault.{recordFault}
+use Rattle.layout.specs.Fault.{faultOf, recordFault}
+use Rattle.layout.proofs.Content.{ValidAt, verdict-valid}
 use Rattle.stores.specs.Basket.{BasketRecord, basketSlots}
 use Rattle.stores.specs.Cut.{Confined, LawfulRecord, AllWritten}
 use Rattle.table.specs.Table.{mapOf, liveCount}
@@ -34,6 +37,15 @@ pub record RightSlots (l : ℕ) (m : ℕ → ℕ) (n : ℕ) : Type 0 where
   pub marks : (s : ℕ) → Slot n s → BitMarks m s
   pub records : (s : ℕ) → Slot n s → recordFault l m s ≡ 0
   pub table : AcceptedTable (content l m) (numberIn l m) n
+
+-- a valid slot without a fault has none by its lines
+pub valid-fault : (l : ℕ) (m : ℕ → ℕ) (s v : ℕ) → ValidAt (lineA m s) (lineB m s) v → recordFault l m s ≡ 0 → faultOf l (lineA m s) (lineB m s) ≡ 0
+unfolding recordFault isValid
+valid-fault l m s v h e =
+    sym
+    (pick-true (isValid (lineVerdict (lineA m s) (lineB m s))) _ _
+    (ap isValid (verdict-valid (lineA m s) (lineB m s) (h .pair) (λ z. omega (arith, h .version, h .positive)))))
+    ∙ e
 
 -- stores that leave the table accepted leave right slots
 confined-right : (l : ℕ) (m m′ : ℕ → ℕ) (n : ℕ) (written : ℕ → Type 0) → Confined l m m′ written → RightSlots l m n

@@ -8,14 +8,14 @@ use Rattle.index.specs.declared.Found.the-variants.{At, Missing}
 use Rattle.index.specs.declared.Place.{Place}
 use Rattle.index.specs.declared.Place.the-variants.{Held, NotHeld}
 use Rattle.index.specs.declared.Lookup.{Lookup}
-use Rattle.index.specs.declared.Lookup.the-variants.{Refused, Open}
+use Rattle.index.specs.declared.Lookup.the-variants.{Refused, Allowed}
 
 module _ (found : Found) (slot prev compared fault : ℕ) (e : found ≡ At slot prev compared) where
   pub held-refused : (fault ≡ 0 → ⊥) → Refused fault compared ≡ lookupBy fault found
   unfolding lookupBy
   held-refused ne = sym (ap (lookupBy fault) e ∙ refused-keeps _ _ fault ne)
 
-  pub held-taken : fault ≡ 0 → Open (Held slot prev) compared ≡ lookupBy fault found
+  pub held-taken : fault ≡ 0 → Allowed (Held slot prev) compared ≡ lookupBy fault found
   unfolding lookupBy
   held-taken z = sym (ap (lookupBy fault) e ∙ taken-leaves _ _ fault z)
 
@@ -24,10 +24,10 @@ module _ (found : Found) (prev compared fault : ℕ) (e : found ≡ Missing prev
   unfolding lookupBy
   not-held-refused ne = sym (ap (lookupBy fault) e ∙ refused-keeps _ _ fault ne)
 
-  pub not-held-taken : fault ≡ 0 → Open (NotHeld prev) compared ≡ lookupBy fault found
+  pub not-held-taken : fault ≡ 0 → Allowed (NotHeld prev) compared ≡ lookupBy fault found
   unfolding lookupBy
   not-held-taken z = sym (ap (lookupBy fault) e ∙ taken-leaves _ _ fault z)
 
 -- the lookup where the key is open, by its place
-pub open-at : {r : Lookup} {place known : Place} {compared : ℕ} → r ≡ Open place compared → place ≡ known → r ≡ Open known compared
-open-at {compared = compared} e q = e ∙ ap (λ (p : Place). Open p compared) q
+pub allowed-at : {r : Lookup} {place known : Place} {compared : ℕ} → r ≡ Allowed place compared → place ≡ known → r ≡ Allowed known compared
+allowed-at {compared = compared} e q = e ∙ ap (λ (p : Place). Allowed p compared) q

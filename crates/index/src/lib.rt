@@ -34,7 +34,7 @@ pub enum Place {
 // by its chain.
 pub enum Lookup {
     Refused { number: u32, compared: u32 },
-    Open { place: Place, compared: u32 },
+    Allowed { place: Place, compared: u32 },
 }
 
 // What a basket asks for one of its keys.

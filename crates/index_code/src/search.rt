@@ -67,7 +67,7 @@ pub fn looked_up(fault: u32, found: Found) -> Lookup
                     compared,
                 };
             }
-            Lookup::Open {
+            Lookup::Allowed {
                 place: Place::Held { slot, prev },
                 compared,
             }
@@ -79,7 +79,7 @@ pub fn looked_up(fault: u32, found: Found) -> Lookup
                     compared,
                 };
             }
-            Lookup::Open {
+            Lookup::Allowed {
                 place: Place::NotHeld { prev },
                 compared,
             }

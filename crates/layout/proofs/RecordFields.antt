@@ -7,7 +7,7 @@ use lib.Dec.{eqb, ltb}
 use borrow.Author.Tests.{eq-eqb, ne-eqb, lt-ltb, le-ltb, ltb-false}
 use Rattle.layout.specs.Line.{lineA}
 use Rattle.layout.specs.Record.{kindOf, lengthOf, limit}
-use Rattle.layout.specs.Fault.{bitsFault, kindFault, longest, wordFault, tailFault, faultOf}
+use Rattle.layout.specs.Fault.{bitsFault, kindFault, kindLimit, wordFault, tailFault, faultOf}
 use Rattle.prelude.specs.Refusal.{say}
 use Rattle.prelude.proofs.Choice.{pick-true, pick-false}
 use Rattle.prelude.proofs.Refusals.{say-true, say-false, say-zero, orElse-first, orElse-later}
@@ -29,14 +29,14 @@ unfolding wordFault
 bad-bits l w b e h = sym (say-true (bitsFault w) 6 _ (sym e ∙ h))
 
 module _ (l w kind : ℕ) (b : Bool) (eb : b ≡ bitsFault w) (h : b ≡ false) (a-kind : kind ≡ kindOf w) (k : Bool) (e : k ≡ kindFault kind) where
-  past-bits : say k 22 (say (ltb (longest l kind) (lengthOf w)) 23 0) ≡ wordFault l w
+  past-bits : say k 22 (say (ltb (kindLimit l kind) (lengthOf w)) 23 0) ≡ wordFault l w
   unfolding wordFault
   past-bits = rw (e, a-kind) (sym (say-false (bitsFault w) 6 _ (sym eb ∙ h)))
 
   pub bad-kind : k ≡ true → 22 ≡ wordFault l w
   bad-kind t = sym (say-true k 22 _ t) ∙ past-bits
 
-  module _ (t : k ≡ false) (most size : ℕ) (a-most : most ≡ longest l kind) (a-size : size ≡ lengthOf w) where
+  module _ (t : k ≡ false) (most size : ℕ) (a-most : most ≡ kindLimit l kind) (a-size : size ≡ lengthOf w) where
     past-kind : say (ltb most size) 23 0 ≡ wordFault l w
     past-kind = rw (a-most, a-size) (sym (say-false k 22 _ t) ∙ past-bits)
 
@@ -46,9 +46,9 @@ module _ (l w kind : ℕ) (b : Bool) (eb : b ≡ bitsFault w) (h : b ≡ false) 
     pub no-word-fault : size ≤ most → 0 ≡ wordFault l w
     no-word-fault p = sym (say-false (ltb most size) 23 0 (le-ltb most size p)) ∙ past-kind
 
-longest-most : (l kind : ℕ) → longest l kind ≤ limit l
-unfolding longest
-longest-most l kind = go (eqb kind 2)
+kind-limit-most : (l kind : ℕ) → kindLimit l kind ≤ limit l
+unfolding kindLimit
+kind-limit-most l kind = go (eqb kind 2)
   where
     go : (b : Bool) → cond b 0 (limit l) ≤ limit l
     go true = omega arith
@@ -60,8 +60,8 @@ unfolding wordFault
 within l w size e clear =
     let bits = say-zero (bitsFault w) 6 _ clear (omega arith) in
     let kind = say-zero (kindFault (kindOf w)) 22 _ (bits .1) (omega arith) in
-    let long = say-zero (ltb (longest l (kindOf w)) (lengthOf w)) 23 _ (kind .1) (omega arith) in
-    omega (arith, ltb-false (longest l (kindOf w)) (lengthOf w) (long .0), longest-most l (kindOf w))
+    let long = say-zero (ltb (kindLimit l (kindOf w)) (lengthOf w)) 23 _ (kind .1) (omega arith) in
+    omega (arith, ltb-false (kindLimit l (kindOf w)) (lengthOf w) (long .0), kind-limit-most l (kindOf w))
 
 -- ---- record_fault: w is the kind word, and t its fault by itself
 

@@ -18,8 +18,8 @@ unfoldable pub kindFault : ℕ → Bool
 kindFault kind = cond (eqb kind 1) false (cond (eqb kind 2) false true)
 
 -- the greatest length of a record of this kind: "A remove record has length 0"
-unfoldable pub longest : (l kind : ℕ) → ℕ
-longest l kind = cond (eqb kind 2) 0 (limit l)
+unfoldable pub kindLimit : (l kind : ℕ) → ℕ
+kindLimit l kind = cond (eqb kind 2) 0 (limit l)
 
 -- 6: "above bit 23 or at a number of 1 or over 8"
 unfoldable pub bitsFault : ℕ → Bool
@@ -28,7 +28,7 @@ bitsFault w = cond (leb (2 ^ 24) w) true (cond (eqb (recordNumber w) 1) true (lt
 -- by the kind word: 6, 22, 23
 unfoldable pub wordFault : (l w : ℕ) → ℕ
 wordFault l w =
-    say (bitsFault w) 6 (say (kindFault (kindOf w)) 22 (say (ltb (longest l (kindOf w)) (lengthOf w)) 23 0))
+    say (bitsFault w) 6 (say (kindFault (kindOf w)) 22 (say (ltb (kindLimit l (kindOf w)) (lengthOf w)) 23 0))
 
 -- a byte of the value from position `size` on is not zero
 unfoldable pub tailFault : (l : ℕ) → (A B : ℕ → ℕ) → (size : ℕ) → Bool

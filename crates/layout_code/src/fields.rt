@@ -6,7 +6,7 @@ ghost use lib.ListN.{length};
 ghost use Rattle.words.specs.Word.{word};
 ghost use Rattle.layout.specs.Line.{lineA, lineB};
 ghost use Rattle.layout.specs.Record.{keyOf, keyWith, kindOf, lengthOf, recordNumber, limit};
-ghost use Rattle.layout.specs.Fault.{bitsFault, kindFault, longest, wordFault, tailFault, faultOf};
+ghost use Rattle.layout.specs.Fault.{bitsFault, kindFault, kindLimit, wordFault, tailFault, faultOf};
 ghost use Rattle.layout.specs.inner.Inside.{SlotInside};
 ghost use Rattle.layout.specs.inner.Key.{highWord};
 use crate::value::value_word;
@@ -126,7 +126,7 @@ fn kind_fault(kind: u64) -> bool
 // The greatest length of a record of this kind: a remove has none.
 fn kind_limit(l: usize, kind: u64) -> usize
     requires { ⌜ l ≤ 2 ⌝ }
-    ensures { λ r. ⌜ r ≡ longest l kind ⌝ }
+    ensures { λ r. ⌜ r ≡ kindLimit l kind ⌝ }
 {
     if kind != 2 {
         return value_limit(l);

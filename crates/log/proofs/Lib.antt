@@ -16,3 +16,4 @@ pub mod Fillings
 pub mod Plans
 pub mod Recoveries
 pub mod Readings
+pub mod Lists

@@ -12,7 +12,7 @@ use Rattle.stores.specs.Written.{marked, run, lineStores}
 use Rattle.log.specs.Area.{cellsIn, areaFault, markedLine, payloadLine}
 use Rattle.log.specs.Bit.{storeCount, bitPair, packed}
 use Rattle.log.specs.Message.{highest}
-use Rattle.log.specs.Handed.{shortFault, LogResult, handing}
+use Rattle.log.specs.Handed.{shortFault, LogResult, handing, LogListResult, handingList}
 
 -- "Messages are padded with zeros": the words of payload line i
 abbrev pub messageLine : (message : List ℕ) → (i : ℕ) → ℕ → ℕ
@@ -72,3 +72,9 @@ unfoldable pub appendResult : (area message at value : List ℕ) → LogResult
 appendResult area message at value =
     handing (appendFault area message (length at) (length value)) (nextMessage (cellsIn area) (word area))
     (appendStores (cellsIn area) (word area) message) at value
+
+-- the same with one lent list of records
+unfoldable pub appendListResult : (area message : List ℕ) → (list : List Store) → LogListResult
+appendListResult area message list =
+    handingList (appendFault area message (length list) (length list)) (nextMessage (cellsIn area) (word area))
+    (appendStores (cellsIn area) (word area) message) list

@@ -35,3 +35,19 @@ handing fault number ss at value =
     unlessRefused fault
     (logEnd (gives (number ∷ length ss ∷ [])) (wordNumbers ss ++ drop (length ss) at) (values ss ++ drop (length ss) value))
     (logEnd (refused fault) at value)
+
+-- ---- as a list of records
+
+-- the answer and the records
+pub record LogListResult : Type 0 where
+  pub answer : Answer
+  pub list : List Store
+
+-- what a call with this answer left
+abbrev pub logListEnd : Answer → (list : List Store) → LogListResult
+logListEnd answer list = record { answer = answer; list = list }
+
+-- the same where "the stores are lent as a list of records, each a word number and a value" (A.7); "records past them are kept"
+unfoldable pub handingList : (fault number : ℕ) → (ss list : List Store) → LogListResult
+handingList fault number ss list =
+    unlessRefused fault (logListEnd (gives (number ∷ length ss ∷ [])) (ss ++ drop (length ss) list)) (logListEnd (refused fault) list)

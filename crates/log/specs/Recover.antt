@@ -10,7 +10,7 @@ use Rattle.layout.specs.Line.{whole, versionOf, firstWord}
 use Rattle.stores.specs.Store.{Store}
 use Rattle.log.specs.Area.{cellsIn, areaFault, markedLine}
 use Rattle.log.specs.Message.{highest}
-use Rattle.log.specs.Handed.{shortFault, LogResult, handing}
+use Rattle.log.specs.Handed.{shortFault, LogResult, handing, LogListResult, handingList}
 
 -- the marked line of cell c is whole and above number h
 unfoldable pub isAbove : (m : ℕ → ℕ) → (h c : ℕ) → Bool
@@ -39,3 +39,9 @@ unfoldable pub logRecoverResult : (area at value : List ℕ) → LogResult
 logRecoverResult area at value =
     handing (logRecoverFault area (length at) (length value)) (highest (cellsIn area) (word area))
     (recoveryStores (cellsIn area) (word area)) at value
+
+-- the same with one lent list of records
+unfoldable pub logRecoverListResult : (area : List ℕ) → (list : List Store) → LogListResult
+logRecoverListResult area list =
+    handingList (logRecoverFault area (length list) (length list)) (highest (cellsIn area) (word area))
+    (recoveryStores (cellsIn area) (word area)) list

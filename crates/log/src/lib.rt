@@ -27,3 +27,19 @@ pub struct AppendPlan {
     pub pairs: u64,
     pub count: usize,
 }
+
+// What an append gives back, with its stores: the first `stored` numbers of `at` are their word numbers, and those of `value` their values.
+pub struct AppendMade {
+    pub answer: Handed,
+    pub stored: usize,
+    pub at: [u32; 56],
+    pub value: [u64; 56],
+}
+
+// The same of a recovery, which has a store for each cell at most.
+pub struct RecoveryMade {
+    pub answer: Handed,
+    pub stored: usize,
+    pub at: [u32; 1000],
+    pub value: [u64; 1000],
+}

@@ -1,12 +1,12 @@
 // The calls of the log, and play.
 use crate::lent::Log;
-use crate::lent::numbers_of;
-use crate::lent::values_of;
 use log_code::Handed;
 use log_code::append;
 use log_code::read;
 use log_code::recover_log;
 use orderset::play_list;
+use show::fronts::numbers_of;
+use show::fronts::values_of;
 use words_code::padded_word;
 use words_code::read_word;
 

@@ -1,20 +1,7 @@
 // What a cut leaves of the stores handed out last: of each line its first ones.
 ghost use Prim.Native.Nat.{_≤_};
 use crate::lent::Log;
-
-// Digit i of a number, from the last; 0 past the first seven.
-fn digit(n: u64, i: usize) -> u64 {
-    let mut rest = n;
-    let mut k: usize = 0;
-    while k < 7 {
-        if k == i {
-            return rest % 10;
-        }
-        rest = rest / 10;
-        k += 1;
-    }
-    0
-}
+use show::lines::digit;
 
 // The line of a word in its cell, or its cell.
 fn group(word: u32, by_cell: u64) -> usize {

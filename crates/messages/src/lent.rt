@@ -1,5 +1,4 @@
 // The log that the lines work on: an area of at most three cells, and two lists with the stores handed out last. A call may be lent less than all of it.
-ghost use Rattle.io.specs.Counts.{Counts};
 use crate::names::FILL;
 use crate::names::LEND;
 
@@ -31,26 +30,6 @@ pub fn start() -> Log {
             value: 0,
         },
     }
-}
-
-// So many word numbers, or all.
-pub fn numbers_of(n: usize, list: &[u32]) -> usize
-    ensures { λ r. ⌜ Counts r (now (list .entry)) ⌝ }
-{
-    if n < list.len() {
-        return n;
-    }
-    list.len()
-}
-
-// So many values, or all.
-pub fn values_of(n: usize, list: &[u64]) -> usize
-    ensures { λ r. ⌜ Counts r (now (list .entry)) ⌝ }
-{
-    if n < list.len() {
-        return n;
-    }
-    list.len()
 }
 
 // The area with so many bytes from this place on set to one.

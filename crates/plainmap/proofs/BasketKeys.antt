@@ -12,7 +12,7 @@ use Rattle.layout.specs.Content.{made, Table}
 use Rattle.stores.specs.Basket.{BasketRecord, basketSlots}
 use Rattle.table.specs.Table.{keyIn, mapOf, isHeld}
 use Rattle.table.proofs.defs.Write.{holder}
-use Rattle.table.specs.inner.Class.{isPut}
+use Rattle.table.specs.Class.{isPut}
 use Rattle.table.proofs.defs.Reuse.{appended}
 use Rattle.table.proofs.defs.Basket.{oneIf, insertsIn, removesIn}
 use Rattle.table.proofs.defs.ReuseAfter.{joinsOf}

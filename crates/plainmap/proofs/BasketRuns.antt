@@ -28,7 +28,7 @@ use Rattle.table.specs.Table.{keyIn, mapOf, live, liveCount, isHeld}
 use Rattle.table.specs.Complete.{tableOf, numberFor, NoneVoid}
 use Rattle.table.specs.Taking.{mayTake, takenOf}
 use Rattle.table.proofs.defs.Write.{Record, holder}
-use Rattle.table.specs.inner.Class.{isPut}
+use Rattle.table.specs.Class.{isPut}
 use Rattle.table.proofs.defs.Basket.{Basket, HeldRemoved, putsIn, heldIn}
 use Rattle.table.proofs.Alike.{alike-count, alike-live}
 use Rattle.table.proofs.OneSlot.{weight-key}

@@ -31,7 +31,7 @@ use Rattle.table.specs.Table.{keyIn, decider, mapOf, live, liveCount, isHeld}
 use Rattle.table.specs.Complete.{tableOf, numberFor, NoneVoid}
 use Rattle.table.specs.Taking.{mayTake, takenOf}
 use Rattle.table.proofs.defs.Write.{Above, Record, holder}
-use Rattle.table.specs.inner.Class.{isPut}
+use Rattle.table.specs.Class.{isPut}
 use Rattle.table.proofs.defs.Reuse.{Spares}
 use Rattle.table.proofs.defs.Basket.{Basket, HeldRemoved, oneIf, putsIn, heldIn, insertsIn, removesIn}
 use Rattle.table.proofs.defs.Struck.{Struck, Finished}

@@ -20,7 +20,7 @@ use Rattle.layout.specs.Content.{Content, Table, contentsOf, numbersOf}
 use Rattle.table.specs.Table.{keyIn, decider, mapOf, live, liveCount, nextVersion, isHeld}
 use Rattle.table.specs.Complete.{NoneVoid, tableOf}
 use Rattle.table.proofs.defs.Write.{holder}
-use Rattle.table.specs.inner.Class.{isPut}
+use Rattle.table.specs.Class.{isPut}
 use Rattle.table.proofs.defs.Reuse.{appended, joins}
 use Rattle.table.proofs.defs.Basket.{Basket, HeldRemoved, oneIf, putsIn, heldIn, removesIn, insertsIn}
 use Rattle.table.proofs.defs.Struck.{Struck, Finished}

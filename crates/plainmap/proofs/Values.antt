@@ -1,20 +1,17 @@
 -- The values of an accepted image: where a live slot keeps its value, and that each is within the limit. Assumes nothing.
 use mathlib.Core.Path.{_≡_, sym, ap, _∙_}
-use mathlib.Core.Bool.{true, false}
+use mathlib.Core.Bool.{true}
 use mathlib.Core.Option.{some}
 use mathlib.Core.List.{List}
 use Prim.Native.Nat.{ℕ, _≤_}
 use native.Mathlib.Omega.{arith}
 use lib.ListN.{length}
 use Rattle.words.specs.Word.{word}
-use Rattle.prelude.proofs.Choice.{pick-true}
 use Rattle.layout.specs.Line.{lineA, lineB}
-use Rattle.layout.specs.Slot.{lineVerdict, isValid}
 use Rattle.layout.specs.Record.{limit, valueOf}
 use Rattle.layout.specs.Content.{putRecord, content, contentsOf, numbersOf}
 use Rattle.table.specs.Complete.{tableOf}
-use Rattle.layout.specs.Fault.{faultOf, recordFault}
-use Rattle.layout.proofs.Content.{ValidAt, PutAt, put-at, verdict-valid, value-length, length-bound}
+use Rattle.layout.proofs.Content.{PutAt, put-at, value-length, length-bound}
 use Rattle.table.specs.Table.{valueIn, mapOf, live}
 use Rattle.prelude.specs.Members.{Slot}
 use Rattle.table.proofs.Map.{Live, lives, live-is}
@@ -26,17 +23,8 @@ use Rattle.layout.specs.Size.{slotsIn}
 use Rattle.plainmap.specs.Plain.{sizeOf}
 use Rattle.plainmap.specs.Accepted.{Accepted}
 use Rattle.plainmap.specs.Claims.{slotsMap}
-use Rattle.images.proofs.Right.{RightSlots}
+use Rattle.images.proofs.Right.{RightSlots, valid-fault}
 use Rattle.plainmap.proofs.AcceptedImages.{accepted-right}
-
--- a valid slot without a fault has none by its lines
-valid-fault : (l : ℕ) (m : ℕ → ℕ) (s v : ℕ) → ValidAt (lineA m s) (lineB m s) v → recordFault l m s ≡ 0 → faultOf l (lineA m s) (lineB m s) ≡ 0
-unfolding recordFault isValid
-valid-fault l m s v h e =
-    sym
-    (pick-true (isValid (lineVerdict (lineA m s) (lineB m s))) _ _
-    (ap isValid (verdict-valid (lineA m s) (lineB m s) (h .pair) (λ z. omega (arith, h .version, h .positive)))))
-    ∙ e
 
 -- slot s keeps the value v
 pub record KeepsValue (l : ℕ) (image : List ℕ) (s : ℕ) (v : List ℕ) : Type 0 where

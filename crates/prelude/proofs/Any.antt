@@ -87,6 +87,22 @@ any-same p q k zero h = refl
 any-same p q k (suc n) h =
     ap₂ (λ (x y : Bool). cond x true y) (h k (omega arith) (omega arith)) (any-same p q (suc k) n (λ i l m. h i (omega arith) (omega arith)))
 
+or-false : (p : Bool) → cond p true false ≡ p
+or-false true = refl
+or-false false = refl
+
+or-or : (p q r : Bool) → cond p true (cond q true r) ≡ cond (cond p true q) true r
+or-or true q r = refl
+or-or false q r = refl
+
+-- by the last number of the range
+pub any-last : (p : ℕ → Bool) (k n : ℕ) → anyOf p k (suc n) ≡ cond (anyOf p k n) true (p (k + n))
+unfolding anyOf
+any-last p k zero = or-false (p k) ∙ ap p (omega arith)
+any-last p k (suc n) =
+    ap (cond (p k) true) (any-last p (suc k) n) ∙ or-or (p k) (anyOf p (suc k) n) (p (suc k + n))
+    ∙ ap (λ (i : ℕ). cond (cond (p k) true (anyOf p (suc k) n)) true (p i)) (omega arith)
+
 -- over the slots
 pub any-none-slot : (p : ℕ → Bool) (n : ℕ) → anyOf p 1 n ≡ false → (t : ℕ) → Slot n t → p t ≡ false
 any-none-slot p n e t i = let at : 1 + (t - 1) ≡ t = omega arith in ap p (sym at) ∙ any-none p 1 n e (t - 1) (omega arith)

@@ -2,7 +2,7 @@
 use mathlib.Core.Path.{_≡_, refl, sym, ap, ap₂, _∙_}
 use mathlib.Core.Bool.{Bool, true, false, cond}
 use mathlib.Core.List.{List, [], _∷_, _++_}
-use Prim.Native.Nat.{ℕ, zero, suc, _≤_, _<_}
+use Prim.Native.Nat.{ℕ, zero, suc, _+_, _≤_, _<_}
 use native.Mathlib.Omega.{arith}
 use lib.Dec.{eqb}
 use lib.ListN.{length}
@@ -10,7 +10,7 @@ use borrow.Author.Tests.{eqb-true, eqb-false}
 use Rattle.prelude.specs.Filter.{filter}
 use Rattle.prelude.specs.Members.{Slot, slotNumbers}
 use Rattle.prelude.specs.Range.{count}
-use Rattle.prelude.proofs.Choice.{true-false}
+use Rattle.prelude.proofs.Choice.{pick-true, pick-false, true-false}
 
 abbrev step : Bool → ℕ → ℕ
 step b m = cond b (suc m) m
@@ -126,3 +126,19 @@ count-filter p (suc n) = go (p (suc n)) refl (count-filter p n)
 
     go : (b : Bool) → p (suc n) ≡ b → count p n ≡ length (filter p (slotNumbers n)) → step b (count p n) ≡ length (filter p (slotNumbers n ++ (suc n ∷ [])))
     go b e ih = ap (step b) ih ∙ sym (last (slotNumbers n) (suc n) b e)
+
+-- two tests that no slot passes both of
+pub count-both : (p q r : ℕ → Bool) (n : ℕ) → ((t : ℕ) → Slot n t → r t ≡ cond (p t) true (q t)) → ((t : ℕ) → Slot n t → p t ≡ true → q t ≡ false)
+    → count r n ≡ count p n + count q n
+unfolding count
+count-both p q r zero h k = refl
+count-both p q r (suc n) h k =
+    more (p (suc n)) (q (suc n)) (r (suc n)) (h (suc n) (omega arith)) (k (suc n) (omega arith)) (count p n) (count q n) (count r n)
+    (count-both p q r n (λ t i. h t (omega arith)) (λ t i. k t (omega arith)))
+  where
+    more : (x y z : Bool) → z ≡ cond x true y → (x ≡ true → y ≡ false) → (a b c : ℕ) → c ≡ a + b
+        → cond z (suc c) c ≡ cond x (suc a) a + cond y (suc b) b
+    more true true z e d a b c ih = absurd (true-false refl (d refl))
+    more true false z e d a b c ih = pick-true z (suc c) c e ∙ omega arith
+    more false true z e d a b c ih = pick-true z (suc c) c e ∙ omega arith
+    more false false z e d a b c ih = pick-false z (suc c) c e ∙ ih

@@ -17,7 +17,7 @@ use recovery::Recovered;
 use recovery_code::settling::no_openings;
 
 // Recover, in layout l.
-fn recover_in(image: &[u8], l: usize, heads: &mut [u32], next: &mut [u32]) -> RecoverAnswer
+pub fn recover_in(image: &[u8], l: usize, heads: &mut [u32], next: &mut [u32]) -> RecoverAnswer
     requires { ⌜ Layout l ⌝ }
     ensures { λ r. ⌜ recoverEnd (r .recovered) (r .openings) (now (heads .exit)) (now (next .exit)) ≡ recoverResult l (now (image .entry)) (now (heads .entry)) (now (next .entry)) ⌝ }
 {

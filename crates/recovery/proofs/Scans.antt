@@ -12,6 +12,7 @@ use lib.Seq.{getD-set-same, getD-set-other}
 use borrow.Author.Tests.{eq-eqb, ne-eqb, lt-ltb, le-ltb}
 use Rattle.words.specs.Word.{AreBytes, word}
 use Rattle.words.proofs.Laws.{word-range}
+use Rattle.prelude.proofs.Any.{any-last}
 use Rattle.prelude.proofs.Choice.{pick-true, pick-false}
 use Rattle.prelude.specs.Refusal.{say, orElse}
 use Rattle.prelude.specs.Range.{anyOf, greatest, lowest, atLowest, count}
@@ -26,7 +27,7 @@ use Rattle.layout.specs.declared.Verdict.{Verdict}
 use Rattle.layout.specs.declared.Verdict.the-variants.{Valid, Empty, Broken}
 use Rattle.layout.proofs.KeyWords.{no-high, key-parts}
 use Rattle.table.specs.Table.{keyIn, brokenCount}
-use Rattle.table.specs.inner.Class.{isPut}
+use Rattle.table.specs.Class.{isPut}
 use Rattle.table.specs.Taking.{isRemove}
 use Rattle.table.proofs.Broken.{rank-broken}
 use Rattle.table.proofs.Classes.{rank-empty, classes-add}
@@ -169,21 +170,6 @@ or-left p q r e f = f ∙ e ∙ sym (pick-true p true q e)
 
 pub or-right : (p q r : Bool) → p ≡ false → r ≡ q → r ≡ cond p true q
 or-right p q r e f = f ∙ sym (pick-false p true q e)
-
-or-false : (p : Bool) → cond p true false ≡ p
-or-false true = refl
-or-false false = refl
-
-or-or : (p q r : Bool) → cond p true (cond q true r) ≡ cond (cond p true q) true r
-or-or true q r = refl
-or-or false q r = refl
-
-pub any-last : (p : ℕ → Bool) (k n : ℕ) → anyOf p k (suc n) ≡ cond (anyOf p k n) true (p (k + n))
-unfolding anyOf
-any-last p k zero = or-false (p k) ∙ ap p (omega arith)
-any-last p k (suc n) =
-    ap (cond (p k) true) (any-last p (suc k) n) ∙ or-or (p k) (anyOf p (suc k) n) (p (suc k + n))
-    ∙ ap (λ (i : ℕ). cond (cond (p k) true (anyOf p (suc k) n)) true (p i)) (omega arith)
 
 -- a list with entry k + 1 set has its first k entries from before and the entry set
 entries-next : (g : ℕ → ℕ) (xs : List ℕ) (k x : ℕ) → suc k < length xs → x ≡ g (suc k) → ((s : ℕ) → 0 < s → s ≤ k → getD xs s 0 ≡ g s)

@@ -12,7 +12,7 @@ use Rattle.prelude.specs.Filter.{filter}
 use Rattle.prelude.specs.Range.{count}
 use Rattle.prelude.specs.Members.{Slot, slotNumbers}
 use Rattle.prelude.proofs.Choice.{pick-true, pick-false, true-false, is-false, both, both-left, both-right}
-use Rattle.prelude.proofs.Count.{count-same, count-fewer, count-filter}
+use Rattle.prelude.proofs.Count.{count-both, count-filter}
 use Rattle.layout.specs.Content.{Content, broken, putRecord, topOf, content, numberIn, Table}
 use Rattle.sorting.specs.Sorted.{sorted}
 use Rattle.sorting.proofs.Order.{Compared, low, high, compared}
@@ -285,22 +285,6 @@ module _ (f : Table) (num : Numbers) (n b limit : ℕ) (ranks lows highs places 
           h .key-at s (i .0) (i .1) (omega (arith, ap rankOf same)) ∙ sym (ap keyIn same)
 
 -- ---- how many are void
-
--- two tests that no slot passes both of
-count-both : (p q r : ℕ → Bool) (n : ℕ) → ((t : ℕ) → Slot n t → r t ≡ cond (p t) true (q t)) → ((t : ℕ) → Slot n t → p t ≡ true → q t ≡ false)
-    → count r n ≡ count p n + count q n
-unfolding count
-count-both p q r zero h k = refl
-count-both p q r (suc n) h k =
-    more (p (suc n)) (q (suc n)) (r (suc n)) (h (suc n) (omega arith)) (k (suc n) (omega arith)) (count p n) (count q n) (count r n)
-    (count-both p q r n (λ t i. h t (omega arith)) (λ t i. k t (omega arith)))
-  where
-    more : (x y z : Bool) → z ≡ cond x true y → (x ≡ true → y ≡ false) → (a b c : ℕ) → c ≡ a + b
-        → cond z (suc c) c ≡ cond x (suc a) a + cond y (suc b) b
-    more true true z e d a b c ih = absurd (true-false refl (d refl))
-    more true false z e d a b c ih = pick-true z (suc c) c e ∙ omega arith
-    more false true z e d a b c ih = pick-true z (suc c) c e ∙ omega arith
-    more false false z e d a b c ih = pick-false z (suc c) c e ∙ ih
 
 pub broken-with-void : (f : Table) (num : Numbers) (n : ℕ) → brokenCount (settled f num n) n ≡ brokenCount f n + count (isVoid f num n) n
 unfolding brokenCount isBroken

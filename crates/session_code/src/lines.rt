@@ -130,7 +130,7 @@ fn carry_out(
 }
 
 // What a call that writes answers; its stores are played.
-fn carry_change(
+pub fn carry_change(
     change: Change,
     stores: Stores,
     session: Session,
@@ -157,7 +157,7 @@ fn carry_change(
 }
 
 // The key gets the 8 bytes of the word: an insert or a replace, according to what is held.
-fn write_key(
+pub fn write_key(
     image: &[u8],
     heads: &mut [u32],
     next: &mut [u32],

@@ -1,4 +1,5 @@
 // For the programs: printing to standard output, of labels, numbers and lists of them and of the answers of the calls; and lines of input.
+pub mod fronts;
 pub mod lines;
 
 use libc::STDOUT_FILENO;

@@ -66,6 +66,20 @@ pub fn numbers(line: &[u8]) -> [u64; 5] {
     r.value
 }
 
+// Digit i of a number, from the last; 0 past the nineteenth.
+pub fn digit(n: u64, i: usize) -> u64 {
+    let mut rest = n;
+    let mut k: usize = 0;
+    while k < 19 {
+        if k == i {
+            return rest % 10;
+        }
+        rest = rest / 10;
+        k += 1;
+    }
+    0
+}
+
 // Does the line end in a colon?
 pub fn is_asked(line: &[u8]) -> bool {
     let n = line.len();

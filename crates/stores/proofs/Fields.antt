@@ -16,7 +16,7 @@ use Rattle.layout.specs.Line.{whole, versionOf}
 use Rattle.layout.specs.Slot.{paired}
 use Rattle.layout.specs.Record.{keyOf, keyWord, kindWord, kindOf, lengthOf, recordNumber, limit, slotWord, valueWord, valueByte, valueFront, valueOf}
 use Rattle.layout.specs.Content.{made, contentOf}
-use Rattle.layout.specs.Fault.{bitsFault, kindFault, longest, wordFault, tailFault, faultOf}
+use Rattle.layout.specs.Fault.{bitsFault, kindFault, kindLimit, wordFault, tailFault, faultOf}
 use Rattle.prelude.proofs.Any.{any-clear}
 use Rattle.prelude.proofs.Refusals.{say-false, orElse-later}
 use Rattle.prelude.proofs.Tabulate.{tabulate-list}
@@ -168,8 +168,8 @@ module _ (l stampA stampB key kind number : ℕ) (value : List ℕ) (version : �
   no-kind (a-put e _) = rw e
   no-kind (a-remove e _ _) = rw e
 
-  no-length : Lawful kind number value → length value ≤ longest l kind
-  unfolding longest
+  no-length : Lawful kind number value → length value ≤ kindLimit l kind
+  unfolding kindLimit
   no-length (a-put e _) = rw e (omega (arith, fine .size))
   no-length (a-remove e f _) = rw (e, f) (omega arith)
 
@@ -178,8 +178,8 @@ module _ (l stampA stampB key kind number : ℕ) (value : List ℕ) (version : �
   no-word good =
       say-false (bitsFault (A (l + 1))) 6 _ (no-bits (right-number good))
       ∙ say-false (kindFault (kindOf (A (l + 1)))) 22 _ (ap kindFault the-kind ∙ no-kind good)
-      ∙ say-false (ltb (longest l (kindOf (A (l + 1)))) (lengthOf (A (l + 1)))) 23 _
-      (ap₂ (λ (x y : ℕ). ltb (longest l x) y) the-kind the-length ∙ le-ltb (longest l kind) (length value) (no-length good))
+      ∙ say-false (ltb (kindLimit l (kindOf (A (l + 1)))) (lengthOf (A (l + 1)))) 23 _
+      (ap₂ (λ (x y : ℕ). ltb (kindLimit l x) y) the-kind the-length ∙ le-ltb (kindLimit l kind) (length value) (no-length good))
 
   pub the-fault : Lawful kind number value → faultOf l A B ≡ 0
   unfolding faultOf

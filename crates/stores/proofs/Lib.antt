@@ -18,3 +18,5 @@ pub mod Pasted
 pub mod StandingStores
 pub mod defs
 pub mod AllStand
+pub mod ListPut
+pub mod ListPlay

@@ -13,7 +13,7 @@ use Rattle.prelude.proofs.Any.{any-same}
 use Rattle.prelude.proofs.Most.{greatest-same, topmost-same, First, nowhere, there, first-is}
 use Rattle.layout.specs.Content.{Content, broken, empty, putRecord, removeRecord, topOf, Table}
 use Rattle.table.specs.Table.{isRecord, keyIn, weight, decider, valueIn, valueAt, mapOf, decidingPut, live, spare, liveCount, nextVersion}
-use Rattle.table.specs.Taking.{validVersion, highestValid, isRemove, older, mayTake, takeableCount}
+use Rattle.table.specs.Taking.{validVersion, highestValid, isRemove, older, mayTake, takeableCount, takeableIf}
 use Rattle.table.specs.Reuse.{OlderFirst, HighestLast}
 
 module _ (f g : Table) (n : ℕ) (same : (t : ℕ) → Slot n t → g t ≡ f t) where
@@ -60,7 +60,7 @@ module _ (f g : Table) (n : ℕ) (same : (t : ℕ) → Slot n t → g t ≡ f t)
       ap₂ (λ (c d : Content). isRecord d && (eqb (keyIn d) (keyIn c) && ltb (topOf d) (topOf c))) (same s i) (same t j)
 
   pub alike-take : (s : ℕ) → Slot n s → mayTake g n s ≡ mayTake f n s
-  unfolding mayTake
+  unfolding mayTake takeableIf
   alike-take s i =
       ap₂ (λ (c : Content) (b : Bool). cond (isRecord c) (ltb (topOf c) (highestValid g n) && not (isRemove c && b)) true) (same s i)
       (any-same (older g s) (older f s) 1 n (λ k l h. alike-older s k i (omega arith)))

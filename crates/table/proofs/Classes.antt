@@ -9,7 +9,7 @@ use Rattle.layout.specs.Content.{Content, broken, empty, putRecord, removeRecor
 use Rattle.prelude.specs.Range.{count}
 use Rattle.table.specs.Table.{isBroken, brokenCount}
 use Rattle.table.specs.Order.{rankOf}
-use Rattle.table.specs.inner.Class.{isEmpty, isPut}
+use Rattle.table.specs.Class.{isEmpty, isPut}
 use Rattle.table.specs.Taking.{isRemove}
 
 -- the rank of an empty slot is 1, and that of no other

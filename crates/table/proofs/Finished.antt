@@ -21,7 +21,7 @@ use Rattle.table.specs.Taking.{highestValid}
 use Rattle.table.proofs.defs.Basket.{Basket, changes}
 use Rattle.table.proofs.defs.Struck.{Struck, Finished, Unfinished, SlotAfter, kept, unfinished, lost, done}
 use Rattle.table.proofs.defs.Write.{Outside, Free}
-use Rattle.table.specs.inner.Class.{isPut}
+use Rattle.table.specs.Class.{isPut}
 use Rattle.table.proofs.Changes.{key-sought, Keyed, keyed, changes-hit, unkeyed, changes-miss}
 use Rattle.table.proofs.Complete.{complete-is, said-for, highest-complete-above, highest-complete-least, complete-record, not-void, settled-same}
 use Rattle.table.proofs.Map.{newest, set-new, map-kept, live-put, live-remove, other-idle, live-kept}

@@ -11,7 +11,7 @@ use Rattle.table.specs.Table.{keyIn, live}
 use Rattle.table.proofs.defs.Reuse.{joins}
 use Rattle.table.proofs.defs.ReuseAfter.{joinsOf}
 use Rattle.table.proofs.defs.Write.{holder}
-use Rattle.table.specs.inner.Class.{isPut}
+use Rattle.table.specs.Class.{isPut}
 use Rattle.table.proofs.Appended.{Joined, from-old, from-own, joined}
 use Rattle.table.proofs.Held.{is-holder, Holder, holder-is}
 

@@ -19,7 +19,7 @@ use Rattle.table.specs.Complete.{Numbers}
 use Rattle.table.specs.Table.{weight, keyIn, live, isHeld, mapOf, decider, liveCount}
 use Rattle.table.proofs.defs.Basket.{oneIf, heldIn, putsIn, HeldRemoved, removesIn, insertsIn, Basket}
 use Rattle.table.proofs.defs.Struck.{Struck, Finished}
-use Rattle.table.specs.inner.Class.{isPut}
+use Rattle.table.specs.Class.{isPut}
 use Rattle.table.proofs.Finished.{finished-own, finished-over, finished-kept}
 use Rattle.table.proofs.Held.{Held, held, held-or, unheld}
 use Rattle.table.proofs.Map.{live-is, Live, lives, decider-weight, other-idle}

@@ -19,7 +19,7 @@ use Rattle.table.proofs.defs.Reuse.{joins, appended, Spares}
 use Rattle.table.proofs.defs.ReuseAfter.{joinsOf, reuseAfter, leftOf}
 use Rattle.table.proofs.defs.Struck.{Struck, Finished}
 use Rattle.table.proofs.defs.Write.{holder}
-use Rattle.table.specs.inner.Class.{isPut}
+use Rattle.table.specs.Class.{isPut}
 use Rattle.table.proofs.Appended.{joined, Joined, from-old, from-own}
 use Rattle.table.proofs.Finished.{new-top, finished-highest-valid}
 use Rattle.table.proofs.Held.{is-holder, Holder, holder-is, held-holder}

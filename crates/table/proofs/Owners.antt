@@ -18,7 +18,7 @@ use Rattle.table.proofs.defs.Basket.{Basket}
 use Rattle.table.proofs.defs.Owners.{moved, ownerIn}
 use Rattle.table.proofs.defs.Struck.{Struck, Finished}
 use Rattle.table.proofs.defs.Write.{holder}
-use Rattle.table.specs.inner.Class.{isPut}
+use Rattle.table.specs.Class.{isPut}
 use Rattle.table.proofs.Finished.{finished-own, finished-over, finished-kept}
 use Rattle.table.proofs.Held.{is-holder, Holder, holder-is, live-holder}
 use Rattle.table.proofs.Joins.{holder-live}

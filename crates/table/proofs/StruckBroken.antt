@@ -19,7 +19,7 @@ use Rattle.prelude.proofs.Count.{count-same, count-fewer}
 use Rattle.table.specs.Complete.{Numbers, settled}
 use Rattle.table.specs.Reuse.{BrokenFirst}
 use Rattle.table.specs.Table.{isBroken, brokenCount, brokenLimit, isRecord}
-use Rattle.table.specs.Taking.{mayTake, takenOf}
+use Rattle.table.specs.Taking.{mayTake, takenOf, takeableIf}
 use Rattle.table.proofs.defs.Basket.{Basket}
 use Rattle.table.proofs.defs.Reuse.{Spares}
 use Rattle.table.proofs.defs.ReuseAfter.{BrokenTaken}
@@ -81,7 +81,7 @@ module _ {f f′ : Table} {num num′ : Numbers} {n w : ℕ} {taken : List ℕ} 
 
 -- a broken slot may always be taken
 broken-may : (f : Table) (n s : ℕ) → isBroken (f s) ≡ true → mayTake f n s ≡ true
-unfolding mayTake
+unfolding mayTake takeableIf
 broken-may f n s e =
     pick-false (isRecord (f s)) _ true (is-false (isRecord (f s)) (λ r. true-false e (record-whole (f s) r)))
 

@@ -12,7 +12,7 @@ use Rattle.prelude.proofs.Any.{any-none-slot, passing, Passing, passes, none-pa
 use Rattle.prelude.proofs.Choice.{both, both-left, both-right, pick-true, pick-false, is-false, true-false, false-left, false-right}
 use Rattle.prelude.proofs.Most.{greatest-above, greatest-least, first-is, First, nowhere, there}
 use Rattle.table.specs.Table.{isRecord, keyIn, weight, live, decider, spare}
-use Rattle.table.specs.Taking.{older, highestValid, validVersion, mayTake, isRemove}
+use Rattle.table.specs.Taking.{older, highestValid, validVersion, mayTake, isRemove, takeableIf}
 use Rattle.table.proofs.defs.Write.{ApartByKey, Free}
 use Rattle.table.proofs.Map.{live-is, Decided, Live, lives, decider-is, decider-weight, is-live, decider-newest}
 use Rattle.table.proofs.OneSlot.{weight-counts, weight-key, weight-version, record-weight, one-key, weight-put, zero-or, says, Says, puts, removes}
@@ -76,7 +76,7 @@ module _ (f : Table) (n : ℕ) where
 
   module _ (s : ℕ) (may : mayTake f n s ≡ true) where
     tests : isRecord (f s) ≡ true → ltb (topOf (f s)) (highestValid f n) && not (isRemove (f s) && anyOf (older f s) 1 n) ≡ true
-    unfolding mayTake
+    unfolding mayTake takeableIf
     tests c = sym (pick-true (isRecord (f s)) _ _ c) ∙ may
 
     -- a valid slot that may be taken is not "of the highest valid version"
@@ -129,7 +129,7 @@ module _ (f : Table) (n : ℕ) where
     has-older : isRecord (f s) ≡ true → isRemove (f s) ≡ true → (t : ℕ) → Slot n t → older f s t ≡ true → Barred s
 
   pub barred : (s : ℕ) → Slot n s → mayTake f n s ≡ false → Barred s
-  unfolding mayTake
+  unfolding mayTake takeableIf
   barred s i e = go (isRecord (f s)) refl (ltb (topOf (f s)) (highestValid f n)) refl (isRemove (f s)) refl (passing (older f s) n)
     where
       hides : Bool

@@ -13,7 +13,7 @@ use Rattle.prelude.proofs.Any.{in-any, any-in, any-none-slot, any-clear-slot, p
 use Rattle.prelude.proofs.Choice.{same-test, split, true-false}
 use Rattle.layout.specs.Content.{Table, topOf}
 use Rattle.table.specs.Table.{isRecord}
-use Rattle.table.specs.Taking.{highestValid, isRemove, older, mayTake, mayTakeAfter}
+use Rattle.table.specs.Taking.{highestValid, isRemove, older, mayTake, mayTakeAfter, takeableIf}
 use Rattle.table.proofs.Taking.{older-record, older-key, older-below, is-older, highest-valid-above, barred, Barred, of-highest, has-older}
 
 module _ (f : Table) (n : ℕ) where
@@ -55,7 +55,7 @@ module _ (f : Table) (n : ℕ) where
   pub after-same : (chosen : List ℕ) (x : ℕ) → ((t : ℕ) → In t chosen → Slot n t) → Slot n x
       → ((t : ℕ) → Slot n t → older f x t ≡ true → mayTake f n t ≡ true → isRemove (f x) ≡ true → In t chosen)
       → mayTakeAfter f n chosen x ≡ mayTake f n x
-  unfolding mayTakeAfter mayTake
+  unfolding mayTakeAfter mayTake takeableIf
   after-same chosen x within i covers = go (isRecord (f x)) refl (isRemove (f x)) refl
     where
       there : (t : ℕ) → Slot n t → older f x t ≡ true → (anyOf (older f x) 1 n ≡ true) ⊎ (anyOf (older f x) 1 n ≡ false) → anyOf (older f x) 1 n ≡ true
@@ -85,7 +85,7 @@ module _ (f : Table) (n : ℕ) where
 
   -- what may be taken may be taken after any others
   pub may-after : (chosen : List ℕ) → ((t : ℕ) → In t chosen → Slot n t) → (x : ℕ) → mayTake f n x ≡ true → mayTakeAfter f n chosen x ≡ true
-  unfolding mayTakeAfter mayTake
+  unfolding mayTakeAfter mayTake takeableIf
   may-after chosen within x e = go (isRecord (f x)) (ltb (topOf (f x)) (highestValid f n)) (isRemove (f x)) (anyIn (older f x) chosen) refl (anyOf (older f x) 1 n) refl e
     where
       go : (a b c d : Bool) → anyIn (older f x) chosen ≡ d → (k : Bool) → anyOf (older f x) 1 n ≡ k → cond a (b && not (c && k)) true ≡ true

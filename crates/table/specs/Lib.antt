@@ -6,4 +6,4 @@ pub mod Keys
 pub mod Complete
 pub mod Shared
 pub mod Taking
-pub mod inner
+pub mod Class

@@ -28,16 +28,18 @@ isRemove (removeRecord version key) = true
 unfoldable pub older : Table → (s t : ℕ) → Bool
 older f s t = isRecord (f t) && (eqb (keyIn (f t)) (keyIn (f s)) && ltb (topOf (f t)) (topOf (f s)))
 
+-- may a slot that holds c be taken, where no version below `top` is the highest valid one? `remains` tells whether an older valid record of its key does
+unfoldable pub takeableIf : (top : ℕ) → (remains : Bool) → Content → Bool
+takeableIf top remains c = cond (isRecord c) (ltb (topOf c) top && not (isRemove c && remains)) true
+
 -- may slot s be taken?
 unfoldable pub mayTake : Table → (n s : ℕ) → Bool
-mayTake f n s =
-    cond (isRecord (f s)) (ltb (topOf (f s)) (highestValid f n) && not (isRemove (f s) && anyOf (older f s) 1 n)) true
+mayTake f n s = takeableIf (highestValid f n) (anyOf (older f s) 1 n) (f s)
 
 -- the same after these slots were taken, by them alone: an older record of the slot's key is looked for only in them. Along the reuse chain of the image's own index that is
--- the same test, since an older record of a remove record's key stands before it there
+-- the same test: where older records of a remove record's key remain, the oldest of them stands before it there, may be taken, and so is among them
 unfoldable pub mayTakeAfter : Table → (n : ℕ) → (chosen : List ℕ) → (s : ℕ) → Bool
-mayTakeAfter f n chosen s =
-    cond (isRecord (f s)) (ltb (topOf (f s)) (highestValid f n) && not (isRemove (f s) && anyIn (older f s) chosen)) true
+mayTakeAfter f n chosen s = takeableIf (highestValid f n) (anyIn (older f s) chosen) (f s)
 
 -- "the first others in the reuse chain": the first m slots of a chain that may be taken
 unfoldable pub takenOf : Table → (n m : ℕ) → (chain : List ℕ) → List ℕ

@@ -24,7 +24,7 @@ use Rattle.index.specs.declared.State.{State}
 use Rattle.index.proofs.Takens.{takens-set}
 use Rattle.index.proofs.Takings.{AgreeAlong, sits-alike}
 use Rattle.table.specs.Table.{isRecord, live}
-use Rattle.table.specs.Taking.{highestValid, isRemove, older, mayTake, mayTakeAfter}
+use Rattle.table.specs.Taking.{highestValid, isRemove, older, mayTake, mayTakeAfter, takeableIf}
 use Rattle.table.specs.Reuse.{OlderFirst}
 use Rattle.table.proofs.defs.Reuse.{Spares}
 use Rattle.table.proofs.Taking.{older-below, older-idle}
@@ -32,7 +32,7 @@ use Rattle.table.proofs.ReuseOrder.{remove-is-record}
 use Rattle.table.proofs.TakingAfter.{after-same}
 use Rattle.taking.specs.Taking.{takingOf, choiceOf}
 use Rattle.taking.specs.inner.Walk.{takeFault}
-use Rattle.taking.specs.inner.Takeable.{slotVersion, takeableIf}
+use Rattle.taking.specs.inner.Takeable.{slotVersion}
 use Rattle.taking.specs.inner.Choice.{KnownTop, Decided, chosenOf, Meetable, withSlot, pastSlot, Met, Chosen}
 use Rattle.taking.specs.declared.Progress.{Progress}
 use Rattle.taking.proofs.Contents.{Holds, holds-none, holds-put, holds-remove, slot-holds, if-none}

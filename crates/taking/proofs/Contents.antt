@@ -14,8 +14,8 @@ use Rattle.layout.specs.Record.{kindOf, keyOf, valueOf}
 use Rattle.layout.specs.Content.{Content, putRecord, removeRecord, contentOf, content, topOf, Table}
 use Rattle.layout.proofs.Content.{ValidAt, Reading, reads-broken, reads-empty, reads-put, reads-remove, reading, verdict-valid, verdict-empty, verdict-broken}
 use Rattle.table.specs.Table.{isRecord, keyIn}
-use Rattle.table.specs.Taking.{validVersion, isRemove, older}
-use Rattle.taking.specs.inner.Takeable.{versionIn, slotVersion, olderThan, takeableIf, takeable}
+use Rattle.table.specs.Taking.{validVersion, isRemove, older, takeableIf}
+use Rattle.taking.specs.inner.Takeable.{versionIn, slotVersion, olderThan, takeable}
 
 -- what a slot with this content holds, by the version v of a valid slot (0 for any other), the kind and the key in its words
 pub data Holds (kind key v : ℕ) (c : Content) : Type 0 where

@@ -13,11 +13,11 @@ use Rattle.prelude.proofs.Most.{greatest-above}
 use Rattle.layout.specs.Content.{topOf, Table, content, contentsOf}
 use Rattle.index.specs.Taking.{takeFrom}
 use Rattle.table.specs.Table.{isRecord}
-use Rattle.table.specs.Taking.{highestValid, isRemove, older, mayTake, mayTakeAfter}
+use Rattle.table.specs.Taking.{highestValid, isRemove, older, mayTake, mayTakeAfter, takeableIf}
 use Rattle.table.proofs.TakingAfter.{may-after}
 use Rattle.taking.specs.Taking.{takingOf, choiceOf}
 use Rattle.taking.specs.inner.Walk.{takeFault, walkFault}
-use Rattle.taking.specs.inner.Takeable.{slotVersion, takeableIf, takeable, OpenFirst}
+use Rattle.taking.specs.inner.Takeable.{slotVersion, takeable, OpenFirst}
 use Rattle.taking.proofs.Walks.{walk-fault, walk-taken, end-good, still-fine}
 use Rattle.taking.proofs.Contents.{slot-holds, held-version}
 use Rattle.taking.proofs.Tested.{may-low}

@@ -19,8 +19,8 @@ use Rattle.layout.specs.declared.Verdict.{Verdict}
 use Rattle.layout.specs.declared.Verdict.the-variants.{Valid, Empty, Broken}
 use Rattle.layout.proofs.KeyWords.{key-parts}
 use Rattle.table.specs.Table.{isRecord}
-use Rattle.table.specs.Taking.{isRemove, older}
-use Rattle.taking.specs.inner.Takeable.{versionIn, slotVersion, olderThan, takeableIf, takeable, lowPut}
+use Rattle.table.specs.Taking.{isRemove, older, takeableIf}
+use Rattle.taking.specs.inner.Takeable.{versionIn, slotVersion, olderThan, takeable, lowPut}
 use Rattle.taking.specs.inner.Choice.{chosenOf}
 use Rattle.taking.proofs.Contents.{Holds, slot-holds, older-none, older-other, older-same, take-none, take-high, take-put, take-blind, take-looked, if-high, if-remove, older-here}
 

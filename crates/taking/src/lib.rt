@@ -1,6 +1,6 @@
 // The slots that a call takes from the reuse chain: types, definitions and laws, no function.
 
-// What is known of the highest valid version: none is above it, and where exact it is the highest.
+// A version that is not above the highest valid one; where exact, it is the highest.
 pub struct Known {
     pub top: u64,
     pub exact: bool,

@@ -8,17 +8,17 @@ ghost use Rattle.prelude.specs.Range.{greatest};
 ghost use Rattle.layout.specs.Record.{Layout, keyWith};
 ghost use Rattle.layout.specs.Content.{contentsOf};
 ghost use Rattle.layout.specs.inner.Inside.{SlotInside};
-ghost use Rattle.table.specs.Taking.{older};
+ghost use Rattle.table.specs.Taking.{older, takeableIf};
 ghost use Rattle.taking.specs.Taking.{takingOf, choiceOf};
 ghost use Rattle.taking.specs.inner.Walk.{takeFault};
-ghost use Rattle.taking.specs.inner.Takeable.{slotVersion, olderThan, takeableIf, Walkable};
+ghost use Rattle.taking.specs.inner.Takeable.{slotVersion, olderThan, Walkable};
 ghost use Rattle.taking.specs.inner.Choice.{KnownTop, Decided, chosenOf, ChosenInside, Meetable, Met, Chosen};
 use crate::slot::highest_valid;
 use crate::slot::is_older;
 use crate::slot::may_take;
 use crate::slot::valid_version;
-use crate::take::chain_fault;
 use crate::take::newest_version;
+use crate::take::slots_fault;
 use layout_code::fields::slot_high;
 use layout_code::fields::slot_low;
 use taking::Choice;
@@ -192,7 +192,7 @@ pub fn choose(
     ensures { λ r. ⌜ Chosen (takingOf l (now (image .entry)) (now (next .entry)) n first wanted) (choiceOf l (now (image .entry)) (now (next .entry)) n first wanted) wanted r ⌝ }
 {
     let known = newest_version(image, n, newest);
-    let fault = chain_fault(image, l, next, n, first, wanted, known);
+    let fault = slots_fault(image, l, next, n, first, wanted, known);
     if fault != 0 {
         return none_chosen(fault);
     }

@@ -81,7 +81,7 @@ fn walk_fault(
     11
 }
 
-// The version of the slot that the last call took, if it is valid, else 0: it is none above the highest.
+// The version of the slot that the last call took, if it is valid, else 0: it is not above the highest.
 pub fn newest_version(image: &[u8], n: usize, newest: u32) -> u64
     requires { ⌜ 128 * (n + 1) ≤ length (now image) ⌝ }
     ensures { λ r. ⌜ r ≤ greatest (slotVersion (word (now (image .entry)))) n ⌝ }
@@ -115,7 +115,7 @@ fn is_open(image: &[u8], l: usize, next: &[u32], n: usize, first: u32, known: u6
 }
 
 // 11 or 28 by the slots of the chain that may be taken, else 0: a few slots below this version tell mostly that there are enough; if not, the whole image does.
-pub fn chain_fault(
+pub fn slots_fault(
     image: &[u8],
     l: usize,
     next: &[u32],
@@ -141,11 +141,11 @@ pub fn take_fault(image: &[u8], l: usize, next: &[u32], n: usize, first: u32, ne
     ensures { λ r. ⌜ r ≡ takeFault (takingOf l (now (image .entry)) (now (next .entry)) n first 1) ⌝ }
 {
     if newest == 0 {
-        return chain_fault(image, l, next, n, first, 1, 0);
+        return slots_fault(image, l, next, n, first, 1, 0);
     }
     let known = newest_version(image, n, newest);
     if is_open(image, l, next, n, first, known) {
         return 0;
     }
-    chain_fault(image, l, next, n, first, 1, known)
+    slots_fault(image, l, next, n, first, 1, known)
 }

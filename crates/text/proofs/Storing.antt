@@ -11,7 +11,7 @@ use lib.ListN.{length, getD, set, take, drop, length-set, length-drop, length-ap
 use lib.Seq.{take-all, take-suc-set, drop-cons, drop-set-lt, getD-set-same}
 use borrow.Author.Tests.{lt-ltb, le-ltb}
 use Rattle.prelude.proofs.Choice.{pick-true, pick-false}
-use Rattle.text.specs.Output.{digitsOnto, decimal, numbersText, written, Rendered, renderEnd, renderResult, Printed, ok, found, notHeld, cut, no, text}
+use Rattle.text.specs.Output.{digitsOnto, decimal, numbersText, lineText, written, Rendered, renderEnd, renderResult, Printed, ok, found, notHeld, cut, no, text}
 use Rattle.text.specs.inner.Output.{Wrote}
 
 written-append : (out : List ℕ) (at : ℕ) (xs ys : List ℕ)
@@ -23,7 +23,7 @@ written-append out at (x ∷ xs) ys =
     ∙ written-append (set out at x) (suc at) xs ys
 
 -- one text after another
-wrote-then : (a b d : List ℕ) (at p r : ℕ) (xs ys : List ℕ) → Wrote a b at p xs → Wrote b d p r ys → Wrote a d at r (xs ++ ys)
+pub wrote-then : (a b d : List ℕ) (at p r : ℕ) (xs ys : List ℕ) → Wrote a b at p xs → Wrote b d p r ys → Wrote a d at r (xs ++ ys)
 wrote-then a b d at p r xs ys v w =
     record {
       output =
@@ -122,19 +122,31 @@ text-then : (a b d : List ℕ) (at r : ℕ) (xs ys : List ℕ) → b ≡ written
     → Wrote a d at r (xs ++ ys)
 text-then a b d at r xs ys e w = wrote-then a b d at (at + length xs) r xs ys (record { output = e; end = refl }) w
 
--- a space and the digits that store_digits left
+-- the digits that store_digits left, as the part of the space that has them
+digits-part : (space part : List ℕ) (from n : ℕ) → part ≡ take (20 - from) (drop from space) → length space ≡ 20 → drop from space ≡ decimal n
+    → part ≡ decimal n
+digits-part space part from n p s g = p ∙ take-all (20 - from) (drop from space) (omega (arith, length-drop from space)) ∙ g
+
+-- a space and these digits
 pub number-wrote : (a b d space part : List ℕ) (at from n : ℕ) → b ≡ written a at (32 ∷ []) → d ≡ written b (at + 1) part
     → part ≡ take (20 - from) (drop from space) → length space ≡ 20 → from < 20 → drop from space ≡ decimal n
     → Wrote a d at (at + 1 + (20 - from)) (32 ∷ decimal n)
 number-wrote a b d space part at from n e f p s h g =
     text-then a b d at _ (32 ∷ []) (decimal n) e
-    (record { output = f ∙ ap (λ (t : List ℕ). written b (at + 1) t) (p ∙ cut ∙ g); end = ap (λ (j : ℕ). at + 1 + j) (sym size ∙ ap length g) })
+    (record {
+      output = f ∙ ap (λ (t : List ℕ). written b (at + 1) t) (digits-part space part from n p s g);
+      end = ap (λ (j : ℕ). at + 1 + j) (sym size ∙ ap length g);
+    })
   where
     size : length (drop from space) ≡ 20 - from
     size = omega (arith, length-drop from space)
 
-    cut : take (20 - from) (drop from space) ≡ drop from space
-    cut = take-all (20 - from) (drop from space) (omega (arith, size))
+-- these digits, and a line of numbers after them
+pub numbers-wrote : (a d space part numbers : List ℕ) (at from n r : ℕ) → Wrote a d at r (part ++ numbersText numbers)
+    → part ≡ take (20 - from) (drop from space) → length space ≡ 20 → drop from space ≡ decimal n → Wrote a d at r (lineText (n ∷ numbers))
+unfolding lineText
+numbers-wrote a d space part numbers at from n r w p s g =
+    subst (λ (t : List ℕ). Wrote a d at r (t ++ numbersText numbers)) (digits-part space part from n p s g) w
 
 -- a number has at most 20 digits
 digits-length : (places n : ℕ) (rest : List ℕ) → length (digitsOnto places n rest) ≤ places + length rest
@@ -147,7 +159,7 @@ digits-length (suc places) n rest = go (ltb n 10) (digits-length places (n / 10)
     go true h = omega arith
     go false h = omega arith
 
-decimal-length : (n : ℕ) → length (decimal n) ≤ 20
+pub decimal-length : (n : ℕ) → length (decimal n) ≤ 20
 unfolding decimal
 decimal-length n = digits-length 20 n []
 
@@ -201,7 +213,7 @@ rendered p out new at r h w =
 
 -- ---- a line has room in 64 bytes
 
-numbers-length : (numbers : List ℕ) → length (numbersText numbers) ≤ 21 * length numbers + 1
+pub numbers-length : (numbers : List ℕ) → length (numbersText numbers) ≤ 21 * length numbers + 1
 unfolding numbersText
 numbers-length [] = omega arith
 numbers-length (n ∷ numbers) =
@@ -223,12 +235,12 @@ text-length notHeld few = omega (arith, numbers-length [])
 text-length (cut a b) few = omega (arith, numbers-length (a ∷ b ∷ []))
 text-length (no number) few = omega (arith, numbers-length (number ∷ []))
 
-written-length : (out : List ℕ) (at : ℕ) (bytes : List ℕ) → length (written out at bytes) ≡ length out
+pub written-length : (out : List ℕ) (at : ℕ) (bytes : List ℕ) → length (written out at bytes) ≡ length out
 unfolding written
 written-length out at [] = refl
 written-length out at (byte ∷ bytes) = written-length (set out at byte) (suc at) bytes ∙ length-set out at byte
 
-written-front : (out : List ℕ) (at : ℕ) (bytes : List ℕ) → at + length bytes ≤ length out
+pub written-front : (out : List ℕ) (at : ℕ) (bytes : List ℕ) → at + length bytes ≤ length out
     → take (at + length bytes) (written out at bytes) ≡ take at out ++ bytes
 unfolding written
 written-front out at [] h = ap (λ (k : ℕ). take k out) (add-zero at) ∙ sym (append-nil (take at out))

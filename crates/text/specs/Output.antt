@@ -29,6 +29,11 @@ unfoldable pub numbersText : List ℕ → List ℕ
 numbersText [] = 10 ∷ []
 numbersText (n ∷ numbers) = (32 ∷ decimal n) ++ numbersText numbers
 
+-- a line of numbers alone, with one space between
+unfoldable pub lineText : List ℕ → List ℕ
+lineText [] = 10 ∷ []
+lineText (n ∷ numbers) = decimal n ++ numbersText numbers
+
 -- the word in ASCII and the numbers after it
 unfoldable pub text : Printed → List ℕ
 text (ok numbers) = (111 ∷ 107 ∷ []) ++ numbersText numbers

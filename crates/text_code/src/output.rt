@@ -3,7 +3,7 @@ ghost use mathlib.Core.Path.{_≡_};
 ghost use mathlib.Core.List.{[], _∷_, _++_};
 ghost use Prim.Native.Nat.{_+_, _*_, _≤_, _<_};
 ghost use lib.ListN.{length, drop};
-ghost use Rattle.text.specs.Output.{text, decimal, numbersText, written, renderEnd, renderResult};
+ghost use Rattle.text.specs.Output.{text, decimal, numbersText, lineText, written, renderEnd, renderResult};
 ghost use Rattle.text.specs.inner.Output.{replySays, Wrote};
 use text::Reply;
 
@@ -65,11 +65,21 @@ fn store_line(out: &mut [u8], at: usize, word: &[u8], numbers: &[u64]) -> usize
 }
 
 // The word and one number after it.
-fn store_one(out: &mut [u8], at: usize, word: &[u8], n: u64) -> usize
+pub fn store_one(out: &mut [u8], at: usize, word: &[u8], n: u64) -> usize
     requires { ⌜ at + length (now word) + 22 ≤ length (now out) ⌝ }
     ensures { λ r. ⌜ Wrote (now (out .entry)) (now (out .exit)) at r (now (word .entry) ++ numbersText (n ∷ [])) ⌝ }
 {
     store_line(out, at, word, &[n])
+}
+
+// Numbers alone, with one space between: the position after them and the end of the line.
+pub fn store_numbers(out: &mut [u8], at: usize, first: u64, rest: &[u64]) -> usize
+    requires { ⌜ at + 21 * length (now rest) + 21 ≤ length (now out) ⌝ }
+    ensures { λ r. ⌜ Wrote (now (out .entry)) (now (out .exit)) at r (lineText (first ∷ now (rest .entry))) ⌝ }
+{
+    let mut space = [0u8; 20];
+    let from = store_digits(first, &mut space);
+    store_line(out, at, &space[from..], rest)
 }
 
 // The word and two numbers after it.

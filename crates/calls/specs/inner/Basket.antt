@@ -1,14 +1,15 @@
 -- A basket as the functions have it: its keys, the slots of their old records and the slots taken stand in arrays. What is asked of the bytes of its values is their
 -- count alone, so what is read before the writes holds for any `values`.
 use mathlib.Core.Path.{_≡_}
-use mathlib.Core.Bool.{not}
+use mathlib.Core.Bool.{not, cond}
 use mathlib.Core.List.{List, [], _∷_}
 use Prim.Native.Nat.{ℕ, zero, suc, _+_, _*_, _^_, _≤_, _<_}
-use lib.Dec.{eqb}
-use lib.ListN.{length, getD}
+use lib.Dec.{eqb, ltb}
+use lib.ListN.{length, getD, take}
 use Rattle.prelude.specs.Refusal.{orElse}
 use Rattle.layout.specs.Record.{Layout, limit}
 use Rattle.layout.specs.inner.Sized.{Sized}
+use Rattle.stores.specs.Store.{zipped}
 use Rattle.stores.specs.Basket.{BasketRecord}
 use Rattle.index.specs.Index.{headOf}
 use Rattle.index.specs.Walk.{search, chainFault}
@@ -22,12 +23,15 @@ use Rattle.index.specs.declared.Action.the-variants.{Insert, Replace, Remove}
 use Rattle.index.specs.declared.Found.{Found}
 use Rattle.taking.specs.Taking.{takingOf, choiceOf}
 use Rattle.taking.specs.declared.Choice.{Choice}
-use Rattle.calls.specs.Change.{storeFault}
-use Rattle.calls.specs.Basket.{itemKey, itemAt, itemValue, changesOf, firstFault, actionFault, keysFault, basketFault, kindBy, oldIn, sumOver, insertsBy, removesBy}
+use Rattle.calls.specs.Change.{ChangeResult, storeFault}
+use Rattle.calls.specs.Basket.{itemKey, itemAt, itemValue, changesOf, firstFault, actionFault, keysFault, basketFault, kindBy, oldIn, sumOver, insertsBy, removesBy, BasketListLeft, basketListEnd, leftWith}
 use Rattle.calls.specs.declared.BasketItem.{BasketItem}
 use Rattle.calls.specs.declared.Olds.{Olds}
 use Rattle.calls.specs.declared.Totals.{Totals}
 use Rattle.calls.specs.declared.Plan.{Plan}
+use Rattle.calls.specs.declared.BasketMade.{BasketMade}
+use Rattle.calls.specs.declared.BasketOutcome.{BasketOutcome}
+use Rattle.calls.specs.declared.BasketOutcome.the-variants.{Stored, Refused}
 
 -- the key of item i
 abbrev pub itemKeyAt : (l : ℕ) → List BasketItem → ℕ → ℕ
@@ -143,3 +147,25 @@ pub record ItemsInside (n heads next last count : ℕ) (olds slots : List ℕ) :
   pub few : count ≤ 8
   pub old-in : (j : ℕ) → j < count → getD olds j 0 ≤ n
   pub slot-in : (j : ℕ) → j < count → getD slots j 0 ≤ n
+
+-- ---- a basket whose stores go to a lent list of records
+
+-- how many stores an outcome of so many keys hands out
+unfoldable pub storesBy : BasketOutcome → (count : ℕ) → ℕ
+storesBy (Stored version) count = 16 * count
+storesBy (Refused number) count = 0
+
+-- no basket has more than eight keys
+unfoldable pub basketStoreCount : BasketOutcome → (count : ℕ) → ℕ
+basketStoreCount outcome count = cond (ltb 8 count) 0 (storesBy outcome count)
+
+-- what a call that made its stores in arrays left
+abbrev pub madeEnd : (count : ℕ) → BasketMade → (heads next : List ℕ) → BasketListLeft
+madeEnd count m heads next =
+    basketListEnd count (m .answer) (zipped (take (m .stored) (m .at)) (take (m .stored) (m .words))) heads next
+
+-- r is the result; all its stores are made, and a list with this room holds them
+pub record MadeOf (r : ChangeResult) (room count : ℕ) (m : BasketMade) (heads next : List ℕ) : Type 0 where
+  pub left : madeEnd count m heads next ≡ leftWith r (r .stores)
+  pub in-room : m .stored ≤ room
+  pub in-arrays : m .stored ≤ 128

@@ -18,7 +18,7 @@ use Rattle.index.specs.declared.Found.the-variants.{At, Missing, BadChain}
 use Rattle.index.specs.declared.Place.{Place}
 use Rattle.index.specs.declared.Place.the-variants.{Held, NotHeld}
 use Rattle.index.specs.declared.Lookup.{Lookup}
-use Rattle.index.specs.declared.Lookup.the-variants.{Refused, Open}
+use Rattle.index.specs.declared.Lookup.the-variants.{Refused, Allowed}
 use Rattle.calls.specs.Change.{writeLentFault, writeFault, removeFault}
 use Rattle.calls.specs.Get.{slotLength, getFault}
 
@@ -48,13 +48,13 @@ pub record OpenAt (l : ℕ) (image heads next : List ℕ) (s : State) (key size 
 -- an insert or a replace can be carried out
 abbrev pub WriteReady : (l : ℕ) → (image heads next : List ℕ) → State → (key size : ℕ) → Lookup → Type 0
 WriteReady l image heads next s key size (Refused number compared) = Unit
-WriteReady l image heads next s key size (Open place compared) = OpenAt l image heads next s key size place
+WriteReady l image heads next s key size (Allowed place compared) = OpenAt l image heads next s key size place
 
 -- and so can a remove
 abbrev pub RemoveReady : (image heads next : List ℕ) → State → (key : ℕ) → Lookup → Type 0
 RemoveReady image heads next s key (Refused number compared) = Unit
-RemoveReady image heads next s key (Open (Held old prev) compared) = Writable image heads next s key prev old × (0 < s .live)
-RemoveReady image heads next s key (Open (NotHeld prev) compared) = Unit
+RemoveReady image heads next s key (Allowed (Held old prev) compared) = Writable image heads next s key prev old × (0 < s .live)
+RemoveReady image heads next s key (Allowed (NotHeld prev) compared) = Unit
 
 -- what the lookups of these calls answer
 abbrev pub WriteLookup : (l : ℕ) → (image heads next : List ℕ) → State → Mode → (key size : ℕ) → Lookup → Type 0
@@ -78,9 +78,9 @@ FoundInside l image BadChain = Unit
 -- the slot of a held key is inside the image, and its value fits an output of this size
 abbrev pub GetReady : (l : ℕ) → (image : List ℕ) → (size : ℕ) → Lookup → Type 0
 GetReady l image size (Refused number compared) = Unit
-GetReady l image size (Open (Held slot prev) compared) =
+GetReady l image size (Allowed (Held slot prev) compared) =
     SlotInside image l slot × (slotLength l image slot ≤ limit l) × (slotLength l image slot ≤ size)
-GetReady l image size (Open (NotHeld prev) compared) = Unit
+GetReady l image size (Allowed (NotHeld prev) compared) = Unit
 
 -- what the lookup of get answers
 abbrev pub GetLookup : (l : ℕ) → (image heads next : List ℕ) → (key size : ℕ) → Lookup → Type 0

@@ -14,7 +14,7 @@ use Rattle.layout.specs.Fault.{markFault, faultOf, recordFault}
 use Rattle.layout.specs.inner.Key.{highWord}
 use Rattle.table.specs.Table.{keyIn, brokenCount}
 use Rattle.table.specs.Order.{rankOf}
-use Rattle.table.specs.inner.Class.{isEmpty, isPut}
+use Rattle.table.specs.Class.{isEmpty, isPut}
 use Rattle.table.specs.Taking.{isRemove}
 use Rattle.index.specs.Index.{headOf}
 use Rattle.recovery.specs.declared.Summary.{Summary}

@@ -13,7 +13,7 @@ use Rattle.table.specs.Table.{live, keyIn, valueIn, isHeld}
 use Rattle.table.specs.Taking.{mayTake}
 use Rattle.table.proofs.defs.Shared.{Agreed}
 use Rattle.table.proofs.defs.Write.{Above, Record}
-use Rattle.table.specs.inner.Class.{isPut}
+use Rattle.table.specs.Class.{isPut}
 
 -- a call that writes the records `new` of version w into the slots `taken`, one for each of its keys
 pub record Basket (f : Table) (num : Numbers) (n w : ℕ) (taken : List ℕ) (new : Table) : Type 0 where

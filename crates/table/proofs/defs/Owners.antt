@@ -6,7 +6,7 @@ use lib.Dec.{eqb}
 use Rattle.layout.specs.Content.{Table}
 use Rattle.table.specs.Table.{live, keyIn}
 use Rattle.table.proofs.defs.Write.{holder}
-use Rattle.table.specs.inner.Class.{isPut}
+use Rattle.table.specs.Class.{isPut}
 
 -- a live slot stands in its key's chain, every other slot in reuse
 unfoldable pub ownerIn : {A : Type 0} → Table → (n : ℕ) → (chain : ℕ → A) → (reuse : A) → (t : ℕ) → A

@@ -6,7 +6,7 @@ use Prim.Native.Nat.{ℕ, zero, suc}
 use Rattle.layout.specs.Content.{Content, Table}
 use Rattle.prelude.specs.Members.{In, Once, Slot}
 use Rattle.table.specs.Table.{live}
-use Rattle.table.specs.inner.Class.{isPut}
+use Rattle.table.specs.Class.{isPut}
 use Rattle.table.proofs.defs.Write.{holder}
 
 -- reuse holds the slots that are not live, each once

@@ -8,11 +8,11 @@ use Rattle.prelude.specs.Range.{greatest}
 use Rattle.prelude.specs.Members.{Slot}
 use Rattle.words.specs.Word.{word}
 use Rattle.layout.specs.Content.{contentsOf}
-use Rattle.table.specs.Taking.{highestValid, mayTakeAfter}
+use Rattle.table.specs.Taking.{highestValid, mayTakeAfter, takeableIf}
 use Rattle.index.specs.Taking.{Taking, taken}
 use Rattle.index.specs.inner.Basket.{takensFrom}
 use Rattle.taking.specs.inner.Walk.{takeFault}
-use Rattle.taking.specs.inner.Takeable.{slotVersion, takeableIf}
+use Rattle.taking.specs.inner.Takeable.{slotVersion}
 use Rattle.taking.specs.declared.Progress.{Progress}
 use Rattle.taking.specs.declared.Choice.{Choice}
 

@@ -9,11 +9,11 @@ use Rattle.prelude.specs.Range.{anyOf}
 use Rattle.layout.specs.Line.{lineA, versionOf}
 use Rattle.layout.specs.Record.{Layout, kindOf}
 use Rattle.layout.specs.Slot.{slotVerdict}
-use Rattle.layout.specs.Content.{Content, topOf, Table}
+use Rattle.layout.specs.Content.{topOf, Table}
 use Rattle.layout.specs.declared.Verdict.{Verdict}
 use Rattle.layout.specs.declared.Verdict.the-variants.{Valid, Empty, Broken}
 use Rattle.table.specs.Table.{isRecord, keyIn}
-use Rattle.table.specs.Taking.{isRemove, older}
+use Rattle.table.specs.Taking.{takeableIf, older}
 
 -- the image and next are those of n slots, in layout l
 pub record Walkable (image next : List ℕ) (l n : ℕ) : Type 0 where
@@ -37,11 +37,7 @@ slotVersion m s = versionIn (slotVerdict m s)
 unfoldable pub olderThan : Table → (key version t : ℕ) → Bool
 olderThan f key version t = isRecord (f t) && (eqb (keyIn (f t)) key && ltb (topOf (f t)) version)
 
--- a slot that holds c may be taken where no version below `top` is the highest valid one; `older` tells whether an older record of its key may remain
-unfoldable pub takeableIf : (top : ℕ) → (older : Bool) → Content → Bool
-takeableIf top older c = cond (isRecord c) (ltb (topOf c) top && not (isRemove c && older)) true
-
--- the same of slot s: one may remain unless `scan` says that the image is looked through, and none is found
+-- may slot s be taken? An older record of its key may remain unless `scan` says that the image is looked through, and none is found
 unfoldable pub takeable : Table → (n top : ℕ) → (scan : Bool) → (s : ℕ) → Bool
 takeable f n top scan s = takeableIf top (cond scan (anyOf (older f s) 1 n) true) (f s)
 

@@ -3,27 +3,27 @@ use mathlib.Core.Path.{refl, ap, ap₂, _∙_}
 use Prim.Native.Nat.{ℕ}
 use native.Mathlib.Omega.{arith}
 use borrow.Author.Needs.{needs}
-use Rattle.index.proofs.LookedUp.{open-at}
+use Rattle.index.proofs.LookedUp.{allowed-at}
 use Rattle.calls.specs.Compared.{reported, keyCompared}
 use Rattle.calls.specs.Change.{ChangeResult, changeSays, handedOut, leftIn, unchanged}
 use Rattle.calls.proofs.Changes.{inside, some-head, changed-end}
-use Rattle.calls.proofs.Results.{refused-count, open-count, remove-refused, remove-held, remove-not-held}
+use Rattle.calls.proofs.Results.{refused-count, allowed-count, remove-refused, remove-held, remove-not-held}
 use Rattle.change_code.proofs.remove.remove_in.Statement.{statement}
 use Rattle.change_code.proofs.remove.remove_in.Tie as tie
 
 head-of-requires : tie.Need-head-of-requires
 head-of-requires c κs =
     some-head (c .before .before .before .before .before .before .before .before .before .before .before .before .args .image .now) (c .before .before .before .before .before .before .before .before .before .before .before .before .args .heads .now) (c .before .before .before .before .before .before .before .before .before .before .before .before .args .next .now) (c .before .before .before .before .before .before .before .before .before .before .before .before .args .state) _ _ _
-    ((rw (open-at (c .before .before .before .before .lookup2 .given .1) (c .before .place .given .1)) at (c .before .before .before .before .before .before .remove-lookup .ensures .ready)) .0)
+    ((rw (allowed-at (c .before .before .before .before .lookup2 .given .1) (c .before .place .given .1)) at (c .before .before .before .before .before .before .remove-lookup .ensures .ready)) .0)
 
 remove-held-requires : tie.Need-remove-held-requires
 remove-held-requires c κs =
-    let ready = rw (open-at (c .before .before .before .before .before .before .before .lookup2 .given .1) (c .before .before .before .before .place .given .1)) at (c .before .before .before .before .before .before .before .before .before .remove-lookup .ensures .ready) in
+    let ready = rw (allowed-at (c .before .before .before .before .before .before .before .lookup2 .given .1) (c .before .before .before .before .place .given .1)) at (c .before .before .before .before .before .before .before .before .before .remove-lookup .ensures .ready) in
     (inside (c .before .before .before .before .before .before .before .before .before .before .before .before .before .before .before .args .image .now) (c .before .before .before .before .before .before .before .before .before .before .before .before .before .before .before .args .heads .now) (c .before .before .before .before .before .before .before .before .before .before .before .before .before .before .before .args .next .now) (c .before .before .before .before .before .before .before .before .before .before .before .before .before .before .before .args .state) _ _ _ _ (c .before .before .head-of .ensures .1 (c .before .before .before .before .before .before .before .before .before .before .before .before .before .before .before .args .high)) (ready .0), ready .1)
 
 remove-stores-requires : tie.Need-remove-stores-requires
 remove-stores-requires c κs =
-    let w = (rw (open-at (c .before .before .before .before .before .before .before .before .before .before .before .before .before .before .lookup2 .given .1) (c .before .before .before .before .before .before .before .before .before .before .before .place .given .1)) at (c .before .before .before .before .before .before .before .before .before .before .before .before .before .before .before .before .remove-lookup .ensures .ready)) .0 in
+    let w = (rw (allowed-at (c .before .before .before .before .before .before .before .before .before .before .before .before .before .before .lookup2 .given .1) (c .before .before .before .before .before .before .before .before .before .before .before .place .given .1)) at (c .before .before .before .before .before .before .before .before .before .before .before .before .before .before .before .before .remove-lookup .ensures .ready)) .0 in
     (c .before .before .before .before .before .before .before .before .before .before .before .before .before .before .before .before .before .before .before .before .before .before .pre, omega arith, w .index .version-fits, w .slot-fits, w .slot-in)
 
 returns : tie.Need-returns
@@ -37,8 +37,8 @@ returns-2 : tie.Need-returns-2
 unfolding changeSays handedOut leftIn unchanged keyCompared
 returns-2 c =
     ap₂ (λ (x : ChangeResult) (k : ℕ). reported x k)
-    (ap (leftIn _) (remove-not-held _ _ _ _ _ _ _ (c .before .before .before .before .before .remove-lookup .ensures) _ _ (open-at (c .before .before .before .lookup2 .given .1) (c .enum-told .given .1))))
-    (open-count (c .before .before .before .before .before .remove-lookup .ensures) _ _ (c .before .before .before .lookup2 .given .1))
+    (ap (leftIn _) (remove-not-held _ _ _ _ _ _ _ (c .before .before .before .before .before .remove-lookup .ensures) _ _ (allowed-at (c .before .before .before .lookup2 .given .1) (c .enum-told .given .1))))
+    (allowed-count (c .before .before .before .before .before .remove-lookup .ensures) _ _ (c .before .before .before .lookup2 .given .1))
 
 same-length-5 : tie.Need-same-length-5
 same-length-5 c = c .before .before .before .before .before .before .before .remove-held .kept .0
@@ -52,8 +52,8 @@ returns-3 c =
     ap₂ (λ (x : ChangeResult) (k : ℕ). reported x k)
     (changed-end _ _ _ _ _ _ _ _ _ _ (c .remove-stores .ensures) _ _ _ _ (c .before .before .before .before .before .before .before .remove-held .ensures)
     ∙ ap (leftIn _)
-    (remove-held _ _ _ _ _ _ _ (c .before .before .before .before .before .before .before .before .before .before .before .before .before .before .before .before .before .remove-lookup .ensures) _ _ _ _ (open-at (c .before .before .before .before .before .before .before .before .before .before .before .before .before .before .before .lookup2 .given .1) (c .before .before .before .before .before .before .before .before .before .before .before .before .place .given .1)) (c .before .before .before .before .before .before .before .before .before .before .head-of .ensures .1 (c .before .before .before .before .before .before .before .before .before .before .before .before .before .before .before .before .before .before .before .before .before .before .before .args .high))))
-    (open-count (c .before .before .before .before .before .before .before .before .before .before .before .before .before .before .before .before .before .remove-lookup .ensures) _ _ (c .before .before .before .before .before .before .before .before .before .before .before .before .before .before .before .lookup2 .given .1))
+    (remove-held _ _ _ _ _ _ _ (c .before .before .before .before .before .before .before .before .before .before .before .before .before .before .before .before .before .remove-lookup .ensures) _ _ _ _ (allowed-at (c .before .before .before .before .before .before .before .before .before .before .before .before .before .before .before .lookup2 .given .1) (c .before .before .before .before .before .before .before .before .before .before .before .before .place .given .1)) (c .before .before .before .before .before .before .before .before .before .before .head-of .ensures .1 (c .before .before .before .before .before .before .before .before .before .before .before .before .before .before .before .before .before .before .before .before .before .before .before .args .high))))
+    (allowed-count (c .before .before .before .before .before .before .before .before .before .before .before .before .before .before .before .before .before .remove-lookup .ensures) _ _ (c .before .before .before .before .before .before .before .before .before .before .before .before .before .before .before .lookup2 .given .1))
 
 pub remove-in-spec : {M : Type 1} → statement M
 remove-in-spec =

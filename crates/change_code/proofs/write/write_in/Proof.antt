@@ -6,7 +6,7 @@ use borrow.Author.Needs.{needs}
 use Rattle.calls.specs.Compared.{reported}
 use Rattle.calls.specs.Change.{ChangeResult, changeSays, handedOut, leftIn, unchanged, writeCompared}
 use Rattle.calls.proofs.Changes.{opened, opened-inside, changed-end}
-use Rattle.calls.proofs.Results.{refused-count, open-count, write-refused, write-open}
+use Rattle.calls.proofs.Results.{refused-count, allowed-count, write-refused, write-open}
 use Rattle.change_code.proofs.write.write_in.Statement.{statement}
 use Rattle.change_code.proofs.write.write_in.Tie as tie
 
@@ -36,7 +36,7 @@ returns-2 c =
     (changed-end _ _ _ _ _ _ _ _ _ _ (c .record-stores .ensures) _ _ _ _ (c .before .before .before .before .before .before .before .write-place .ensures)
     ∙ ap (leftIn _)
     (write-open _ _ _ _ _ _ _ _ _ (c .before .before .before .before .before .before .before .before .before .before .before .before .before .before .write-lookup .ensures) _ _ _ (c .before .before .before .before .before .before .before .before .before .before .before .before .lookup2 .given .1) (c .before .before .before .before .before .before .before .before .before .before .head-of .ensures .1 (c .before .before .before .before .before .before .before .before .before .before .before .before .before .before .before .before .before .before .before .before .before .args .high))))
-    (open-count (c .before .before .before .before .before .before .before .before .before .before .before .before .before .before .write-lookup .ensures) _ _ (c .before .before .before .before .before .before .before .before .before .before .before .before .lookup2 .given .1))
+    (allowed-count (c .before .before .before .before .before .before .before .before .before .before .before .before .before .before .write-lookup .ensures) _ _ (c .before .before .before .before .before .before .before .before .before .before .before .before .lookup2 .given .1))
 
 same-length-3 : tie.Need-same-length-3
 same-length-3 c = c .before .before .before .before .before .before .before .write-place .kept .0

@@ -3,19 +3,19 @@ use mathlib.Core.Path.{ap₂}
 use Prim.Native.Nat.{ℕ}
 use native.Mathlib.Omega.{arith}
 use borrow.Author.Needs.{needs}
-use Rattle.index.proofs.LookedUp.{open-at}
+use Rattle.index.proofs.LookedUp.{allowed-at}
 use Rattle.calls.specs.Compared.{reported, keyCompared}
 use Rattle.calls.specs.Get.{GetResult, getSays}
-use Rattle.calls.proofs.Results.{refused-count, open-count, get-refused, get-held, get-not-held}
+use Rattle.calls.proofs.Results.{refused-count, allowed-count, get-refused, get-held, get-not-held}
 use Rattle.get_code.proofs.get.get_in.Statement.{statement}
 use Rattle.get_code.proofs.get.get_in.Tie as tie
 
 slot-length-requires : tie.Need-slot-length-requires
-slot-length-requires c κs = (rw (open-at (c .before .before .before .before .lookup2 .given .1) (c .before .place .given .1)) at (c .before .before .before .before .before .before .get-lookup .ensures .ready)) .0
+slot-length-requires c κs = (rw (allowed-at (c .before .before .before .before .lookup2 .given .1) (c .before .place .given .1)) at (c .before .before .before .before .before .before .get-lookup .ensures .ready)) .0
 
 copy-value-requires : tie.Need-copy-value-requires
 copy-value-requires c κs =
-    let ready = rw (open-at (c .before .before .before .before .before .before .lookup2 .given .1) (c .before .before .before .place .given .1)) at (c .before .before .before .before .before .before .before .before .get-lookup .ensures .ready) in
+    let ready = rw (allowed-at (c .before .before .before .before .before .before .lookup2 .given .1) (c .before .before .before .place .given .1)) at (c .before .before .before .before .before .before .before .before .get-lookup .ensures .ready) in
     (ready .0, omega (arith, c .before .slot-length .ensures, ready .1), omega (arith, c .before .slot-length .ensures, ready .2))
 
 returns : tie.Need-returns
@@ -28,16 +28,16 @@ returns-2 : tie.Need-returns-2
 unfolding getSays keyCompared
 returns-2 c =
     ap₂ (λ (x : GetResult) (k : ℕ). reported x k)
-    (get-not-held _ _ _ _ _ _ _ (c .before .before .before .before .before .get-lookup .ensures) _ _ (open-at (c .before .before .before .lookup2 .given .1) (c .enum-told .given .1)))
-    (open-count (c .before .before .before .before .before .get-lookup .ensures) _ _ (c .before .before .before .lookup2 .given .1))
+    (get-not-held _ _ _ _ _ _ _ (c .before .before .before .before .before .get-lookup .ensures) _ _ (allowed-at (c .before .before .before .lookup2 .given .1) (c .enum-told .given .1)))
+    (allowed-count (c .before .before .before .before .before .get-lookup .ensures) _ _ (c .before .before .before .lookup2 .given .1))
 
 returns-3 : tie.Need-returns-3
 unfolding getSays keyCompared
 returns-3 c =
     ap₂ (λ (x : GetResult) (k : ℕ). reported x k)
-    (get-held _ _ _ _ _ _ _ (c .before .before .before .before .before .before .before .before .before .before .before .get-lookup .ensures) _ _ _ (open-at (c .before .before .before .before .before .before .before .before .before .lookup2 .given .1) (c .before .before .before .before .before .before .place .given .1)) _ (c .before .before .before .before .slot-length .ensures) _
+    (get-held _ _ _ _ _ _ _ (c .before .before .before .before .before .before .before .before .before .before .before .get-lookup .ensures) _ _ _ (allowed-at (c .before .before .before .before .before .before .before .before .before .lookup2 .given .1) (c .before .before .before .before .before .before .place .given .1)) _ (c .before .before .before .before .slot-length .ensures) _
     (c .before .before .copy-value .ensures .1))
-    (open-count (c .before .before .before .before .before .before .before .before .before .before .before .get-lookup .ensures) _ _ (c .before .before .before .before .before .before .before .before .before .lookup2 .given .1))
+    (allowed-count (c .before .before .before .before .before .before .before .before .before .before .before .get-lookup .ensures) _ _ (c .before .before .before .before .before .before .before .before .before .lookup2 .given .1))
 
 pub get-in-spec : {M : Type 1} → statement M
 get-in-spec =

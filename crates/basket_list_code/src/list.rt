@@ -1,0 +1,31 @@
+// A basket that fills a lent list of records.
+ghost use mathlib.Core.Path.{_≡_};
+ghost use lib.ListN.{length};
+ghost use Rattle.calls.specs.Basket.{changesOf, basketResult, basketListEnd, leftInList};
+use crate::made::basket_made;
+use calls::BasketAnswer;
+use calls::BasketItem;
+use index::State;
+use store_list_code::list::put_stores;
+use stores::Store;
+
+// Up to eight keys are inserted, replaced or removed; item i's value is the first bytes of values from byte 80 × i on. The version, the slots taken, the new state and, at the
+// front of the lent list, sixteen stores for each key to be played; or a refusal, which changes nothing.
+pub fn basket_list(
+    image: &[u8],
+    heads: &mut [u32],
+    next: &mut [u32],
+    state: State,
+    count: usize,
+    items: [BasketItem; 8],
+    values: [u8; 640],
+    list: &mut [Store],
+) -> BasketAnswer
+    ensures { λ r. ⌜ basketListEnd count r (now (list .exit)) (now (heads .exit)) (now (next .exit)) ≡ leftInList (now (list .entry)) (basketResult 1 (now (image .entry)) (now (heads .entry)) (now (next .entry)) state (changesOf 1 count items values) (length (now (list .entry))) (length (now (list .entry)))) ⌝ }
+{
+    let made = basket_made(image, heads, next, state, count, items, values, list.len());
+    let at = made.at;
+    let words = made.words;
+    put_stores(list, &at, &words, made.stored);
+    made.answer
+}

@@ -1,0 +1,70 @@
+// A basket whose stores are made in arrays.
+ghost use mathlib.Core.Path.{_≡_};
+ghost use Prim.Native.Nat.{_≤_, min};
+ghost use Rattle.calls.specs.Basket.{changesOf, basketResult};
+ghost use Rattle.calls.specs.inner.Basket.{basketStoreCount, MadeOf};
+use basket_code::basket::basket;
+use calls::BasketItem;
+use calls::BasketMade;
+use calls::BasketOutcome;
+use index::State;
+
+// How many stores are handed out.
+fn store_count(outcome: BasketOutcome, count: usize) -> usize
+    ensures { λ r. ⌜ (r ≡ basketStoreCount outcome count) × (r ≤ 128) ⌝ }
+{
+    if 8 < count {
+        return 0;
+    }
+    match outcome {
+        BasketOutcome::Stored { version: _ } => 16 * count,
+        BasketOutcome::Refused(_) => 0,
+    }
+}
+
+// As many numbers as the list has room for, and no more than eight keys ask for.
+fn at_most(room: usize) -> usize
+    ensures { λ r. ⌜ r ≡ min 128 room ⌝ }
+{
+    if room < 128 {
+        return room;
+    }
+    128
+}
+
+// A basket for a list with this room.
+pub fn basket_made(
+    image: &[u8],
+    heads: &mut [u32],
+    next: &mut [u32],
+    state: State,
+    count: usize,
+    items: [BasketItem; 8],
+    values: [u8; 640],
+    room: usize,
+) -> BasketMade
+    ensures { λ r. ⌜ MadeOf (basketResult 1 (now (image .entry)) (now (heads .entry)) (now (next .entry)) state (changesOf 1 count items values) room room) room count r (now (heads .exit)) (now (next .exit)) ⌝ }
+{
+    let mut at = [0u32; 128];
+    let mut words = [0u64; 128];
+    let n = at_most(room);
+    let answer = basket(
+        image,
+        heads,
+        next,
+        state,
+        count,
+        items,
+        values,
+        &mut at[..n],
+        &mut words[..n],
+    );
+    let outcome = answer.outcome;
+    let stored = store_count(outcome, count);
+    BasketMade {
+        answer,
+        stored,
+        at,
+        words,
+    }
+}

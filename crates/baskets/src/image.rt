@@ -1,0 +1,77 @@
+// The calls on the image without a key: format, recover and a look at a word.
+use crate::handed::put_front;
+use crate::set::Fronts;
+use crate::set::Set;
+use crate::set::no_items;
+use crate::set::show_index;
+use orderset::Recovered;
+use orderset::State;
+use orderset::format;
+use orderset::recover;
+use show::fronts::numbers_of;
+use words_code::read_word;
+
+pub fn formatted(set: Set, n: [u64; 5]) -> Set {
+    let slots = (n[1] % 17) as usize;
+    let bytes = 128 * (slots + 1);
+    let lent = Fronts {
+        image: bytes,
+        heads: n[2] as usize,
+        next: slots + 1,
+        at: 130,
+        value: 130,
+    };
+    let mut image = set.image;
+    let i = io::count(bytes as isize, &image);
+    show::formatted(format(&mut image[..i], 1));
+    let none = no_items();
+    let mut after = set;
+    after.image = image;
+    after.lent = lent;
+    after.basket = none;
+    after
+}
+
+// The state that recovery leaves, or the one given.
+fn state_after(r: Recovered, s: State) -> State {
+    match r {
+        Recovered::Rebuilt(rebuilt) => rebuilt,
+        Recovered::Refused { number: _, slot: _ } => s,
+    }
+}
+
+pub fn recovered(set: Set) -> Set {
+    let image = set.image;
+    let mut heads = set.heads;
+    let mut next = set.next;
+    let s = set.state;
+    let lent = set.lent;
+    let i = io::count((lent.image % 2177) as isize, &image);
+    let h = numbers_of(lent.heads, &heads);
+    let k = numbers_of(lent.next, &next);
+    let answer = recover(&image[..i], &mut heads[..h], &mut next[..k]);
+    let r = answer.recovered;
+    let openings = answer.openings;
+    show::recovered(r);
+    show::openings(openings);
+    let at = openings.at;
+    let value = openings.value;
+    let mut after = put_front(set, &at, &value, openings.count as usize, true);
+    after.heads = heads;
+    after.next = next;
+    after.state = state_after(r, s);
+    show_index(after);
+    after
+}
+
+fn word_of(image: &[u8; 2176], i: usize) -> u64 {
+    if i < 272 {
+        return read_word(image, i);
+    }
+    0
+}
+
+pub fn show_word(set: Set, i: usize) {
+    let image = set.image;
+    show::number(word_of(&image, i));
+}

@@ -1,0 +1,62 @@
+-- A basket is refused by the rules' number, with any image, index and state. Assumes nothing.
+use mathlib.Core.Path.{_≡_, refl, sym, ap, _∙_}
+use mathlib.Core.Logic.{by-cases}
+use mathlib.Core.List.{List}
+use Prim.Native.Nat.{ℕ, zero, suc, _<_}
+use native.Mathlib.Decide.{ℕ-discrete}
+use native.Mathlib.Omega.{arith}
+use lib.Dec.{eqb}
+use lib.ListN.{length}
+use borrow.Author.Tests.{eqb-false}
+use Rattle.prelude.specs.Answer.{refused, refusalIn}
+use Rattle.prelude.specs.Refusal.{orElse}
+use Rattle.prelude.proofs.Refusals.{say-zero, orElse-zero, orElse-later, taken-leaves, refused-keeps}
+use Rattle.layout.specs.Size.{slotsIn}
+use Rattle.index.specs.Taking.{Taking, taken, tooFew, badLink, linkFault, fewFault, reuseFault, roomFault}
+use Rattle.index.specs.declared.State.{State}
+use Rattle.taking.specs.Taking.{takingOf, choiceOf}
+use Rattle.taking.specs.inner.Walk.{takeFault}
+use Rattle.taking.proofs.Takes.{choice-fine}
+use Rattle.calls.specs.Change.{ChangeResult, unchanged, storeFault}
+use Rattle.calls.specs.Basket.{KeyChange, keyCountFault, givenFault, basketFault, basketMade, basketDone, basketBy, basketResult}
+
+module _ (l : ℕ) (image heads next : List ℕ) (s : State) (changes : List KeyChange) (at words : ℕ) where
+  abbrev fault : ℕ
+  fault = basketFault l image heads next s changes at words
+
+  -- without a refusal a key is given, and the rule takes a slot for each
+  some : fault ≡ 0 → 0 < length changes
+  unfolding basketFault givenFault keyCountFault
+  some z =
+      let a = orElse-zero (givenFault changes at words) _ z in
+      let b = orElse-zero (keyCountFault (length changes)) _ (a .0) in
+      positive (length changes) (eqb-false (length changes) 0 (say-zero (eqb (length changes) 0) 26 _ (b .0) (omega arith) .0))
+    where
+      positive : (x : ℕ) → (x ≡ 0 → ⊥) → 0 < x
+      positive zero ne = absurd (ne refl)
+      positive (suc x) ne = omega arith
+
+  taking-fine : fault ≡ 0 → takeFault (takingOf l image next (slotsIn image) (s .first) (length changes)) ≡ 0
+  unfolding basketFault storeFault reuseFault roomFault takeFault
+  taking-fine z =
+      let a = orElse-zero _ _ (orElse-zero _ _ (orElse-zero _ _ z .1) .1) .1 in
+      let b = orElse-zero _ _ a in
+      orElse-later _ _ (orElse-zero _ _ (orElse-zero _ _ (b .0) .1) .1) ∙ orElse-zero _ _ (orElse-zero _ _ (b .1) .0) .0
+
+  done : (t : Taking) → takeFault t ≡ 0 → refusalIn (basketDone l image heads next s changes t .answer) ≡ 0
+  unfolding basketDone basketMade refusalIn takeFault linkFault fewFault orElse
+  done (taken ts) e = refl
+  done tooFew e = absurd (omega arith)
+  done badLink e = absurd (omega arith)
+
+  -- THE REFUSAL
+  pub basket-refusal : refusalIn (basketResult l image heads next s changes at words .answer) ≡ fault
+  unfolding basketResult basketBy unchanged refusalIn
+  basket-refusal =
+      by-cases (ℕ-discrete fault 0)
+      (λ z.
+      ap (λ (r : ChangeResult). refusalIn (r .answer)) (taken-leaves _ _ _ z)
+      ∙ done (choiceOf l image next (slotsIn image) (s .first) (length changes))
+      (choice-fine l image next (slotsIn image) (s .first) (length changes) (some z) (taking-fine z))
+      ∙ sym z)
+      (λ nz. ap (λ (r : ChangeResult). refusalIn (r .answer)) (refused-keeps _ _ _ nz))

@@ -1,0 +1,69 @@
+// The slots of an image are counted by what they hold.
+mod classes;
+mod void_records;
+
+ghost use mathlib.Core.Path.{_≡_};
+ghost use Rattle.layout.specs.Record.{Layout};
+ghost use Rattle.counting.specs.Count.{countsIn, countEnd, countResult};
+ghost use Rattle.counting.specs.inner.Classes.{Countable};
+use crate::classes::classes;
+use crate::void_records::void_removes;
+use counting::CountAnswer;
+use counting::SlotCounts;
+use layout_code::header::slot_count;
+use recover_code::recover_in;
+use recovery::Openings;
+use recovery::Recovered;
+
+// The counts of an image that recovery accepted, with its live count and the stores that open its void slots.
+fn count_accepted(image: &[u8], l: usize, live: u32, openings: Openings) -> SlotCounts
+    requires { ⌜ Countable (now image) l live openings ⌝ }
+    ensures { λ r. ⌜ r ≡ countsIn l (now (image .entry)) ⌝ }
+{
+    let n = slot_count(image.len());
+    let all = classes(image, l, n);
+    let void = openings.count;
+    let removes = void_removes(image, l, openings);
+    SlotCounts {
+        live,
+        hidden: all.puts - (void - removes) - live,
+        removes: all.removes - removes,
+        void,
+        broken: all.broken,
+        empty: all.empty,
+    }
+}
+
+// Count the slots, in layout l.
+fn count_slots_in(image: &[u8], l: usize, heads: &mut [u32], next: &mut [u32]) -> CountAnswer
+    requires { ⌜ Layout l ⌝ }
+    ensures { λ r. ⌜ countEnd r (now (heads .exit)) (now (next .exit)) ≡ countResult l (now (image .entry)) (now (heads .entry)) (now (next .entry)) ⌝ }
+{
+    let answer = recover_in(image, l, heads, next);
+    let openings = answer.openings;
+    let recovered = answer.recovered;
+    match recovered {
+        Recovered::Rebuilt(state) => CountAnswer::Counted(count_accepted(
+            image,
+            l,
+            state.live,
+            openings,
+        )),
+        Recovered::Refused { number, slot } => CountAnswer::Refused { number, slot },
+    }
+}
+
+// How many slots of an accepted image are live, hidden puts, remove records, void, broken and empty; or recovery's refusal. Heads and next are those
+// that recovery leaves, and a refusal changes neither.
+pub fn count_slots(image: &[u8], heads: &mut [u32], next: &mut [u32]) -> CountAnswer
+    ensures { λ r. ⌜ countEnd r (now (heads .exit)) (now (next .exit)) ≡ countResult 1 (now (image .entry)) (now (heads .entry)) (now (next .entry)) ⌝ }
+{
+    count_slots_in(image, 1, heads, next)
+}
+
+// The same in layout 2.
+pub fn count_slots2(image: &[u8], heads: &mut [u32], next: &mut [u32]) -> CountAnswer
+    ensures { λ r. ⌜ countEnd r (now (heads .exit)) (now (next .exit)) ≡ countResult 2 (now (image .entry)) (now (heads .entry)) (now (next .entry)) ⌝ }
+{
+    count_slots_in(image, 2, heads, next)
+}

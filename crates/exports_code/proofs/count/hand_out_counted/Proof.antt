@@ -1,0 +1,24 @@
+-- `exports_code::count::hand_out_counted` meets its contract. Assumes nothing.
+use borrow.Author.Needs.{needs}
+use Rattle.prelude.specs.Answer.{givenOr}
+use Rattle.face.specs.Set.{countValues, countEnd}
+use Rattle.exports.specs.Call.{returnedWith}
+use Rattle.exports.specs.Count.{countCall}
+use Rattle.exports_code.proofs.count.hand_out_counted.Statement.{statement}
+use Rattle.exports_code.proofs.count.hand_out_counted.Tie as tie
+
+returns : tie.Need-returns
+unfolding returnedWith givenOr countCall countEnd
+returns c heads next = rw (c .refused-with .ensures)
+
+returns-2 : tie.Need-returns-2
+unfolding returnedWith givenOr countCall countEnd countValues
+returns-2 c heads next = refl
+
+pub hand-out-counted-spec : {M : Type 1} → statement M
+hand-out-counted-spec =
+    tie.close
+    (tie.spec
+    (λ c κs. search needs)
+    returns
+    returns-2)

@@ -1,0 +1,158 @@
+-- A call whose stores are made in arrays and go to a lent list of records. Assumes nothing.
+use mathlib.Core.Path.{_≡_, refl, sym, ap, ap₂, _∙_}
+use mathlib.Core.Bool.{Bool}
+use mathlib.Core.Logic.{by-cases}
+use mathlib.Core.List.{List, [], _∷_, _++_}
+use Prim.Native.Nat.{ℕ, zero, suc, _≤_, min}
+use native.Mathlib.Omega.{arith}
+use borrow.Author.Tests.{lt-ltb, ltb-true, ltb-false}
+use native.Mathlib.Decide.{decLt}
+use lib.ListN.{length, take, drop}
+use Rattle.prelude.specs.Answer.{Answer, gives, absent, refused}
+use Rattle.prelude.specs.Refusal.{say, orElse, unlessRefused}
+use Rattle.prelude.proofs.Refusals.{orElse-zero, say-zero}
+use Rattle.prelude.proofs.Choice.{same-test}
+use Rattle.words.specs.Word.{word}
+use Rattle.layout.specs.Line.{versionFault}
+use Rattle.stores.specs.Store.{Store, zipped}
+use Rattle.stores.specs.inner.List.{storesPut}
+use Rattle.stores.proofs.ListPut.{front-length, front-stores}
+use Rattle.log.specs.Area.{cellsIn, areaFault}
+use Rattle.log.specs.Message.{highest}
+use Rattle.log.specs.Handed.{handedSays, shortFault, LogResult, logEnd, handing, LogListResult, logListEnd, handingList}
+use Rattle.log.specs.Append.{nextMessage, appendStores, messageFault, appendFault, appendResult}
+use Rattle.log.specs.Recover.{recoveryStores, logRecoverFault, logRecoverResult}
+use Rattle.log.specs.inner.List.{handedCount, storesHanded, StoresMade}
+use Rattle.log.specs.declared.Handed.{Handed}
+use Rattle.log.specs.declared.Handed.the-variants.{Given, Refused}
+use Rattle.log.proofs.Openings.{open-length}
+use Rattle.log.proofs.Parts.{area-cells, is-area}
+use Rattle.log.proofs.Plans.{append-few}
+
+-- ---- arrays that hold all stores: 13 comes by the list's length
+
+short-room : (count size room : ℕ) → count ≤ size → shortFault count (min size room) (min size room) ≡ shortFault count room room
+unfolding shortFault
+short-room count size room h =
+    ap (λ (t : Bool). say t 13 (say t 13 0))
+    (same-test _ _ (λ e. lt-ltb room count (omega (arith, ltb-true (min size room) count e)))
+    (λ e. lt-ltb (min size room) count (omega (arith, ltb-true room count e))))
+
+held : (count room : ℕ) → shortFault count room room ≡ 0 → count ≤ room
+unfolding shortFault
+held count room z = ltb-false room count (say-zero _ _ _ z (omega arith) .0)
+
+-- ---- what a call that made its stores in arrays left
+
+-- how many stores an answer hands out
+countIn : Answer → ℕ
+countIn (gives []) = 0
+countIn (gives (number ∷ [])) = 0
+countIn (gives (number ∷ count ∷ given)) = count
+countIn absent = 0
+countIn (refused number) = 0
+
+says-count : (a : Handed) → handedCount a ≡ countIn (handedSays a)
+unfolding handedCount handedSays countIn
+says-count (Given number count) = refl
+says-count (Refused number) = refl
+
+-- from lists of which the arrays are the fronts
+made : (size room fault number : ℕ) (ss : List Store) → length ss ≤ size → (fault ≡ 0 → length ss ≤ room)
+    → (a : Handed) (at₀ value₀ at₁ value₁ rest rest′ : List ℕ) (stored : ℕ) → stored ≡ handedCount a
+    → logEnd (handedSays a) at₁ value₁ ≡ handing fault number ss at₀ value₀
+    → StoresMade size room fault number ss a stored (at₁ ++ rest) (value₁ ++ rest′)
+unfolding handing storesHanded unlessRefused countIn zipped
+made size room zero number ss few fits a at₀ value₀ at₁ value₁ rest rest′ stored es e =
+    record {
+      left =
+          ap₂ logListEnd (ap (λ (r : LogResult). r .answer) e)
+          (ap₂ (λ (n : ℕ) (r : LogResult). zipped (take n (r .at ++ rest)) (take n (r .value ++ rest′))) all e
+          ∙ front-stores ss (drop (length ss) at₀) rest (drop (length ss) value₀) rest′);
+      in-room = omega (arith, all, fits refl);
+      in-arrays = omega (arith, all, few);
+    }
+  where
+    all : stored ≡ length ss
+    all = es ∙ says-count a ∙ ap (λ (r : LogResult). countIn (r .answer)) e
+made size room (suc k) number ss few fits a at₀ value₀ at₁ value₁ rest rest′ stored es e =
+    record {
+      left =
+          ap₂ logListEnd (ap (λ (r : LogResult). r .answer) e)
+          (ap (λ (n : ℕ). zipped (take n (at₁ ++ rest)) (take n (value₁ ++ rest′))) none);
+      in-room = omega (arith, none);
+      in-arrays = omega (arith, none);
+    }
+  where
+    none : stored ≡ 0
+    none = es ∙ says-count a ∙ ap (λ (r : LogResult). countIn (r .answer)) e
+
+module _ (area : List ℕ) (room : ℕ) (a : Handed) (at₀ value₀ at₁ value₁ : List ℕ) (stored : ℕ) (rest rest′ : List ℕ) (es : stored ≡ handedCount a) where
+  -- ---- an append
+
+  module _ (message : List ℕ) where
+    abbrev stores : List Store
+    stores = appendStores (cellsIn area) (word area) message
+
+    append-fault : appendFault area message (min 56 room) (min 56 room) ≡ appendFault area message room room
+    unfolding appendFault
+    append-fault =
+        ap (λ (n : ℕ). orElse (areaFault area) (orElse (messageFault (length message)) (orElse (versionFault (nextMessage (cellsIn area) (word area))) n)))
+        (short-room (length stores) 56 room (append-few (cellsIn area) (word area) message))
+
+    append-fits : appendFault area message room room ≡ 0 → length stores ≤ room
+    unfolding appendFault
+    append-fits z = held (length stores) room (orElse-zero _ _ (orElse-zero _ _ (orElse-zero _ _ z .1) .1) .1)
+
+    pub append-made : length at₀ ≡ min 56 room → length value₀ ≡ min 56 room → logEnd (handedSays a) at₁ value₁ ≡ appendResult area message at₀ value₀
+        → StoresMade 56 room (appendFault area message room room) (nextMessage (cellsIn area) (word area)) stores a stored (at₁ ++ rest) (value₁ ++ rest′)
+    unfolding appendResult
+    append-made en em e =
+        made 56 room _ _ stores (append-few (cellsIn area) (word area) message) append-fits a at₀ value₀ at₁ value₁ rest rest′ stored es
+        (e ∙ ap (λ (n : ℕ). handing n (nextMessage (cellsIn area) (word area)) stores at₀ value₀) (ap₂ (appendFault area message) en em ∙ append-fault))
+
+  -- ---- a recovery
+
+  abbrev openers : List Store
+  openers = recoveryStores (cellsIn area) (word area)
+
+  cells-few : cellsIn area ≤ 1000
+  cells-few = by-cases (decLt 0 (cellsIn area)) (λ h. area-cells area (is-area area (cellsIn area) refl (λ e. omega arith)) .few) (λ h. omega arith)
+
+  openers-few : length openers ≤ 1000
+  unfolding recoveryStores
+  openers-few = omega (arith, open-length (word area) (highest (cellsIn area) (word area)) 0 (cellsIn area), cells-few)
+
+  recovery-fault : logRecoverFault area (min 1000 room) (min 1000 room) ≡ logRecoverFault area room room
+  unfolding logRecoverFault
+  recovery-fault = ap (orElse (areaFault area)) (short-room (length openers) 1000 room openers-few)
+
+  recovery-fits : logRecoverFault area room room ≡ 0 → length openers ≤ room
+  unfolding logRecoverFault
+  recovery-fits z = held (length openers) room (orElse-zero _ _ z .1)
+
+  pub recovery-made : length at₀ ≡ min 1000 room → length value₀ ≡ min 1000 room → logEnd (handedSays a) at₁ value₁ ≡ logRecoverResult area at₀ value₀
+      → StoresMade 1000 room (logRecoverFault area room room) (highest (cellsIn area) (word area)) openers a stored (at₁ ++ rest) (value₁ ++ rest′)
+  unfolding logRecoverResult
+  recovery-made en em e =
+      made 1000 room _ _ openers openers-few recovery-fits a at₀ value₀ at₁ value₁ rest rest′ stored es
+      (e ∙ ap (λ (n : ℕ). handing n (highest (cellsIn area) (word area)) openers at₀ value₀) (ap₂ (logRecoverFault area) en em ∙ recovery-fault))
+
+-- ---- what the call that puts them into a list leaves
+
+filled : (fault number : ℕ) (ss list : List Store)
+    → logListEnd (storesHanded fault number ss .answer) (storesHanded fault number ss .list ++ drop (length (storesHanded fault number ss .list)) list) ≡ handingList fault number ss list
+unfolding storesHanded handingList unlessRefused
+filled zero number ss list = refl
+filled (suc k) number ss list = refl
+
+-- the numbers that are put are those of the arrays
+pub in-list : (size room fault number : ℕ) (ss : List Store) (a : Handed) (stored : ℕ) (at value at′ value′ : List ℕ) → StoresMade size room fault number ss a stored at value
+    → at′ ≡ at → value′ ≡ value → length at′ ≡ size → length value′ ≡ size → (list zs : List Store) → zs ≡ storesPut at′ value′ stored list
+    → logListEnd (handedSays a) zs ≡ handingList fault number ss list
+in-list size room fault number ss a stored at value at′ value′ it ea ev na nv list zs e =
+    ap (logListEnd (handedSays a)) (e ∙ ap₂ (λ (x y : List ℕ). storesPut x y stored list) ea ev)
+    ∙ ap (λ (n : ℕ). logListEnd (handedSays a) (zipped (take stored at) (take stored value) ++ drop n list))
+    (sym (front-length at value stored (omega (arith, it .in-arrays, ap length ea, na)) (omega (arith, it .in-arrays, ap length ev, nv))))
+    ∙ ap (λ (r : LogListResult). logListEnd (r .answer) (r .list ++ drop (length (r .list)) list)) (it .left)
+    ∙ filled fault number ss list

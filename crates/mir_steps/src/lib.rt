@@ -1,0 +1,1 @@
+// Steps of proofs that walk the MIR of a function by hand: no type, no definition and no function.

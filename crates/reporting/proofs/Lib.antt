@@ -1,0 +1,4 @@
+pub mod Sizes
+pub mod Texts
+pub mod Blocks
+pub mod Moved

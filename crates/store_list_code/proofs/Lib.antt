@@ -1,0 +1,2 @@
+pub mod Struct
+pub mod Puts
