@@ -106,7 +106,7 @@ run-log_kills: $(OUT)/log_kills $(OUT)/recorder
 	@$(OUT)/log_kills $(OUT)/recorder $(OUT)/log_kills.log $(SEED)
 
 # every test fails where a fault is planted
-planted: $(ARCHIVE) $(LOG_ARCHIVE) $(REPORT)
+planted: $(ARCHIVE) $(LOG_ARCHIVE) $(REPORT) $(PLUG)
 	tests/planted.sh
 
 $(OUT)/gateway $(OUT)/sender: $(OUT)/%: examples/%.c $(HEADERS) $(ARCHIVE) | $(OUT)
