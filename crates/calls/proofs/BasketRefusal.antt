@@ -1,24 +1,23 @@
 -- A basket is refused by the rules' number, with any image, index and state. Assumes nothing.
-use mathlib.Core.Path.{_≡_, refl, sym, ap, _∙_}
-use mathlib.Core.Logic.{by-cases}
+use mathlib.Core.Path.{_≡_, refl, _∙_}
 use mathlib.Core.List.{List}
 use Prim.Native.Nat.{ℕ, zero, suc, _<_}
-use native.Mathlib.Decide.{ℕ-discrete}
 use native.Mathlib.Omega.{arith}
 use lib.Dec.{eqb}
 use lib.ListN.{length}
 use borrow.Author.Tests.{eqb-false}
 use Rattle.prelude.specs.Answer.{refused, refusalIn}
 use Rattle.prelude.specs.Refusal.{orElse}
-use Rattle.prelude.proofs.Refusals.{say-zero, orElse-zero, orElse-later, taken-leaves, refused-keeps}
+use Rattle.prelude.proofs.Refusals.{say-zero, orElse-zero, orElse-later}
 use Rattle.layout.specs.Size.{slotsIn}
 use Rattle.index.specs.Taking.{Taking, taken, tooFew, badLink, linkFault, fewFault, reuseFault, roomFault}
 use Rattle.index.specs.declared.State.{State}
 use Rattle.taking.specs.Taking.{takingOf, choiceOf}
 use Rattle.taking.specs.inner.Walk.{takeFault}
 use Rattle.taking.proofs.Takes.{choice-fine}
-use Rattle.calls.specs.Change.{ChangeResult, unchanged, storeFault}
+use Rattle.calls.specs.Change.{unchanged, storeFault}
 use Rattle.calls.specs.Basket.{KeyChange, keyCountFault, givenFault, basketFault, basketMade, basketDone, basketBy, basketResult}
+use Rattle.calls.proofs.SingleRefusal.{refusal-by}
 
 module _ (l : ℕ) (image heads next : List ℕ) (s : State) (changes : List KeyChange) (at words : ℕ) where
   abbrev fault : ℕ
@@ -53,10 +52,8 @@ module _ (l : ℕ) (image heads next : List ℕ) (s : State) (changes : List Key
   pub basket-refusal : refusalIn (basketResult l image heads next s changes at words .answer) ≡ fault
   unfolding basketResult basketBy unchanged refusalIn
   basket-refusal =
-      by-cases (ℕ-discrete fault 0)
+      refusal-by fault _ _
       (λ z.
-      ap (λ (r : ChangeResult). refusalIn (r .answer)) (taken-leaves _ _ _ z)
-      ∙ done (choiceOf l image next (slotsIn image) (s .first) (length changes))
-      (choice-fine l image next (slotsIn image) (s .first) (length changes) (some z) (taking-fine z))
-      ∙ sym z)
-      (λ nz. ap (λ (r : ChangeResult). refusalIn (r .answer)) (refused-keeps _ _ _ nz))
+      done (choiceOf l image next (slotsIn image) (s .first) (length changes))
+      (choice-fine l image next (slotsIn image) (s .first) (length changes) (some z) (taking-fine z)))
+      refl

@@ -1,5 +1,5 @@
 -- What insert, replace and remove write: a record into the first reuse slot, and the index. Assumes nothing.
-use mathlib.Core.Path.{_≡_, refl, sym, ap, ap₂, _∙_, subst}
+use mathlib.Core.Path.{_≡_, sym, ap, ap₂, _∙_, subst}
 use mathlib.Core.List.{List, [], _∷_}
 use Prim.Native.Nat.{ℕ, _+_, _≤_}
 use native.Mathlib.Omega.{arith}
@@ -47,7 +47,7 @@ module _ (l : ℕ) (image heads next : List ℕ) (s : State) (key size : ℕ) {r
 pub changed-end : (l : ℕ) (image : List ℕ) (s : State) (key kind : ℕ) (value : List ℕ) (after : State) (at words : List ℕ) (lent : List Store)
     → zipped at words ≡ recordStores l (word image) (s .first) key kind 0 value (s .version) → (heads next : List ℕ) (i : Index) (live : ℕ)
     → PartsOf heads next after i live (s .version + 1) (s .first)
-    → left (gives (s .first ∷ s .version ∷ [])) after (zipped at words) heads next ≡ leftIn lent (changed l image s key kind value i live)
+    → left (gives (s .first ∷ s .version ∷ [])) after (zipped at words) heads next ≡ leftIn lent (changed l image s (s .first) key kind value i live)
 unfolding changed leftIn handedOut recordStores lineStores run
 changed-end l image s key kind value after at words lent e heads next i live h =
     ap₂ (stored (indexOf heads next after) (after .live) (after .newest)) (h .next-version) e

@@ -9,4 +9,5 @@ pub mod BasketLinks
 pub mod BasketLists
 pub mod BasketStores
 pub mod BasketEnds
+pub mod SingleRefusal
 pub mod BasketRefusal

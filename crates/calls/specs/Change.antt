@@ -3,7 +3,7 @@
 use mathlib.Core.List.{List, [], _∷_}
 use Prim.Native.Nat.{ℕ, _+_, _-_}
 use lib.Dec.{ltb}
-use lib.ListN.{length}
+use lib.ListN.{length, getD}
 use Rattle.words.specs.Word.{word}
 use Rattle.prelude.specs.Refusal.{say, orElse, unlessRefused}
 use Rattle.prelude.specs.Answer.{Answer, gives, absent, refused}
@@ -15,8 +15,9 @@ use Rattle.stores.specs.Store.{Store, zipped}
 use Rattle.stores.specs.Written.{recordStores}
 use Rattle.index.specs.Index.{Index, indexOf, stateOf, headOf}
 use Rattle.index.specs.Walk.{search, chainFault}
-use Rattle.index.specs.Change.{insertNew, replaceHeld, removeHeld, keyFault, isFound}
-use Rattle.index.specs.Taking.{Taking, reuseFault, roomFault}
+use Rattle.index.specs.Change.{takeFirst, insertAt, replaceAt, removeAt, keyFault, isFound}
+use Rattle.index.specs.Taking.{Taken, Taking, taken, tooFew, badLink, reuseFault, roomFault}
+use Rattle.index.specs.Basket.{takeSlot}
 use Rattle.taking.specs.Taking.{takingOf}
 use Rattle.index.specs.declared.State.{State}
 use Rattle.index.specs.declared.Mode.{Mode}
@@ -84,15 +85,24 @@ storeFault taking n s inserts removes =
     orElse (reuseFault taking n (s .first) (s .last) (s .live) removes)
     (orElse (roomFault taking n (s .live) inserts removes) (versionFault (s .version)))
 
--- a record of this kind is written into the first reuse slot: i is the index at exit. With an index that is the image's own, the taking rule gives a call that wants
--- one slot the first reuse slot or refuses it; "with an index not the image's own, only refusals are fixed, of single calls too". "a single record .. has 0" for its
--- number; "each call that stores makes the next version one higher"
-unfoldable pub changed : (l : ℕ) → (image : List ℕ) → State → (key kind : ℕ) → List ℕ → Index → (live : ℕ) → ChangeResult
-changed l image s key kind value i live =
+-- the one slot that the taking rule gives; where it gives none a call that would write is refused, and these zeros are not used
+unfoldable pub oneTaken : Taking → Taken
+oneTaken (taken ts) = getD ts 0 (record { slot = 0; prev = 0 })
+oneTaken tooFew = record { slot = 0; prev = 0 }
+oneTaken badLink = record { slot = 0; prev = 0 }
+
+-- that of a single call: "No call, single ones included, takes .. ; it takes the first others in the reuse chain"
+abbrev pub slotByRule : (l : ℕ) → (image next : List ℕ) → State → Taken
+slotByRule l image next s = oneTaken (takingOf l image next (slotsIn image) (s .first) 1)
+
+-- a record of this kind is written into slot t: i is the index at exit. "a single record .. has 0" for its number; "each call that stores makes the next version one
+-- higher"
+unfoldable pub changed : (l : ℕ) → (image : List ℕ) → State → (t key kind : ℕ) → List ℕ → Index → (live : ℕ) → ChangeResult
+changed l image s t key kind value i live =
     record {
-      answer = gives (s .first ∷ s .version ∷ []);
-      state = stateOf i live (s .version + 1) (s .first);
-      stores = recordStores l (word image) (s .first) key kind 0 value (s .version);
+      answer = gives (t ∷ s .version ∷ []);
+      state = stateOf i live (s .version + 1) t;
+      stores = recordStores l (word image) t key kind 0 value (s .version);
       heads = i .heads;
       next = i .next;
     }
@@ -118,19 +128,31 @@ writeFault l image heads next s mode key size =
     orElse (writeLentFault l image (length heads) (length next) size)
     (writeLaterFault mode (search l image heads next key) (takingOf l image next (slotsIn image) (s .first) 1) (slotsIn image) s)
 
--- "A put of a new key raises the live count by one"
-unfoldable pub writeDone : (l : ℕ) → (image heads next : List ℕ) → State → (key : ℕ) → List ℕ → Found → ChangeResult
-writeDone l image heads next s key value (At old prev compared) =
-    changed l image s key 1 value (replaceHeld (indexOf heads next s) (headOf key (length heads)) prev old) (s .live)
-writeDone l image heads next s key value (Missing prev compared) =
-    changed l image s key 1 value (insertNew (indexOf heads next s) (headOf key (length heads)) prev) (s .live + 1)
-writeDone l image heads next s key value BadChain = unchanged (refused 11) s heads next
+-- "A put of a new key takes the first reuse slot and links it at the end of its head's chain", "of a held key .. replaces the old slot in its chain": slot t, with the
+-- index `rest` that taking it leaves. "A put of a new key raises the live count by one"
+unfoldable pub writeDone : (l : ℕ) → (image heads next : List ℕ) → State → (key : ℕ) → List ℕ → (t : ℕ) → (rest : Index) → Found → ChangeResult
+writeDone l image heads next s key value t rest (At old prev compared) =
+    changed l image s t key 1 value (replaceAt rest (headOf key (length heads)) prev old t) (s .live)
+writeDone l image heads next s key value t rest (Missing prev compared) =
+    changed l image s t key 1 value (insertAt rest (headOf key (length heads)) prev t) (s .live + 1)
+writeDone l image heads next s key value t rest BadChain = unchanged (refused 11) s heads next
 
+-- where it is not refused, into this slot
+unfoldable pub writeBy : (l : ℕ) → (image heads next : List ℕ) → State → Mode → (key : ℕ) → List ℕ → (t : ℕ) → (rest : Index) → ChangeResult
+writeBy l image heads next s mode key value t rest =
+    unlessRefused (writeFault l image heads next s mode key (length value))
+    (writeDone l image heads next s key value t rest (search l image heads next key))
+    (unchanged (refused (writeFault l image heads next s mode key (length value))) s heads next)
+
+-- "with an index not the image's own, only refusals are fixed, of single calls too": they are those of the taking rule for any index; the slot is the first of reuse,
+-- which with an index that is the image's own is the rule's too, `writeByRule`
 unfoldable pub writeResult : (l : ℕ) → (image heads next : List ℕ) → State → Mode → (key : ℕ) → List ℕ → ChangeResult
 writeResult l image heads next s mode key value =
-    unlessRefused (writeFault l image heads next s mode key (length value))
-    (writeDone l image heads next s key value (search l image heads next key))
-    (unchanged (refused (writeFault l image heads next s mode key (length value))) s heads next)
+    writeBy l image heads next s mode key value (s .first) (takeFirst (indexOf heads next s))
+
+unfoldable pub writeByRule : (l : ℕ) → (image heads next : List ℕ) → State → Mode → (key : ℕ) → List ℕ → ChangeResult
+writeByRule l image heads next s mode key value =
+    writeBy l image heads next s mode key value (slotByRule l image next s .slot) (takeSlot (indexOf heads next s) (slotByRule l image next s))
 
 -- the slots compared: 10 too comes before the chain
 unfoldable pub writeCompared : (l : ℕ) → (image heads next : List ℕ) → (key size : ℕ) → ℕ
@@ -150,15 +172,24 @@ removeFault l image heads next s key =
     orElse (lentFault l image (length heads) (length next))
     (removeLaterFault (search l image heads next key) (takingOf l image next (slotsIn image) (s .first) 1) (slotsIn image) s)
 
--- "a remove lowers it by one"; "the plain answer absent with no stores and no change"
-unfoldable pub removeDone : (l : ℕ) → (image heads next : List ℕ) → State → (key : ℕ) → Found → ChangeResult
-removeDone l image heads next s key (At old prev compared) =
-    changed l image s key 2 [] (removeHeld (indexOf heads next s) (headOf key (length heads)) prev old) (s .live - 1)
-removeDone l image heads next s key (Missing prev compared) = unchanged absent s heads next
-removeDone l image heads next s key BadChain = unchanged (refused 11) s heads next
+-- "A remove takes the first reuse slot, unlinks the old slot, and appends to the reuse chain the old slot and then the slot just taken": slot t, as above; "a remove
+-- lowers it by one"; "the plain answer absent with no stores and no change"
+unfoldable pub removeDone : (l : ℕ) → (image heads next : List ℕ) → State → (key t : ℕ) → (rest : Index) → Found → ChangeResult
+removeDone l image heads next s key t rest (At old prev compared) =
+    changed l image s t key 2 [] (removeAt rest (headOf key (length heads)) prev old t) (s .live - 1)
+removeDone l image heads next s key t rest (Missing prev compared) = unchanged absent s heads next
+removeDone l image heads next s key t rest BadChain = unchanged (refused 11) s heads next
 
-unfoldable pub removeResult : (l : ℕ) → (image heads next : List ℕ) → State → (key : ℕ) → ChangeResult
-removeResult l image heads next s key =
+unfoldable pub removeBy : (l : ℕ) → (image heads next : List ℕ) → State → (key t : ℕ) → (rest : Index) → ChangeResult
+removeBy l image heads next s key t rest =
     unlessRefused (removeFault l image heads next s key)
-    (removeDone l image heads next s key (search l image heads next key))
+    (removeDone l image heads next s key t rest (search l image heads next key))
     (unchanged (refused (removeFault l image heads next s key)) s heads next)
+
+-- the first slot of reuse, and that of the taking rule
+unfoldable pub removeResult : (l : ℕ) → (image heads next : List ℕ) → State → (key : ℕ) → ChangeResult
+removeResult l image heads next s key = removeBy l image heads next s key (s .first) (takeFirst (indexOf heads next s))
+
+unfoldable pub removeByRule : (l : ℕ) → (image heads next : List ℕ) → State → (key : ℕ) → ChangeResult
+removeByRule l image heads next s key =
+    removeBy l image heads next s key (slotByRule l image next s .slot) (takeSlot (indexOf heads next s) (slotByRule l image next s))

@@ -33,13 +33,13 @@ use Rattle.table.specs.Shared.{clashes, sharersFault}
 use Rattle.table.specs.Taking.{validVersion, highestValid, isRemove, older, mayTake, takeableCount, takeableIf}
 use Rattle.index.specs.Index.{setNext, setStart, setLast, link}
 use Rattle.index.specs.Chained.{firstOf, lastOf, after, nextIn, chained}
-use Rattle.index.specs.Change.{takeFirst, linkNew, append, insertNew, replaceHeld, removeHeld, keyFault, isFound, insertAt, replaceAt, removeAt}
+use Rattle.index.specs.Change.{takeFirst, linkNew, append, keyFault, isFound, insertAt, replaceAt, removeAt}
 use Rattle.index.specs.Walk.{walk, search, chainFault}
 use Rattle.index.specs.Taking.{withTaken, atEnd, takeWalk, takeFrom, endsFault, linkFault, fewFault, reuseFault, roomFault}
 use Rattle.taking.specs.Taking.{takingOf}
 use Rattle.recovery.specs.Recover.{slotsFault, recoverFault, chainsOf, placeOf, recoveredIndex, recoveredState, recovered, recoverResult, noState, settledFault, slotsNamed, recoverSlot}
 use Rattle.recovery.specs.Opening.{voidSlots, openingsOf, storesIn}
-use Rattle.calls.specs.Change.{unchanged, changed, writeLentFault, writeLaterFault, writeFault, writeDone, writeResult, removeLaterFault, removeFault, removeDone, removeResult, storeFault, insertsOf}
+use Rattle.calls.specs.Change.{unchanged, changed, writeLentFault, writeLaterFault, writeFault, writeDone, writeBy, writeResult, removeLaterFault, removeFault, removeDone, removeBy, removeResult, storeFault, insertsOf}
 use Rattle.calls.specs.Get.{lengthFault, getLaterFault, getFault, getDone, getResult}
 use Rattle.calls.specs.Format.{formatted}
 use Rattle.calls.specs.Locate.{locateFault, locateDone, locateResult}
@@ -66,7 +66,7 @@ history-computed : (bookAnswers 1 emptyBook history ≡ historyAnswers) × (tota
     × (recoverFault 1 (formatted 1 512) (length oneHead) (length threeSlots) ≡ 0) × (slotsIn (formatted 1 512) ≡ 3)
     × ((key : ℕ) → emptyMap key ≡ none) × (historyMap 7 ≡ some (orderBytes filled30))
     × (historyMap 8 ≡ none)
-unfolding word setBytes setWord refuses filter slotNumbers anyOf tabulate greatest topmost lowest atLowest count say orElse unlessRefused made contentBy contentOf content top topOf markFault kindFault kindLimit bitsFault wordFault tailFault faultOf recordFault headerWord headerFault imageFault indexFault lentFault lineTop versionFault keyFrom keyOf valuePlace slotWord valueWord valueByte valueFront valueOf slotsOf paired slotTop verdictOf lineVerdict isValid insert sorted openingStore openingStores wordNumbers values zipped played less standing allStand marked placedWord bodyA bodyB run lineStores recordStores said hasVersion sharers complete versionIfComplete highestComplete isVoid settled rankOf ordered chainOf reuseOf clashes sharersFault isRecord isBroken keyIn weight nextVersion decider valueIn valueAt mapOf decidingPut live spare liveCount brokenCount brokenLimit manyBroken allLive isHeld validVersion highestValid isRemove older mayTake takeableCount firstOf lastOf after nextIn chained takeFirst linkNew append insertAt replaceAt removeAt insertNew replaceHeld removeHeld keyFault isFound setNext setStart setLast link withTaken atEnd takeWalk takeFrom endsFault linkFault fewFault reuseFault roomFault walk search chainFault takingOf voidSlots openingsOf storesIn noState settledFault slotsFault slotsNamed recoverFault recoverSlot chainsOf placeOf recoveredIndex recoveredState recovered recoverResult unchanged storeFault changed writeLentFault insertsOf writeLaterFault writeFault writeDone writeResult removeLaterFault removeFault removeDone removeResult formatted lengthFault getLaterFault getFault getDone getResult locateFault locateDone locateResult updates updated plainNext plainStep sizeOf roomRule ruleFault worldAfter afterRound afterRounds openedWorld restarted imageCut stepBy isWhole plainEvent orderBytes orderOf isState isOrder sent acknowledged filledBy orderIn orderFault bookFault callBy stepCall callFault stepFault updatesBy stepUpdates bookLeaving idle changeAnswers asChange soughtIn soughtBy seek newAt newResult alreadyAt acknowledgeAt acknowledgeResult quantityFault fillBy fillAt fillResult withdrawAt withdrawResult booked ofHeld orderedIn filledIn withdrawnIn counts totalOf mapAtEnd openTotal bookAnswers totals threeSlots emptyBook history historyAnswers historyTotals historyKeys oneHead recovering cutAt filled30 takeableIf
+unfolding word setBytes setWord refuses filter slotNumbers anyOf tabulate greatest topmost lowest atLowest count say orElse unlessRefused made contentBy contentOf content top topOf markFault kindFault kindLimit bitsFault wordFault tailFault faultOf recordFault headerWord headerFault imageFault indexFault lentFault lineTop versionFault keyFrom keyOf valuePlace slotWord valueWord valueByte valueFront valueOf slotsOf paired slotTop verdictOf lineVerdict isValid insert sorted openingStore openingStores wordNumbers values zipped played less standing allStand marked placedWord bodyA bodyB run lineStores recordStores said hasVersion sharers complete versionIfComplete highestComplete isVoid settled rankOf ordered chainOf reuseOf clashes sharersFault isRecord isBroken keyIn weight nextVersion decider valueIn valueAt mapOf decidingPut live spare liveCount brokenCount brokenLimit manyBroken allLive isHeld validVersion highestValid isRemove older mayTake takeableCount firstOf lastOf after nextIn chained takeFirst linkNew append insertAt replaceAt removeAt keyFault isFound setNext setStart setLast link withTaken atEnd takeWalk takeFrom endsFault linkFault fewFault reuseFault roomFault walk search chainFault takingOf voidSlots openingsOf storesIn noState settledFault slotsFault slotsNamed recoverFault recoverSlot chainsOf placeOf recoveredIndex recoveredState recovered recoverResult unchanged storeFault changed writeLentFault insertsOf writeLaterFault writeFault writeDone writeBy writeResult removeLaterFault removeFault removeDone removeBy removeResult formatted lengthFault getLaterFault getFault getDone getResult locateFault locateDone locateResult updates updated plainNext plainStep sizeOf roomRule ruleFault worldAfter afterRound afterRounds openedWorld restarted imageCut stepBy isWhole plainEvent orderBytes orderOf isState isOrder sent acknowledged filledBy orderIn orderFault bookFault callBy stepCall callFault stepFault updatesBy stepUpdates bookLeaving idle changeAnswers asChange soughtIn soughtBy seek newAt newResult alreadyAt acknowledgeAt acknowledgeResult quantityFault fillBy fillAt fillResult withdrawAt withdrawResult booked ofHeld orderedIn filledIn withdrawnIn counts totalOf mapAtEnd openTotal bookAnswers totals threeSlots emptyBook history historyAnswers historyTotals historyKeys oneHead recovering cutAt filled30 takeableIf
 history-computed = (refl, refl, refl, refl, λ key. refl, refl, refl)
 
 pub history-answers : bookAnswers 1 emptyBook history ≡ historyAnswers

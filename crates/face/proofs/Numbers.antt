@@ -28,6 +28,7 @@ use Rattle.layout.specs.Fault.{markFault, wordFault, faultOf, recordFault}
 use Rattle.layout.specs.Record.{limit}
 use Rattle.layout.specs.Line.{lineA, lineB, versionFault}
 use Rattle.layout.specs.Header.{headerFault, imageFault, indexFault, lentFault}
+use Rattle.index.specs.Index.{Index}
 use Rattle.index.specs.Walk.{search, chainFault}
 use Rattle.index.specs.Change.{keyFault, isFound}
 use Rattle.index.specs.Taking.{Taking, taken, tooFew, badLink, endsFault, linkFault, fewFault, reuseFault, roomFault}
@@ -40,8 +41,13 @@ use Rattle.index.specs.declared.Found.{Found}
 use Rattle.index.specs.declared.Found.the-variants.{At, Missing, BadChain}
 use Rattle.taking.specs.Taking.{choiceOf}
 use Rattle.recovery.specs.Recover.{Result, settledFault, slotsFault, slotsNamed, recovered, recoverFault, recoverSlot, refusedResult, recoverResult}
+<<<<<<< HEAD
 use Rattle.calls.specs.Format.{FormatResult, layoutFault, formatFault, formatResult}
-use Rattle.calls.specs.Change.{ChangeResult, unchanged, changed, writeLentFault, writeLaterFault, writeFault, writeDone, writeResult, storeFault, removeLaterFault, removeFault, removeDone, removeResult}
+use Rattle.calls.specs.Change.{ChangeResult, unchanged, changed, writeLentFault, writeLaterFault, writeFault, writeDone, writeBy, writeResult, storeFault, removeLaterFault, removeFault, removeDone, removeBy, removeResult}
+=======
+use Rattle.calls.specs.Format.{FormatResult, formatFault, formatResult}
+use Rattle.calls.specs.Change.{ChangeResult, unchanged, changed, writeLentFault, writeLaterFault, writeFault, writeDone, writeBy, writeResult, storeFault, removeLaterFault, removeFault, removeDone, removeBy, removeResult}
+>>>>>>> 7549ffec76938851ede9b92e13fbbc8cc4406eec
 use Rattle.calls.specs.Basket.{KeyChange, keyCountFault, listsFault, givenFault, firstFault, valueFault, actionFault, basketLentFault, keysFault, basketFault, basketMade, basketDone, basketBy, basketResult}
 use Rattle.calls.specs.Get.{GetResult, lengthFault, getLaterFault, getFault, getDone, getResult}
 use Rattle.face.specs.Numbers.{Numbered, AnswersAsAsked, formatRefusals, noSlotRefusals, slotRefusals, recoverRefusals, Names, a-slot, no-slot, writeRefusals, storingRefusals, basketRefusals, getRefusals, roomyGetRefusals, locateRefusals}
@@ -257,11 +263,12 @@ got-asked l image out zero BadChain e = absurd e
 got-asked l image out (suc k) found e = absurd e
 
 module _ (l : ℕ) (image heads next : List ℕ) (s : State) (key : ℕ) where
-  write-done : (ks : List ℕ) → isOne 11 ks ≡ true → (value : List ℕ) (found : Found) → Numbered ks (writeDone l image heads next s key value found .answer)
+  write-done : (ks : List ℕ) → isOne 11 ks ≡ true → (value : List ℕ) (t : ℕ) (rest : Index) (found : Found)
+      → Numbered ks (writeDone l image heads next s key value t rest found .answer)
   unfolding writeDone changed unchanged
-  write-done ks e value (At old prev compared) = tt
-  write-done ks e value (Missing prev compared) = tt
-  write-done ks e value BadChain = one-of 11 ks e
+  write-done ks e value t rest (At old prev compared) = tt
+  write-done ks e value t rest (Missing prev compared) = tt
+  write-done ks e value t rest BadChain = one-of 11 ks e
 
   write-due : (ks : List ℕ) → isOne 1 ks ≡ true → isOne 2 ks ≡ true → isOne 3 ks ≡ true → isOne 4 ks ≡ true → isOne 11 ks ≡ true
       → isOne 28 ks ≡ true → isOne 9 ks ≡ true → (mode : Mode) (size : ℕ) → Due ks (say (ltb (limit l) size) 10 0)
@@ -273,9 +280,9 @@ module _ (l : ℕ) (image heads next : List ℕ) (s : State) (key : ℕ) where
 
   write-by : (ks : List ℕ) → isOne 11 ks ≡ true → (mode : Mode) (value : List ℕ) → Due ks (writeFault l image heads next s mode key (length value))
       → Numbered ks (writeResult l image heads next s mode key value .answer)
-  unfolding writeResult unchanged
+  unfolding writeResult writeBy unchanged
   write-by ks e mode value d =
-      numbered ks (λ (r : ChangeResult). r .answer) (λ fault. unchanged (refused fault) s heads next) (λ k. refl) _ d _ (write-done ks e value _)
+      numbered ks (λ (r : ChangeResult). r .answer) (λ fault. unchanged (refused fault) s heads next) (λ k. refl) _ d _ (write-done ks e value _ _ _)
 
   -- INSERT AND REPLACE: 1, 2, 3, 4, 10, 11, 20 or 21, 28, 9
   pub write-numbered : (mode : Mode) (value : List ℕ) → Numbered (writeRefusals mode) (writeResult l image heads next s mode key value .answer)
@@ -307,11 +314,12 @@ module _ (l : ℕ) (image heads next : List ℕ) (s : State) (key : ℕ) where
   get-asked value out h e =
       asked-by Replace value h (got-asked l image out (getFault l image heads next key (length out)) (search l image heads next key) e)
 
-  remove-done : (ks : List ℕ) → isOne 11 ks ≡ true → (found : Found) → Numbered ks (removeDone l image heads next s key found .answer)
+  remove-done : (ks : List ℕ) → isOne 11 ks ≡ true → (t : ℕ) (rest : Index) (found : Found)
+      → Numbered ks (removeDone l image heads next s key t rest found .answer)
   unfolding removeDone changed unchanged
-  remove-done ks e (At old prev compared) = tt
-  remove-done ks e (Missing prev compared) = tt
-  remove-done ks e BadChain = one-of 11 ks e
+  remove-done ks e t rest (At old prev compared) = tt
+  remove-done ks e t rest (Missing prev compared) = tt
+  remove-done ks e t rest BadChain = one-of 11 ks e
 
   remove-due : (ks : List ℕ) → isOne 11 ks ≡ true → isOne 28 ks ≡ true → isOne 9 ks ≡ true → (found : Found) (taking : Taking) (n : ℕ)
       → Due ks (removeLaterFault found taking n s)
@@ -322,10 +330,10 @@ module _ (l : ℕ) (image heads next : List ℕ) (s : State) (key : ℕ) where
 
   -- REMOVE: 1, 2, 3, 4, 11, 28, 9
   pub remove-numbered : Numbered storingRefusals (removeResult l image heads next s key .answer)
-  unfolding removeResult removeFault unchanged
+  unfolding removeResult removeBy removeFault unchanged
   remove-numbered =
       numbered storingRefusals (λ (r : ChangeResult). r .answer) (λ fault. unchanged (refused fault) s heads next) (λ k. refl) _
-      (else-due storingRefusals _ _ (lent-due storingRefusals refl refl refl refl l image (length heads) (length next)) (remove-due storingRefusals refl refl refl _ _ _)) _ (remove-done storingRefusals refl _)
+      (else-due storingRefusals _ _ (lent-due storingRefusals refl refl refl refl l image (length heads) (length next)) (remove-due storingRefusals refl refl refl _ _ _)) _ (remove-done storingRefusals refl _ _ _)
 
 module _ (l : ℕ) (image heads next : List ℕ) (key : ℕ) where
   get-done : (ks : List ℕ) → isOne 11 ks ≡ true → (out : List ℕ) (found : Found) → Numbered ks (getDone l image out found .answer)

@@ -17,6 +17,7 @@ use Rattle.stores.specs.Play.{wordNumbers, playFault, playing, halfCounts}
 use Rattle.stores.proofs.Bytes.{played-length}
 use Rattle.recovery.specs.Recover.{recoverFault}
 use Rattle.calls.specs.Format.{formatted}
+use Rattle.calls.proofs.SingleRefusal.{write-refusal, remove-refusal}
 use Rattle.calls.proofs.BasketRefusal.{basket-refusal}
 use Rattle.calls.proofs.Formats.{formatted-length}
 use Rattle.plainmap.specs.World.{World, Call, called, openedWorld}
@@ -105,6 +106,8 @@ module _ (l : ℕ) (lay : Layout l) where
       record {
         answers-state = state-answered l;
         few-values = few-given l;
+        write-refusal = write-refusal l;
+        remove-refusal = remove-refusal l;
         basket-refusal = basket-refusal l;
         hands-out = λ w call writes given e lent. hands-out l w lent call writes given e;
         call-heads = called-heads l;

@@ -16,9 +16,10 @@ use Rattle.layout.specs.Record.{Layout}
 use Rattle.stores.specs.Store.{Store}
 use Rattle.stores.specs.Basket.{basketSlots}
 use Rattle.stores.specs.Written.{run, lineStores, recordStores}
+use Rattle.index.specs.Index.{Index}
 use Rattle.index.specs.declared.Found.{Found}
 use Rattle.index.specs.declared.Found.the-variants.{At, Missing, BadChain}
-use Rattle.calls.specs.Change.{ChangeResult, handedOut, changed, unchanged, writeDone, writeResult, removeDone, removeResult}
+use Rattle.calls.specs.Change.{ChangeResult, handedOut, changed, unchanged, writeDone, writeBy, writeResult, removeDone, removeBy, removeResult}
 use Rattle.calls.specs.Get.{GetResult, getDone, getResult}
 use Rattle.calls.specs.Locate.{locateDone, locateResult}
 use Rattle.plainmap.specs.World.{World, Call, write, remove, get, locate, Called, calledChange, calledGet, calledLocate, called}
@@ -43,18 +44,18 @@ answerCase (refused number) = 2
 
 -- at most two values
 module _ (l : ℕ) (w : World) where
-  write-few : (key : ℕ) (value : List ℕ) (found : Found)
-      → valueCount (writeDone l (w .image) (w .heads) (w .next) (w .state) key value found .answer) ≤ 2
+  write-few : (key : ℕ) (value : List ℕ) (t : ℕ) (rest : Index) (found : Found)
+      → valueCount (writeDone l (w .image) (w .heads) (w .next) (w .state) key value t rest found .answer) ≤ 2
   unfolding writeDone changed unchanged
-  write-few key value (At old prev compared) = omega arith
-  write-few key value (Missing prev compared) = omega arith
-  write-few key value BadChain = omega arith
+  write-few key value t rest (At old prev compared) = omega arith
+  write-few key value t rest (Missing prev compared) = omega arith
+  write-few key value t rest BadChain = omega arith
 
-  remove-few : (key : ℕ) (found : Found) → valueCount (removeDone l (w .image) (w .heads) (w .next) (w .state) key found .answer) ≤ 2
+  remove-few : (key t : ℕ) (rest : Index) (found : Found) → valueCount (removeDone l (w .image) (w .heads) (w .next) (w .state) key t rest found .answer) ≤ 2
   unfolding removeDone changed unchanged
-  remove-few key (At old prev compared) = omega arith
-  remove-few key (Missing prev compared) = omega arith
-  remove-few key BadChain = omega arith
+  remove-few key t rest (At old prev compared) = omega arith
+  remove-few key t rest (Missing prev compared) = omega arith
+  remove-few key t rest BadChain = omega arith
 
   get-few : (out : List ℕ) (found : Found) → valueCount (getDone l (w .image) out found .answer) ≤ 2
   unfolding getDone
@@ -69,9 +70,9 @@ module _ (l : ℕ) (w : World) where
   locate-few BadChain = omega arith
 
   called-few : (call : Call) → valueCount (called l w call .answer) ≤ 2
-  unfolding called calledChange calledGet calledLocate writeResult removeResult getResult locateResult unchanged
-  called-few (write mode key value) = by-refusal (λ (c : ChangeResult). valueCount (c .answer) ≤ 2) _ _ _ (write-few key value _) (omega arith)
-  called-few (remove key) = by-refusal (λ (c : ChangeResult). valueCount (c .answer) ≤ 2) _ _ _ (remove-few key _) (omega arith)
+  unfolding called calledChange calledGet calledLocate writeResult writeBy removeResult removeBy getResult locateResult unchanged
+  called-few (write mode key value) = by-refusal (λ (c : ChangeResult). valueCount (c .answer) ≤ 2) _ _ _ (write-few key value _ _ _) (omega arith)
+  called-few (remove key) = by-refusal (λ (c : ChangeResult). valueCount (c .answer) ≤ 2) _ _ _ (remove-few key _ _ _) (omega arith)
   called-few (get key out) = by-refusal (λ (c : GetResult). valueCount (c .answer) ≤ 2) _ _ _ (get-few out _) (omega arith)
   called-few (locate key) = by-refusal (λ (a : Answer). valueCount a ≤ 2) _ _ _ (locate-few _) (omega arith)
 
@@ -91,23 +92,25 @@ module _ (l : ℕ) (w : World) (lent : List Store) where
   unfolding unchanged
   refused-out number = none-out (unchanged (refused number) (w .state) (w .heads) (w .next)) (λ z. omega arith)
 
-  write-out : (key : ℕ) (value : List ℕ) (found : Found) → HandsOut (writeDone l (w .image) (w .heads) (w .next) (w .state) key value found)
+  write-out : (key : ℕ) (value : List ℕ) (t : ℕ) (rest : Index) (found : Found)
+      → HandsOut (writeDone l (w .image) (w .heads) (w .next) (w .state) key value t rest found)
   unfolding HandsOut writeDone changed unchanged handedOut recordStores lineStores run
-  write-out key value (At old prev compared) = λ given e. refl
-  write-out key value (Missing prev compared) = λ given e. refl
-  write-out key value BadChain = none-out (writeDone l (w .image) (w .heads) (w .next) (w .state) key value BadChain) (λ z. omega arith)
+  write-out key value t rest (At old prev compared) = λ given e. refl
+  write-out key value t rest (Missing prev compared) = λ given e. refl
+  write-out key value t rest BadChain = none-out (writeDone l (w .image) (w .heads) (w .next) (w .state) key value t rest BadChain) (λ z. omega arith)
 
-  remove-out : (key : ℕ) (found : Found) → HandsOut (removeDone l (w .image) (w .heads) (w .next) (w .state) key found)
+  remove-out : (key t : ℕ) (rest : Index) (found : Found) → HandsOut (removeDone l (w .image) (w .heads) (w .next) (w .state) key t rest found)
   unfolding HandsOut removeDone changed unchanged handedOut recordStores lineStores run
-  remove-out key (At old prev compared) = λ given e. refl
-  remove-out key (Missing prev compared) = none-out (removeDone l (w .image) (w .heads) (w .next) (w .state) key (Missing prev compared)) (λ z. omega arith)
-  remove-out key BadChain = none-out (removeDone l (w .image) (w .heads) (w .next) (w .state) key BadChain) (λ z. omega arith)
+  remove-out key t rest (At old prev compared) = λ given e. refl
+  remove-out key t rest (Missing prev compared) =
+      none-out (removeDone l (w .image) (w .heads) (w .next) (w .state) key t rest (Missing prev compared)) (λ z. omega arith)
+  remove-out key t rest BadChain = none-out (removeDone l (w .image) (w .heads) (w .next) (w .state) key t rest BadChain) (λ z. omega arith)
 
   pub hands-out : (call : Call) → Writes call → (given : List ℕ) → called l w call .answer ≡ gives given
       → handedOut (called l w call .stores) lent ≡ called l w call .stores
-  unfolding HandsOut called calledChange writeResult removeResult
-  hands-out (write mode key value) write-writes = by-refusal HandsOut _ _ _ (write-out key value _) (refused-out _)
-  hands-out (remove key) remove-writes = by-refusal HandsOut _ _ _ (remove-out key _) (refused-out _)
+  unfolding HandsOut called calledChange writeResult writeBy removeResult removeBy
+  hands-out (write mode key value) write-writes = by-refusal HandsOut _ _ _ (write-out key value _ _ _) (refused-out _)
+  hands-out (remove key) remove-writes = by-refusal HandsOut _ _ _ (remove-out key _ _ _) (refused-out _)
 
 -- the stores of a call: none, or those of one record for the first slot of reuse
 pub data OneStored (l : ℕ) (w : World) : List Store → Type 0 where

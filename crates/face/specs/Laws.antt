@@ -10,7 +10,7 @@ use Rattle.layout.specs.Header.{indexFault}
 use Rattle.stores.specs.Play.{playEnd, wordNumbers, values, playFault, playListResult, playing, halfCounts}
 use Rattle.recovery.specs.Recover.{stateValues, recoverFault, recoverResult}
 use Rattle.stores.specs.Store.{Store, played, standing}
-use Rattle.calls.specs.Change.{handedOut}
+use Rattle.calls.specs.Change.{handedOut, writeFault, writeResult, removeFault, removeResult}
 use Rattle.calls.specs.Basket.{KeyChange, basketFault, basketResult}
 use Rattle.calls.specs.Format.{formatted}
 use Rattle.plainmap.specs.World.{World, Call, write, remove, called, finished, Restart, openedWorld, restarted, recoveredWorld}
@@ -44,7 +44,12 @@ pub record CallLaws (l : ℕ) : Type 0 where
   -- a call that writes and answers a slot hands out stores, which take the place of those lent to it
   pub hands-out : (w : World) (call : Call) → Writes call → (given : List ℕ) → called l w call .answer ≡ gives given
       → (lent : List Store) → handedOut (called l w call .stores) lent ≡ called l w call .stores
-  -- a basket is refused with the rules' number, whatever index it is given: "with an index not the image's own, only refusals are fixed"
+  -- an insert, a replace, a remove and a basket are refused with the rules' number, whatever index they are given: "with an index not the image's own, only refusals are
+  -- fixed, of single calls too"
+  pub write-refusal : (image heads next : List ℕ) (s : State) (mode : Mode) (key : ℕ) (value : List ℕ)
+      → refusalIn (writeResult l image heads next s mode key value .answer) ≡ writeFault l image heads next s mode key (length value)
+  pub remove-refusal : (image heads next : List ℕ) (s : State) (key : ℕ)
+      → refusalIn (removeResult l image heads next s key .answer) ≡ removeFault l image heads next s key
   pub basket-refusal : (image heads next : List ℕ) (s : State) (changes : List KeyChange) (at words : ℕ)
       → refusalIn (basketResult l image heads next s changes at words .answer) ≡ basketFault l image heads next s changes at words
   -- a call and recovery leave as many heads as they were lent
@@ -85,7 +90,7 @@ pub record SetLaws (l : ℕ) (Inv : World → PlainMap → Type 0) : Type 0 wher
   pub reads : (w : World) (m : PlainMap) → Inv w m → Reads l w m
   -- and image and index have the lengths that belong to the number of slots
   pub lengths : (w : World) (m : PlainMap) → Inv w m → Lengths w
-  -- every call is refused exactly where the rules refuse it, and otherwise answers as the plain map does
+  -- every call is refused exactly where the rules refuse it, and otherwise answers as the plain map does; the whole call is that of the taking rule
   pub answers : (w : World) (m : PlainMap) → Inv w m → (call : Call) → Typed l call → Right l w m call
   -- a call that writes and is neither refused nor absent has stores
   pub some-stores : (w : World) (m : PlainMap) → Inv w m → (call : Call) → Typed l call → Writes call → (given : List ℕ)

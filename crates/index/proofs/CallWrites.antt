@@ -9,7 +9,8 @@ use lib.Dec.{eqb}
 use lib.ListN.{length, getD}
 use borrow.Author.Tests.{eq-eqb, ne-eqb}
 use Rattle.index.specs.Index.{Chain, reuse, head, Index, start, ahead, setNext, setStart, setLast, link}
-use Rattle.index.specs.Change.{takeFirst, append, linkNew, insertAt, replaceAt, removeAt, insertNew, replaceHeld, removeHeld}
+use Rattle.index.specs.Change.{takeFirst, append, linkNew, insertAt, replaceAt, removeAt}
+use Rattle.index.specs.inner.Parts.{insertNew, replaceHeld, removeHeld}
 use Rattle.prelude.specs.Members.{In}
 use Rattle.index.specs.Linked.{Run, endOf, Owner, free, of, Entry, Disjoint, WellFormed}
 use Rattle.index.proofs.defs.Linked.{give, withChain, Room}

@@ -10,7 +10,7 @@ use lib.Dec.{eqb}
 use lib.ListN.{length, getD}
 use borrow.Author.Tests.{eq-eqb, ne-eqb, lt-ltb, le-ltb}
 use Rattle.index.specs.Index.{Chain, reuse, head, Index, ahead}
-use Rattle.index.specs.Change.{insertNew, replaceHeld, removeHeld}
+use Rattle.index.specs.inner.Parts.{insertNew, replaceHeld, removeHeld}
 use Rattle.index.specs.inner.Build.{build}
 use Rattle.prelude.specs.Members.{In, Once}
 use Rattle.index.specs.Linked.{Run, endOf, Owner, free, of, WellFormed, placed, Sits}

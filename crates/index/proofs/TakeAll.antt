@@ -14,9 +14,10 @@ use Rattle.prelude.proofs.defs.Among.{isOne, member}
 use Rattle.prelude.proofs.Among.{out-member, member-none, member-head, member-tail}
 use Rattle.prelude.proofs.Choice.{pick-true, pick-false}
 use Rattle.prelude.proofs.Lists.{in-right, filter-all}
-use Rattle.index.specs.Index.{Chain, reuse, Index, ahead, setLast, link}
+use Rattle.index.specs.Index.{Chain, reuse, Index, ahead, setStart, setLast, link}
 use Rattle.index.specs.Linked.{endOf, Owner, free, Entry, WellFormed, placed, Sits}
 use Rattle.index.specs.Taking.{Taken}
+use Rattle.index.specs.Change.{takeFirst}
 use Rattle.index.specs.Basket.{takeSlot, takeAll, takenSlots}
 use Rattle.index.proofs.defs.Linked.{give, withChain}
 use Rattle.index.proofs.defs.TakenIn.{takesIn, leftIn}
@@ -25,7 +26,7 @@ use Rattle.index.proofs.Paths.{end-in, end-snoc, stands-once}
 use Rattle.index.proofs.Owners.{Which, that, other, which, with-same, with-other, with-twice}
 use Rattle.index.proofs.Links.{ahead-next}
 use Rattle.index.proofs.Relinks.{part-pos, part-run, disjoint-last, disjoint-unlink}
-use Rattle.index.proofs.CallWrites.{slot-of, formed-alike}
+use Rattle.index.proofs.CallWrites.{slot-of, formed-alike, formed-take}
 use Rattle.index.proofs.Sits.{sits-in, sits-once}
 
 -- ---- one slot
@@ -55,6 +56,14 @@ formed-take-slot i owner chains xs s ys prev g e p =
           rw (with-same, p) (last-after (i .last) s xs ys (g .ends ∙ ap (endOf 0) e)
           (stands-once (ahead i reuse) 0 xs s ys (part-pos _ _ _ w reuse xs (s ∷ ys) e) (part-run _ _ _ w reuse xs (s ∷ ys) e)));
     }
+
+-- the first slot is taken as a single call takes it
+pub take-first : (i : Index) (owner : ℕ → Owner) (chains : Chain → List ℕ) (rest : List ℕ) → WellFormed i owner chains → chains reuse ≡ i .first ∷ rest
+    → takeSlot i (record { slot = i .first; prev = 0 }) ≡ takeFirst i
+unfolding takeSlot takeFirst setLast link
+take-first i owner chains rest g e =
+    ap (setLast (setStart i reuse (getD (i .next) (i .first) 0)))
+    (formed-take-slot i owner chains [] (i .first) rest 0 g e refl .ends ∙ sym (formed-take i owner chains (i .first) rest g e .ends))
 
 -- ---- the first of a list that may be taken
 

@@ -8,8 +8,8 @@ use native.Mathlib.Omega.{arith}
 use lib.ListN.{length, getD, set}
 use borrow.Author.Tests.{eq-eqb, ne-eqb}
 use Rattle.index.specs.Index.{Index, reuse, head, indexOf, setNext, setStart, setLast, link}
-use Rattle.index.specs.Change.{takeFirst, append, linkNew, insertAt, replaceAt, removeAt, insertNew, replaceHeld, removeHeld}
-use Rattle.index.specs.inner.Parts.{PartsOf, linkHeads, linkNext, takeState, appendNext, appendState}
+use Rattle.index.specs.Change.{takeFirst, append, linkNew, insertAt, replaceAt, removeAt}
+use Rattle.index.specs.inner.Parts.{insertNew, replaceHeld, removeHeld, PartsOf, linkHeads, linkNext, takeState, appendNext, appendState}
 use Rattle.index.specs.declared.State.{State}
 
 -- ---- what the parts keep of a state

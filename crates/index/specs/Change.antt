@@ -35,18 +35,6 @@ replaceAt i h prev old s = append (linkNew i (head h) prev s (getD (i .next) old
 unfoldable pub removeAt : Index → (h prev old s : ℕ) → Index
 removeAt i h prev old s = append (append (link i (head h) prev (getD (i .next) old 0)) old) s
 
--- "A put of a new key takes the first reuse slot and links it at the end of its head's chain"
-unfoldable pub insertNew : Index → (h prev : ℕ) → Index
-insertNew i h prev = insertAt (takeFirst i) h prev (i .first)
-
--- "A put of a held key takes the first reuse slot, which replaces the old slot in its chain"
-unfoldable pub replaceHeld : Index → (h prev old : ℕ) → Index
-replaceHeld i h prev old = replaceAt (takeFirst i) h prev old (i .first)
-
--- "A remove takes the first reuse slot, unlinks the old slot"
-unfoldable pub removeHeld : Index → (h prev old : ℕ) → Index
-removeHeld i h prev old = removeAt (takeFirst i) h prev old (i .first)
-
 -- document 02, A.2: "20 when insert meets a held key and 21 when replace meets an unheld one"
 unfoldable pub keyFault : Mode → (held : Bool) → ℕ
 keyFault Insert held = say held 20 0

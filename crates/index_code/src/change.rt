@@ -3,8 +3,7 @@ ghost use mathlib.Core.Path.{_≡_};
 ghost use Prim.Native.Nat.{_+_, _-_, _<_};
 ghost use lib.ListN.{length};
 ghost use Rattle.index.specs.Index.{indexOf};
-ghost use Rattle.index.specs.Change.{insertNew, replaceHeld, removeHeld};
-ghost use Rattle.index.specs.inner.Parts.{WritesInside, PlaceInside, PartsOf, writeAt, liveAt, linkHeads, linkNext, takeState, appendNext, appendState};
+ghost use Rattle.index.specs.inner.Parts.{WritesInside, PlaceInside, PartsOf, insertNew, replaceHeld, removeHeld, writeAt, liveAt, linkHeads, linkNext, takeState, appendNext, appendState};
 use index::Place;
 use index::State;
 

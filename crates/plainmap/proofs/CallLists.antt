@@ -3,7 +3,7 @@ use mathlib.Core.Path.{_≡_, refl, sym, ap, _∙_, subst, fun-ext, ap₂}
 use mathlib.Core.Bool.{Bool, true, cond}
 use mathlib.Core.Option.{Option, none}
 use mathlib.Core.List.{List, [], _∷_}
-use Prim.Native.Nat.{ℕ, _^_, _≤_, _<_}
+use Prim.Native.Nat.{ℕ, _^_, _<_}
 use native.Mathlib.Omega.{arith}
 use Rattle.words.specs.Word.{word}
 use Rattle.prelude.specs.Answer.{gives, absent, refuses}
@@ -28,7 +28,7 @@ use Rattle.recovery.specs.Recover.{slotsFault, recoverResult, chainsOf}
 use Rattle.calls.specs.Format.{formatted}
 use Rattle.calls.proofs.Formats.{formatted-length, formatted-fault, formatted-content}
 use Rattle.plainmap.proofs.FormattedImages.{formatted-slots}
-use Rattle.plainmap.specs.World.{World, Call, write, remove, get, locate, outOf, Called, called, finished, worldAfter, recoveredWorld, openedWorld, Round, afterRound, afterRounds, Restart, restarted}
+use Rattle.plainmap.specs.World.{World, Call, write, remove, get, locate, outOf, Called, calledChange, called, ruled, finished, worldAfter, recoveredWorld, openedWorld, Round, afterRound, afterRounds, Restart, restarted}
 use Rattle.plainmap.specs.Plain.{PlainMap, Update, updates, plainStep, plainAnswer, plainOut}
 use Rattle.plainmap.specs.Accepted.{Accepted, RightSize}
 use Rattle.plainmap.specs.Sound.{Sound, Agrees}
@@ -38,6 +38,7 @@ use Rattle.plainmap.specs.Map.{PlainRule}
 use Rattle.plainmap.proofs.Sounds.{recovered-sound}
 use Rattle.plainmap.proofs.Wrote.{SomeSound, some-sound}
 use Rattle.plainmap.proofs.Outcomes.{worldWith, write-runs, remove-runs}
+use Rattle.plainmap.proofs.SingleRules.{write-ruled, remove-ruled}
 use Rattle.plainmap.proofs.Opens.{sound-same, opened-same, opened-accepts, opened-image, none-void-after, round-same, same-map, size}
 use Rattle.plainmap.proofs.Compares.{few-compared}
 use Rattle.plainmap.proofs.Rights.{ran-right, right-refuses}
@@ -60,13 +61,14 @@ none-answer o slot version e = sym (ap (λ (x : Option (List ℕ)). cond (isHeld
 module _ (l : ℕ) (lay : Layout l) (w : World) (chains : Chain → List ℕ) (a : Accepted l (w .image)) (g : Sound l w chains)
     (none-void : NoneVoid (contentsOf l (w .image)) (numbersOf l (w .image)) (slotsIn (w .image))) where
   pub call-right : (call : Call) → Typed l call → Right l w (slotsMap l (w .image)) call
-  unfolding called plainAnswer plainOut outOf
+  unfolding called ruled plainAnswer plainOut outOf
   call-right (write mode key value) (write-typed k b) =
-      ran-right l w (write mode key value) key 1 value (g .next-version) (λ h. refl) (λ z m. absurd (omega arith)) refl refl (few-compared l w chains g (write mode key value)) _ _ refl
+      ran-right l w (write mode key value) key 1 value (g .next-version) (λ h. refl) (λ z m. absurd (omega arith)) refl refl (few-compared l w chains g (write mode key value))
+      (ap calledChange (write-ruled l lay w chains a g none-void mode key value)) _ _ refl
       (write-runs l lay w chains a g none-void mode key value k b) (write-fault l w chains a g none-void mode key value)
   call-right (remove key) (remove-typed k) =
       ran-right l w (remove key) key 2 [] (g .next-version) (λ h. held-answer (slotsMap l (w .image) key) _ _ (h refl))
-      (λ z m. none-answer (slotsMap l (w .image) key) _ _ m) refl refl (few-compared l w chains g (remove key)) _ _ refl
+      (λ z m. none-answer (slotsMap l (w .image) key) _ _ m) refl refl (few-compared l w chains g (remove key)) (ap calledChange (remove-ruled l lay w chains a g none-void key)) _ _ refl
       (remove-runs l lay w chains a g none-void key k) (remove-fault l w chains a g none-void key)
   call-right (get key out) s = get-right l w chains a g key out
   call-right (locate key) s = locate-right l w chains a g key

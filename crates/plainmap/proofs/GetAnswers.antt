@@ -18,7 +18,7 @@ use Rattle.index.specs.Index.{Chain}
 use Rattle.index.specs.Walk.{search}
 use Rattle.index.specs.declared.Found.{Found}
 use Rattle.calls.specs.Get.{GetResult, getDone, getResult}
-use Rattle.plainmap.specs.World.{World, get, outOf, calledGet, called}
+use Rattle.plainmap.specs.World.{World, get, outOf, calledGet, called, ruled}
 use Rattle.layout.specs.Size.{slotsIn}
 use Rattle.plainmap.specs.Plain.{ruleFault, lengthAnswer, filled, plainAnswer, plainOut}
 use Rattle.plainmap.specs.Accepted.{Accepted}
@@ -99,7 +99,7 @@ module _ (l : ℕ) (w : World) (chains : Chain → List ℕ) (a : Accepted l (w 
 
   -- GET is refused and answers right, and changes nothing
   pub get-right : (key : ℕ) (out : List ℕ) → Right l w (slotsMap l (w .image)) (get key out)
-  unfolding called calledGet plainAnswer plainOut
+  unfolding called ruled calledGet plainAnswer plainOut
   get-right key out =
       record {
         refusal =
@@ -114,4 +114,5 @@ module _ (l : ℕ) (w : World) (chains : Chain → List ℕ) (a : Accepted l (w 
             ∙ kept-absent (dueFault l w (slotsMap l (w .image)) (get key out)) (slotsMap l (w .image) key) out
             (sym (ap (λ (r : GetResult). r .answer) (get-result key out)) ∙ e));
         few = few-compared l w chains s (get key out);
+        by-rule = refl;
       }

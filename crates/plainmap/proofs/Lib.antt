@@ -11,6 +11,7 @@ pub mod Opens
 pub mod SoundAfter
 pub mod SoundWrites
 pub mod Outcomes
+pub mod SingleRules
 pub mod GetAnswers
 pub mod LocateAnswers
 pub mod BasketKeys

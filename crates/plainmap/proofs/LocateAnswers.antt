@@ -18,7 +18,7 @@ use Rattle.table.proofs.Map.{Live, lives, live-is}
 use Rattle.index.specs.Index.{Chain}
 use Rattle.index.specs.declared.Found.{Found}
 use Rattle.calls.specs.Locate.{locateFault, locateDone, locateResult}
-use Rattle.plainmap.specs.World.{World, locate, outOf, calledLocate, called}
+use Rattle.plainmap.specs.World.{World, locate, outOf, calledLocate, called, ruled}
 use Rattle.plainmap.specs.Plain.{ruleFault, plainAnswer, plainOut}
 use Rattle.plainmap.specs.Accepted.{Accepted}
 use Rattle.plainmap.specs.Sound.{Sound}
@@ -63,7 +63,7 @@ module _ (l : ℕ) (w : World) (chains : Chain → List ℕ) (a : Accepted l (w 
       ∙ locate-done l (w .image) key _ _ (sound-sees l w chains s key)
 
   pub locate-right : (key : ℕ) → Right l w (slotsMap l (w .image)) (locate key)
-  unfolding called calledLocate plainAnswer plainOut ruleFault outOf
+  unfolding called ruled calledLocate plainAnswer plainOut ruleFault outOf
   locate-right key =
       record {
         refusal = ap refusalIn (located key) ∙ not-refused (isHeld (slotsMap l (w .image) key)) _;
@@ -72,4 +72,5 @@ module _ (l : ℕ) (w : World) (chains : Chain → List ℕ) (a : Accepted l (w 
         refused-still = λ ne. record { out = refl; stores = refl; heads = refl; next = refl; state = refl };
         absent-still = λ e. record { out = refl; stores = refl; heads = refl; next = refl; state = refl };
         few = few-compared l w chains s (locate key);
+        by-rule = refl;
       }

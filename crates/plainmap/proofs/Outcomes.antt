@@ -1,6 +1,6 @@
 -- What insert, replace and remove do in a sound world: they are refused, store nothing, or write one record and leave a sound index. Assumes nothing.
 use mathlib.Core.Path.{_≡_, refl, sym, ap, ap₂, _∙_, subst}
-use mathlib.Core.Bool.{Bool, true, false, not, _&&_}
+use mathlib.Core.Bool.{Bool, true, false, cond, not, _&&_}
 use mathlib.Core.Option.{Option, some, none}
 use mathlib.Core.Logic.{inl, inr, by-cases}
 use mathlib.Core.List.{List, [], _∷_}
@@ -9,7 +9,7 @@ use native.Mathlib.Nat.{mod-lt}
 use native.Mathlib.Decide.{ℕ-discrete}
 use native.Mathlib.Omega.{arith}
 use lib.Dec.{eqb, ltb, leb}
-use lib.ListN.{length, take}
+use lib.ListN.{length, getD, take}
 use borrow.Author.Tests.{eq-eqb, ltb-false, leb-false}
 use Rattle.words.specs.Word.{word, AreBytes}
 use Rattle.prelude.specs.Refusal.{say}
@@ -43,16 +43,18 @@ use Rattle.table.proofs.Held.{holder-held}
 use Rattle.table.proofs.Write.{above-next}
 use Rattle.index.specs.Index.{Index, Chain, reuse, head, headOf, indexOf, stateOf}
 use Rattle.index.specs.Walk.{search, chainFault}
-use Rattle.index.specs.Change.{insertNew, replaceHeld, removeHeld, keyFault, isFound}
-use Rattle.index.specs.Taking.{Taking, fewFault, reuseFault, roomFault}
+use Rattle.index.specs.Change.{takeFirst, keyFault, isFound}
+use Rattle.index.specs.inner.Parts.{insertNew, replaceHeld, removeHeld}
+use Rattle.index.specs.Taking.{Taking, taken, fewFault, reuseFault, roomFault}
 use Rattle.index.specs.declared.Mode.{Mode}
 use Rattle.index.specs.declared.Mode.the-variants.{Insert, Replace}
 use Rattle.index.specs.declared.Found.{Found}
 use Rattle.index.specs.declared.Found.the-variants.{At, Missing}
 use Rattle.index.proofs.Sits.{sits-first}
-use Rattle.index.proofs.Takings.{sits-taking, few-exact}
+use Rattle.index.proofs.defs.TakenIn.{takenIn}
+use Rattle.index.proofs.Takings.{sits-taking, few-exact, taken-first}
 use Rattle.taking.specs.Taking.{takingOf}
-use Rattle.calls.specs.Change.{ChangeResult, storeFault, changed, unchanged, insertsOf, writeLentFault, writeLaterFault, writeFault, writeDone, writeResult, removeLaterFault, removeFault, removeDone, removeResult}
+use Rattle.calls.specs.Change.{ChangeResult, storeFault, changed, unchanged, insertsOf, writeLentFault, writeLaterFault, writeFault, writeDone, writeBy, writeResult, removeLaterFault, removeFault, removeDone, removeBy, removeResult}
 use Rattle.images.proofs.defs.Entries.{recordAt}
 use Rattle.images.proofs.Entries.{made-record, made-key}
 use Rattle.plainmap.specs.World.{World, Called}
@@ -77,7 +79,7 @@ pub data Ran (l : ℕ) (w : World) (key kind : ℕ) (value : List ℕ) (fault : 
   ran-refused : (fault ≡ 0 → ⊥) → r ≡ unchanged (refused fault) (w .state) (w .heads) (w .next) → Ran l w key kind value fault r
   ran-absent : fault ≡ 0 → kind ≡ 2 → r ≡ unchanged absent (w .state) (w .heads) (w .next)
       → mapOf (tableOf l (w .image)) (slotsIn (w .image)) key ≡ none → Ran l w key kind value fault r
-  ran-wrote : fault ≡ 0 → (i : Index) (alive : ℕ) → r ≡ changed l (w .image) (w .state) key kind value i alive
+  ran-wrote : fault ≡ 0 → (i : Index) (alive : ℕ) → r ≡ changed l (w .image) (w .state) (w .state .first) key kind value i alive
       → WroteRecords l w (oneRecord w key kind value) i alive (w .state .first)
       → (kind ≡ 2 → isHeld (mapOf (tableOf l (w .image)) (slotsIn (w .image)) key) ≡ true) → Ran l w key kind value fault r
 
@@ -110,7 +112,7 @@ pub record WritePassed (l : ℕ) (w : World) (mode : Mode) (key size : ℕ) : Ty
       StorePassed (takingOf l (w .image) (w .next) (slotsIn (w .image)) (w .state .first) 1) (slotsIn (w .image)) (w .state .live)
       (w .state .version) (insertsOf mode) 0
 
-write-passed : (l : ℕ) (w : World) (mode : Mode) (key size : ℕ) → writeFault l (w .image) (w .heads) (w .next) (w .state) mode key size ≡ 0
+pub write-passed : (l : ℕ) (w : World) (mode : Mode) (key size : ℕ) → writeFault l (w .image) (w .heads) (w .next) (w .state) mode key size ≡ 0
     → WritePassed l w mode key size
 unfolding writeFault writeLentFault writeLaterFault
 write-passed l w mode key size z =
@@ -120,7 +122,7 @@ write-passed l w mode key size z =
     let k = orElse-zero (keyFault mode (isFound (search l (w .image) (w .heads) (w .next) key))) _ (c .1) in
     record { short = ltb-false (limit l) size (b .0); asked = k .0; store = store-passed _ w (slotsIn (w .image)) (insertsOf mode) 0 (k .1) }
 
-remove-passed : (l : ℕ) (w : World) (key old prev compared : ℕ) → search l (w .image) (w .heads) (w .next) key ≡ At old prev compared
+pub remove-passed : (l : ℕ) (w : World) (key old prev compared : ℕ) → search l (w .image) (w .heads) (w .next) key ≡ At old prev compared
     → removeFault l (w .image) (w .heads) (w .next) (w .state) key ≡ 0
     → StorePassed (takingOf l (w .image) (w .next) (slotsIn (w .image)) (w .state .first) 1) (slotsIn (w .image)) (w .state .live)
     (w .state .version) 0 1
@@ -150,9 +152,6 @@ pub record-own : (version s key kind : ℕ) (value : List ℕ)
     → recordAt version (record { slot = s; key = key; kind = kind; value = value } ∷ []) s ≡ made kind version key value
 unfolding recordAt
 record-own version s key kind value = pick-true (eqb s s) _ _ (eq-eqb s s refl)
-
-same-first : (x y : ℕ) (xs ys : List ℕ) → x ∷ xs ≡ y ∷ ys → x ∷ [] ≡ y ∷ []
-same-first x y xs ys e = ap (λ (l : List ℕ). take 1 l) e
 
 not-held : (o : Option (List ℕ)) → o ≡ none → isHeld o ≡ false
 unfolding isHeld
@@ -205,21 +204,24 @@ module _ (l : ℕ) (lay : Layout l) (w : World) (chains : Chain → List ℕ) (a
 
   -- what all three writes share: rest is the reuse chain behind its first slot, which may be taken
   module _ (rest : List ℕ) (e : chains reuse ≡ s ∷ rest) where
-    -- THE FIRST SLOT IS THE ONE that the taking rule names
-    first-taken : fewFault (takingOf l (w .image) (w .next) n s 1) ≡ 0 → takenOf f n 1 (chains reuse) ≡ s ∷ []
-    unfolding takingOf takenOf
-    first-taken few =
+    -- the walk of reuse, by its list
+    walked : takingOf l (w .image) (w .next) n s 1 ≡ takenIn (mayTake f n) 0 1 (chains reuse)
+    unfolding takingOf
+    walked = sits-taking n (length (w .heads)) _ (indexOf (w .heads) (w .next) (w .state)) chains (g .index) (mayTake f n) 1
+
+    first-may : fewFault (takingOf l (w .image) (w .next) n s 1) ≡ 0 → mayTake f n s ≡ true
+    unfolding takenOf
+    first-may few =
         go (single-first f n (chains reuse) free-spares (older l w chains g [] (λ t. f t) none-void)
         (alike-highest-last (tableOf l (w .image)) f n (λ t i. sym (same t i)) (chains reuse) (free-spares .slot) (g .highest)))
       where
         enough : ltb (length (filter (mayTake f n) (chains reuse))) 1 ≡ false
         enough =
             say-zero (ltb (length (filter (mayTake f n) (chains reuse))) 1) 28 0
-            (sym (few-exact (mayTake f n) 0 1 (chains reuse))
-            ∙ ap fewFault (sym (sits-taking n (length (w .heads)) _ (indexOf (w .heads) (w .next) (w .state)) chains (g .index) (mayTake f n) 1)) ∙ few)
+            (sym (few-exact (mayTake f n) 0 1 (chains reuse)) ∙ ap fewFault (sym walked) ∙ few)
             (omega arith) .0
 
-        go : SingleTaken f n (chains reuse) → takenOf f n 1 (chains reuse) ≡ s ∷ []
+        go : SingleTaken f n (chains reuse) → mayTake f n s ≡ true
         go (takes-none z) =
             absurd
             (omega (
@@ -227,7 +229,17 @@ module _ (l : ℕ) (lay : Layout l) (w : World) (chains : Chain → List ℕ) (a
               front-length 1 (filter (mayTake f n) (chains reuse)) (ltb-false (length (filter (mayTake f n) (chains reuse))) 1 enough),
               ap (λ (x : List ℕ). length x) z,
             ))
-        go (takes-first t others d z) = z ∙ same-first t s others rest (sym d ∙ e)
+        go (takes-first t others d z) = ap (λ (x : List ℕ). mayTake f n (getD x 0 0)) (sym e ∙ d) ∙ z
+
+    -- THE FIRST SLOT IS THE ONE that the taking rule names
+    first-taken : fewFault (takingOf l (w .image) (w .next) n s 1) ≡ 0 → takenOf f n 1 (chains reuse) ≡ s ∷ []
+    unfolding takenOf filter
+    first-taken few =
+        ap (takenOf f n 1) e ∙ ap (λ (b : Bool). take 1 (cond b (s ∷ filter (mayTake f n) rest) (filter (mayTake f n) rest))) (first-may few)
+
+    pub first-walked : fewFault (takingOf l (w .image) (w .next) n s 1) ≡ 0
+        → takingOf l (w .image) (w .next) n s 1 ≡ taken (record { slot = s; prev = 0 } ∷ [])
+    first-walked few = walked ∙ ap (takenIn (mayTake f n) 0 1) e ∙ taken-first (mayTake f n) s rest (first-may few)
 
     -- one record c of the key for the first slot
     module _ (key kind : ℕ) (value : List ℕ) where
@@ -318,8 +330,8 @@ module _ (l : ℕ) (lay : Layout l) (w : World) (chains : Chain → List ℕ) (a
     -- an insert or a replace, by what the key's chain has
     write-ran : (mode : Mode) (key : ℕ) (value : List ℕ) (found : Found) → key < (2 ^ 64) ^ l → AreBytes value → WritePassed l w mode key (length value)
         → search l (w .image) (w .heads) (w .next) key ≡ found → Sees (tableOf l (w .image)) n key (chains (head (h key))) found → (r : ChangeResult)
-        → r ≡ writeDone l (w .image) (w .heads) (w .next) (w .state) key value found → (fault : ℕ) → fault ≡ 0 → Ran l w key 1 value fault r
-    unfolding writeDone isFound
+        → r ≡ writeDone l (w .image) (w .heads) (w .next) (w .state) key value s (takeFirst (indexOf (w .heads) (w .next) (w .state))) found → (fault : ℕ) → fault ≡ 0 → Ran l w key 1 value fault r
+    unfolding writeDone insertNew replaceHeld isFound
     write-ran mode key value (At old prev compared) k b p q (sees-held xs ys v parts before j d a m z) r y fault t =
         let c = holder-at key old j d a in
         let held = held-here key v m in
@@ -365,8 +377,8 @@ module _ (l : ℕ) (lay : Layout l) (w : World) (chains : Chain → List ℕ) (a
         → ((old prev compared : ℕ) → found ≡ At old prev compared
         → StorePassed (takingOf l (w .image) (w .next) n s 1) n (w .state .live) (w .state .version) 0 1)
         → Sees (tableOf l (w .image)) n key (chains (head (h key))) found
-        → (r : ChangeResult) → r ≡ removeDone l (w .image) (w .heads) (w .next) (w .state) key found → (fault : ℕ) → fault ≡ 0 → Ran l w key 2 [] fault r
-    unfolding removeDone
+        → (r : ChangeResult) → r ≡ removeDone l (w .image) (w .heads) (w .next) (w .state) key s (takeFirst (indexOf (w .heads) (w .next) (w .state))) found → (fault : ℕ) → fault ≡ 0 → Ran l w key 2 [] fault r
+    unfolding removeDone removeHeld
     remove-ran key (At old prev compared) k p (sees-held xs ys v parts before j d a m z) r y fault t =
         let c = holder-at key old j d a in
         let held = held-here key v m in
@@ -403,7 +415,7 @@ module _ (l : ℕ) (lay : Layout l) (w : World) (chains : Chain → List ℕ) (a
   pub write-runs : (mode : Mode) (key : ℕ) (value : List ℕ) → key < (2 ^ 64) ^ l → AreBytes value
       → Ran l w key 1 value (writeFault l (w .image) (w .heads) (w .next) (w .state) mode key (length value))
       (writeResult l (w .image) (w .heads) (w .next) (w .state) mode key value)
-  unfolding writeResult
+  unfolding writeResult writeBy
   write-runs mode key value k b =
       by-cases (ℕ-discrete (writeFault l (w .image) (w .heads) (w .next) (w .state) mode key (length value)) 0)
       (λ z. let t = first-slot (chains reuse) refl (g .some-spare) in
@@ -414,7 +426,7 @@ module _ (l : ℕ) (lay : Layout l) (w : World) (chains : Chain → List ℕ) (a
   pub remove-runs : (key : ℕ) → key < (2 ^ 64) ^ l
       → Ran l w key 2 [] (removeFault l (w .image) (w .heads) (w .next) (w .state) key)
       (removeResult l (w .image) (w .heads) (w .next) (w .state) key)
-  unfolding removeResult
+  unfolding removeResult removeBy
   remove-runs key k =
       by-cases (ℕ-discrete (removeFault l (w .image) (w .heads) (w .next) (w .state) key) 0)
       (λ z. let t = first-slot (chains reuse) refl (g .some-spare) in

@@ -10,7 +10,7 @@ use Rattle.prelude.specs.Answer.{Answer, gives, absent, refused, refusalIn, ref
 use Rattle.prelude.proofs.defs.Answer.{isRefusal}
 use Rattle.table.specs.Table.{nextVersion, isHeld}
 use Rattle.calls.specs.Change.{ChangeResult, changed, unchanged}
-use Rattle.plainmap.specs.World.{World, Call, outOf, Called, calledChange, called, callKey, callCompared, write, remove, get, locate}
+use Rattle.plainmap.specs.World.{World, Call, outOf, Called, calledChange, called, ruled, callKey, callCompared, write, remove, get, locate}
 use Rattle.layout.specs.Size.{slotsIn}
 use Rattle.table.specs.Complete.{tableOf}
 use Rattle.plainmap.specs.Plain.{plainAnswer, plainOut, PlainMap, lengthAnswer}
@@ -32,7 +32,7 @@ module _
     kind ≡ 2 → slotsMap l (w .image) key ≡ none
     → absent ≡ dueAnswer l w (slotsMap l (w .image)) call)
     (no-out : [] ≡ plainOut (slotsMap l (w .image)) call) (none-lent : [] ≡ outOf call)
-    (few : FewCompared (slotsMap l (w .image)) (length (w .heads)) (callKey call) (callCompared l w call)) where
+    (few : FewCompared (slotsMap l (w .image)) (length (w .heads)) (callKey call) (callCompared l w call)) (by-rule : called l w call ≡ ruled l w call) where
   still : (answer : Answer) → called l w call ≡ calledChange (unchanged answer (w .state) (w .heads) (w .next))
       → Untouched w call (called l w call)
   unfolding calledChange unchanged
@@ -57,6 +57,7 @@ module _
         refused-still = λ x. still (refused fault) d;
         absent-still = λ x. still (refused fault) d;
         few = few;
+        by-rule = by-rule;
       }
   ran-right fault r e (ran-absent z kd q m) due =
       let d = e ∙ ap calledChange q in
@@ -67,6 +68,7 @@ module _
         refused-still = λ x. absurd (x (sym due ∙ z));
         absent-still = λ x. still absent d;
         few = few;
+        by-rule = by-rule;
       }
   ran-right fault r e (ran-wrote z i alive q wr held) due =
       let d = e ∙ ap calledChange q in
@@ -78,6 +80,7 @@ module _
         refused-still = λ x. absurd (x (sym due ∙ z));
         absent-still = λ x. absurd (gives-absent _ (sym (ap (λ (c : Called). c .answer) d) ∙ x));
         few = few;
+        by-rule = by-rule;
       }
 
 -- ---- the answer is a refusal exactly where the rules refuse

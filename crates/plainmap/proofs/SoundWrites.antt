@@ -1,7 +1,7 @@
 -- An insert, a replace and a remove, done: the index is the image's own again. Assumes nothing.
 use mathlib.Core.Path.{_≡_, refl, sym, ap, ap₂, _∙_, subst}
 use mathlib.Core.Bool.{Bool, true, false, cond, not, _&&_}
-use mathlib.Core.Option.{Option, some, none}
+use mathlib.Core.Option.{none}
 use mathlib.Core.Logic.{inl, inr}
 use mathlib.Core.List.{List, [], _∷_, _++_, append-nil}
 use Prim.Native.Nat.{ℕ, zero, suc, _+_, _-_, _<_}
@@ -16,22 +16,22 @@ use Rattle.prelude.proofs.Lists.{filter-all}
 use Rattle.prelude.proofs.defs.Among.{member}
 use Rattle.prelude.proofs.Among.{in-member, out-member}
 use Rattle.layout.specs.Size.{slotsIn}
-use Rattle.layout.specs.Content.{Content, Table, contentsOf, numbersOf}
-use Rattle.table.specs.Table.{keyIn, decider, mapOf, live, liveCount, nextVersion, isHeld}
+use Rattle.layout.specs.Content.{Table, contentsOf, numbersOf}
+use Rattle.table.specs.Table.{keyIn, mapOf, live, liveCount, nextVersion, isHeld}
 use Rattle.table.specs.Complete.{NoneVoid, tableOf}
 use Rattle.table.proofs.defs.Write.{holder}
 use Rattle.table.specs.Class.{isPut}
-use Rattle.table.proofs.defs.Reuse.{appended, joins}
+use Rattle.table.proofs.defs.Reuse.{appended}
 use Rattle.table.proofs.defs.Basket.{Basket, HeldRemoved, oneIf, putsIn, heldIn, removesIn, insertsIn}
 use Rattle.table.proofs.defs.Struck.{Struck, Finished}
 use Rattle.table.proofs.defs.ReuseAfter.{leftOf, joinsOf, reuseAfter}
 use Rattle.table.proofs.defs.Owners.{moved}
-use Rattle.table.proofs.Held.{Held, held, unheld, held-or, some-none, holder-held, holder-none}
+use Rattle.table.proofs.Held.{Held, held, unheld, held-or, some-none, holder-none}
 use Rattle.table.proofs.Alike.{alike-count}
 use Rattle.table.proofs.Accepted.{finished-idle}
 use Rattle.table.proofs.LiveAfter.{finished-live-count}
 use Rattle.index.specs.Index.{Index, Chain, reuse, head, headOf, indexOf, stateOf}
-use Rattle.index.specs.Change.{insertNew, replaceHeld, removeHeld}
+use Rattle.index.specs.inner.Parts.{insertNew, replaceHeld, removeHeld}
 use Rattle.index.specs.Linked.{endOf}
 use Rattle.index.proofs.defs.Linked.{withChain}
 use Rattle.index.proofs.Owners.{Told, is, isnt, told}

@@ -12,7 +12,7 @@ use Rattle.table.specs.Table.{mapOf, holder, liveCount, nextVersion}
 use Rattle.table.specs.Taking.{takeableCount}
 use Rattle.index.specs.declared.Mode.{Mode}
 use Rattle.calls.specs.Get.{getResult}
-use Rattle.plainmap.specs.World.{World, Call, write, remove, get, locate, outOf, Called, called, callKey, callCompared}
+use Rattle.plainmap.specs.World.{World, Call, write, remove, get, locate, outOf, Called, called, ruled, callKey, callCompared}
 use Rattle.layout.specs.Size.{slotsIn}
 use Rattle.table.specs.Complete.{tableOf}
 use Rattle.plainmap.specs.Plain.{PlainMap, Room, updates, plainStep, ruleFault, lengthAnswer, filled, plainAnswer, plainOut}
@@ -71,7 +71,7 @@ pub record FewCompared (m : PlainMap) (b key compared : ℕ) : Type 0 where
   pub share : Keys (sharing (λ k. headOf k b) (headOf key b) m) sharers
   pub at-most : compared ≤ length sharers
 
--- the answer is right: refused exactly where the rules refuse it, and otherwise as the plain map m answers
+-- the answer is right: refused exactly where the rules refuse it, and otherwise as the plain map m answers; and the whole call is that of the taking rule
 pub record Right (l : ℕ) (w : World) (m : PlainMap) (call : Call) : Type 0 where
   pub refusal : refusalIn (called l w call .answer) ≡ dueFault l w m call
   pub answer : dueFault l w m call ≡ 0 → called l w call .answer ≡ dueAnswer l w m call
@@ -80,6 +80,9 @@ pub record Right (l : ℕ) (w : World) (m : PlainMap) (call : Call) : Type 0 whe
   pub refused-still : (dueFault l w m call ≡ 0 → ⊥) → Untouched w call (called l w call)
   pub absent-still : called l w call .answer ≡ absent → Untouched w call (called l w call)
   pub few : FewCompared m (length (w .heads)) (callKey call) (callCompared l w call)
+  -- "No call, single ones included, takes .. ; it takes the first others in the reuse chain": slot, stores and index are the rule's. "with an index not the image's own,
+  -- only refusals are fixed, of single calls too"
+  pub by-rule : called l w call ≡ ruled l w call
 
 -- ---- between calls
 

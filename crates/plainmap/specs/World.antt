@@ -9,7 +9,7 @@ use Rattle.recovery.specs.Opening.{storesIn}
 use Rattle.recovery.specs.Recover.{Result, recoverResult}
 use Rattle.index.specs.declared.Mode.{Mode}
 use Rattle.calls.specs.Compared.{keyCompared}
-use Rattle.calls.specs.Change.{ChangeResult, writeResult, writeCompared, removeResult}
+use Rattle.calls.specs.Change.{ChangeResult, writeResult, writeByRule, writeCompared, removeResult, removeByRule}
 use Rattle.calls.specs.Get.{GetResult, getResult}
 use Rattle.calls.specs.Locate.{locateResult}
 
@@ -73,6 +73,13 @@ called l w (write mode key value) = calledChange (writeResult l (w .image) (w .h
 called l w (remove key) = calledChange (removeResult l (w .image) (w .heads) (w .next) (w .state) key)
 called l w (get key out) = calledGet w (getResult l (w .image) (w .heads) (w .next) key out)
 called l w (locate key) = calledLocate w (locateResult l (w .image) (w .heads) (w .next) key)
+
+-- and by the taking rule; a get and a locate take no slot
+unfoldable pub ruled : (l : ℕ) → World → Call → Called
+ruled l w (write mode key value) = calledChange (writeByRule l (w .image) (w .heads) (w .next) (w .state) mode key value)
+ruled l w (remove key) = calledChange (removeByRule l (w .image) (w .heads) (w .next) (w .state) key)
+ruled l w (get key out) = called l w (get key out)
+ruled l w (locate key) = called l w (locate key)
 
 -- the key of a call
 unfoldable pub callKey : Call → ℕ

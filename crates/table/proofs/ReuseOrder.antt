@@ -93,10 +93,10 @@ older-carry f f′ (x ∷ l) h a = (
 
 -- ---- a single call
 
--- what a single call takes of a chain: nothing, or its first slot
+-- what a single call takes of a chain: nothing, or its first slot, which may be taken
 pub data SingleTaken (f : Table) (n : ℕ) (chain : List ℕ) : Type 0 where
   takes-none : takenOf f n 1 chain ≡ [] → SingleTaken f n chain
-  takes-first : (s : ℕ) (rest : List ℕ) → chain ≡ s ∷ rest → takenOf f n 1 chain ≡ s ∷ [] → SingleTaken f n chain
+  takes-first : (s : ℕ) (rest : List ℕ) → chain ≡ s ∷ rest → mayTake f n s ≡ true → SingleTaken f n chain
 
 -- A SINGLE CALL TAKES THE FIRST SLOT OF THE REUSE CHAIN OR NONE
 pub single-first : (f : Table) (n : ℕ) (reuse : List ℕ) → Spares f n reuse → OlderFirst f reuse → HighestLast f n reuse → SingleTaken f n reuse
@@ -118,5 +118,5 @@ single-first f n (s ∷ l) sp older-first last = go (mayTake f n s) refl
     by (has-older e m t i o) = absurd (hiding e m t o (sp .all t i (older-idle f n s t (sp .slot s (inl refl)) e o)))
 
     go : (b : Bool) → mayTake f n s ≡ b → SingleTaken f n (s ∷ l)
-    go true e = takes-first s l refl (ap (λ (b : Bool). take 1 (cond b (s ∷ filter (mayTake f n) l) (filter (mayTake f n) l))) e)
+    go true e = takes-first s l refl e
     go false e = by (barred f n s (sp .slot s (inl refl)) e)

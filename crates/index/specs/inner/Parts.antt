@@ -6,7 +6,7 @@ use Prim.Native.Nat.{ℕ, _+_, _^_, _≤_, _<_}
 use lib.Dec.{eqb}
 use lib.ListN.{length, getD, set}
 use Rattle.index.specs.Index.{Index, indexOf}
-use Rattle.index.specs.Change.{insertNew, replaceHeld}
+use Rattle.index.specs.Change.{takeFirst, insertAt, replaceAt, removeAt}
 use Rattle.index.specs.declared.State.{State}
 use Rattle.index.specs.declared.Place.{Place}
 use Rattle.index.specs.declared.Place.the-variants.{Held, NotHeld}
@@ -26,7 +26,17 @@ abbrev pub PlaceInside : (heads next : List ℕ) → State → (h : ℕ) → Pla
 PlaceInside heads next s h (Held slot prev) = WritesInside heads next s h prev slot
 PlaceInside heads next s h (NotHeld prev) = WritesInside heads next s h prev prev × (s .live < 65535)
 
--- the index after an insert or a replace of such a key, and the live count
+-- the index after an insert, a replace and a remove that take the first slot of reuse
+unfoldable pub insertNew : Index → (h prev : ℕ) → Index
+insertNew i h prev = insertAt (takeFirst i) h prev (i .first)
+
+unfoldable pub replaceHeld : Index → (h prev old : ℕ) → Index
+replaceHeld i h prev old = replaceAt (takeFirst i) h prev old (i .first)
+
+unfoldable pub removeHeld : Index → (h prev old : ℕ) → Index
+removeHeld i h prev old = removeAt (takeFirst i) h prev old (i .first)
+
+-- that of an insert or a replace of a key at such a place, and the live count
 unfoldable pub writeAt : Index → (h : ℕ) → Place → Index
 writeAt i h (Held slot prev) = replaceHeld i h prev slot
 writeAt i h (NotHeld prev) = insertNew i h prev
