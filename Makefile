@@ -116,11 +116,7 @@ run-log_kills: $(OUT)/log_kills $(OUT)/recorder
 	@$(OUT)/log_kills $(OUT)/recorder $(OUT)/log_kills.log $(SEED)
 
 # every test fails where a fault is planted
-<<<<<<< HEAD
 planted: $(ARCHIVE) $(ARCHIVE2) $(LOG_ARCHIVE) $(REPORT) $(PLUG)
-=======
-planted: $(ARCHIVE) $(LOG_ARCHIVE) $(REPORT) $(PLUG)
->>>>>>> 03699966f9d37a605eaa0a3e96763c48816ae675
 	tests/planted.sh
 
 $(OUT)/gateway $(OUT)/sender: $(OUT)/%: examples/%.c $(HEADERS) $(ARCHIVE2) $(ARCHIVE) | $(OUT)

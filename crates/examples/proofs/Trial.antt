@@ -52,15 +52,10 @@ use Rattle.examples.specs.Trial.{answers, outputs, small, oneHead, twoSl
 -- THE SESSION answers as document 01 says, with the outputs of its gets, in both layouts; recovery accepts its formatted image, which has two slots
 session-computed : (answers 1 (fresh 1) session ≡ expected) × (outputs 1 (fresh 1) session ≡ expectedOutputs)
     × (recoverFault 1 (formatted 1 384) (length oneHead) (length twoSlots) ≡ 0) × (slotsIn (formatted 1 384) ≡ 2)
-<<<<<<< HEAD
     × (answers 2 (fresh 2) secondSession ≡ expected) × (outputs 2 (fresh 2) secondSession ≡ expectedOutputs)
     × (recoverFault 2 (formatted 2 384) (length oneHead) (length twoSlots) ≡ 0) × (slotsIn (formatted 2 384) ≡ 2)
 unfolding word setBytes setWord filter slotNumbers anyOf tabulate greatest topmost lowest atLowest count say orElse unlessRefused made contentBy contentOf content top topOf markFault kindFault kindLimit bitsFault wordFault tailFault faultOf recordFault headerWord headerFault imageFault indexFault lentFault lineTop versionFault keyFrom keyOf valuePlace slotWord valueWord valueByte valueFront valueOf slotsOf paired slotTop verdictOf lineVerdict isValid insert sorted openingStore openingStores wordNumbers values zipped played less standing marked placedWord bodyA bodyB run lineStores recordStores said hasVersion sharers complete versionIfComplete highestComplete isVoid settled rankOf ordered chainOf reuseOf clashes sharersFault isRecord isBroken keyIn weight nextVersion decider decidingPut live spare liveCount brokenCount brokenLimit manyBroken allLive validVersion highestValid isRemove older mayTake firstOf lastOf after nextIn chained takeFirst linkNew append insertAt replaceAt removeAt keyFault isFound setNext setStart setLast link withTaken atEnd takeWalk takeFrom endsFault linkFault fewFault reuseFault roomFault walk search chainFault takingOf voidSlots openingsOf storesIn noState settledFault slotsFault slotsNamed recoverFault recoverSlot chainsOf placeOf recoveredIndex recoveredState recovered recoverResult unchanged storeFault changed writeLentFault insertsOf writeLaterFault writeFault writeDone writeBy writeResult removeLaterFault removeFault removeDone removeBy removeResult formatted lengthFault getLaterFault getFault getDone getResult locateFault locateDone locateResult calledChange calledGet calledLocate called worldAfter afterRound afterRounds openedWorld restarted imageCut stepBy answers outputs small oneHead twoSlots recovering cutAt fresh sessionWith expected expectedOutputs takeableIf
 session-computed = (refl, refl, refl, refl, refl, refl, refl, refl)
-=======
-unfolding word setBytes setWord filter slotNumbers anyOf tabulate greatest topmost lowest atLowest count say orElse unlessRefused made contentBy contentOf content top topOf markFault kindFault kindLimit bitsFault wordFault tailFault faultOf recordFault headerWord headerFault imageFault indexFault lentFault lineTop versionFault keyFrom keyOf valuePlace slotWord valueWord valueByte valueFront valueOf slotsOf paired slotTop verdictOf lineVerdict isValid insert sorted openingStore openingStores wordNumbers values zipped played less standing marked placedWord bodyA bodyB run lineStores recordStores said hasVersion sharers complete versionIfComplete highestComplete isVoid settled rankOf ordered chainOf reuseOf clashes sharersFault isRecord isBroken keyIn weight nextVersion decider decidingPut live spare liveCount brokenCount brokenLimit manyBroken allLive validVersion highestValid isRemove older mayTake firstOf lastOf after nextIn chained takeFirst linkNew append insertAt replaceAt removeAt keyFault isFound setNext setStart setLast link withTaken atEnd takeWalk takeFrom endsFault linkFault fewFault reuseFault roomFault walk search chainFault takingOf voidSlots openingsOf storesIn noState settledFault slotsFault slotsNamed recoverFault recoverSlot chainsOf placeOf recoveredIndex recoveredState recovered recoverResult unchanged storeFault changed writeLentFault insertsOf writeLaterFault writeFault writeDone writeBy writeResult removeLaterFault removeFault removeDone removeBy removeResult formatted lengthFault getLaterFault getFault getDone getResult locateFault locateDone locateResult calledChange calledGet calledLocate called worldAfter afterRound afterRounds openedWorld restarted imageCut stepBy answers outputs small oneHead twoSlots recovering cutAt fresh session expected expectedOutputs takeableIf
-session-computed = (refl, refl, refl, refl)
->>>>>>> 7549ffec76938851ede9b92e13fbbc8cc4406eec
 
 pub session-answers : answers 1 (fresh 1) session ≡ expected
 session-answers = session-computed .0

@@ -41,13 +41,8 @@ use Rattle.index.specs.declared.Found.{Found}
 use Rattle.index.specs.declared.Found.the-variants.{At, Missing, BadChain}
 use Rattle.taking.specs.Taking.{choiceOf}
 use Rattle.recovery.specs.Recover.{Result, settledFault, slotsFault, slotsNamed, recovered, recoverFault, recoverSlot, refusedResult, recoverResult}
-<<<<<<< HEAD
 use Rattle.calls.specs.Format.{FormatResult, layoutFault, formatFault, formatResult}
 use Rattle.calls.specs.Change.{ChangeResult, unchanged, changed, writeLentFault, writeLaterFault, writeFault, writeDone, writeBy, writeResult, storeFault, removeLaterFault, removeFault, removeDone, removeBy, removeResult}
-=======
-use Rattle.calls.specs.Format.{FormatResult, formatFault, formatResult}
-use Rattle.calls.specs.Change.{ChangeResult, unchanged, changed, writeLentFault, writeLaterFault, writeFault, writeDone, writeBy, writeResult, storeFault, removeLaterFault, removeFault, removeDone, removeBy, removeResult}
->>>>>>> 7549ffec76938851ede9b92e13fbbc8cc4406eec
 use Rattle.calls.specs.Basket.{KeyChange, keyCountFault, listsFault, givenFault, firstFault, valueFault, actionFault, basketLentFault, keysFault, basketFault, basketMade, basketDone, basketBy, basketResult}
 use Rattle.calls.specs.Get.{GetResult, lengthFault, getLaterFault, getFault, getDone, getResult}
 use Rattle.face.specs.Numbers.{Numbered, AnswersAsAsked, formatRefusals, noSlotRefusals, slotRefusals, recoverRefusals, Names, a-slot, no-slot, writeRefusals, storingRefusals, basketRefusals, getRefusals, roomyGetRefusals, locateRefusals}
