@@ -15,11 +15,11 @@ use index::Lookup;
 use index::Place;
 use index::State;
 use index_code::change::remove_held;
-use index_code::head::head_of;
-use index_code::search::find;
-use index_code::search::looked_up;
 use layout_code::header::lent_fault;
 use layout_code::header::slot_count;
+use search_code::head::head_of;
+use search_code::search::find;
+use search_code::search::looked_up;
 use stores_code::record::remove_stores;
 
 // 11 (chain), 11 (reuse, or a live count of zero), 28 or 9 by what the key's chain has, else 0.

@@ -4,9 +4,9 @@ ghost use Rattle.taking.specs.Taking.{takingOf};
 ghost use Rattle.taking.specs.inner.Takeable.{Walkable};
 ghost use Rattle.calls.specs.Change.{storeFault};
 use index::State;
-use index_code::fault::ends_fault;
-use index_code::fault::live_fault;
 use layout_code::line::version_fault;
+use search_code::fault::ends_fault;
+use search_code::fault::live_fault;
 use taking_code::take::take_fault;
 
 // 11 (reuse, or fewer live than are removed), 28 or 9 for a call that takes one slot, else 0.

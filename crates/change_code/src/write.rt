@@ -17,15 +17,15 @@ use index::Lookup;
 use index::Mode;
 use index::State;
 use index_code::change::write_place;
-use index_code::fault::chain_fault;
-use index_code::fault::is_found;
-use index_code::fault::key_fault;
-use index_code::head::head_of;
-use index_code::search::find;
-use index_code::search::looked_up;
 use layout_code::fields::value_limit;
 use layout_code::header::lent_fault;
 use layout_code::header::slot_count;
+use search_code::fault::chain_fault;
+use search_code::fault::is_found;
+use search_code::fault::key_fault;
+use search_code::head::head_of;
+use search_code::search::find;
+use search_code::search::looked_up;
 use stores_code::record::record_stores;
 
 // 1, 2, 3, 4 or 10 by what is lent, else 0; size is the value's length.

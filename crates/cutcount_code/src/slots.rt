@@ -7,8 +7,8 @@ ghost use Rattle.cutcount.specs.Maps.{differAt};
 ghost use Rattle.cutcount.specs.inner.Indexed.{OwnIndex, HeldIn};
 use crate::values::values_differ;
 use index::Found;
-use index_code::search::find;
 use layout_code::header::slot_count;
+use search_code::search::find;
 
 // The slot that holds the value of a key, 0 for none.
 fn slot_of(image: &[u8], heads: &[u32], next: &[u32], l: usize, low: u64, high: u64) -> usize

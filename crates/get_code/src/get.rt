@@ -9,13 +9,13 @@ use calls::Got;
 use index::Found;
 use index::Lookup;
 use index::Place;
-use index_code::search::find;
-use index_code::search::looked_up;
 use layout_code::fields::slot_length;
 use layout_code::fields::value_limit;
 use layout_code::header::lent_fault;
 use layout_code::header::slot_count;
 use layout_code::value::copy_value;
+use search_code::search::find;
+use search_code::search::looked_up;
 
 // 23 or 13 for a value of n bytes and an output of this size, else 0.
 fn length_fault(l: usize, n: usize, size: usize) -> u32

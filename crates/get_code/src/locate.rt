@@ -6,9 +6,9 @@ ghost use Rattle.calls.specs.Locate.{locateEnd, locateResult};
 use calls::LocateAnswer;
 use calls::Located;
 use index::Found;
-use index_code::search::find;
 use layout_code::header::lent_fault;
 use layout_code::header::slot_count;
+use search_code::search::find;
 use words_code::read_word;
 
 // Locate, in layout l.

@@ -9,7 +9,6 @@ ghost use Rattle.layout.specs.inner.Inside.{SlotInside};
 ghost use Rattle.layout.specs.Record.{keyWith};
 ghost use Rattle.index.specs.Index.{headOf};
 ghost use Rattle.recovery.specs.inner.Scan.{Scannable, validSummary, Summed, isRemoveBy, ClassesWith, slotsCounted, ScanWith, Scanned};
-use index_code::head::head_of;
 use layout::Verdict;
 use layout_code::fields::record_fault;
 use layout_code::fields::slot_high;
@@ -21,6 +20,7 @@ use layout_code::slot::slot_verdict;
 use recovery::Classes;
 use recovery::Scan;
 use recovery::Summary;
+use search_code::head::head_of;
 
 // The chain of a record whose key has this low word, as a number: a put's is that of its key's head.
 fn record_place(kind: u64, low: u64, b: usize) -> u32

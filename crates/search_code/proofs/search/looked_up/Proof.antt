@@ -1,9 +1,9 @@
--- `index_code::search::looked_up` meets its contract. Assumes nothing.
+-- `search_code::search::looked_up` meets its contract. Assumes nothing.
 use borrow.Author.Needs.{needs}
 use Rattle.index.specs.inner.Lookup.{lookupBy}
 use Rattle.index.proofs.LookedUp.{held-refused, held-taken, not-held-refused, not-held-taken}
-use Rattle.index_code.proofs.search.looked_up.Statement.{statement}
-use Rattle.index_code.proofs.search.looked_up.Tie as tie
+use Rattle.search_code.proofs.search.looked_up.Statement.{statement}
+use Rattle.search_code.proofs.search.looked_up.Tie as tie
 
 returns-5 : tie.Need-returns-5
 unfolding lookupBy

@@ -1,9 +1,9 @@
--- `index_code::fault::chain_fault` meets its contract. Assumes nothing.
+-- `search_code::fault::chain_fault` meets its contract. Assumes nothing.
 use borrow.Author.Needs.{needs}
 use Rattle.prelude.proofs.Tests.{tests}
 use Rattle.index.specs.Walk.{chainFault}
-use Rattle.index_code.proofs.fault.chain_fault.Statement.{statement}
-use Rattle.index_code.proofs.fault.chain_fault.Tie as tie
+use Rattle.search_code.proofs.fault.chain_fault.Statement.{statement}
+use Rattle.search_code.proofs.fault.chain_fault.Tie as tie
 
 pub chain-fault-spec : {M : Type 1} → statement M
 unfolding chainFault

@@ -1,10 +1,10 @@
--- `index_code::fault::key_fault` meets its contract. Assumes nothing.
+-- `search_code::fault::key_fault` meets its contract. Assumes nothing.
 use borrow.Author.Needs.{needs}
 use Rattle.prelude.specs.Refusal.{say}
 use Rattle.prelude.proofs.Tests.{tests}
 use Rattle.index.specs.Change.{keyFault}
-use Rattle.index_code.proofs.fault.key_fault.Statement.{statement}
-use Rattle.index_code.proofs.fault.key_fault.Tie as tie
+use Rattle.search_code.proofs.fault.key_fault.Statement.{statement}
+use Rattle.search_code.proofs.fault.key_fault.Tie as tie
 
 pub key-fault-spec : {M : Type 1} → statement M
 unfolding keyFault say

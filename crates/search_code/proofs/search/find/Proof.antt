@@ -1,10 +1,10 @@
--- `index_code::search::find` meets its contract. Assumes nothing.
+-- `search_code::search::find` meets its contract. Assumes nothing.
 use native.Mathlib.Omega.{arith}
 use borrow.Author.Needs.{needs}
 use Rattle.layout.specs.Record.{keyWith}
 use Rattle.index.proofs.Walks.{Going, begins, at-end, past, here, on, out}
-use Rattle.index_code.proofs.search.find.Statement.{statement}
-use Rattle.index_code.proofs.search.find.Tie as tie
+use Rattle.search_code.proofs.search.find.Statement.{statement}
+use Rattle.search_code.proofs.search.find.Tie as tie
 
 abbrev Inv-loop : tie.InvT-loop
 Inv-loop image l heads next n low high head at₀ prev₀ compared₀ left₀ at prev compared left =

@@ -1,9 +1,9 @@
--- `index_code::head::head_of` meets its contract. Assumes nothing.
+-- `search_code::head::head_of` meets its contract. Assumes nothing.
 use native.Mathlib.Nat.{mod-lt}
 use borrow.Author.Needs.{needs}
 use Rattle.index.proofs.Heads.{head-by-low, head-by-mask}
-use Rattle.index_code.proofs.head.head_of.Statement.{statement}
-use Rattle.index_code.proofs.head.head_of.Tie as tie
+use Rattle.search_code.proofs.head.head_of.Statement.{statement}
+use Rattle.search_code.proofs.head.head_of.Tie as tie
 
 returns : tie.Need-returns
 returns c = head-by-mask (c .before .args .low) (c .before .args .b) (c .before .pre) (c .before .fits .low .fits) (c .if1 .taken)

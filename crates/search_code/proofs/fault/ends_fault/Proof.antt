@@ -1,9 +1,9 @@
--- `index_code::fault::ends_fault` meets its contract. Assumes nothing.
+-- `search_code::fault::ends_fault` meets its contract. Assumes nothing.
 use Rattle.prelude.specs.Refusal.{say}
 use Rattle.prelude.proofs.Tests.{tests}
 use Rattle.index.specs.Taking.{endsFault}
-use Rattle.index_code.proofs.fault.ends_fault.Statement.{statement}
-use Rattle.index_code.proofs.fault.ends_fault.Tie as tie
+use Rattle.search_code.proofs.fault.ends_fault.Statement.{statement}
+use Rattle.search_code.proofs.fault.ends_fault.Tie as tie
 
 pub ends-fault-spec : {M : Type 1} → statement M
 unfolding endsFault say

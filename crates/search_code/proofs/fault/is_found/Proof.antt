@@ -1,9 +1,9 @@
--- `index_code::fault::is_found` meets its contract. Assumes nothing.
+-- `search_code::fault::is_found` meets its contract. Assumes nothing.
 use borrow.Author.Needs.{needs}
 use Rattle.prelude.proofs.Tests.{tests}
 use Rattle.index.specs.Change.{isFound}
-use Rattle.index_code.proofs.fault.is_found.Statement.{statement}
-use Rattle.index_code.proofs.fault.is_found.Tie as tie
+use Rattle.search_code.proofs.fault.is_found.Statement.{statement}
+use Rattle.search_code.proofs.fault.is_found.Tie as tie
 
 pub is-found-spec : {M : Type 1} → statement M
 unfolding isFound
