@@ -19,8 +19,8 @@
  * number of 16 bytes: 0x and 32 hexadecimal digits. The file's header tells which layout it has. Each command is answered
  * on standard output, and what it changed is durable before the answer is written. A refused line of standard input is
  * answered by its number and its words, and the next one is read; of commands that are arguments, none is carried out
- * after a refused one. Status 0: all done. 1: something was refused or failed. 2: the arguments are no commands, and
- * nothing was done.
+ * after a refused one. Status 0: all done. 1: something was refused or failed. 2: the arguments are no commands for
+ * this file, and none was carried out.
  *
  * On a file system on non-volatile memory (DAX) a write is two line flushes, in a basket two for each item, and one
  * fence; on any other it is msync, the fallback. One gateway writes at a time, alone; those that only read (heads,

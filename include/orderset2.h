@@ -12,7 +12,7 @@
  *
  * Image, index, state, answers, refusals and stores are those of orderset.h, and so are their names. An image is made by
  * orderset_format(..., ORDERSET2_LAYOUT, ...). The stores of a call and those that recovery hands out are made as there:
- * by orderset_persist.h, orderset_play and orderset_play_list, which know nothing of a layout; so do the questions about
+ * by orderset_persist.h, orderset_play and orderset_play_list, which know nothing of a layout; nor do the questions about
  * a line.
  *
  * Stack: as in layout 1, and for recovery and count_slots 8 bytes more for each entry of their scratch lists: 173 KB for

@@ -1783,6 +1783,7 @@ static const struct basket_case {
     {1, BAD_LENGTH, 2, {0, 0}, {{R, 7, VALUE_MAX + 1}, {D, 8, 0}}},
     {2, UNFORMATTED, 2, {0, 0}, {{R, 7, VALUE_MAX + 1}, {D, 8, 0}}},
     {3, BAD_HEADER, 2, {0, 0}, {{R, 7, VALUE_MAX + 1}, {D, 8, 0}}},
+    {3, OTHER_LAYOUT, 2, {0, 0}, {{R, 7, VALUE_MAX + 1}, {D, 8, 0}}},
     {4, NO_HEADS, 2, {0, 0}, {{R, 7, VALUE_MAX + 1}, {D, 8, 0}}},
     {4, MANY_HEADS, 2, {0, 0}, {{R, 7, VALUE_MAX + 1}, {D, 8, 0}}},
     {4, BAD_NEXT, 2, {0, 0}, {{R, 7, VALUE_MAX + 1}, {D, 8, 0}}},

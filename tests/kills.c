@@ -320,6 +320,26 @@ static void make(void) {
     expect(end_of(&child) == 0, "make ends with status 0");
 }
 
+/* Keys that have not the form of this file's are no commands, and change nothing. */
+static void refuse_other_keys(void) {
+    static const char *const keys[2][3] = {
+        {"0x00000000000000000000000000000007", "0x7", "7x"},
+        {"7", "0x0000000000000000000000000000007", "0x0000000000000000000000000000000g"},
+    };
+    struct child child = start_child((const char *const[]){gateway, file, NULL});
+    expect(recovers(&child), "the gateway recovers");
+    for (int i = 0; i < 3; i++) {
+        char line[LINE], answer[LINE], due[LINE];
+        snprintf(line, sizeof line, "new %s 5", keys[LAYOUT - 1][i]);
+        snprintf(due, sizeof due, "not a command: %.200s", line);
+        say(&child, line);
+        say(&child, "\n");
+        expect(hear(&child, answer) && !strcmp(answer, due), "'%s' is answered '%s'", line, answer);
+    }
+    check(&child);
+    expect(end_of(&child) == 1, "a run with lines that are no commands ends with status 1");
+}
+
 /* ---- power cuts on the simulated disk */
 
 static void read_all(const char *path, uint64_t *words, size_t length) {
@@ -447,6 +467,7 @@ int main(int count, char **word) {
     gateway = word[1];
     file = word[3];
     make();
+    refuse_other_keys();
     for (int i = 0; i < KILLS; i++) {
         run_and_kill();
         if (below(2))

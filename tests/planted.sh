@@ -634,6 +634,13 @@ fault header 'in layout 2 hidden puts are to be counted as live' tests/header.cc
 fault storm2 'a key is inserted by its low word alone' tests/storm.c \
     's/return SET\(insert\)\((.*)KEY\(key\)/return SET(insert)(\1KEY((m_key)low_word(key))/' 'LOST'
 
+fault kills2 'the high word of a key is left out' $gateway 's/key->high = key->high << 4 \| key->low >> 60;//' \
+    "NOT SO: (key|the answer is|an order)"
+for test in kills kills2; do
+    fault $test "a key of the other layout's form is taken" $gateway 's/ \|\| !right_keys\(&set, &c\)//' \
+        "NOT SO: 'new [0-9a-gx]+ 5' is answered"
+done
+
 fault log_header 'a store of a list is left out' $header "$left_out" 'NOT SO'
 fault log_header "recovery's stores are not made" tests/log_header.cc \
     's/recovers\(5, 1\) \&\& made_durable\(\)/recovers(5, 1)/' 'NOT SO'

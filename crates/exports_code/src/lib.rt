@@ -2,5 +2,7 @@
 pub mod answer;
 pub mod basket;
 pub mod count;
+pub mod format;
+pub mod play;
 pub mod recover;
 pub mod state;

@@ -1,4 +1,4 @@
-// The public calls of the set, with the types that they take and answer. None has a `requires`; each contract is one equation. A call whose name ends in 2 is layout 2's and
+// The public calls of the set, with the types that they take and answer. None but those of `layouts` has a `requires`; each contract is one equation. A call whose name ends in 2 is layout 2's and
 // the one of that name without it layout 1's; format and the plays serve both.
 pub mod layouts;
 

@@ -1,8 +1,7 @@
 // Play, with two counts and of a list.
 ghost use mathlib.Core.Path.{_≡_};
 ghost use Rattle.face.specs.Set.{playEnd, playResult, playListResult};
-use orderset::Stores;
-use orderset::play;
+use exports_code::play::play_lent;
 use orderset::play_list;
 
 // The first a stores of the first half and the first b of the second are made.
@@ -16,13 +15,7 @@ pub extern "C" fn orderset_play(
 ) -> u32
     ensures { λ r. ⌜ playEnd r (now (image .exit)) ≡ playResult (now (image .entry)) (now (at .entry)) (now (value .entry)) a b ⌝ }
 {
-    let places = *at;
-    let words = *value;
-    let stores = Stores {
-        at: places,
-        value: words,
-    };
-    play(image, stores, a, b)
+    play_lent(image, at, value, a, b)
 }
 
 // All stores of a list are made, in order.
