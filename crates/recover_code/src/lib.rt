@@ -72,5 +72,5 @@ pub fn recover(image: &[u8], heads: &mut [u32], next: &mut [u32]) -> RecoverAnsw
 pub fn recover2(image: &[u8], heads: &mut [u32], next: &mut [u32]) -> RecoverAnswer
     ensures { λ r. ⌜ recoverEnd (r .recovered) (r .openings) (now (heads .exit)) (now (next .exit)) ≡ recoverResult 2 (now (image .entry)) (now (heads .entry)) (now (next .entry)) ⌝ }
 {
-    recover_in(image, 2, heads, next)
+    recover_in(image, 2, heads, next).answer
 }

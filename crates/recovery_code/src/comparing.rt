@@ -9,11 +9,11 @@ ghost use Rattle.table.specs.Complete.{said};
 ghost use Rattle.recovery.specs.inner.Scan.{keyAt};
 ghost use Rattle.recovery.specs.inner.Decide.{equalNeighbours, tooMany, runFault, keyTwice, Within, NoneOrAll};
 ghost use Rattle.recovery.specs.inner.Judge.{OrderNumbered, Comparable, Compared};
-use crate::ordering::entry_at;
-use crate::ordering::is_followed;
-use crate::ordering::order_by_key;
-use crate::ordering::order_by_rank;
 use layout_code::fields::slot_number;
+use order_code::ordering::entry_at;
+use order_code::ordering::is_followed;
+use order_code::ordering::order_by_key;
+use order_code::ordering::order_by_rank;
 
 // How many records a number says.
 pub fn records_said(number: u64) -> usize

@@ -3,12 +3,12 @@ ghost use mathlib.Core.Path.{_≡_};
 ghost use Rattle.words.specs.Word.{word};
 ghost use Rattle.recovery.specs.inner.Judge.{Judgeable, foundFault, foundSlot, Judgement};
 use crate::comparing::compare;
-use crate::ordering::count_placed;
-use crate::ordering::decide;
-use crate::scanning::scan;
 use crate::settling::judged_rank;
 use crate::settling::settle;
+use order_code::ordering::count_placed;
+use order_code::ordering::decide;
 use recovery::Judged;
+use scan_code::scanning::scan;
 
 // More broken and void slots than this are refused with 25.
 const BROKEN_LIMIT: u32 = 8;

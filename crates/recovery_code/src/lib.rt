@@ -1,7 +1,5 @@
-// The steps of recovery: scanning, ordering, comparing, settling, judging, rebuilding.
+// The steps of recovery after the scan: comparing, settling, judging, rebuilding.
 mod comparing;
 mod judging;
-mod ordering;
 pub mod rebuilding;
-mod scanning;
 pub mod settling;

@@ -1,0 +1,2 @@
+// Recovery's scan of the slots.
+pub mod scanning;
