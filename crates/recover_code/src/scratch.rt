@@ -1,5 +1,4 @@
 // Recovery's own scratch lists, as long as the number of slots asks for.
-ghost use mathlib.Core.Path.{_≡_};
 ghost use Prim.Native.Nat.{_<_};
 ghost use Rattle.recovery.specs.inner.Judge.{Ready, Roomy};
 ghost use Rattle.recovery.specs.inner.Report.{RecoveredWith};
