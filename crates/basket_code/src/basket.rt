@@ -65,7 +65,7 @@ fn store_basket(
 }
 
 // A basket, in layout l. The stores are lent: at is their word numbers, words their values.
-fn basket_in(
+pub fn basket_in(
     image: &[u8],
     l: usize,
     heads: &mut [u32],

@@ -1,3 +1,3 @@
-// The public call that changes up to eight keys and puts its stores into a lent list of records.
+// The public calls, one for each layout, that change up to eight keys and put their stores into a lent list of records.
 pub mod list;
 mod made;

@@ -1,4 +1,4 @@
-// A basket that fills a lent list of records.
+// A basket that fills a lent list of records, in either layout.
 ghost use mathlib.Core.Path.{_≡_};
 ghost use lib.ListN.{length};
 ghost use Rattle.calls.specs.Basket.{changesOf, basketResult, basketListEnd, leftInList};
@@ -23,7 +23,47 @@ pub fn basket_list(
 ) -> BasketAnswer
     ensures { λ r. ⌜ basketListEnd count r (now (list .exit)) (now (heads .exit)) (now (next .exit)) ≡ leftInList (now (list .entry)) (basketResult 1 (now (image .entry)) (now (heads .entry)) (now (next .entry)) state (changesOf 1 count items values) (length (now (list .entry))) (length (now (list .entry)))) ⌝ }
 {
-    let made = basket_made(image, heads, next, state, count, items, values, list.len());
+    let made = basket_made(
+        image,
+        1,
+        heads,
+        next,
+        state,
+        count,
+        items,
+        values,
+        list.len(),
+    );
+    let at = made.at;
+    let words = made.words;
+    put_stores(list, &at, &words, made.stored);
+    made.answer
+}
+
+// A basket that fills a lent list, in layout 2: keys of two words.
+pub fn basket_list2(
+    image: &[u8],
+    heads: &mut [u32],
+    next: &mut [u32],
+    state: State,
+    count: usize,
+    items: [BasketItem; 8],
+    values: [u8; 640],
+    list: &mut [Store],
+) -> BasketAnswer
+    ensures { λ r. ⌜ basketListEnd count r (now (list .exit)) (now (heads .exit)) (now (next .exit)) ≡ leftInList (now (list .entry)) (basketResult 2 (now (image .entry)) (now (heads .entry)) (now (next .entry)) state (changesOf 2 count items values) (length (now (list .entry))) (length (now (list .entry)))) ⌝ }
+{
+    let made = basket_made(
+        image,
+        2,
+        heads,
+        next,
+        state,
+        count,
+        items,
+        values,
+        list.len(),
+    );
     let at = made.at;
     let words = made.words;
     put_stores(list, &at, &words, made.stored);

@@ -1,9 +1,10 @@
 // A basket whose stores are made in arrays.
 ghost use mathlib.Core.Path.{_≡_};
 ghost use Prim.Native.Nat.{_≤_, min};
+ghost use Rattle.layout.specs.Record.{Layout};
 ghost use Rattle.calls.specs.Basket.{changesOf, basketResult};
 ghost use Rattle.calls.specs.inner.Basket.{basketStoreCount, MadeOf};
-use basket_code::basket::basket;
+use basket_code::basket::basket_in;
 use calls::BasketItem;
 use calls::BasketMade;
 use calls::BasketOutcome;
@@ -32,9 +33,10 @@ fn at_most(room: usize) -> usize
     128
 }
 
-// A basket for a list with this room.
+// A basket for a list with this room, in layout l.
 pub fn basket_made(
     image: &[u8],
+    l: usize,
     heads: &mut [u32],
     next: &mut [u32],
     state: State,
@@ -43,13 +45,15 @@ pub fn basket_made(
     values: [u8; 640],
     room: usize,
 ) -> BasketMade
-    ensures { λ r. ⌜ MadeOf (basketResult 1 (now (image .entry)) (now (heads .entry)) (now (next .entry)) state (changesOf 1 count items values) room room) room count r (now (heads .exit)) (now (next .exit)) ⌝ }
+    requires { ⌜ Layout l ⌝ }
+    ensures { λ r. ⌜ MadeOf (basketResult l (now (image .entry)) (now (heads .entry)) (now (next .entry)) state (changesOf l count items values) room room) room count r (now (heads .exit)) (now (next .exit)) ⌝ }
 {
     let mut at = [0u32; 128];
     let mut words = [0u64; 128];
     let n = at_most(room);
-    let answer = basket(
+    let answer = basket_in(
         image,
+        l,
         heads,
         next,
         state,

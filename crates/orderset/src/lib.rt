@@ -5,6 +5,7 @@ pub mod layouts;
 pub use basket_code::basket::basket;
 pub use basket_code::basket::basket2;
 pub use basket_list_code::list::basket_list;
+pub use basket_list_code::list::basket_list2;
 pub use calls::BasketAnswer;
 pub use calls::BasketItem;
 pub use calls::BasketOutcome;

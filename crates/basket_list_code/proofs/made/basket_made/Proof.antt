@@ -7,24 +7,24 @@ use Rattle.calls.proofs.BasketLists.{made}
 use Rattle.basket_list_code.proofs.made.basket_made.Statement.{statement}
 use Rattle.basket_list_code.proofs.made.basket_made.Tie as tie
 
-slice-aggregate-basket : tie.Need-slice-aggregate-basket
-slice-aggregate-basket c = front-length _ _ (omega (arith, c .before .before .before .at-most .ensures))
+slice-aggregate-basket-in : tie.Need-slice-aggregate-basket-in
+slice-aggregate-basket-in c = front-length _ _ (omega (arith, c .before .before .before .at-most .ensures))
 
-slice-aggregate-basket-2 : tie.Need-slice-aggregate-basket-2
-slice-aggregate-basket-2 c = front-length _ _ (omega (arith, c .before .before .before .before .at-most .ensures))
+slice-aggregate-basket-in-2 : tie.Need-slice-aggregate-basket-in-2
+slice-aggregate-basket-in-2 c = front-length _ _ (omega (arith, c .before .before .before .before .at-most .ensures))
 
 returns : tie.Need-returns
 returns c =
     made _ _ _ _ (c .before .before .before .before .before .before .before .before .before .before .before .before .before .before .before .before .args .state) _ _ _ _ _ _ _ _ _ _ _ _ _ _ (sym (front-length _ _ (omega (arith, c .before .before .before .before .before .before .before .before .before .before .before .before .at-most .ensures))) ∙ c .before .before .before .before .before .before .before .before .before .before .before .before .at-most .ensures)
-    (sym (front-length _ _ (omega (arith, c .before .before .before .before .before .before .before .before .before .before .before .before .at-most .ensures))) ∙ c .before .before .before .before .before .before .before .before .before .before .before .before .at-most .ensures) (c .store-count .ensures .0) (c .before .before .before .before .before .before .before .basket .ensures) (c .store-count .ensures .1)
+    (sym (front-length _ _ (omega (arith, c .before .before .before .before .before .before .before .before .before .before .before .before .at-most .ensures))) ∙ c .before .before .before .before .before .before .before .before .before .before .before .before .at-most .ensures) (c .store-count .ensures .0) (c .before .before .before .before .before .before .before .basket-in .ensures) (c .store-count .ensures .1)
 
 pub basket-made-spec : {M : Type 1} → statement M
 basket-made-spec =
     tie.close
     (tie.spec
     (λ c κs. search needs) (λ c. search needs)
-    slice-aggregate-basket
+    slice-aggregate-basket-in
     (λ c. search needs)
-    slice-aggregate-basket-2
+    slice-aggregate-basket-in-2
     (λ c κs. search needs) (λ c κs. search needs) (λ c. search needs) (λ c. search needs)
     returns)
