@@ -28,10 +28,11 @@ use Rattle.index.specs.declared.Mode.the-variants.{Insert, Replace}
 use Rattle.index.specs.declared.Place.{Place}
 use Rattle.index.specs.declared.Place.the-variants.{Held, NotHeld}
 use Rattle.index.specs.declared.Lookup.{Lookup}
-use Rattle.index.specs.declared.Lookup.the-variants.{Refused}
+use Rattle.index.specs.declared.Lookup.the-variants.{Refused, Allowed}
 use Rattle.index.specs.declared.Found.{Found}
 use Rattle.index.specs.declared.Found.the-variants.{At, Missing, BadChain}
 use Rattle.index.proofs.Walks.{at-inside, absent-inside}
+use Rattle.index.proofs.LookedUp.{held-by-fault, not-held-by-fault, not-held-taken}
 use Rattle.index.proofs.Faults.{reuse-ends, reuse-live, room-fine}
 use Rattle.calls.specs.Change.{writeLentFault, storeFault, insertsOf, writeLaterFault, writeFault, removeLaterFault, removeFault}
 use Rattle.calls.specs.Get.{slotLength, lengthFault, getLaterFault, getFault}
@@ -47,10 +48,6 @@ said later e ne = e ∙ sym (orElse-first _ later (λ z. ne (e ∙ z)))
 
 pub passed : {a f later g : ℕ} → f ≡ a → f ≡ 0 → g ≡ later → g ≡ orElse a later
 passed e z q = q ∙ sym (orElse-later _ _ (sym e ∙ z))
-
--- the refusal for the key, by a test of what was found
-pub key-tested : {r : ℕ} {held found : Bool} (mode : Mode) → r ≡ keyFault mode held → held ≡ found → r ≡ keyFault mode found
-key-tested mode e q = e ∙ ap (keyFault mode) q
 
 -- what it says of room, by a count of the keys inserted
 pub inserts-counted : {r i : ℕ} (taking : Taking) (n : ℕ) (s : State) (mode : Mode) → r ≡ storeFault taking n s i 0 → i ≡ insertsOf mode
@@ -136,19 +133,34 @@ module _ (l n size m : ℕ) (e : m ≡ limit l) where
   unfolding lengthFault
   length-fits h k = sym (say-false _ _ _ (le-ltb (limit l) n (omega arith)) ∙ say-false _ _ _ (le-ltb size n k))
 
--- remove_later_fault: by what was found
+-- the refusals after the chain is followed, by what was found
 module _ (taking : Taking) (n : ℕ) (s : State) (found : Found) where
-  pub held-later : (slot prev compared r : ℕ) → found ≡ At slot prev compared → r ≡ storeFault taking n s 0 1 → r ≡ removeLaterFault found taking n s
+  held-later : (slot prev compared r : ℕ) → found ≡ At slot prev compared → r ≡ storeFault taking n s 0 1 → r ≡ removeLaterFault found taking n s
   unfolding removeLaterFault
   held-later slot prev compared r e q = q ∙ sym (ap (λ (f : Found). removeLaterFault f taking n s) e)
 
-  pub absent-later : (prev compared : ℕ) → found ≡ Missing prev compared → 0 ≡ removeLaterFault found taking n s
+  absent-later : (prev compared : ℕ) → found ≡ Missing prev compared → 0 ≡ removeLaterFault found taking n s
   unfolding removeLaterFault
   absent-later prev compared e = sym (ap (λ (f : Found). removeLaterFault f taking n s) e)
 
-  pub bad-later : found ≡ BadChain → 11 ≡ removeLaterFault found taking n s
+  bad-later : found ≡ BadChain → 11 ≡ removeLaterFault found taking n s
   unfolding removeLaterFault
   bad-later e = sym (ap (λ (f : Found). removeLaterFault f taking n s) e)
+
+  module _ (mode : Mode) where
+    held-write-later : (slot prev compared : ℕ) → found ≡ At slot prev compared
+        → orElse (keyFault mode true) (storeFault taking n s (insertsOf mode) 0) ≡ writeLaterFault mode found taking n s
+    unfolding writeLaterFault chainFault isFound orElse
+    held-write-later slot prev compared e = sym (ap (λ (f : Found). writeLaterFault mode f taking n s) e)
+
+    not-held-write-later : (prev compared : ℕ) → found ≡ Missing prev compared
+        → orElse (keyFault mode false) (storeFault taking n s (insertsOf mode) 0) ≡ writeLaterFault mode found taking n s
+    unfolding writeLaterFault chainFault isFound orElse
+    not-held-write-later prev compared e = sym (ap (λ (f : Found). writeLaterFault mode f taking n s) e)
+
+    bad-write-later : found ≡ BadChain → 11 ≡ writeLaterFault mode found taking n s
+    unfolding writeLaterFault chainFault orElse
+    bad-write-later e = sym (ap (λ (f : Found). writeLaterFault mode f taking n s) e)
 
 -- a value is refused for its length
 pub length-later : (l : ℕ) (image : List ℕ) (size : ℕ) (found : Found) (slot prev compared len r : ℕ) → found ≡ At slot prev compared
@@ -285,12 +297,27 @@ module _
   pub lent-inside : Layout l → FoundInside l image found
   lent-inside lay = found-inside l image heads next key n sized lay found ed
 
-  pub remove-looks : (s : State) (k : ℕ) → k ≡ removeLaterFault found (takingOf l image next n (s .first) 1) n s → (r : Lookup) → r ≡ lookupBy k found
+  remove-looks : (s : State) (k : ℕ) → k ≡ removeLaterFault found (takingOf l image next n (s .first) 1) n s → (r : Lookup) → r ≡ lookupBy k found
       → RemoveLookup l image heads next s key r
   unfolding removeFault
   remove-looks s k e r h =
       looks-up ef z (e ∙ ap₂ (λ (d : Found) (m : ℕ). removeLaterFault d (takingOf l image next m (s .first) 1) m s) ed en) ed h
       (remove-ready l image heads next key n sized s (takingOf l image next n (s .first) 1) found ed k e)
+
+  pub remove-held : (s : State) (slot prev compared k : ℕ) → found ≡ At slot prev compared
+      → k ≡ storeFault (takingOf l image next n (s .first) 1) n s 0 1 → (r : Lookup)
+      → r ≡ unlessRefused k (Allowed (Held slot prev) compared) (Refused k compared) → RemoveLookup l image heads next s key r
+  remove-held s slot prev compared k e q r h =
+      remove-looks s k (held-later _ n s found slot prev compared k e q) r (h ∙ held-by-fault found slot prev compared k e)
+
+  pub remove-not-held : (s : State) (prev compared : ℕ) → found ≡ Missing prev compared
+      → RemoveLookup l image heads next s key (Allowed (NotHeld prev) compared)
+  remove-not-held s prev compared e =
+      remove-looks s 0 (absent-later _ n s found prev compared e) _ (not-held-taken found prev compared 0 e refl)
+
+  pub remove-bad-chain : (s : State) → found ≡ BadChain → RemoveLookup l image heads next s key (Refused 11 0)
+  unfolding lookupBy
+  remove-bad-chain s e = remove-looks s 11 (bad-later _ n s found e) _ (sym (ap (lookupBy 11) e))
 
   pub get-looks : Layout l → (size k : ℕ) → k ≡ getLaterFault l image size found → (r : Lookup) → r ≡ lookupBy k found
       → GetLookup l image heads next key size r
@@ -313,9 +340,26 @@ module _
   write-walkable lay =
       sized-walkable l image heads next n write-sized (lent-slots l 0 image heads next (sym (write-passed .0)) refl n en) lay
 
-  pub write-looks : (key : ℕ) (found : Found) → found ≡ search l image heads next key → (s : State) (mode : Mode) (k : ℕ)
-      → k ≡ writeLaterFault mode found (takingOf l image next n (s .first) 1) n s → (r : Lookup) → r ≡ lookupBy k found → WriteLookup l image heads next s mode key size r
-  unfolding writeFault
-  write-looks key found ed s mode k e r h =
-      looks-up ef z (e ∙ ap₂ (λ (d : Found) (m : ℕ). writeLaterFault mode d (takingOf l image next m (s .first) 1) m s) ed en) ed h
-      (write-ready l image heads next key n write-sized s (takingOf l image next n (s .first) 1) mode size (write-passed .1) found ed k e)
+  module _ (key : ℕ) (found : Found) (ed : found ≡ search l image heads next key) (s : State) (mode : Mode) where
+    write-looks : (k : ℕ) → k ≡ writeLaterFault mode found (takingOf l image next n (s .first) 1) n s → (r : Lookup) → r ≡ lookupBy k found
+        → WriteLookup l image heads next s mode key size r
+    unfolding writeFault
+    write-looks k e r h =
+        looks-up ef z (e ∙ ap₂ (λ (d : Found) (m : ℕ). writeLaterFault mode d (takingOf l image next m (s .first) 1) m s) ed en) ed h
+        (write-ready l image heads next key n write-sized s (takingOf l image next n (s .first) 1) mode size (write-passed .1) found ed k e)
+
+    pub write-held : (slot prev compared k : ℕ) → found ≡ At slot prev compared
+        → k ≡ orElse (keyFault mode true) (storeFault (takingOf l image next n (s .first) 1) n s (insertsOf mode) 0) → (r : Lookup)
+        → r ≡ unlessRefused k (Allowed (Held slot prev) compared) (Refused k compared) → WriteLookup l image heads next s mode key size r
+    write-held slot prev compared k e q r h =
+        write-looks k (q ∙ held-write-later _ n s found mode slot prev compared e) r (h ∙ held-by-fault found slot prev compared k e)
+
+    pub write-not-held : (prev compared k : ℕ) → found ≡ Missing prev compared
+        → k ≡ orElse (keyFault mode false) (storeFault (takingOf l image next n (s .first) 1) n s (insertsOf mode) 0) → (r : Lookup)
+        → r ≡ unlessRefused k (Allowed (NotHeld prev) compared) (Refused k compared) → WriteLookup l image heads next s mode key size r
+    write-not-held prev compared k e q r h =
+        write-looks k (q ∙ not-held-write-later _ n s found mode prev compared e) r (h ∙ not-held-by-fault found prev compared k e)
+
+    pub write-bad-chain : found ≡ BadChain → WriteLookup l image heads next s mode key size (Refused 11 0)
+    unfolding lookupBy
+    write-bad-chain e = write-looks 11 (bad-write-later _ n s found mode e) _ (sym (ap (lookupBy 11) e))

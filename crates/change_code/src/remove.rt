@@ -2,10 +2,8 @@
 ghost use mathlib.Core.Path.{_≡_};
 ghost use Rattle.layout.specs.Record.{Layout, keyWith};
 ghost use Rattle.stores.specs.Store.{zipped};
-ghost use Rattle.taking.specs.Taking.{takingOf};
-ghost use Rattle.taking.specs.inner.Takeable.{Walkable};
 ghost use Rattle.calls.specs.Compared.{reported, keyCompared};
-ghost use Rattle.calls.specs.Change.{changeEnd, leftIn, removeLaterFault, removeResult};
+ghost use Rattle.calls.specs.Change.{changeEnd, leftIn, removeResult};
 ghost use Rattle.calls.specs.inner.Lookup.{RemoveLookup};
 use crate::store::store_fault;
 use calls::Change;
@@ -19,36 +17,10 @@ use layout_code::header::lent_fault;
 use layout_code::header::slot_count;
 use search_code::head::head_of;
 use search_code::search::find;
-use search_code::search::looked_up;
+use search_code::search::unless_refused;
 use stores_code::record::remove_stores;
 
-// 11 (chain), 11 (reuse, or a live count of zero), 28 or 9 by what the key's chain has, else 0.
-fn remove_later_fault(
-    image: &[u8],
-    l: usize,
-    next: &[u32],
-    n: usize,
-    state: State,
-    found: Found,
-) -> u32
-    requires { ⌜ Walkable (now image) (now next) l n ⌝ }
-    ensures { λ r. ⌜ r ≡ removeLaterFault found (takingOf l (now (image .entry)) (now (next .entry)) n (state .first) 1) n state ⌝ }
-{
-    match found {
-        Found::At {
-            slot: _,
-            prev: _,
-            compared: _,
-        } => store_fault(image, l, next, n, state, 0, 1),
-        Found::Missing {
-            prev: _,
-            compared: _,
-        } => 0,
-        Found::BadChain => 11,
-    }
-}
-
-// What a remove reads before it writes.
+// What a remove reads before it writes. One match gives both the refusal and the place, so that few values live at once.
 fn remove_lookup(
     image: &[u8],
     l: usize,
@@ -70,8 +42,24 @@ fn remove_lookup(
     }
     let n = slot_count(image.len());
     let found = find(image, l, heads, next, n, low, high);
-    let fault = remove_later_fault(image, l, next, n, state, found);
-    looked_up(fault, found)
+    match found {
+        Found::At {
+            slot,
+            prev,
+            compared,
+        } => {
+            let fault = store_fault(image, l, next, n, state, 0, 1);
+            unless_refused(fault, Place::Held { slot, prev }, compared)
+        }
+        Found::Missing { prev, compared } => Lookup::Allowed {
+            place: Place::NotHeld { prev },
+            compared,
+        },
+        Found::BadChain => Lookup::Refused {
+            number: 11,
+            compared: 0,
+        },
+    }
 }
 
 // Remove, in layout l. The stores are lent: at is their word numbers, words their values.

@@ -3,11 +3,13 @@ ghost use mathlib.Core.Path.{_≡_};
 ghost use lib.ListN.{length};
 ghost use Rattle.layout.specs.Record.{Layout, keyWith};
 ghost use Rattle.stores.specs.Store.{zipped};
+ghost use Rattle.prelude.specs.Refusal.{orElse};
+ghost use Rattle.index.specs.Change.{keyFault};
 ghost use Rattle.index.specs.declared.Mode.the-variants.{Insert, Replace};
 ghost use Rattle.taking.specs.Taking.{takingOf};
 ghost use Rattle.taking.specs.inner.Takeable.{Walkable};
 ghost use Rattle.calls.specs.Compared.{reported};
-ghost use Rattle.calls.specs.Change.{changeEnd, leftIn, writeLentFault, insertsOf, writeLaterFault, writeResult, writeCompared};
+ghost use Rattle.calls.specs.Change.{changeEnd, leftIn, writeLentFault, insertsOf, storeFault, writeResult, writeCompared};
 ghost use Rattle.calls.specs.inner.Lookup.{WriteLookup};
 use crate::store::store_fault;
 use calls::Change;
@@ -15,17 +17,16 @@ use calls::Outcome;
 use index::Found;
 use index::Lookup;
 use index::Mode;
+use index::Place;
 use index::State;
 use index_code::change::write_place;
 use layout_code::fields::value_limit;
 use layout_code::header::lent_fault;
 use layout_code::header::slot_count;
-use search_code::fault::chain_fault;
-use search_code::fault::is_found;
 use search_code::fault::key_fault;
 use search_code::head::head_of;
 use search_code::search::find;
-use search_code::search::looked_up;
+use search_code::search::unless_refused;
 use stores_code::record::record_stores;
 
 // 1, 2, 3, 4 or 10 by what is lent, else 0; size is the value's length.
@@ -53,24 +54,19 @@ fn inserts_of(mode: Mode) -> u32
     }
 }
 
-// 11 (chain), 20 or 21, 11 (reuse), 28 or 9 by what the key's chain has, else 0.
-fn write_later_fault(
+// 20 or 21, 11 (reuse), 28 or 9 where the chain is good, else 0.
+fn write_store_fault(
     image: &[u8],
     l: usize,
     next: &[u32],
     n: usize,
     state: State,
     mode: Mode,
-    found: Found,
+    held: bool,
 ) -> u32
     requires { ⌜ Walkable (now image) (now next) l n ⌝ }
-    ensures { λ r. ⌜ r ≡ writeLaterFault mode found (takingOf l (now (image .entry)) (now (next .entry)) n (state .first) 1) n state ⌝ }
+    ensures { λ r. ⌜ r ≡ orElse (keyFault mode held) (storeFault (takingOf l (now (image .entry)) (now (next .entry)) n (state .first) 1) n state (insertsOf mode) 0) ⌝ }
 {
-    let held = is_found(found);
-    let chain = chain_fault(found);
-    if chain != 0 {
-        return chain;
-    }
     let key = key_fault(mode, held);
     if key != 0 {
         return key;
@@ -78,7 +74,7 @@ fn write_later_fault(
     store_fault(image, l, next, n, state, inserts_of(mode), 0)
 }
 
-// What an insert or a replace reads before it writes.
+// What an insert or a replace reads before it writes: one match, as in a remove.
 fn write_lookup(
     image: &[u8],
     l: usize,
@@ -102,8 +98,24 @@ fn write_lookup(
     }
     let n = slot_count(image.len());
     let found = find(image, l, heads, next, n, low, high);
-    let fault = write_later_fault(image, l, next, n, state, mode, found);
-    looked_up(fault, found)
+    match found {
+        Found::At {
+            slot,
+            prev,
+            compared,
+        } => {
+            let fault = write_store_fault(image, l, next, n, state, mode, true);
+            unless_refused(fault, Place::Held { slot, prev }, compared)
+        }
+        Found::Missing { prev, compared } => {
+            let fault = write_store_fault(image, l, next, n, state, mode, false);
+            unless_refused(fault, Place::NotHeld { prev }, compared)
+        }
+        Found::BadChain => Lookup::Refused {
+            number: 11,
+            compared: 0,
+        },
+    }
 }
 
 // Insert or replace, in layout l. The stores are lent: at is their word numbers, words their values.

@@ -1,32 +1,39 @@
 -- The lookup of a call by what following the key's chain found. Assumes nothing.
 use mathlib.Core.Path.{_≡_, sym, ap, _∙_}
 use Prim.Native.Nat.{ℕ}
+use Rattle.prelude.specs.Refusal.{unlessRefused}
 use Rattle.prelude.proofs.Refusals.{taken-leaves, refused-keeps}
+use Rattle.index.specs.Walk.{comparedIn}
 use Rattle.index.specs.inner.Lookup.{lookupBy}
 use Rattle.index.specs.declared.Found.{Found}
-use Rattle.index.specs.declared.Found.the-variants.{At, Missing}
+use Rattle.index.specs.declared.Found.the-variants.{At, Missing, BadChain}
 use Rattle.index.specs.declared.Place.{Place}
 use Rattle.index.specs.declared.Place.the-variants.{Held, NotHeld}
 use Rattle.index.specs.declared.Lookup.{Lookup}
 use Rattle.index.specs.declared.Lookup.the-variants.{Refused, Allowed}
 
 module _ (found : Found) (slot prev compared fault : ℕ) (e : found ≡ At slot prev compared) where
-  pub held-refused : (fault ≡ 0 → ⊥) → Refused fault compared ≡ lookupBy fault found
+  pub held-by-fault : unlessRefused fault (Allowed (Held slot prev) compared) (Refused fault compared) ≡ lookupBy fault found
   unfolding lookupBy
-  held-refused ne = sym (ap (lookupBy fault) e ∙ refused-keeps _ _ fault ne)
+  held-by-fault = sym (ap (lookupBy fault) e)
 
   pub held-taken : fault ≡ 0 → Allowed (Held slot prev) compared ≡ lookupBy fault found
-  unfolding lookupBy
-  held-taken z = sym (ap (lookupBy fault) e ∙ taken-leaves _ _ fault z)
+  held-taken z = sym (taken-leaves _ _ fault z) ∙ held-by-fault
 
 module _ (found : Found) (prev compared fault : ℕ) (e : found ≡ Missing prev compared) where
-  pub not-held-refused : (fault ≡ 0 → ⊥) → Refused fault compared ≡ lookupBy fault found
+  pub not-held-by-fault : unlessRefused fault (Allowed (NotHeld prev) compared) (Refused fault compared) ≡ lookupBy fault found
   unfolding lookupBy
-  not-held-refused ne = sym (ap (lookupBy fault) e ∙ refused-keeps _ _ fault ne)
+  not-held-by-fault = sym (ap (lookupBy fault) e)
 
   pub not-held-taken : fault ≡ 0 → Allowed (NotHeld prev) compared ≡ lookupBy fault found
-  unfolding lookupBy
-  not-held-taken z = sym (ap (lookupBy fault) e ∙ taken-leaves _ _ fault z)
+  not-held-taken z = sym (taken-leaves _ _ fault z) ∙ not-held-by-fault
+
+-- a refusal has the count of what was found
+pub refused-by-fault : (found : Found) (fault c : ℕ) → (fault ≡ 0 → ⊥) → c ≡ comparedIn found → Refused fault c ≡ lookupBy fault found
+unfolding lookupBy comparedIn
+refused-by-fault (At slot prev compared) fault c ne e = ap (Refused fault) e ∙ sym (refused-keeps _ _ fault ne)
+refused-by-fault (Missing prev compared) fault c ne e = ap (Refused fault) e ∙ sym (refused-keeps _ _ fault ne)
+refused-by-fault BadChain fault c ne e = ap (Refused fault) e
 
 -- the lookup where the key is open, by its place
 pub allowed-at : {r : Lookup} {place known : Place} {compared : ℕ} → r ≡ Allowed place compared → place ≡ known → r ≡ Allowed known compared

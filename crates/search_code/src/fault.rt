@@ -4,7 +4,7 @@ ghost use Prim.Native.Nat.{_+_};
 ghost use lib.Dec.{leb};
 ghost use Rattle.prelude.specs.Refusal.{say};
 ghost use Rattle.index.specs.Walk.{chainFault};
-ghost use Rattle.index.specs.Change.{keyFault, isFound};
+ghost use Rattle.index.specs.Change.{keyFault};
 ghost use Rattle.index.specs.Taking.{endsFault};
 use index::Found;
 use index::Mode;
@@ -24,24 +24,6 @@ pub fn chain_fault(found: Found) -> u32
             compared: _,
         } => 0,
         Found::BadChain => 11,
-    }
-}
-
-// Is the key there?
-pub fn is_found(found: Found) -> bool
-    ensures { λ r. ⌜ r ≡ isFound found ⌝ }
-{
-    match found {
-        Found::At {
-            slot: _,
-            prev: _,
-            compared: _,
-        } => true,
-        Found::Missing {
-            prev: _,
-            compared: _,
-        } => false,
-        Found::BadChain => false,
     }
 }
 

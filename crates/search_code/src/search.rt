@@ -1,8 +1,10 @@
 // Following a key's chain.
 ghost use mathlib.Core.Path.{_≡_};
+ghost use Rattle.prelude.specs.Refusal.{unlessRefused};
 ghost use Rattle.layout.specs.Record.{Layout, keyWith};
 ghost use Rattle.layout.specs.inner.Sized.{Sized};
-ghost use Rattle.index.specs.Walk.{search};
+ghost use Rattle.index.specs.Walk.{search, comparedIn};
+ghost use Rattle.index.specs.declared.Lookup.the-variants.{Refused, Allowed};
 ghost use Rattle.index.specs.inner.Lookup.{lookupBy};
 use crate::head::head_of;
 use index::Found;
@@ -51,42 +53,60 @@ pub fn find(
     Found::BadChain
 }
 
+// The slots compared, by what the key's chain has.
+fn compared_in(found: Found) -> u32
+    ensures { λ r. ⌜ r ≡ comparedIn found ⌝ }
+{
+    match found {
+        Found::At {
+            slot: _,
+            prev: _,
+            compared,
+        } => compared,
+        Found::Missing { prev: _, compared } => compared,
+        Found::BadChain => 0,
+    }
+}
+
 // The lookup of a call by what the key's chain has; fault is the call's refusal then.
 pub fn looked_up(fault: u32, found: Found) -> Lookup
     ensures { λ r. ⌜ r ≡ lookupBy fault found ⌝ }
 {
+    if fault != 0 {
+        return Lookup::Refused {
+            number: fault,
+            compared: compared_in(found),
+        };
+    }
     match found {
         Found::At {
             slot,
             prev,
             compared,
-        } => {
-            if fault != 0 {
-                return Lookup::Refused {
-                    number: fault,
-                    compared,
-                };
-            }
-            Lookup::Allowed {
-                place: Place::Held { slot, prev },
-                compared,
-            }
-        }
-        Found::Missing { prev, compared } => {
-            if fault != 0 {
-                return Lookup::Refused {
-                    number: fault,
-                    compared,
-                };
-            }
-            Lookup::Allowed {
-                place: Place::NotHeld { prev },
-                compared,
-            }
-        }
+        } => Lookup::Allowed {
+            place: Place::Held { slot, prev },
+            compared,
+        },
+        Found::Missing { prev, compared } => Lookup::Allowed {
+            place: Place::NotHeld { prev },
+            compared,
+        },
         Found::BadChain => Lookup::Refused {
             number: fault,
             compared: 0,
         },
     }
+}
+
+// The same of a call that goes by the key's place, once that is known.
+pub fn unless_refused(fault: u32, place: Place, compared: u32) -> Lookup
+    ensures { λ r. ⌜ r ≡ unlessRefused fault (Allowed place compared) (Refused fault compared) ⌝ }
+{
+    if fault != 0 {
+        return Lookup::Refused {
+            number: fault,
+            compared,
+        };
+    }
+    Lookup::Allowed { place, compared }
 }

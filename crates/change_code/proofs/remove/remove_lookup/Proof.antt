@@ -2,7 +2,7 @@
 use borrow.Author.Needs.{needs}
 use Rattle.layout.proofs.Lents.{lent-sized}
 use Rattle.calls.specs.Change.{removeFault}
-use Rattle.calls.proofs.Lookups.{refused-early, lent-walkable, remove-looks}
+use Rattle.calls.proofs.Lookups.{refused-early, lent-walkable, remove-held, remove-not-held, remove-bad-chain}
 use Rattle.change_code.proofs.remove.remove_lookup.Statement.{statement}
 use Rattle.change_code.proofs.remove.remove_lookup.Tie as tie
 
@@ -15,6 +15,11 @@ remove-lookup-spec =
     (λ c. search (refused-early))
     (λ c κs. search needs)
     (λ c κs. search (lent-sized, needs))
+    (λ c. search needs)
     (λ c κs. search (lent-walkable, needs))
     (λ c κs. search needs)
-    (λ c. search (remove-looks)))
+    (λ c. search needs)
+    (λ c. search needs)
+    (λ c. search (remove-held))
+    (λ c. search (remove-not-held))
+    (λ c. search (remove-bad-chain)))

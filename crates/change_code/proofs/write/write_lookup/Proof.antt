@@ -1,7 +1,7 @@
 -- `change_code::write::write_lookup` meets its contract. Assumes nothing.
 use borrow.Author.Needs.{needs}
 use Rattle.calls.specs.Change.{writeFault}
-use Rattle.calls.proofs.Lookups.{refused-early, write-sized, write-walkable, write-looks}
+use Rattle.calls.proofs.Lookups.{refused-early, write-sized, write-walkable, write-held, write-not-held, write-bad-chain}
 use Rattle.change_code.proofs.write.write_lookup.Statement.{statement}
 use Rattle.change_code.proofs.write.write_lookup.Tie as tie
 
@@ -14,6 +14,13 @@ write-lookup-spec =
     (λ c. search (refused-early))
     (λ c κs. search needs)
     (λ c κs. search (write-sized, needs))
+    (λ c. search needs)
     (λ c κs. search (write-walkable, needs))
     (λ c κs. search needs)
-    (λ c. search (write-looks)))
+    (λ c. search needs)
+    (λ c κs. search (write-walkable, needs))
+    (λ c κs. search needs)
+    (λ c. search needs)
+    (λ c. search (write-held))
+    (λ c. search (write-not-held))
+    (λ c. search (write-bad-chain)))
