@@ -103,6 +103,7 @@ locals =
     ∷ value tyUnit ∷ value (tyRef erased mut store) ∷ slice erased mut store
     ∷ value (tyRef erased imm (tyArray (tyInt w32) 128)) ∷ slice erased imm (tyInt w32) ∷ value (tyRef erased imm (tyArray (tyInt w64) 128)) ∷ slice erased imm (tyInt w64) ∷ []
 
+-- local i, and field k of it
 abbrev held-in : ℕ → Opd
 held-in i = copy (place i [])
 
