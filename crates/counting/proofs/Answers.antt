@@ -12,6 +12,7 @@ use Rattle.prelude.proofs.Refusals.{orElse-zero, taken-leaves, refused-keeps}
 use Rattle.layout.specs.Size.{slotsIn}
 use Rattle.layout.specs.Header.{lentFault}
 use Rattle.layout.specs.Record.{Layout}
+use Rattle.layout.specs.Content.{contentsOf}
 use Rattle.layout.specs.inner.Sized.{Sized}
 use Rattle.layout.proofs.Lents.{lent-sized}
 use Rattle.table.specs.Complete.{tableOf}
@@ -20,6 +21,8 @@ use Rattle.stores.specs.Store.{Store}
 use Rattle.stores.specs.Opening.{openingStores}
 use Rattle.recovery.specs.Recover.{Result, recoverEnd, slotsFault, recoverFault, recoverResult, recovered, recoveredState}
 use Rattle.recovery.specs.Opening.{voidSlots}
+use Rattle.recovery.specs.inner.Scan.{Classed}
+use Rattle.recovery.specs.declared.Classes.{Classes}
 use Rattle.recovery.specs.declared.Openings.{Openings}
 use Rattle.recovery.specs.declared.Recovered.{Recovered}
 use Rattle.recovery.specs.declared.Recovered.the-variants.{Rebuilt, Refused}
@@ -27,7 +30,7 @@ use Rattle.recovery.proofs.Clear.{slots-clear}
 use Rattle.recovery.proofs.Lent.{recovery-taken}
 use Rattle.recovery.proofs.Void.{few-void}
 use Rattle.counting.specs.Count.{CountResult, countValues, countsIn, countEnd, countSays, countResult}
-use Rattle.counting.specs.inner.Classes.{Countable}
+use Rattle.counting.specs.inner.Countable.{Countable}
 use Rattle.counting.specs.declared.SlotCounts.{SlotCounts}
 use Rattle.counting.specs.declared.CountAnswer.the-variants.{Counted, Refused as NotCounted}
 
@@ -79,10 +82,12 @@ module _ (l : ℕ) (image heads next : List ℕ) where
     accepted-fault = sym refusal-is ∙ sym (ap (λ (r : Result). refusalIn (r .answer)) rebuilt)
 
     -- what recovery accepted may be counted
-    pub accepted : Layout l → Countable image l (s .live) o
+    pub accepted : Layout l → (all : Classes) → (recoverFault l image (length heads) (length next) ≡ 0 → Classed (contentsOf l image) (slotsIn image) all)
+        → Countable image l all (s .live) o
     unfolding recoverEnd recovered recoveredState recoverFault
-    accepted lay =
+    accepted lay all classed =
         record {
+          classed = classed accepted-fault;
           live-is = ap (λ (r : Result). r .state .live) taken;
           opens =
               record {
@@ -91,7 +96,6 @@ module _ (l : ℕ) (image heads next : List ℕ) where
                 opened = ap (λ (r : Result). r .openings) taken;
                 few = few-void l (word image) (slotsIn image) (slots-clear l (word image) (slotsIn image) (parts .1) .few-broken);
               };
-          few = size .few;
         }
       where
         stores : List Store

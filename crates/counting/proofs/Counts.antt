@@ -19,7 +19,7 @@ use Rattle.recovery.specs.inner.Scan.{Classed}
 use Rattle.recovery.specs.declared.Classes.{Classes}
 use Rattle.recovery.proofs.Void.{broken-with-void}
 use Rattle.counting.specs.Count.{hiddenPut, countsOf, countsIn, SixAddUp}
-use Rattle.counting.specs.inner.Classes.{voidRemoves}
+use Rattle.counting.specs.inner.Countable.{voidRemoves}
 
 -- ---- one slot
 

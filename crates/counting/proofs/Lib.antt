@@ -1,5 +1,4 @@
 pub mod Counts
-pub mod Classing
 pub mod VoidRecords
 pub mod Accepted
 pub mod Answers

@@ -32,7 +32,7 @@ use Rattle.stores.specs.Opening.{openingStore, openingStores}
 use Rattle.recovery.specs.Opening.{voidSlots, openingsOf}
 use Rattle.recovery.specs.declared.Openings.{Openings}
 use Rattle.recovery.proofs.OpeningStores.{openings-length}
-use Rattle.counting.specs.inner.Classes.{voidRemoves, OpensVoid}
+use Rattle.counting.specs.inner.Countable.{voidRemoves, OpensVoid}
 
 -- a valid slot holds a remove where its kind is 2
 kind-remove : (l : ℕ) (m : ℕ → ℕ) (s : ℕ) → isRecord (content l m s) ≡ true → isRemove (content l m s) ≡ eqb (kindOf (lineA m s (l + 1))) 2

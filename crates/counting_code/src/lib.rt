@@ -1,27 +1,23 @@
 // The slots of an image are counted by what they hold.
-mod classes;
 mod void_records;
 
 ghost use mathlib.Core.Path.{_≡_};
 ghost use Rattle.layout.specs.Record.{Layout};
 ghost use Rattle.counting.specs.Count.{countsIn, countEnd, countResult};
-ghost use Rattle.counting.specs.inner.Classes.{Countable};
-use crate::classes::classes;
+ghost use Rattle.counting.specs.inner.Countable.{Countable};
 use crate::void_records::void_removes;
 use counting::CountAnswer;
 use counting::SlotCounts;
-use layout_code::header::slot_count;
 use recover_code::recover_in;
+use recovery::Classes;
 use recovery::Openings;
 use recovery::Recovered;
 
-// The counts of an image that recovery accepted, with its live count and the stores that open its void slots.
-fn count_accepted(image: &[u8], l: usize, live: u32, openings: Openings) -> SlotCounts
-    requires { ⌜ Countable (now image) l live openings ⌝ }
+// The counts of an image that recovery accepted, with the classes of its slots, its live count and the stores that open its void slots.
+fn count_accepted(image: &[u8], l: usize, all: Classes, live: u32, openings: Openings) -> SlotCounts
+    requires { ⌜ Countable (now image) l all live openings ⌝ }
     ensures { λ r. ⌜ r ≡ countsIn l (now (image .entry)) ⌝ }
 {
-    let n = slot_count(image.len());
-    let all = classes(image, l, n);
     let void = openings.count;
     let removes = void_removes(image, l, openings);
     SlotCounts {
@@ -39,13 +35,16 @@ fn count_slots_in(image: &[u8], l: usize, heads: &mut [u32], next: &mut [u32]) -
     requires { ⌜ Layout l ⌝ }
     ensures { λ r. ⌜ countEnd r (now (heads .exit)) (now (next .exit)) ≡ countResult l (now (image .entry)) (now (heads .entry)) (now (next .entry)) ⌝ }
 {
-    let answer = recover_in(image, l, heads, next);
+    let report = recover_in(image, l, heads, next);
+    let classes = report.classes;
+    let answer = report.answer;
     let openings = answer.openings;
     let recovered = answer.recovered;
     match recovered {
         Recovered::Rebuilt(state) => CountAnswer::Counted(count_accepted(
             image,
             l,
+            classes,
             state.live,
             openings,
         )),

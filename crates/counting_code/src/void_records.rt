@@ -2,7 +2,7 @@
 ghost use mathlib.Core.Path.{_≡_};
 ghost use Rattle.layout.specs.Size.{slotsIn};
 ghost use Rattle.layout.specs.Content.{contentsOf, numbersOf};
-ghost use Rattle.counting.specs.inner.Classes.{OpensVoid, voidRemoves};
+ghost use Rattle.counting.specs.inner.Countable.{OpensVoid, voidRemoves};
 use layout_code::fields::slot_kind;
 use recovery::Openings;
 

@@ -20,7 +20,8 @@ pub fn index_image(image: &[u8], l: usize, heads: &mut [u32], next: &mut [u32]) 
     requires { ⌜ Layout l × FitsIndex (now image) (now heads) (now next) ⌝ }
     ensures { λ r. ⌜ IndexedBy l (now (image .entry)) (now (heads .exit)) (now (next .exit)) r ⌝ }
 {
-    let answer = recover_in(image, l, heads, next);
+    let report = recover_in(image, l, heads, next);
+    let answer = report.answer;
     let recovered = answer.recovered;
     match recovered {
         Recovered::Rebuilt(state) => Indexed::Map(state.live),

@@ -4,6 +4,7 @@ mod scratch;
 ghost use mathlib.Core.Path.{_≡_};
 ghost use Rattle.layout.specs.Record.{Layout};
 ghost use Rattle.recovery.specs.Recover.{recoverResult, recoverEnd};
+ghost use Rattle.recovery.specs.inner.Report.{RecoveredWith};
 use crate::scratch::recover_64;
 use crate::scratch::recover_256;
 use crate::scratch::recover_1024;
@@ -12,23 +13,33 @@ use crate::scratch::recover_16384;
 use crate::scratch::recover_65536;
 use layout_code::header::lent_fault;
 use layout_code::header::slot_count;
+use recovery::Classes;
 use recovery::RecoverAnswer;
 use recovery::Recovered;
+use recovery::RecoveryReport;
 use recovery_code::settling::no_openings;
 
-// Recover, in layout l.
-pub fn recover_in(image: &[u8], l: usize, heads: &mut [u32], next: &mut [u32]) -> RecoverAnswer
+// Recover, in layout l, and how many slots are of each class.
+pub fn recover_in(image: &[u8], l: usize, heads: &mut [u32], next: &mut [u32]) -> RecoveryReport
     requires { ⌜ Layout l ⌝ }
-    ensures { λ r. ⌜ recoverEnd (r .recovered) (r .openings) (now (heads .exit)) (now (next .exit)) ≡ recoverResult l (now (image .entry)) (now (heads .entry)) (now (next .entry)) ⌝ }
+    ensures { λ r. ⌜ RecoveredWith l (now (image .entry)) (now (heads .entry)) (now (next .entry)) (now (heads .exit)) (now (next .exit)) r ⌝ }
 {
     let fault = lent_fault(image, l, heads.len(), next.len());
     if fault != 0 {
-        return RecoverAnswer {
-            recovered: Recovered::Refused {
-                number: fault,
-                slot: 0,
+        return RecoveryReport {
+            answer: RecoverAnswer {
+                recovered: Recovered::Refused {
+                    number: fault,
+                    slot: 0,
+                },
+                openings: no_openings(),
             },
-            openings: no_openings(),
+            classes: Classes {
+                broken: 0,
+                empty: 0,
+                puts: 0,
+                removes: 0,
+            },
         };
     }
     let n = slot_count(image.len());
@@ -54,5 +65,5 @@ pub fn recover_in(image: &[u8], l: usize, heads: &mut [u32], next: &mut [u32]) -
 pub fn recover(image: &[u8], heads: &mut [u32], next: &mut [u32]) -> RecoverAnswer
     ensures { λ r. ⌜ recoverEnd (r .recovered) (r .openings) (now (heads .exit)) (now (next .exit)) ≡ recoverResult 1 (now (image .entry)) (now (heads .entry)) (now (next .entry)) ⌝ }
 {
-    recover_in(image, 1, heads, next)
+    recover_in(image, 1, heads, next).answer
 }

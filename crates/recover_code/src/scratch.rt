@@ -1,9 +1,8 @@
 // Recovery's own scratch lists, as long as the number of slots asks for.
-ghost use mathlib.Core.Path.{_≡_};
 ghost use Prim.Native.Nat.{_<_};
-ghost use Rattle.recovery.specs.Recover.{recoverResult, recoverEnd};
 ghost use Rattle.recovery.specs.inner.Judge.{Ready, Roomy};
-use recovery::RecoverAnswer;
+ghost use Rattle.recovery.specs.inner.Report.{RecoveredWith};
+use recovery::RecoveryReport;
 use recovery_code::rebuilding::recover_with;
 
 // With scratch lists that are long enough: their fronts are used, and in layout 1 none of highs.
@@ -20,9 +19,9 @@ fn recover_on_fronts(
     order: &mut [u32],
     by_key: &mut [u32],
     scratch: &mut [u32],
-) -> RecoverAnswer
+) -> RecoveryReport
     requires { ⌜ Ready (now image) l (now heads) (now next) n × Roomy (now ranks) (now lows) (now highs) (now places) (now order) (now «by_key») (now scratch) n ⌝ }
-    ensures { λ r. ⌜ recoverEnd (r .recovered) (r .openings) (now (heads .exit)) (now (next .exit)) ≡ recoverResult l (now (image .entry)) (now (heads .entry)) (now (next .entry)) ⌝ }
+    ensures { λ r. ⌜ RecoveredWith l (now (image .entry)) (now (heads .entry)) (now (next .entry)) (now (heads .exit)) (now (next .exit)) r ⌝ }
 {
     let m = n + 1;
     let h = (l - 1) * m;
@@ -49,9 +48,9 @@ pub fn recover_64(
     heads: &mut [u32],
     next: &mut [u32],
     n: usize,
-) -> RecoverAnswer
+) -> RecoveryReport
     requires { ⌜ Ready (now image) l (now heads) (now next) n × (n < 64) ⌝ }
-    ensures { λ r. ⌜ recoverEnd (r .recovered) (r .openings) (now (heads .exit)) (now (next .exit)) ≡ recoverResult l (now (image .entry)) (now (heads .entry)) (now (next .entry)) ⌝ }
+    ensures { λ r. ⌜ RecoveredWith l (now (image .entry)) (now (heads .entry)) (now (next .entry)) (now (heads .exit)) (now (next .exit)) r ⌝ }
 {
     let mut ranks = [0u64; 64];
     let mut lows = [0u64; 64];
@@ -83,9 +82,9 @@ pub fn recover_256(
     heads: &mut [u32],
     next: &mut [u32],
     n: usize,
-) -> RecoverAnswer
+) -> RecoveryReport
     requires { ⌜ Ready (now image) l (now heads) (now next) n × (n < 256) ⌝ }
-    ensures { λ r. ⌜ recoverEnd (r .recovered) (r .openings) (now (heads .exit)) (now (next .exit)) ≡ recoverResult l (now (image .entry)) (now (heads .entry)) (now (next .entry)) ⌝ }
+    ensures { λ r. ⌜ RecoveredWith l (now (image .entry)) (now (heads .entry)) (now (next .entry)) (now (heads .exit)) (now (next .exit)) r ⌝ }
 {
     let mut ranks = [0u64; 256];
     let mut lows = [0u64; 256];
@@ -117,9 +116,9 @@ pub fn recover_1024(
     heads: &mut [u32],
     next: &mut [u32],
     n: usize,
-) -> RecoverAnswer
+) -> RecoveryReport
     requires { ⌜ Ready (now image) l (now heads) (now next) n × (n < 1024) ⌝ }
-    ensures { λ r. ⌜ recoverEnd (r .recovered) (r .openings) (now (heads .exit)) (now (next .exit)) ≡ recoverResult l (now (image .entry)) (now (heads .entry)) (now (next .entry)) ⌝ }
+    ensures { λ r. ⌜ RecoveredWith l (now (image .entry)) (now (heads .entry)) (now (next .entry)) (now (heads .exit)) (now (next .exit)) r ⌝ }
 {
     let mut ranks = [0u64; 1024];
     let mut lows = [0u64; 1024];
@@ -151,9 +150,9 @@ pub fn recover_4096(
     heads: &mut [u32],
     next: &mut [u32],
     n: usize,
-) -> RecoverAnswer
+) -> RecoveryReport
     requires { ⌜ Ready (now image) l (now heads) (now next) n × (n < 4096) ⌝ }
-    ensures { λ r. ⌜ recoverEnd (r .recovered) (r .openings) (now (heads .exit)) (now (next .exit)) ≡ recoverResult l (now (image .entry)) (now (heads .entry)) (now (next .entry)) ⌝ }
+    ensures { λ r. ⌜ RecoveredWith l (now (image .entry)) (now (heads .entry)) (now (next .entry)) (now (heads .exit)) (now (next .exit)) r ⌝ }
 {
     let mut ranks = [0u64; 4096];
     let mut lows = [0u64; 4096];
@@ -185,9 +184,9 @@ pub fn recover_16384(
     heads: &mut [u32],
     next: &mut [u32],
     n: usize,
-) -> RecoverAnswer
+) -> RecoveryReport
     requires { ⌜ Ready (now image) l (now heads) (now next) n × (n < 16384) ⌝ }
-    ensures { λ r. ⌜ recoverEnd (r .recovered) (r .openings) (now (heads .exit)) (now (next .exit)) ≡ recoverResult l (now (image .entry)) (now (heads .entry)) (now (next .entry)) ⌝ }
+    ensures { λ r. ⌜ RecoveredWith l (now (image .entry)) (now (heads .entry)) (now (next .entry)) (now (heads .exit)) (now (next .exit)) r ⌝ }
 {
     let mut ranks = [0u64; 16384];
     let mut lows = [0u64; 16384];
@@ -219,9 +218,9 @@ pub fn recover_65536(
     heads: &mut [u32],
     next: &mut [u32],
     n: usize,
-) -> RecoverAnswer
+) -> RecoveryReport
     requires { ⌜ Ready (now image) l (now heads) (now next) n × (n < 65536) ⌝ }
-    ensures { λ r. ⌜ recoverEnd (r .recovered) (r .openings) (now (heads .exit)) (now (next .exit)) ≡ recoverResult l (now (image .entry)) (now (heads .entry)) (now (next .entry)) ⌝ }
+    ensures { λ r. ⌜ RecoveredWith l (now (image .entry)) (now (heads .entry)) (now (next .entry)) (now (heads .exit)) (now (next .exit)) r ⌝ }
 {
     let mut ranks = [0u64; 65536];
     let mut lows = [0u64; 65536];

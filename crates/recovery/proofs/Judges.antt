@@ -183,7 +183,7 @@ module _ (l : ℕ) (image : List ℕ) (n b : ℕ) (ranks lows highs places₁ or
       )
 
   pub judged : (fault slot : ℕ) → fault ≡ foundFault (all .mark) (all .fault) shared broken live-count n → slot ≡ foundSlot (all .mark) (all .slot)
-      → Judgement l (word image) n b order places (record { fault = fault; slot = slot; live = live-count; top = all .top; openings = opened })
+      → Judgement l (word image) n b order places (record { fault = fault; slot = slot; live = live-count; top = all .top; classes = all .classes; openings = opened })
   unfolding nextVersion
   judged fault slot e d =
       record {
@@ -199,6 +199,7 @@ module _ (l : ℕ) (image : List ℕ) (n b : ℕ) (ranks lows highs places₁ or
               top-is = ap suc (s .top-is) ∙ sym (settled-next raw num n);
               top-fits = top-fits;
             };
+        classed = s .classed;
         openings-are = λ z. opened-is (none-shared (sym (e ∙ fault-is) ∙ z));
       }
 

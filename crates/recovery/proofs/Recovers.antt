@@ -1,5 +1,5 @@
 -- What recover needs: its result from what was judged and rebuilt. Assumes nothing.
-use mathlib.Core.Path.{_≡_, refl, sym, ap, ap₂, _∙_}
+use mathlib.Core.Path.{_≡_, refl, sym, ap, ap₂, _∙_, subst}
 use mathlib.Core.Bool.{true, false, cond}
 use mathlib.Core.Logic.{_⊎_, inl, inr}
 use mathlib.Core.List.{List, []}
@@ -17,7 +17,7 @@ use Rattle.layout.specs.Header.{lentFault}
 use Rattle.layout.specs.Record.{Layout}
 use Rattle.layout.specs.Content.{Table, contentsOf, numbersOf}
 use Rattle.table.specs.Complete.{settled, tableOf}
-use Rattle.prelude.proofs.Refusals.{orElse-first, orElse-later, taken-leaves, refused-keeps}
+use Rattle.prelude.proofs.Refusals.{orElse-first, orElse-later, orElse-zero, taken-leaves, refused-keeps}
 use Rattle.table.specs.Table.{keyIn, live, liveCount, nextVersion}
 use Rattle.index.specs.Index.{Index, headOf, stateOf}
 use Rattle.index.specs.inner.Parts.{PartsOf}
@@ -30,6 +30,9 @@ use Rattle.recovery.specs.Opening.{voidSlots, openingsOf}
 use Rattle.recovery.specs.Recover.{Result, rebuiltResult, refusedResult, recoverEnd, slotsFault, slotsNamed, recoverFault, recoverSlot, recoveredIndex, recoveredState, recovered, recoverResult}
 use Rattle.recovery.specs.inner.Decide.{livePlace, Within}
 use Rattle.recovery.specs.inner.Judge.{Ready, Roomy, Judgeable, Arranged, Judgement, Left, answerBy}
+use Rattle.recovery.specs.inner.Report.{RecoveredWith}
+use Rattle.recovery.specs.inner.Scan.{Classed}
+use Rattle.recovery.specs.declared.Classes.{Classes}
 use Rattle.recovery.specs.declared.Judged.{Judged}
 use Rattle.recovery.specs.declared.Openings.{Openings}
 use Rattle.recovery.specs.declared.RecoverAnswer.{RecoverAnswer}
@@ -56,13 +59,18 @@ module _ (l : ℕ) (image heads next : List ℕ) (fault : ℕ) (e : recoverFault
   result-taken z = sym (recovery-taken l image heads next (e ∙ z))
 
 -- 1 to 4
-pub lent-refused : (l : ℕ) (image heads next : List ℕ) (fault : ℕ) (none : Openings) → fault ≡ lentFault l image (length heads) (length next)
-    → (fault ≡ 0 → ⊥) → none ≡ openingsOf [] → refusedResult fault 0 none heads next ≡ recoverResult l image heads next
-unfolding recoverFault recoverSlot
-lent-refused l image heads next fault none e ne o =
-    ap (λ (x : Openings). refusedResult fault 0 x heads next) o
-    ∙ result-refused l image heads next fault (orElse-first _ _ (λ z. ne (e ∙ z)) ∙ sym e) 0
-    (refused-keeps (slotsNamed l (word image) (slotsIn image)) 0 _ (λ z. ne (e ∙ z))) ne
+pub lent-refused : (l : ℕ) (image heads next : List ℕ) (fault : ℕ) (none : Openings) (classes : Classes)
+    → fault ≡ lentFault l image (length heads) (length next) → (fault ≡ 0 → ⊥) → none ≡ openingsOf []
+    → RecoveredWith l image heads next heads next (record { answer = record { recovered = Refused fault 0; openings = none }; classes = classes })
+unfolding recoverEnd recoverFault recoverSlot
+lent-refused l image heads next fault none classes e ne o =
+    record {
+      result-is =
+          ap (λ (x : Openings). refusedResult fault 0 x heads next) o
+          ∙ result-refused l image heads next fault (orElse-first _ _ (λ z. ne (e ∙ z)) ∙ sym e) 0
+          (refused-keeps (slotsNamed l (word image) (slotsIn image)) 0 _ (λ z. ne (e ∙ z))) ne;
+      classed = λ z. absurd (ne (e ∙ orElse-zero _ _ z .0));
+    }
 
 zero-or-not : (k : ℕ) → (k ≡ 0) ⊎ (k ≡ 0 → ⊥)
 zero-or-not zero = inl refl
@@ -118,9 +126,13 @@ module _ (l : ℕ) (image heads next : List ℕ) (n : ℕ) (ready : Ready image 
 pub slots-answered : (l : ℕ) (image heads next order places : List ℕ) (n : ℕ) (found : Judged) (heads′ next′ : List ℕ) (state : State) (r : RecoverAnswer)
     → Ready image l heads next n → Judgement l (word image) n (length heads) order places found
     → Left (found .fault) heads next order places (found .live) (found .top) heads′ next′ state → r ≡ answerBy (found .fault) (found .slot) state (found .openings)
-    → recoverEnd (r .recovered) (r .openings) heads′ next′ ≡ recoverResult l image heads next
+    → RecoveredWith l image heads next heads′ next′ (record { answer = r; classes = found .classes })
 unfolding recoverEnd answerBy
-slots-answered l image heads next order places n found heads′ next′ state r ready j v q = go (zero-or-not fault)
+slots-answered l image heads next order places n found heads′ next′ state r ready j v q =
+    record {
+      result-is = go (zero-or-not fault);
+      classed = λ z. subst (λ (k : ℕ). Classed (contentsOf l image) k (found .classes)) (sym (ready .sized .slot-count)) (j .classed);
+    }
   where
     fault : ℕ
     fault = found .fault

@@ -1,3 +1,4 @@
 pub mod Decide
 pub mod Judge
+pub mod Report
 pub mod Scan

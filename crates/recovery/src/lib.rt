@@ -52,11 +52,18 @@ pub struct Scan {
 }
 
 // What recovery finds before it writes anything: the refusal of the slots or 0, the slot that it names, the live count, the highest version on a
-// whole line, and the opening stores.
+// whole line, how many slots are of each class, void records as the others, and the opening stores.
 pub struct Judged {
     pub fault: u32,
     pub slot: u32,
     pub live: u32,
     pub top: u64,
+    pub classes: Classes,
     pub openings: Openings,
+}
+
+// Recovery's answer, and how many slots of an accepted image are of each class, void records as the others.
+pub struct RecoveryReport {
+    pub answer: RecoverAnswer,
+    pub classes: Classes,
 }

@@ -79,13 +79,15 @@ pub fn judge(
     );
     decide(lows, highs, by_key, places, n);
     let live = count_placed(places, n);
-    let broken = all.classes.broken + openings.count;
+    let classes = all.classes;
+    let broken = classes.broken + openings.count;
     let fault = found_fault(all.mark, all.fault, shared, broken, live, n as u32);
     Judged {
         fault,
         slot: found_slot(all.mark, all.slot),
         live,
         top: all.top,
+        classes,
         openings,
     }
 }

@@ -4,8 +4,8 @@ ghost use Prim.Native.Nat.{_+_, _<_, _^_};
 ghost use lib.ListN.{length, replicate};
 ghost use Rattle.index.specs.inner.Parts.{PartsOf};
 ghost use Rattle.index.specs.inner.Build.{build, placeIn, unbuilt, Ordered};
-ghost use Rattle.recovery.specs.Recover.{recoverResult, recoverEnd};
 ghost use Rattle.recovery.specs.inner.Judge.{Ready, Judgeable, Left, answerBy};
+ghost use Rattle.recovery.specs.inner.Report.{RecoveredWith};
 use crate::judging::judge;
 use crate::settling::no_openings;
 use index::State;
@@ -14,6 +14,7 @@ use index_code::build::clear;
 use recovery::Openings;
 use recovery::RecoverAnswer;
 use recovery::Recovered;
+use recovery::RecoveryReport;
 
 // Heads and next become the chains of the order, each slot in the chain that places has for it; the state beside them is returned.
 fn rebuild(
@@ -97,9 +98,9 @@ pub fn recover_with(
     order: &mut [u32],
     by_key: &mut [u32],
     scratch: &mut [u32],
-) -> RecoverAnswer
+) -> RecoveryReport
     requires { ⌜ Ready (now image) l (now heads) (now next) n × Judgeable (now image) l (now ranks) (now lows) (now highs) (now places) (now order) (now «by_key») (now scratch) n (length (now heads)) ⌝ }
-    ensures { λ r. ⌜ recoverEnd (r .recovered) (r .openings) (now (heads .exit)) (now (next .exit)) ≡ recoverResult l (now (image .entry)) (now (heads .entry)) (now (next .entry)) ⌝ }
+    ensures { λ r. ⌜ RecoveredWith l (now (image .entry)) (now (heads .entry)) (now (next .entry)) (now (heads .exit)) (now (next .exit)) r ⌝ }
 {
     let judged = judge(
         image,
@@ -117,5 +118,9 @@ pub fn recover_with(
     let fault = judged.fault;
     let state = rebuild_accepted(heads, next, order, places, fault, judged.live, judged.top);
     let openings = judged.openings;
-    answer(fault, judged.slot, state, openings)
+    let classes = judged.classes;
+    RecoveryReport {
+        answer: answer(fault, judged.slot, state, openings),
+        classes,
+    }
 }

@@ -24,7 +24,7 @@ use Rattle.recovery.specs.Recover.{slotsFault, slotsNamed}
 use Rattle.stores.specs.Store.{Store}
 use Rattle.stores.specs.Opening.{openingStores}
 use Rattle.recovery.specs.Opening.{voidSlots, openingsOf}
-use Rattle.recovery.specs.inner.Scan.{keyAt}
+use Rattle.recovery.specs.inner.Scan.{keyAt, Classed}
 use Rattle.recovery.specs.inner.Decide.{runFault, keyTwice, livePlace, Cleared, Within}
 use Rattle.recovery.specs.declared.Openings.{Openings}
 use Rattle.recovery.specs.declared.Judged.{Judged}
@@ -132,11 +132,13 @@ pub record Arranged (f : Table) (n b : ℕ) (order places : List ℕ) (live top 
   pub top-is : suc top ≡ nextVersion f n
   pub top-fits : top < 2 ^ 63
 
--- what judging answers: the refusal, and of an accepted image the arranged slots of its settled table and the stores that open its void slots
+-- what judging answers: the refusal, the classes of the slots, and of an accepted image the arranged slots of its settled table and the stores that
+-- open its void slots
 pub record Judgement (l : ℕ) (m : ℕ → ℕ) (n b : ℕ) (order places : List ℕ) (r : Judged) : Type 0 where
   pub fault-is : r .fault ≡ slotsFault l m n
   pub slot-is : r .slot ≡ slotsNamed l m n
   pub arranged : r .fault ≡ 0 → Arranged (settled (content l m) (numberIn l m) n) n b order places (r .live) (r .top)
+  pub classed : Classed (content l m) n (r .classes)
   pub openings-are : r .fault ≡ 0 → r .openings ≡ openingsOf (openingStores m (voidSlots l m n))
 
 -- what is left of the lent heads and next: the chains of the order and the state r beside them, or with a refusal what was lent
