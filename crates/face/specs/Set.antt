@@ -28,7 +28,7 @@ pub use Rattle.counting.specs.declared.CountAnswer.the-variants.{Counted, Refus
 pub use Rattle.counting.specs.Count.{CountResult}
 unfoldable pub use Rattle.counting.specs.Count.{countValues, countEnd, countSays, countResult}
 pub use Rattle.calls.specs.Format.{FormatResult}
-pub use Rattle.calls.specs.Format.{formatted}
+pub use Rattle.calls.specs.Format.{formatted, formatEnd}
 unfoldable pub use Rattle.calls.specs.Format.{formatSays, layoutFault, formatFault, formatResult}
 pub use Rattle.calls.specs.Compared.{Reported, reported, keyCompared}
 pub use Rattle.calls.specs.declared.Change.{Change}
