@@ -304,20 +304,20 @@ module _
       looks-up ef z (e ∙ ap₂ (λ (d : Found) (m : ℕ). removeLaterFault d (takingOf l image next m (s .first) 1) m s) ed en) ed h
       (remove-ready l image heads next key n sized s (takingOf l image next n (s .first) 1) found ed k e)
 
-  pub remove-held : (s : State) (slot prev compared k : ℕ) → found ≡ At slot prev compared
+  pub remove-looks-held : (s : State) (slot prev compared k : ℕ) → found ≡ At slot prev compared
       → k ≡ storeFault (takingOf l image next n (s .first) 1) n s 0 1 → (r : Lookup)
       → r ≡ unlessRefused k (Allowed (Held slot prev) compared) (Refused k compared) → RemoveLookup l image heads next s key r
-  remove-held s slot prev compared k e q r h =
+  remove-looks-held s slot prev compared k e q r h =
       remove-looks s k (held-later _ n s found slot prev compared k e q) r (h ∙ held-by-fault found slot prev compared k e)
 
-  pub remove-not-held : (s : State) (prev compared : ℕ) → found ≡ Missing prev compared
+  pub remove-looks-absent : (s : State) (prev compared : ℕ) → found ≡ Missing prev compared
       → RemoveLookup l image heads next s key (Allowed (NotHeld prev) compared)
-  remove-not-held s prev compared e =
+  remove-looks-absent s prev compared e =
       remove-looks s 0 (absent-later _ n s found prev compared e) _ (not-held-taken found prev compared 0 e refl)
 
-  pub remove-bad-chain : (s : State) → found ≡ BadChain → RemoveLookup l image heads next s key (Refused 11 0)
+  pub remove-looks-bad : (s : State) → found ≡ BadChain → RemoveLookup l image heads next s key (Refused 11 0)
   unfolding lookupBy
-  remove-bad-chain s e = remove-looks s 11 (bad-later _ n s found e) _ (sym (ap (lookupBy 11) e))
+  remove-looks-bad s e = remove-looks s 11 (bad-later _ n s found e) _ (sym (ap (lookupBy 11) e))
 
   pub get-looks : Layout l → (size k : ℕ) → k ≡ getLaterFault l image size found → (r : Lookup) → r ≡ lookupBy k found
       → GetLookup l image heads next key size r
@@ -348,18 +348,18 @@ module _
         looks-up ef z (e ∙ ap₂ (λ (d : Found) (m : ℕ). writeLaterFault mode d (takingOf l image next m (s .first) 1) m s) ed en) ed h
         (write-ready l image heads next key n write-sized s (takingOf l image next n (s .first) 1) mode size (write-passed .1) found ed k e)
 
-    pub write-held : (slot prev compared k : ℕ) → found ≡ At slot prev compared
+    pub write-looks-held : (slot prev compared k : ℕ) → found ≡ At slot prev compared
         → k ≡ orElse (keyFault mode true) (storeFault (takingOf l image next n (s .first) 1) n s (insertsOf mode) 0) → (r : Lookup)
         → r ≡ unlessRefused k (Allowed (Held slot prev) compared) (Refused k compared) → WriteLookup l image heads next s mode key size r
-    write-held slot prev compared k e q r h =
+    write-looks-held slot prev compared k e q r h =
         write-looks k (q ∙ held-write-later _ n s found mode slot prev compared e) r (h ∙ held-by-fault found slot prev compared k e)
 
-    pub write-not-held : (prev compared k : ℕ) → found ≡ Missing prev compared
+    pub write-looks-absent : (prev compared k : ℕ) → found ≡ Missing prev compared
         → k ≡ orElse (keyFault mode false) (storeFault (takingOf l image next n (s .first) 1) n s (insertsOf mode) 0) → (r : Lookup)
         → r ≡ unlessRefused k (Allowed (NotHeld prev) compared) (Refused k compared) → WriteLookup l image heads next s mode key size r
-    write-not-held prev compared k e q r h =
+    write-looks-absent prev compared k e q r h =
         write-looks k (q ∙ not-held-write-later _ n s found mode prev compared e) r (h ∙ not-held-by-fault found prev compared k e)
 
-    pub write-bad-chain : found ≡ BadChain → WriteLookup l image heads next s mode key size (Refused 11 0)
+    pub write-looks-bad : found ≡ BadChain → WriteLookup l image heads next s mode key size (Refused 11 0)
     unfolding lookupBy
-    write-bad-chain e = write-looks 11 (bad-write-later _ n s found mode e) _ (sym (ap (lookupBy 11) e))
+    write-looks-bad e = write-looks 11 (bad-write-later _ n s found mode e) _ (sym (ap (lookupBy 11) e))

@@ -2,7 +2,7 @@
 use borrow.Author.Needs.{needs}
 use Rattle.layout.proofs.Lents.{lent-sized}
 use Rattle.calls.specs.Change.{removeFault}
-use Rattle.calls.proofs.Lookups.{refused-early, lent-walkable, remove-held, remove-not-held, remove-bad-chain}
+use Rattle.calls.proofs.Lookups.{refused-early, lent-walkable, remove-looks-held, remove-looks-absent, remove-looks-bad}
 use Rattle.change_code.proofs.remove.remove_lookup.Statement.{statement}
 use Rattle.change_code.proofs.remove.remove_lookup.Tie as tie
 
@@ -20,6 +20,6 @@ remove-lookup-spec =
     (λ c κs. search needs)
     (λ c. search needs)
     (λ c. search needs)
-    (λ c. search (remove-held))
-    (λ c. search (remove-not-held))
-    (λ c. search (remove-bad-chain)))
+    (λ c. search (remove-looks-held))
+    (λ c. search (remove-looks-absent))
+    (λ c. search (remove-looks-bad)))

@@ -1,7 +1,7 @@
 -- `change_code::write::write_lookup` meets its contract. Assumes nothing.
 use borrow.Author.Needs.{needs}
 use Rattle.calls.specs.Change.{writeFault}
-use Rattle.calls.proofs.Lookups.{refused-early, write-sized, write-walkable, write-held, write-not-held, write-bad-chain}
+use Rattle.calls.proofs.Lookups.{refused-early, write-sized, write-walkable, write-looks-held, write-looks-absent, write-looks-bad}
 use Rattle.change_code.proofs.write.write_lookup.Statement.{statement}
 use Rattle.change_code.proofs.write.write_lookup.Tie as tie
 
@@ -21,6 +21,6 @@ write-lookup-spec =
     (λ c κs. search (write-walkable, needs))
     (λ c κs. search needs)
     (λ c. search needs)
-    (λ c. search (write-held))
-    (λ c. search (write-not-held))
-    (λ c. search (write-bad-chain)))
+    (λ c. search (write-looks-held))
+    (λ c. search (write-looks-absent))
+    (λ c. search (write-looks-bad)))

@@ -6,6 +6,14 @@ use Rattle.exports.specs.Call.{answered, formatCall}
 use Rattle.exports_code.proofs.format.hand_out_formatted.Statement.{statement}
 use Rattle.exports_code.proofs.format.hand_out_formatted.Tie as tie
 
-pub hand-out-formatted-spec : {M : Type 1} → statement M
+returns : tie.Need-returns
 unfolding refusalIn answered formatCall formatSays
-hand-out-formatted-spec = tie.close (tie.spec (λ c bytes. refl) (λ c bytes. refl))
+returns c bytes = rw (c .before .formatted .given .1)
+
+returns-2 : tie.Need-returns-2
+unfolding refusalIn answered formatCall formatSays
+returns-2 c bytes = rw (c .before .before .formatted2 .given .1)
+
+pub hand-out-formatted-spec : {M : Type 1} → statement M
+hand-out-formatted-spec =
+    tie.close (tie.spec (λ c. search needs) (λ c. search needs) (λ c. search needs) returns returns-2)
