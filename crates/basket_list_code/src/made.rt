@@ -1,6 +1,6 @@
 // A basket whose stores are made in arrays.
 ghost use mathlib.Core.Path.{_≡_};
-ghost use Prim.Native.Nat.{_≤_, min};
+ghost use Prim.Native.Nat.{_≤_};
 ghost use Rattle.layout.specs.Record.{Layout};
 ghost use Rattle.calls.specs.Basket.{changesOf, basketResult};
 ghost use Rattle.calls.specs.inner.Basket.{basketStoreCount, MadeOf};
@@ -9,6 +9,7 @@ use calls::BasketItem;
 use calls::BasketMade;
 use calls::BasketOutcome;
 use index::State;
+use words_code::lesser;
 
 // How many stores are handed out.
 fn store_count(outcome: BasketOutcome, count: usize) -> usize
@@ -21,16 +22,6 @@ fn store_count(outcome: BasketOutcome, count: usize) -> usize
         BasketOutcome::Stored { version: _ } => 16 * count,
         BasketOutcome::Refused(_) => 0,
     }
-}
-
-// As many numbers as the list has room for, and no more than eight keys ask for.
-fn at_most(room: usize) -> usize
-    ensures { λ r. ⌜ r ≡ min 128 room ⌝ }
-{
-    if room < 128 {
-        return room;
-    }
-    128
 }
 
 // A basket for a list with this room, in layout l.
@@ -50,7 +41,7 @@ pub fn basket_made(
 {
     let mut at = [0u32; 128];
     let mut words = [0u64; 128];
-    let n = at_most(room);
+    let n = lesser(128, room);
     let answer = basket_in(
         image,
         l,

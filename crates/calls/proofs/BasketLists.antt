@@ -4,13 +4,13 @@ use mathlib.Core.Bool.{Bool, cond, false, true}
 use mathlib.Core.List.{List, [], _∷_, _++_}
 use Prim.Native.Nat.{ℕ, zero, suc, _+_, _*_, _≤_, _<_, min}
 use native.Mathlib.Omega.{arith}
-use borrow.Author.Tests.{lt-ltb, le-ltb, ltb-true, ltb-false}
+use borrow.Author.Tests.{lt-ltb, le-ltb, ltb-false}
 use lib.Dec.{ltb}
 use lib.ListN.{length, take, drop}
 use Rattle.prelude.specs.Answer.{Answer, gives, absent, refused}
 use Rattle.prelude.specs.Refusal.{say, orElse, unlessRefused}
 use Rattle.prelude.proofs.Refusals.{orElse-zero, say-zero}
-use Rattle.prelude.proofs.Choice.{pick-true, pick-false, same-test}
+use Rattle.prelude.proofs.Choice.{pick-true, pick-false, lesser-short}
 use Rattle.layout.specs.Size.{slotsIn}
 use Rattle.words.specs.Word.{word}
 use Rattle.table.specs.Complete.{numberFor}
@@ -18,7 +18,7 @@ use Rattle.stores.specs.Store.{Store, zipped}
 use Rattle.stores.specs.Play.{wordNumbers, values}
 use Rattle.stores.specs.Basket.{BasketRecord, basketStores}
 use Rattle.stores.specs.Written.{recordStores, lineStores, run}
-use Rattle.stores.proofs.ListPut.{front-length, front-stores}
+use Rattle.stores.proofs.ListPut.{zipped-length, front-stores}
 use Rattle.index.specs.Taking.{Taken, Taking, taken, tooFew, badLink}
 use Rattle.index.specs.declared.State.{State}
 use Rattle.index.proofs.BasketInside.{taking-inside}
@@ -35,11 +35,6 @@ use Rattle.calls.proofs.BasketChecks.{so-many, count-few}
 
 -- ---- arrays of 128 numbers hold what eight keys ask for: 13 comes by the list's length
 
-room-test : (m room : ℕ) → m ≤ 8 → ltb (min 128 room) (16 * m) ≡ ltb room (16 * m)
-room-test m room h =
-    same-test _ _ (λ e. lt-ltb room (16 * m) (omega (arith, ltb-true (min 128 room) (16 * m) e)))
-    (λ e. lt-ltb (min 128 room) (16 * m) (omega (arith, ltb-true room (16 * m) e)))
-
 given-room : (changes : List KeyChange) (room : ℕ) → givenFault changes (min 128 room) (min 128 room) ≡ givenFault changes room room
 unfolding givenFault listsFault orElse
 given-room changes room = go (keyCountFault (length changes)) refl
@@ -48,7 +43,7 @@ given-room changes room = go (keyCountFault (length changes)) refl
     tested t = say (anyTwice changes) 27 (say t 13 (say t 13 0))
 
     go : (k : ℕ) → keyCountFault (length changes) ≡ k → orElse k (tested (ltb (min 128 room) (16 * length changes))) ≡ orElse k (tested (ltb room (16 * length changes)))
-    go zero e = ap tested (room-test (length changes) room (count-few (length changes) _ refl e .1))
+    go zero e = ap tested (lesser-short (16 * length changes) 128 room (omega (arith, count-few (length changes) _ refl e .1)))
     go (suc k) e = refl
 
 pub result-room : (l : ℕ) (image heads next : List ℕ) (s : State) (changes : List KeyChange) (room : ℕ)
@@ -196,5 +191,5 @@ pub in-list : (r : ChangeResult) (room count : ℕ) (m : BasketMade) (heads next
 unfolding leftInList leftWith atFront
 in-list r room count m heads next made h k list =
     ap (λ (n : ℕ). basketListEnd count (m .answer) (zipped (take (m .stored) (m .at)) (take (m .stored) (m .words)) ++ drop n list) heads next)
-    (sym (front-length (m .at) (m .words) (m .stored) h k))
+    (sym (zipped-length (m .at) (m .words) (m .stored) h k))
     ∙ ap (λ (b : BasketListLeft). record { answer = b .answer; slots = b .slots; state = b .state; list = b .list ++ drop (length (b .list)) list; heads = b .heads; next = b .next }) (made .left)

@@ -16,7 +16,7 @@ use Rattle.index.specs.declared.State.{State}
 use Rattle.calls.specs.Change.{ChangeResult, handedOut, leftIn, changed}
 use Rattle.index.specs.declared.Lookup.{Lookup}
 use Rattle.index.specs.declared.Lookup.the-variants.{Allowed}
-use Rattle.calls.specs.inner.Lookup.{Writable, OpenAt, WriteReady}
+use Rattle.calls.specs.inner.Lookup.{Writable, AllowedAt, WriteReady}
 
 -- a key whose high word is 0 is its low word
 pub key-alone : (key : ℕ) → keyWith key 0 ≡ key
@@ -37,11 +37,11 @@ left a t ss heads next = record { answer = a; state = t; stores = ss; heads = he
 -- an insert or a replace that is not refused, r being its lookup
 module _ (l : ℕ) (image heads next : List ℕ) (s : State) (key size : ℕ) {r : Lookup} (ready : WriteReady l image heads next s key size r)
     {place : Place} {compared : ℕ} (e : r ≡ Allowed place compared) where
-  pub opened : OpenAt l image heads next s key size place
-  opened = subst (WriteReady l image heads next s key size) e ready
+  pub allowed : AllowedAt l image heads next s key size place
+  allowed = subst (WriteReady l image heads next s key size) e ready
 
-  pub opened-inside : (h : ℕ) → h ≡ headOf key (length heads) → PlaceInside heads next s h place
-  opened-inside h q = subst (λ (x : ℕ). PlaceInside heads next s x place) (sym q) (opened .inside)
+  pub allowed-inside : (h : ℕ) → h ≡ headOf key (length heads) → PlaceInside heads next s h place
+  allowed-inside h q = subst (λ (x : ℕ). PlaceInside heads next s x place) (sym q) (allowed .inside)
 
 -- what a call leaves that stores a record, lent some stores; i is the index that it leaves
 pub changed-end : (l : ℕ) (image : List ℕ) (s : State) (key kind : ℕ) (value : List ℕ) (after : State) (at words : List ℕ) (lent : List Store)

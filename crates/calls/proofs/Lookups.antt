@@ -39,7 +39,7 @@ use Rattle.calls.specs.Get.{slotLength, lengthFault, getLaterFault, getF
 use Rattle.index.specs.Index.{headOf}
 use Rattle.index.specs.inner.Parts.{PlaceInside}
 use Rattle.index.specs.inner.Lookup.{lookupBy}
-use Rattle.calls.specs.inner.Lookup.{lookupOf, LooksUp, Writable, OpenAt, WriteReady, WriteLookup, RemoveReady, RemoveLookup, FoundInside, GetReady, GetLookup}
+use Rattle.calls.specs.inner.Lookup.{lookupOf, LooksUp, Writable, AllowedAt, WriteReady, WriteLookup, RemoveReady, RemoveLookup, FoundInside, GetReady, GetLookup}
 
 -- ---- refusals in order: the first refusal is what the whole row says, or it is none and the rest says it
 
@@ -220,7 +220,7 @@ module _ (l : ℕ) (image heads next : List ℕ) (key n : ℕ) (sized : Sized im
         }
 
     allowed-at : (place : Place) (size : ℕ) → size ≤ limit l → {prev old : ℕ} → Writable image heads next s key prev old
-        → PlaceInside heads next s (headOf key (length heads)) place → OpenAt l image heads next s key size place
+        → PlaceInside heads next s (headOf key (length heads)) place → AllowedAt l image heads next s key size place
     allowed-at place size h u p =
         record { inside = p; some-head = sized .some-head; recordable = (h, u .index .version-fits, u .slot-fits, u .slot-in) }
 

@@ -111,14 +111,14 @@ module _ (l : ℕ) (image heads next : List ℕ) (s : State) (mode : Mode) (key 
         result-refused (writeDone l image heads next s key value (s .first) (takeFirst (indexOf heads next s))) (λ k. unchanged (refused k) s heads next)
         (λ none. orElse-zero _ _ none .0) write-bad u _ number compared e refl
 
-    pub write-open : (place : Place) (compared h : ℕ) → r ≡ Allowed place compared → h ≡ headOf key (length heads)
+    pub write-allowed : (place : Place) (compared h : ℕ) → r ≡ Allowed place compared → h ≡ headOf key (length heads)
         → changed l image s (s .first) key 1 value (writeAt (indexOf heads next s) h place) (liveAt (s .live) place) ≡ writeResult l image heads next s mode key value
     unfolding writeResult writeBy writeFault writeDone writeAt liveAt insertNew replaceHeld
-    write-open (Held old prev) compared h e eh =
+    write-allowed (Held old prev) compared h e eh =
         result-held (writeDone l image heads next s key value (s .first) (takeFirst (indexOf heads next s))) (λ k. unchanged (refused k) s heads next)
         (λ none. orElse-zero _ _ none .0) write-bad u _ old prev compared e
         (ap (λ (x : ℕ). changed l image s (s .first) key 1 value (replaceHeld (indexOf heads next s) x prev old) (s .live)) eh)
-    write-open (NotHeld prev) compared h e eh =
+    write-allowed (NotHeld prev) compared h e eh =
         result-not-held (writeDone l image heads next s key value (s .first) (takeFirst (indexOf heads next s))) (λ k. unchanged (refused k) s heads next)
         (λ none. orElse-zero _ _ none .0) write-bad u _ prev compared e
         (ap (λ (x : ℕ). changed l image s (s .first) key 1 value (insertNew (indexOf heads next s) x prev) (s .live + 1)) eh)

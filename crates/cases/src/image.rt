@@ -1,7 +1,6 @@
 // The calls on the image without a key: format, recover and the plays.
 ghost use Rattle.io.specs.Counts.{Counts};
 use crate::set::Set;
-use crate::set::at_most;
 use crate::set::lent;
 use crate::set::show_index;
 use crate::step::played_in;
@@ -13,6 +12,7 @@ use orderset::play;
 use orderset::play_list;
 use orderset::recover;
 use show::fronts::values_of;
+use words_code::lesser;
 use words_code::read_word;
 
 pub fn formatted(set: Set) -> Set {
@@ -98,7 +98,7 @@ pub fn opened(set: Set, n: [u64; 5]) -> Set {
     let openings = set.openings;
     let at = openings.at;
     let value = openings.value;
-    let wanted = at_most(n[1] as usize, openings.count as usize);
+    let wanted = lesser(n[1] as usize, openings.count as usize);
     let count = in_both(wanted, &at, &value);
     let fronts = lent(set);
     let i = fronts.image;

@@ -1,6 +1,5 @@
 // The set that the lines work on: an image of at most four slots, its index of at most two heads, its state, the stores handed out last and the
 // opening stores. Any number of it may be set to any other, and a call may be lent less than all of it.
-ghost use Prim.Native.Nat.{_≤_};
 ghost use Rattle.io.specs.Counts.{Counts};
 use crate::names::BYTE;
 use crate::names::INDEX;
@@ -10,6 +9,7 @@ use crate::names::STORE;
 use orderset::Openings;
 use orderset::State;
 use orderset::Stores;
+use words_code::lesser;
 
 // How many bytes, heads and next numbers a call is lent, the first ones of each.
 pub struct Fronts {
@@ -75,24 +75,15 @@ pub fn start() -> Set {
     }
 }
 
-pub fn at_most(n: usize, most: usize) -> usize
-    ensures { λ r. ⌜ r ≤ most ⌝ }
-{
-    if n < most {
-        return n;
-    }
-    most
-}
-
 // What is lent: no more than there is.
 pub fn lent(set: Set) -> Fronts
     ensures { λ r. ⌜ Counts (r .image) (set .image) × Counts (r .heads) (set .heads) × Counts (r .next) (set .next) ⌝ }
 {
     let wanted = set.lent;
     Fronts {
-        image: at_most(wanted.image, 640),
-        heads: at_most(wanted.heads, 2),
-        next: at_most(wanted.next, 5),
+        image: lesser(wanted.image, 640),
+        heads: lesser(wanted.heads, 2),
+        next: lesser(wanted.next, 5),
     }
 }
 

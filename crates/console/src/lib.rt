@@ -1,4 +1,4 @@
-// A session from standard input to standard output, of any size.
+// A session from standard input to standard output, of any size; and the output of one that is read byte by byte.
 use libc::STDIN_FILENO;
 use libc::STDOUT_FILENO;
 use session::Progress;
@@ -7,14 +7,14 @@ use stream_code::stream::open_stream;
 use stream_code::stream::take_byte;
 
 // Where the session stands, whether the input may have more, and whether every write so far succeeded.
-struct Status {
-    progress: Progress,
-    reading: bool,
-    written: bool,
+pub struct Status {
+    pub progress: Progress,
+    pub reading: bool,
+    pub written: bool,
 }
 
 // The stored output is written; where that fails, nothing more is read or written.
-fn flush(p: Progress, out: &[u8]) -> Status {
+pub fn flush(p: Progress, out: &[u8]) -> Status {
     let at = p.at;
     let mut written = false;
     if at <= out.len() {
@@ -35,7 +35,7 @@ fn flush(p: Progress, out: &[u8]) -> Status {
 }
 
 // After a byte: the output is written before a further line might lack room.
-fn after_byte(p: Progress, out: &[u8]) -> Status {
+pub fn after_byte(p: Progress, out: &[u8]) -> Status {
     if p.at < out.len() && 64 <= out.len() - p.at {
         return Status {
             progress: p,

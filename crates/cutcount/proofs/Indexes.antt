@@ -25,7 +25,7 @@ use Rattle.recovery.specs.declared.Openings.{Openings}
 use Rattle.recovery.specs.declared.Recovered.{Recovered}
 use Rattle.recovery.specs.declared.Recovered.the-variants.{Rebuilt, Refused}
 use Rattle.recovery.proofs.Lent.{recovery-taken}
-use Rattle.cutcount.specs.CutCount.{ownFault}
+use Rattle.cutcount.specs.CutCount.{acceptanceFault}
 use Rattle.cutcount.specs.inner.Indexed.{Mapped, IndexedBy, is-map, no-map}
 use Rattle.cutcount.specs.inner.Pairs.{FitsIndex}
 use Rattle.cutcount.specs.declared.Indexed.{Indexed}
@@ -45,9 +45,9 @@ module _ (l : ℕ) (image heads next : List ℕ) (fits : FitsIndex image heads n
   abbrev fault : ℕ
   fault = recoverFault l image (length heads) (length next)
 
-  own-fault : fault ≡ ownFault l image
-  unfolding ownFault recoverFault lentFault
-  own-fault =
+  fault-is : fault ≡ acceptanceFault l image
+  unfolding acceptanceFault recoverFault lentFault
+  fault-is =
       ap (λ (k : ℕ). orElse (orElse (imageFault l image) k) (slotsFault l (word image) (slotsIn image))) (fits .size ∙ sym (index-fine (slotsIn image)))
 
   refusal-is : refusalIn (recoverResult l image heads next .answer) ≡ fault
@@ -56,8 +56,8 @@ module _ (l : ℕ) (image heads next : List ℕ) (fits : FitsIndex image heads n
       by-cases (ℕ-discrete fault 0) (λ z. ap (λ (r : Result). refusalIn (r .answer)) (recovery-taken l image heads next z) ∙ sym z)
       (λ nz. ap (λ (r : Result). refusalIn (r .answer)) (refused-keeps _ _ fault nz))
 
-  pub accepted-own : refusalIn (recoverResult l image heads next .answer) ≡ 0 → ownFault l image ≡ 0
-  accepted-own e = sym own-fault ∙ sym refusal-is ∙ e
+  pub accepted-clear : refusalIn (recoverResult l image heads next .answer) ≡ 0 → acceptanceFault l image ≡ 0
+  accepted-clear e = sym fault-is ∙ sym refusal-is ∙ e
 
   module _ (x : Recovered) (o : Openings) (heads′ next′ : List ℕ) (left : recoverEnd x o heads′ next′ ≡ recoverResult l image heads next) where
     abbrev end-with : Recovered → Result
@@ -65,7 +65,7 @@ module _ (l : ℕ) (image heads next : List ℕ) (fits : FitsIndex image heads n
 
     pub recovery-refused : (number slot : ℕ) → x ≡ Refused number slot → IndexedBy l image heads′ next′ (Nothing number)
     unfolding recoverEnd refusalIn recovered
-    recovery-refused number slot d = no-map (refusal ∙ own-fault) (λ z. never (sym refusal ∙ z))
+    recovery-refused number slot d = no-map (refusal ∙ fault-is) (λ z. never (sym refusal ∙ z))
       where
         e : end-with (Refused number slot) ≡ recoverResult l image heads next
         e = ap end-with (sym d) ∙ left
@@ -113,14 +113,14 @@ module _ (l : ℕ) (image heads next : List ℕ) where
   mapped (Map x) (is-map m) live e = let same : x ≡ live = cc in rw same at m
   mapped (Nothing k) (no-map p q) live e = absurd (let z : _≡_ {A = ℕ} 0 1 = cc in omega arith)
 
-  pub not-mapped : (i : Indexed) → IndexedBy l image heads next i → (number : ℕ) → i ≡ Nothing number → (number ≡ ownFault l image) × (number ≡ 0 → ⊥)
+  pub not-mapped : (i : Indexed) → IndexedBy l image heads next i → (number : ℕ) → i ≡ Nothing number → (number ≡ acceptanceFault l image) × (number ≡ 0 → ⊥)
   not-mapped (Map x) (is-map m) number e = absurd (let z : _≡_ {A = ℕ} 0 1 = cc in omega arith)
   not-mapped (Nothing k) (no-map p q) number e = let same : k ≡ number = cc in (sym same ∙ p, (λ z. q (same ∙ z)))
 
-  pub mapped-clear : (live : ℕ) → Mapped l image heads next live → ownFault l image ≡ 0
+  pub mapped-clear : (live : ℕ) → Mapped l image heads next live → acceptanceFault l image ≡ 0
   unfolding recoverFault lentFault
   mapped-clear live m =
       sym
-      (own-fault l image heads next
+      (fault-is l image heads next
       (record { size = orElse-zero (imageFault l image) _ (orElse-zero (lentFault l image (length heads) (length next)) _ (m .index .clear) .0) .1 }))
       ∙ m .index .clear

@@ -2,7 +2,7 @@
 use mathlib.Core.Path.{_≡_, refl, sym, ap, ap₂, _∙_}
 use mathlib.Core.Bool.{Bool, true, false, not, cond, _&&_}
 use mathlib.Core.List.{List, [], _∷_}
-use Prim.Native.Nat.{ℕ, zero, suc, _+_, _/_, _%_, _≤_, _<_}
+use Prim.Native.Nat.{ℕ, zero, suc, _+_, _-_, _/_, _%_, _≤_, _<_}
 use native.Mathlib.Numerals.{add-one}
 use native.Mathlib.Omega.{arith}
 use lib.Dec.{eqb}
@@ -10,7 +10,9 @@ use lib.ListN.{length, take, replicate, length-replicate}
 use borrow.Author.Tests.{eq-eqb, ne-eqb, eqb-true, not-false}
 use Rattle.prelude.specs.Refusal.{say, unlessRefused}
 use Rattle.prelude.specs.Answer.{gives, refused}
+use Rattle.prelude.specs.Range.{count}
 use Rattle.prelude.proofs.Choice.{false-left, false-right}
+use Rattle.prelude.proofs.Count.{count-most}
 use Rattle.prelude.proofs.Lists.{front-length}
 use Rattle.prelude.proofs.Refusals.{say-true, say-false, say-zero, orElse-first, orElse-later, orElse-zero, taken-leaves, refused-keeps}
 use Rattle.layout.specs.Size.{slotsOf, slotsIn}
@@ -20,7 +22,7 @@ use Rattle.stores.specs.Store.{played, zipped}
 use Rattle.stores.specs.Play.{Played, playEnd, playFault, counted, playResult}
 use Rattle.stores.proofs.Bytes.{played-length}
 use Rattle.cutcount.specs.Maps.{sameMap}
-use Rattle.cutcount.specs.CutCount.{ownFault, haveOneMap, cutImage, countFirst, countPairs, earlierCount, laterCount, lentCopiesFault, cutCountFault, cutCountSays, cutCountEnd, cutCountResult}
+use Rattle.cutcount.specs.CutCount.{acceptanceFault, haveOneMap, cutImage, pairTest, countPairs, earlierCount, laterCount, argumentsFault, cutCountFault, CutCountResult, cutCountSays, cutCountEnd, cutCountResult}
 use Rattle.cutcount.specs.declared.CutCounts.the-variants.{Counted, Refused}
 use Rattle.cutcount.specs.inner.Indexed.{IndexedBy}
 use Rattle.cutcount.specs.inner.Pairs.{FitsIndex, tallied, tallyOf, copyBefore}
@@ -36,14 +38,14 @@ module _ (l : ℕ) (a ha na b hb nb : List ℕ) (i j : Indexed) (p : IndexedBy l
   unfolding haveOneMap
   first-refused number e =
       let r = not-mapped l a ha na i p number e in
-      sym (false-left (eqb (ownFault l a) 0) _ (ne-eqb (ownFault l a) 0 (λ z. r .1 (r .0 ∙ z))))
+      sym (false-left (eqb (acceptanceFault l a) 0) _ (ne-eqb (acceptanceFault l a) 0 (λ z. r .1 (r .0 ∙ z))))
 
   pub second-refused : (number : ℕ) → j ≡ Nothing number → false ≡ haveOneMap l a b
   unfolding haveOneMap
   second-refused number e =
       let r = not-mapped l b hb nb j q number e in
       sym
-      (false-right (eqb (ownFault l a) 0) _ (false-left (eqb (ownFault l b) 0) _ (ne-eqb (ownFault l b) 0 (λ z. r .1 (r .0 ∙ z)))))
+      (false-right (eqb (acceptanceFault l a) 0) _ (false-left (eqb (acceptanceFault l b) 0) _ (ne-eqb (acceptanceFault l b) 0 (λ z. r .1 (r .0 ∙ z)))))
 
   pub both-mapped : (x y : ℕ) → i ≡ Map x → j ≡ Map y → (r : Bool) → r ≡ sameMap (tableOf l a) (slotsIn a) (tableOf l b) (slotsIn b) → r ≡ haveOneMap l a b
   unfolding haveOneMap
@@ -51,8 +53,8 @@ module _ (l : ℕ) (a ha na b hb nb : List ℕ) (i j : Indexed) (p : IndexedBy l
       s
       ∙ sym
       (ap₂ (λ (u v : Bool). u && (v && sameMap (tableOf l a) (slotsIn a) (tableOf l b) (slotsIn b)))
-      (eq-eqb (ownFault l a) 0 (mapped-clear l a ha na x (mapped l a ha na i p x d)))
-      (eq-eqb (ownFault l b) 0 (mapped-clear l b hb nb y (mapped l b hb nb j q y e))))
+      (eq-eqb (acceptanceFault l a) 0 (mapped-clear l a ha na x (mapped l a ha na i p x d)))
+      (eq-eqb (acceptanceFault l b) 0 (mapped-clear l b hb nb y (mapped l b hb nb j q y e))))
 
 -- ---- the image after a cut
 
@@ -97,19 +99,15 @@ zeros-fit image size n e h low =
 
 -- ---- the tally
 
-below-low : (p : ℕ → Bool) (n : ℕ) → countFirst p n ≤ n
-unfolding countFirst
-below-low p zero = omega arith
-below-low p (suc n) = go (p n) (below-low p n)
+pair-next : (p : ℕ → ℕ → Bool) (n : ℕ) (b : Bool) → b ≡ p (n / 9) (n % 9)
+    → cond b (count (pairTest p) n + 1) (count (pairTest p) n) ≡ count (pairTest p) (n + 1)
+unfolding count pairTest
+pair-next p n b e =
+    ap₂ (λ (x : Bool) (y : ℕ). cond x y (count (pairTest p) n)) (e ∙ ap (λ (k : ℕ). p (k / 9) (k % 9)) before) (add-one (count (pairTest p) n))
+    ∙ ap (count (pairTest p)) (sym (add-one n))
   where
-    go : (b : Bool) → countFirst p n ≤ n → cond b (suc (countFirst p n)) (countFirst p n) ≤ suc n
-    go true h = omega arith
-    go false h = omega arith
-
-below-next : (p : ℕ → Bool) (n : ℕ) (b : Bool) → b ≡ p n → cond b (countFirst p n + 1) (countFirst p n) ≡ countFirst p (n + 1)
-unfolding countFirst
-below-next p n b e =
-    ap₂ (λ (x : Bool) (y : ℕ). cond x y (countFirst p n)) e (add-one (countFirst p n)) ∙ ap (countFirst p) (sym (add-one n))
+    before : n ≡ suc n - 1
+    before = omega arith
 
 pub tallied-by : (t : Tally) (x y : Bool) (a b : ℕ) → a ≡ cond x (t .earlier + 1) (t .earlier) → b ≡ cond y (t .later + 1) (t .later)
     → record { earlier = a; later = b } ≡ tallied t x y
@@ -118,14 +116,14 @@ tallied-by t x y a b p q = ap₂ (λ (u v : ℕ). record { earlier = u; later = 
 
 module _ (l : ℕ) (image at value last : List ℕ) where
   tally-none : (t : Tally) → t .earlier ≡ 0 → t .later ≡ 0 → t ≡ tallyOf l image at value last 0
-  unfolding tallyOf countFirst
+  unfolding tallyOf count
   tally-none t p q = ap₂ (λ (x y : ℕ). record { earlier = x; later = y }) p q
 
   tally-low : (t : Tally) (n : ℕ) → t ≡ tallyOf l image at value last n → (t .earlier ≤ n) × (t .later ≤ n)
   unfolding tallyOf
   tally-low t n e = (
-    omega (arith, ap (λ (x : Tally). x .earlier) e, below-low (λ i. haveOneMap l image (cutImage image at value (i / 9) (i % 9))) n),
-    omega (arith, ap (λ (x : Tally). x .later) e, below-low (λ i. haveOneMap l last (cutImage image at value (i / 9) (i % 9))) n),
+    omega (arith, ap (λ (x : Tally). x .earlier) e, count-most (pairTest (λ a b. haveOneMap l image (cutImage image at value a b))) n),
+    omega (arith, ap (λ (x : Tally). x .later) e, count-most (pairTest (λ a b. haveOneMap l last (cutImage image at value a b))) n),
   )
 
   tally-next : (t r : Tally) (n : ℕ) (x y : Bool) (copy : List ℕ) → t ≡ tallyOf l image at value last n → copy ≡ cutImage image at value (n / 9) (n % 9)
@@ -134,8 +132,8 @@ module _ (l : ℕ) (image at value last : List ℕ) where
   tally-next t r n x y copy e c p q s =
       s ∙ ap (λ (u : Tally). tallied u x y) e
       ∙ ap₂ (λ (u v : ℕ). record { earlier = u; later = v })
-      (below-next (λ i. haveOneMap l image (cutImage image at value (i / 9) (i % 9))) n x (p ∙ ap (haveOneMap l image) c))
-      (below-next (λ i. haveOneMap l last (cutImage image at value (i / 9) (i % 9))) n y (q ∙ ap (haveOneMap l last) c))
+      (pair-next (λ a b. haveOneMap l image (cutImage image at value a b)) n x (p ∙ ap (haveOneMap l image) c))
+      (pair-next (λ a b. haveOneMap l last (cutImage image at value a b)) n y (q ∙ ap (haveOneMap l last) c))
 
 -- what the copy holds
 module _ (image at value copy : List ℕ) where
@@ -212,31 +210,31 @@ module _ (l : ℕ) (image at value last lent lentHeads lentNext copy heads next 
 -- ---- the lent slices
 
 module _ (len : ℕ) (at : List ℕ) (copy later fault : ℕ) (e : fault ≡ playFault len at 8 8) where
-  pub play-refuses : (fault ≡ 0 → ⊥) → fault ≡ lentCopiesFault len at copy later
-  unfolding lentCopiesFault
+  pub play-refuses : (fault ≡ 0 → ⊥) → fault ≡ argumentsFault len at copy later
+  unfolding argumentsFault
   play-refuses ne = e ∙ sym (orElse-first (playFault len at 8 8) _ (λ z. ne (e ∙ z)))
 
   module _ (z : fault ≡ 0) where
-    past-play : say (not (eqb copy len)) 1 (say (not (eqb later len)) 1 0) ≡ lentCopiesFault len at copy later
-    unfolding lentCopiesFault
+    past-play : say (not (eqb copy len)) 1 (say (not (eqb later len)) 1 0) ≡ argumentsFault len at copy later
+    unfolding argumentsFault
     past-play = sym (orElse-later (playFault len at 8 8) _ (sym e ∙ z))
 
-    pub copy-other : (copy ≡ len → ⊥) → 1 ≡ lentCopiesFault len at copy later
+    pub copy-other : (copy ≡ len → ⊥) → 1 ≡ argumentsFault len at copy later
     copy-other ne = sym (say-true (not (eqb copy len)) 1 _ (ap not (ne-eqb copy len ne))) ∙ past-play
 
     module _ (same : copy ≡ len) where
-      past-copy : say (not (eqb later len)) 1 0 ≡ lentCopiesFault len at copy later
+      past-copy : say (not (eqb later len)) 1 0 ≡ argumentsFault len at copy later
       past-copy = sym (say-false (not (eqb copy len)) 1 _ (ap not (eq-eqb copy len same))) ∙ past-play
 
-      pub later-other : (later ≡ len → ⊥) → 1 ≡ lentCopiesFault len at copy later
+      pub later-other : (later ≡ len → ⊥) → 1 ≡ argumentsFault len at copy later
       later-other ne = sym (say-true (not (eqb later len)) 1 _ (ap not (ne-eqb later len ne))) ∙ past-copy
 
-      pub copies-fine : later ≡ len → 0 ≡ lentCopiesFault len at copy later
+      pub copies-fine : later ≡ len → 0 ≡ argumentsFault len at copy later
       copies-fine d = sym (say-false (not (eqb later len)) 1 _ (ap not (eq-eqb later len d))) ∙ past-copy
 
 -- slices that are not refused are as long as the image
-pub copies-long : (len : ℕ) (at : List ℕ) (copy later fault : ℕ) → fault ≡ lentCopiesFault len at copy later → fault ≡ 0 → (copy ≡ len) × (later ≡ len)
-unfolding lentCopiesFault
+pub copies-long : (len : ℕ) (at : List ℕ) (copy later fault : ℕ) → fault ≡ argumentsFault len at copy later → fault ≡ 0 → (copy ≡ len) × (later ≡ len)
+unfolding argumentsFault
 copies-long len at copy later fault e z =
     let a = say-zero (not (eqb copy len)) 1 _ (orElse-zero (playFault len at 8 8) _ (sym e ∙ z) .1) (omega arith) in
     let b = say-zero (not (eqb later len)) 1 _ (a .1) (omega arith) in
@@ -253,17 +251,21 @@ module _ (l : ℕ) (image at value copy later : List ℕ) where
   denied number e ne =
       ap (λ (k : ℕ). record { answer = refused k; copy = copy; later = later }) e ∙ sym (refused-keeps _ _ fault (λ z. ne (e ∙ z)))
 
-  pub image-refused : (number : ℕ) → (number ≡ ownFault l image) × (number ≡ 0 → ⊥) → cutCountEnd (Refused number) copy later ≡ cutCountResult l image at value copy later
+  pub image-refused : (number : ℕ) → (number ≡ acceptanceFault l image) × (number ≡ 0 → ⊥) → cutCountEnd (Refused number) copy later ≡ cutCountResult l image at value copy later
   unfolding cutCountFault
-  image-refused number r = denied number (r .0 ∙ sym (orElse-first (ownFault l image) _ (λ z. r .1 (r .0 ∙ z)))) (r .1)
+  image-refused number r = denied number (r .0 ∙ sym (orElse-first (acceptanceFault l image) _ (λ z. r .1 (r .0 ∙ z)))) (r .1)
 
-  module _ (own : ownFault l image ≡ 0) (number : ℕ) (e : number ≡ lentCopiesFault (length image) at (length copy) (length later)) where
+  module _ (own : acceptanceFault l image ≡ 0) (number : ℕ) (e : number ≡ argumentsFault (length image) at (length copy) (length later)) where
     later-fault : number ≡ fault
     unfolding cutCountFault
-    later-fault = e ∙ sym (orElse-later (ownFault l image) _ own)
+    later-fault = e ∙ sym (orElse-later (acceptanceFault l image) _ own)
 
     pub lent-refused : (number ≡ 0 → ⊥) → cutCountEnd (Refused number) copy later ≡ cutCountResult l image at value copy later
     lent-refused ne = denied number later-fault ne
+
+    pub counts-given : number ≡ 0 → cutCountResult l image at value copy later .answer ≡ gives (earlierCount l image at value ∷ laterCount l image at value ∷ [])
+    unfolding cutCountResult
+    counts-given z = ap (λ (r : CutCountResult). r .answer) (taken-leaves _ _ fault (sym later-fault ∙ z))
 
     pub counted-all : number ≡ 0 → (t : Tally) (new all : List ℕ) → t ≡ tallyOf l image at value all 81 → new ≡ cutImage image at value 8 8
         → all ≡ cutImage image at value 8 8 → cutCountEnd (Counted (t .earlier) (t .later)) new all ≡ cutCountResult l image at value copy later

@@ -1,12 +1,13 @@
 -- Power cuts tried on paper. Document 02, A.9: "try all 81 pairs of counts for its two lines, recover each, and print how many gave the earlier map and how many
 -- the later"; "for any accepted image and any sixteen stores that play takes: what recovery then refuses has no map and counts for neither".
-use mathlib.Core.Bool.{Bool, cond, not, _&&_}
+use mathlib.Core.Bool.{Bool, not, _&&_}
 use mathlib.Core.List.{List, [], _∷_}
-use Prim.Native.Nat.{ℕ, zero, suc, _+_, _/_, _%_}
+use Prim.Native.Nat.{ℕ, _+_, _-_, _/_, _%_}
 use lib.Dec.{eqb}
 use lib.ListN.{length}
 use Rattle.prelude.specs.Refusal.{say, orElse, unlessRefused}
 use Rattle.prelude.specs.Answer.{Answer, gives, refused}
+use Rattle.prelude.specs.Range.{count}
 use Rattle.layout.specs.Size.{slotsIn}
 use Rattle.table.specs.Complete.{tableOf}
 use Rattle.stores.specs.Play.{playFault, playResult}
@@ -15,27 +16,26 @@ use Rattle.cutcount.specs.Maps.{sameMap}
 use Rattle.cutcount.specs.declared.CutCounts.{CutCounts}
 use Rattle.cutcount.specs.declared.CutCounts.the-variants.{Counted, Refused}
 
--- recovery's refusal of an image, with an index of the right size; 0 for none
-unfoldable pub ownFault : (l : ℕ) → (image : List ℕ) → ℕ
-ownFault l image = recoverFault l image 1 (slotsIn image + 1)
+-- the number with which recovery does not accept an image, with an index of the right size; 0 where it does
+unfoldable pub acceptanceFault : (l : ℕ) → (image : List ℕ) → ℕ
+acceptanceFault l image = recoverFault l image 1 (slotsIn image + 1)
 
 -- both images have a map, and it is one map: "what recovery then refuses has no map"
 unfoldable pub haveOneMap : (l : ℕ) → (one other : List ℕ) → Bool
 haveOneMap l one other =
-    eqb (ownFault l one) 0 && (eqb (ownFault l other) 0 && sameMap (tableOf l one) (slotsIn one) (tableOf l other) (slotsIn other))
+    eqb (acceptanceFault l one) 0 && (eqb (acceptanceFault l other) 0 && sameMap (tableOf l one) (slotsIn one) (tableOf l other) (slotsIn other))
 
--- the image that a cut leaves which lets a first stores of the first line stand and b of the second
+-- the image that a cut leaves which lets the first a stores of the first half stand and the first b of the second
 unfoldable pub cutImage : (image at value : List ℕ) → (a b : ℕ) → List ℕ
 cutImage image at value a b = playResult image at value a b .bytes
 
--- how many of the numbers below n pass a test
-unfoldable pub countFirst : (ℕ → Bool) → (n : ℕ) → ℕ
-countFirst p zero = 0
-countFirst p (suc n) = cond (p n) (suc (countFirst p n)) (countFirst p n)
+-- "all 81 pairs of counts": 0 to 8 for each line, pair number 9 a + b + 1 is that of a and b. A test of pair number t
+unfoldable pub pairTest : (ℕ → ℕ → Bool) → (t : ℕ) → Bool
+pairTest p t = p ((t - 1) / 9) ((t - 1) % 9)
 
--- "all 81 pairs of counts": 0 to 8 for each line, number 9 a + b is the pair of a and b. How many of them pass a test
+-- how many of them pass a test
 unfoldable pub countPairs : (ℕ → ℕ → Bool) → ℕ
-countPairs p = countFirst (λ i. p (i / 9) (i % 9)) 81
+countPairs p = count (pairTest p) 81
 
 -- "how many gave the earlier map"
 unfoldable pub earlierCount : (l : ℕ) → (image at value : List ℕ) → ℕ
@@ -47,14 +47,14 @@ laterCount l image at value = countPairs (λ a b. haveOneMap l (cutImage image a
 
 -- ---- the call: it is lent two slices as long as the image, and leaves in both the image with all stores played
 
--- play's refusal; then 1 for a slice that has not the image's length
-unfoldable pub lentCopiesFault : (len : ℕ) → (at : List ℕ) → (copy later : ℕ) → ℕ
-lentCopiesFault len at copy later =
+-- by what is given beside the image: play's refusal; then 1 for a slice that has not the image's length
+unfoldable pub argumentsFault : (len : ℕ) → (at : List ℕ) → (copy later : ℕ) → ℕ
+argumentsFault len at copy later =
     orElse (playFault len at 8 8) (say (not (eqb copy len)) 1 (say (not (eqb later len)) 1 0))
 
 -- recovery's refusal comes first
 unfoldable pub cutCountFault : (l : ℕ) → (image at : List ℕ) → (copy later : ℕ) → ℕ
-cutCountFault l image at copy later = orElse (ownFault l image) (lentCopiesFault (length image) at copy later)
+cutCountFault l image at copy later = orElse (acceptanceFault l image) (argumentsFault (length image) at copy later)
 
 -- what it answers and leaves
 pub record CutCountResult : Type 0 where

@@ -26,7 +26,7 @@ fn copy_bytes(from: &[u8], to: &mut [u8])
     }
 }
 
-// The image after the first a stores of the first line and the first b of the second, with its index.
+// The image after the first a stores of the first half and the first b of the second, with its index.
 pub fn cut_copy(
     image: &[u8],
     l: usize,

@@ -4,7 +4,7 @@ ghost use Prim.Native.Nat.{_<_};
 ghost use lib.ListN.{length};
 ghost use Rattle.layout.specs.Size.{slotsIn};
 ghost use Rattle.layout.specs.Record.{Layout};
-ghost use Rattle.cutcount.specs.CutCount.{lentCopiesFault, cutImage, cutCountEnd, cutCountResult};
+ghost use Rattle.cutcount.specs.CutCount.{argumentsFault, cutImage, cutCountEnd, cutCountResult};
 ghost use Rattle.cutcount.specs.inner.Indexed.{IndexedBy};
 ghost use Rattle.cutcount.specs.inner.Pairs.{FitsIndex, tallyOf};
 use crate::maps::index_image;
@@ -17,8 +17,8 @@ use stores::Stores;
 use stores_code::play::play_fault;
 
 // 15 by the stores, or 1 by the length of a lent slice, else 0.
-fn lent_copies_fault(len: usize, stores: Stores, copy: usize, later: usize) -> u32
-    ensures { λ r. ⌜ r ≡ lentCopiesFault len (stores .at) copy later ⌝ }
+fn arguments_fault(len: usize, stores: Stores, copy: usize, later: usize) -> u32
+    ensures { λ r. ⌜ r ≡ argumentsFault len (stores .at) copy later ⌝ }
 {
     let at = stores.at;
     let fault = play_fault(len, &at, 8, 8);
@@ -91,7 +91,7 @@ fn count_with(
     match index {
         Indexed::Nothing(number) => CutCounts::Refused(number),
         Indexed::Map(_) => {
-            let fault = lent_copies_fault(image.len(), stores, copy.len(), later.len());
+            let fault = arguments_fault(image.len(), stores, copy.len(), later.len());
             if fault != 0 {
                 return CutCounts::Refused(fault);
             }

@@ -4,7 +4,7 @@ use mathlib.Core.Bool.{Bool, true, false, cond, _&&_}
 use mathlib.Core.Logic.{_⊎_, inl, inr, by-cases}
 use mathlib.Core.Option.{Option, some, none}
 use mathlib.Core.List.{List, [], _∷_}
-use Prim.Native.Nat.{ℕ, zero, suc, _+_, _*_, _/_, _%_, _≤_, _<_}
+use Prim.Native.Nat.{ℕ, _+_, _-_, _*_, _/_, _%_, _≤_}
 use native.Mathlib.Decide.{ℕ-discrete}
 use native.Mathlib.Omega.{arith}
 use lib.Dec.{eqb}
@@ -12,7 +12,9 @@ use lib.ListN.{length, replicate, length-replicate}
 use borrow.Author.Tests.{eqb-true, eq-eqb, ne-eqb}
 use Rattle.words.specs.Word.{word}
 use Rattle.prelude.specs.Members.{none-left}
-use Rattle.prelude.specs.Answer.{refuses}
+use Rattle.prelude.specs.Answer.{gives, refuses}
+use Rattle.prelude.specs.Range.{count}
+use Rattle.prelude.proofs.Count.{count-same}
 use Rattle.prelude.proofs.Choice.{pick-true, pick-false, split, true-false, both, both-of, is-false, same-test}
 use Rattle.layout.specs.Size.{slotsOf, slotsIn}
 use Rattle.layout.specs.Header.{indexFault}
@@ -27,10 +29,10 @@ use Rattle.stores.proofs.AllStand.{stand-lines, lines-stand}
 use Rattle.stores.proofs.Table.{record-carries, record-off}
 use Rattle.cutcount.specs.Maps.{sameValue, sameMap}
 use Rattle.recovery.specs.Recover.{recoverFault}
-use Rattle.cutcount.specs.CutCount.{ownFault, haveOneMap, cutImage, countFirst, countPairs, earlierCount, laterCount}
+use Rattle.cutcount.specs.CutCount.{acceptanceFault, haveOneMap, cutImage, pairTest, countPairs, earlierCount, laterCount, cutCountResult}
 use Rattle.cutcount.proofs.Maps.{decides-equal, same-value, value-same}
-use Rattle.cutcount.proofs.Indexes.{index-fine, accepted-own}
-use Rattle.cutcount.proofs.Pairs.{cut-length}
+use Rattle.cutcount.proofs.Indexes.{index-fine, accepted-clear}
+use Rattle.cutcount.proofs.Pairs.{cut-length, copies-fine, counts-given}
 use Rattle.plainmap.specs.World.{World, Call, write, remove, get, locate, called, calledGet, calledLocate}
 use Rattle.plainmap.specs.Plain.{PlainMap, updates, updated, plainNext, plainStep, plainAnswer}
 use Rattle.plainmap.specs.Claims.{Typed, slotsMap, dueFault, Right}
@@ -96,11 +98,11 @@ module _ (l : ℕ) (m : ℕ → ℕ) (s key kind number : ℕ) (value : List ℕ
 
 -- ---- two images with known maps
 
-module _ (l : ℕ) (x y : List ℕ) (fx : ownFault l x ≡ 0) (fy : ownFault l y ≡ 0) where
+module _ (l : ℕ) (x y : List ℕ) (fx : acceptanceFault l x ≡ 0) (fy : acceptanceFault l y ≡ 0) where
   one-map-is : haveOneMap l x y ≡ sameMap (tableOf l x) (slotsIn x) (tableOf l y) (slotsIn y)
   unfolding haveOneMap
   one-map-is =
-      ap₂ (λ (u v : Bool). u && (v && sameMap (tableOf l x) (slotsIn x) (tableOf l y) (slotsIn y))) (eq-eqb (ownFault l x) 0 fx) (eq-eqb (ownFault l y) 0 fy)
+      ap₂ (λ (u v : Bool). u && (v && sameMap (tableOf l x) (slotsIn x) (tableOf l y) (slotsIn y))) (eq-eqb (acceptanceFault l x) 0 fx) (eq-eqb (acceptanceFault l y) 0 fy)
 
   equal-one-map : ((k : ℕ) → slotsMap l x k ≡ slotsMap l y k) → haveOneMap l x y ≡ true
   equal-one-map e = one-map-is ∙ decides-equal (tableOf l x) (slotsIn x) (tableOf l y) (slotsIn y) .test e
@@ -196,11 +198,11 @@ module _ (l : ℕ) (lay : Layout l) (w : World) (m : PlainMap) (g : Agrees l w m
     left-recovers : Recovers l (left a b) (mapAfterEvent l w m (struck call (cutAt a b)))
     left-recovers = subst (λ (x : List ℕ). Recovers l x (mapAfterEvent l w m (struck call (cutAt a b)))) (sym left-is) recovers
 
-    left-own : ownFault l (left a b) ≡ 0
-    left-own =
+    left-clear : acceptanceFault l (left a b) ≡ 0
+    left-clear =
         let same : slotsIn (left a b) ≡ slotsIn (w .image) = ap slotsOf (cut-length (w .image) (wordNumbers ss) (values ss) a b) in
         let size : indexFault (slotsIn (left a b)) (length heads) (length next) ≡ 0 = ap (λ (n : ℕ). indexFault n (length heads) (length next)) same ∙ fits in
-        accepted-own l (left a b) heads next (record { size = size }) (left-recovers .accepts heads next size)
+        accepted-clear l (left a b) heads next (record { size = size }) (left-recovers .accepts heads next size)
 
     -- the map that it leaves
     left-map : (k : ℕ) → slotsMap l (left a b) k ≡ cond (isFull a b) (plainNext (updates call) m) m k
@@ -217,9 +219,9 @@ module _ (l : ℕ) (lay : Layout l) (w : World) (m : PlainMap) (g : Agrees l w m
   changed : Changes m call
   changed = changes l w m call some-there right not-refused
 
-  image-own : ownFault l (w .image) ≡ 0
-  unfolding ownFault
-  image-own =
+  image-clear : acceptanceFault l (w .image) ≡ 0
+  unfolding acceptanceFault
+  image-clear =
       ap (recoverFault l (w .image) 1) (sym (length-replicate (slotsIn (w .image) + 1) 0)) ∙ set-laws l lay .accepts w m g heads next fits
 
   later-map : (k : ℕ) → slotsMap l (left 8 8) k ≡ plainNext (updates call) m k
@@ -229,7 +231,7 @@ module _ (l : ℕ) (lay : Layout l) (w : World) (m : PlainMap) (g : Agrees l w m
     -- the earlier map, by whether all stores stand
     earlier-by : (x : Bool) → isFull a b ≡ x → Changes m call → haveOneMap l (w .image) (left a b) ≡ cond x equal true
     earlier-by x f (same-map e h) =
-        equal-one-map l (w .image) (left a b) image-own (left-own a b p q)
+        equal-one-map l (w .image) (left a b) image-clear (left-clear a b p q)
         (λ k. g .map k ∙ sym (left-map a b p q k ∙ ap (λ (y : Bool). cond y (plainNext (updates call) m) m k) f ∙ either x k))
         ∙ sym (chosen x)
       where
@@ -245,19 +247,19 @@ module _ (l : ℕ) (lay : Layout l) (w : World) (m : PlainMap) (g : Agrees l w m
         (λ s.
         h
         (λ k.
-        sym (sym (g .map k) ∙ one-map-equal l (w .image) (left a b) image-own (left-own a b p q) s k
+        sym (sym (g .map k) ∙ one-map-equal l (w .image) (left a b) image-clear (left-clear a b p q) s k
         ∙ left-map a b p q k ∙ ap (λ (y : Bool). cond y (plainNext (updates call) m) m k) f)))
         ∙ sym e
     earlier-by false f (other-map e h) =
-        equal-one-map l (w .image) (left a b) image-own (left-own a b p q)
+        equal-one-map l (w .image) (left a b) image-clear (left-clear a b p q)
         (λ k. g .map k ∙ sym (left-map a b p q k ∙ ap (λ (y : Bool). cond y (plainNext (updates call) m) m k) f))
 
     later-by : (x : Bool) → isFull a b ≡ x → Changes m call → haveOneMap l (left 8 8) (left a b) ≡ cond x true equal
     later-by true f c =
-        equal-one-map l (left 8 8) (left a b) (left-own 8 8 (omega arith) (omega arith)) (left-own a b p q)
+        equal-one-map l (left 8 8) (left a b) (left-clear 8 8 (omega arith) (omega arith)) (left-clear a b p q)
         (λ k. later-map k ∙ sym (left-map a b p q k ∙ ap (λ (y : Bool). cond y (plainNext (updates call) m) m k) f))
     later-by false f (same-map e h) =
-        equal-one-map l (left 8 8) (left a b) (left-own 8 8 (omega arith) (omega arith)) (left-own a b p q)
+        equal-one-map l (left 8 8) (left a b) (left-clear 8 8 (omega arith) (omega arith)) (left-clear a b p q)
         (λ k. later-map k ∙ h k ∙ sym (left-map a b p q k ∙ ap (λ (y : Bool). cond y (plainNext (updates call) m) m k) f))
         ∙ sym e
     later-by false f (other-map e h) =
@@ -265,32 +267,37 @@ module _ (l : ℕ) (lay : Layout l) (w : World) (m : PlainMap) (g : Agrees l w m
         (λ s.
         h
         (λ k.
-        sym (later-map k) ∙ one-map-equal l (left 8 8) (left a b) (left-own 8 8 (omega arith) (omega arith)) (left-own a b p q) s k
+        sym (later-map k) ∙ one-map-equal l (left 8 8) (left a b) (left-clear 8 8 (omega arith) (omega arith)) (left-clear a b p q) s k
         ∙ left-map a b p q k ∙ ap (λ (y : Bool). cond y (plainNext (updates call) m) m k) f))
         ∙ sym e
 
   -- ---- all pairs
 
-  below-same : (p q : ℕ → Bool) (n : ℕ) → ((i : ℕ) → i < n → p i ≡ q i) → countFirst p n ≡ countFirst q n
-  unfolding countFirst
-  below-same p q zero h = refl
-  below-same p q (suc n) h = ap₂ (λ (x : Bool) (y : ℕ). cond x (suc y) y) (h n (omega arith)) (below-same p q n (λ i j. h i (omega arith)))
+  pairs-same : (p q : ℕ → ℕ → Bool) → ((a b : ℕ) → a ≤ 8 → b ≤ 8 → p a b ≡ q a b) → countPairs p ≡ countPairs q
+  unfolding countPairs pairTest
+  pairs-same p q h = count-same (pairTest p) (pairTest q) 81 (λ t i. h ((t - 1) / 9) ((t - 1) % 9) (omega arith) (omega arith))
 
-  all-pairs : (x : Bool)
-      → countFirst (λ i. cond (isFull (i / 9) (i % 9)) x true) 81 ∷ countFirst (λ i. cond (isFull (i / 9) (i % 9)) true x) 81 ∷ []
-      ≡ cond x (81 ∷ 81 ∷ []) (80 ∷ 1 ∷ [])
-  unfolding countFirst
+  all-pairs : (x : Bool) → countPairs (λ a b. cond (isFull a b) x true) ∷ countPairs (λ a b. cond (isFull a b) true x) ∷ [] ≡ cond x (81 ∷ 81 ∷ []) (80 ∷ 1 ∷ [])
+  unfolding countPairs pairTest count
   all-pairs true = refl
   all-pairs false = refl
 
   counted : earlierCount l (w .image) (wordNumbers ss) (values ss) ∷ laterCount l (w .image) (wordNumbers ss) (values ss) ∷ [] ≡ dueCounts m call
-  unfolding earlierCount laterCount countPairs dueCounts
+  unfolding earlierCount laterCount dueCounts
   counted =
-      ap₂ (λ (x y : ℕ). x ∷ y ∷ [])
-      (below-same _ _ 81 (λ i h. earlier-by (i / 9) (i % 9) (omega arith) (omega arith) _ refl changed))
-      (below-same _ _ 81 (λ i h. later-by (i / 9) (i % 9) (omega arith) (omega arith) _ refl changed))
+      ap₂ (λ (x y : ℕ). x ∷ y ∷ []) (pairs-same _ _ (λ a b p q. earlier-by a b p q _ refl changed)) (pairs-same _ _ (λ a b p q. later-by a b p q _ refl changed))
       ∙ all-pairs equal
+
+  -- play takes the stores, so that nothing is refused
+  answered : (copy later : List ℕ) → length copy ≡ length (w .image) → length later ≡ length (w .image)
+      → cutCountResult l (w .image) (wordNumbers ss) (values ss) copy later .answer ≡ gives (dueCounts m call)
+  answered copy later p q =
+      counts-given l (w .image) (wordNumbers ss) (values ss) copy later image-clear 0
+      (copies-fine (length (w .image)) (wordNumbers ss) (length copy) (length later) 0
+      (sym (set-laws l lay .plays w m g call t some-there 8 8 (omega arith) (omega arith))) refl p q)
+      refl
+      ∙ ap gives counted
 
 -- THE CUTS OF EVERY CALL THAT STORES
 pub cuts-counted : (l : ℕ) → Layout l → CutsCounted l (Agrees l)
-cuts-counted l lay w m g call t some-there = counted l lay w m g call t some-there
+cuts-counted l lay w m g call t some-there = answered l lay w m g call t some-there

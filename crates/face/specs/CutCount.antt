@@ -4,9 +4,11 @@ use mathlib.Core.Bool.{Bool, false, cond}
 use mathlib.Core.Option.{some}
 use mathlib.Core.List.{List, [], _∷_}
 use Prim.Native.Nat.{ℕ}
+use lib.ListN.{length}
+use Rattle.prelude.specs.Answer.{gives}
 use Rattle.stores.specs.Play.{wordNumbers, values}
 use Rattle.cutcount.specs.Maps.{sameValue}
-use Rattle.cutcount.specs.CutCount.{earlierCount, laterCount}
+use Rattle.cutcount.specs.CutCount.{cutCountResult}
 use Rattle.plainmap.specs.World.{World, Call, write, remove, get, locate, called}
 use Rattle.plainmap.specs.Plain.{PlainMap}
 use Rattle.plainmap.specs.Claims.{Typed}
@@ -22,10 +24,10 @@ isEqualReplace m (locate key) = false
 unfoldable pub dueCounts : PlainMap → Call → List ℕ
 dueCounts m call = cond (isEqualReplace m call) (81 ∷ 81 ∷ []) (80 ∷ 1 ∷ [])
 
--- the counts of every call that stores, where Inv says that the index is the image's own and m its map
+-- what `count_cuts` answers of every call that stores, where Inv says that the index is the image's own and m its map, and the two lent slices are as long as the image
 abbrev pub CutsCounted : (l : ℕ) → (Inv : World → PlainMap → Type 0) → Type 0
 CutsCounted l Inv =
     (w : World) (m : PlainMap) → Inv w m → (call : Call) → Typed l call → (called l w call .stores ≡ [] → ⊥)
-    → earlierCount l (w .image) (wordNumbers (called l w call .stores)) (values (called l w call .stores)) ∷
-    laterCount l (w .image) (wordNumbers (called l w call .stores)) (values (called l w call .stores)) ∷ []
-    ≡ dueCounts m call
+    → (copy later : List ℕ) → length copy ≡ length (w .image) → length later ≡ length (w .image)
+    → cutCountResult l (w .image) (wordNumbers (called l w call .stores)) (values (called l w call .stores)) copy later .answer
+    ≡ gives (dueCounts m call)

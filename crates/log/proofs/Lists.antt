@@ -2,26 +2,26 @@
 use mathlib.Core.Path.{_≡_, refl, sym, ap, ap₂, _∙_}
 use mathlib.Core.Bool.{Bool}
 use mathlib.Core.Logic.{by-cases}
-use mathlib.Core.List.{List, [], _∷_, _++_}
+use mathlib.Core.List.{List, _++_}
 use Prim.Native.Nat.{ℕ, zero, suc, _≤_, min}
 use native.Mathlib.Omega.{arith}
-use borrow.Author.Tests.{lt-ltb, ltb-true, ltb-false}
+use borrow.Author.Tests.{ltb-false}
 use native.Mathlib.Decide.{decLt}
 use lib.ListN.{length, take, drop}
-use Rattle.prelude.specs.Answer.{Answer, gives, absent, refused}
 use Rattle.prelude.specs.Refusal.{say, orElse, unlessRefused}
 use Rattle.prelude.proofs.Refusals.{orElse-zero, say-zero}
-use Rattle.prelude.proofs.Choice.{same-test}
+use Rattle.prelude.proofs.Choice.{lesser-short}
 use Rattle.words.specs.Word.{word}
 use Rattle.layout.specs.Line.{versionFault}
 use Rattle.stores.specs.Store.{Store, zipped}
 use Rattle.stores.specs.inner.List.{storesPut}
-use Rattle.stores.proofs.ListPut.{front-length, front-stores}
+use Rattle.stores.proofs.ListPut.{zipped-length, front-stores}
 use Rattle.log.specs.Area.{cellsIn, areaFault}
 use Rattle.log.specs.Message.{highest}
 use Rattle.log.specs.Handed.{handedSays, shortFault, LogResult, logEnd, handing, LogListResult, logListEnd, handingList}
 use Rattle.log.specs.Append.{nextMessage, appendStores, messageFault, appendFault, appendResult}
 use Rattle.log.specs.Recover.{recoveryStores, logRecoverFault, logRecoverResult}
+use Rattle.log.specs.Rule.{countGiven}
 use Rattle.log.specs.inner.List.{handedCount, storesHanded, StoresMade}
 use Rattle.log.specs.declared.Handed.{Handed}
 use Rattle.log.specs.declared.Handed.the-variants.{Given, Refused}
@@ -33,10 +33,7 @@ use Rattle.log.proofs.Plans.{append-few}
 
 short-room : (count size room : ℕ) → count ≤ size → shortFault count (min size room) (min size room) ≡ shortFault count room room
 unfolding shortFault
-short-room count size room h =
-    ap (λ (t : Bool). say t 13 (say t 13 0))
-    (same-test _ _ (λ e. lt-ltb room count (omega (arith, ltb-true (min size room) count e)))
-    (λ e. lt-ltb (min size room) count (omega (arith, ltb-true room count e))))
+short-room count size room h = ap (λ (t : Bool). say t 13 (say t 13 0)) (lesser-short count size room h)
 
 held : (count room : ℕ) → shortFault count room room ≡ 0 → count ≤ room
 unfolding shortFault
@@ -44,16 +41,8 @@ held count room z = ltb-false room count (say-zero _ _ _ z (omega arith) .0)
 
 -- ---- what a call that made its stores in arrays left
 
--- how many stores an answer hands out
-countIn : Answer → ℕ
-countIn (gives []) = 0
-countIn (gives (number ∷ [])) = 0
-countIn (gives (number ∷ count ∷ given)) = count
-countIn absent = 0
-countIn (refused number) = 0
-
-says-count : (a : Handed) → handedCount a ≡ countIn (handedSays a)
-unfolding handedCount handedSays countIn
+says-count : (a : Handed) → handedCount a ≡ countGiven (handedSays a)
+unfolding handedCount handedSays countGiven
 says-count (Given number count) = refl
 says-count (Refused number) = refl
 
@@ -62,7 +51,7 @@ made : (size room fault number : ℕ) (ss : List Store) → length ss ≤ size �
     → (a : Handed) (at₀ value₀ at₁ value₁ rest rest′ : List ℕ) (stored : ℕ) → stored ≡ handedCount a
     → logEnd (handedSays a) at₁ value₁ ≡ handing fault number ss at₀ value₀
     → StoresMade size room fault number ss a stored (at₁ ++ rest) (value₁ ++ rest′)
-unfolding handing storesHanded unlessRefused countIn zipped
+unfolding handing storesHanded unlessRefused countGiven zipped
 made size room zero number ss few fits a at₀ value₀ at₁ value₁ rest rest′ stored es e =
     record {
       left =
@@ -74,7 +63,7 @@ made size room zero number ss few fits a at₀ value₀ at₁ value₁ rest rest
     }
   where
     all : stored ≡ length ss
-    all = es ∙ says-count a ∙ ap (λ (r : LogResult). countIn (r .answer)) e
+    all = es ∙ says-count a ∙ ap (λ (r : LogResult). countGiven (r .answer)) e
 made size room (suc k) number ss few fits a at₀ value₀ at₁ value₁ rest rest′ stored es e =
     record {
       left =
@@ -85,7 +74,7 @@ made size room (suc k) number ss few fits a at₀ value₀ at₁ value₁ rest r
     }
   where
     none : stored ≡ 0
-    none = es ∙ says-count a ∙ ap (λ (r : LogResult). countIn (r .answer)) e
+    none = es ∙ says-count a ∙ ap (λ (r : LogResult). countGiven (r .answer)) e
 
 module _ (area : List ℕ) (room : ℕ) (a : Handed) (at₀ value₀ at₁ value₁ : List ℕ) (stored : ℕ) (rest rest′ : List ℕ) (es : stored ≡ handedCount a) where
   -- ---- an append
@@ -153,6 +142,6 @@ pub in-list : (size room fault number : ℕ) (ss : List Store) (a : Handed) (sto
 in-list size room fault number ss a stored at value at′ value′ it ea ev na nv list zs e =
     ap (logListEnd (handedSays a)) (e ∙ ap₂ (λ (x y : List ℕ). storesPut x y stored list) ea ev)
     ∙ ap (λ (n : ℕ). logListEnd (handedSays a) (zipped (take stored at) (take stored value) ++ drop n list))
-    (sym (front-length at value stored (omega (arith, it .in-arrays, ap length ea, na)) (omega (arith, it .in-arrays, ap length ev, nv))))
+    (sym (zipped-length at value stored (omega (arith, it .in-arrays, ap length ea, na)) (omega (arith, it .in-arrays, ap length ev, nv))))
     ∙ ap (λ (r : LogListResult). logListEnd (r .answer) (r .list ++ drop (length (r .list)) list)) (it .left)
     ∙ filled fault number ss list

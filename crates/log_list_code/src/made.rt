@@ -1,6 +1,5 @@
 // An append and a recovery whose stores are made in arrays.
 ghost use mathlib.Core.Path.{_≡_};
-ghost use Prim.Native.Nat.{min};
 ghost use Rattle.words.specs.Word.{word};
 ghost use Rattle.log.specs.Area.{cellsIn};
 ghost use Rattle.log.specs.Message.{highest};
@@ -12,6 +11,7 @@ use log::Handed;
 use log::RecoveryMade;
 use log_code::append;
 use log_code::recover_log;
+use words_code::lesser;
 
 // How many stores are handed out.
 fn handed_count(answer: Handed) -> usize
@@ -23,23 +23,13 @@ fn handed_count(answer: Handed) -> usize
     }
 }
 
-// As many numbers as the list has room for, and no more than this size.
-fn at_most(size: usize, room: usize) -> usize
-    ensures { λ r. ⌜ r ≡ min size room ⌝ }
-{
-    if room < size {
-        return room;
-    }
-    size
-}
-
 // An append for a list with this room.
 pub fn append_made(area: &[u8], message: &[u8], room: usize) -> AppendMade
     ensures { λ r. ⌜ StoresMade 56 room (appendFault (now (area .entry)) (now (message .entry)) room room) (nextMessage (cellsIn (now (area .entry))) (word (now (area .entry)))) (appendStores (cellsIn (now (area .entry))) (word (now (area .entry))) (now (message .entry))) (r .answer) (r .stored) (r .at) (r .value) ⌝ }
 {
     let mut at = [0u32; 56];
     let mut value = [0u64; 56];
-    let n = at_most(56, room);
+    let n = lesser(56, room);
     let answer = append(area, message, &mut at[..n], &mut value[..n]);
     let stored = handed_count(answer);
     AppendMade {
@@ -56,7 +46,7 @@ pub fn recovery_made(area: &[u8], room: usize) -> RecoveryMade
 {
     let mut at = [0u32; 1000];
     let mut value = [0u64; 1000];
-    let n = at_most(1000, room);
+    let n = lesser(1000, room);
     let answer = recover_log(area, &mut at[..n], &mut value[..n]);
     let stored = handed_count(answer);
     RecoveryMade {

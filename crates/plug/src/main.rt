@@ -1,52 +1,74 @@
 // The release trace: calls in the lines of the trial session on standard input, and for each call that stores one line on standard output, with how many
-// of its 81 cuts leave the earlier map and how many the later.
+// of its 81 cuts leave the earlier map and how many the later. Each second a line on standard error says how far it is.
 mod step;
 
-use crate::step::Trace;
-use crate::step::start_trace;
 use crate::step::take_byte;
 use crate::step::take_end;
+use console::Status;
+use console::after_byte;
+use console::flush;
 use libc::STDIN_FILENO;
-use libc::STDOUT_FILENO;
+use show::progress::counted;
+use show::progress::seconds;
+use std::num::wrapping_add_u64;
+use stream_code::stream::open_stream;
 
-// Where the trace stands, whether the input may have more, and whether every write so far succeeded.
-struct Status {
-    trace: Trace,
-    reading: bool,
-    written: bool,
+// How many lines were read and how many calls tried, and the second of the last line on standard error.
+struct Tried {
+    lines: u64,
+    calls: u64,
+    second: i64,
 }
 
-// The stored output is written; where that fails, nothing more is read or written.
-fn flush(trace: Trace, out: &[u8]) -> Status {
-    let at = trace.at;
-    let mut written = false;
-    if at <= out.len() {
-        written = io::write_all(STDOUT_FILENO, &out[..at]);
+struct Run {
+    status: Status,
+    tried: Tried,
+}
+
+// Where another second has begun, a line on standard error says how many lines were read and calls tried.
+fn show_progress(lines: u64, calls: u64, second: i64) -> Tried {
+    let now = seconds();
+    if now != second {
+        counted(lines, b" lines, ");
+        counted(calls, b" calls tried\n");
     }
-    let mut flushed = trace;
-    flushed.at = 0;
-    Status {
-        trace: flushed,
-        reading: written,
-        written,
+    Tried {
+        lines,
+        calls,
+        second: now,
     }
 }
 
-// After a byte: the output is written before a further line might lack room.
-fn after_byte(trace: Trace, out: &[u8]) -> Status {
-    if trace.at < out.len() && 64 <= out.len() - trace.at {
-        return Status {
-            trace,
-            reading: true,
-            written: true,
-        };
+// After a byte: the end of a line is one line more, and one call more where output was stored for it.
+fn count_byte(t: Tried, byte: u8, stored: bool) -> Tried {
+    if byte != 10 {
+        return t;
     }
-    flush(trace, out)
+    let lines = wrapping_add_u64(t.lines, 1);
+    if stored {
+        return show_progress(lines, wrapping_add_u64(t.calls, 1), t.second);
+    }
+    show_progress(lines, t.calls, t.second)
+}
+
+// Before the first byte.
+fn start() -> Run {
+    let status = Status {
+        progress: open_stream(),
+        reading: true,
+        written: true,
+    };
+    let tried = Tried {
+        lines: 0,
+        calls: 0,
+        second: seconds(),
+    };
+    Run { status, tried }
 }
 
 // The bytes of one read, up to a write that fails; where there are none, the input has ended.
 fn take_bytes(
-    t: Status,
+    r: Run,
     input: &[u8],
     image: &mut [u8],
     heads: &mut [u32],
@@ -54,18 +76,20 @@ fn take_bytes(
     copy: &mut [u8],
     later: &mut [u8],
     out: &mut [u8],
-) -> Status {
-    let mut u = t;
+) -> Run {
+    let mut u = r.status;
+    let mut tried = r.tried;
     u.reading = input.len() != 0;
     let mut i = 0;
     while i < input.len() && u.written {
         let byte = input[i];
         i += 1;
-        let trace = u.trace;
-        let after = take_byte(trace, byte, image, heads, next, copy, later, out);
-        u = after_byte(after, out);
+        let p = u.progress;
+        let q = take_byte(p, byte, image, heads, next, copy, later, out);
+        tried = count_byte(tried, byte, p.at < q.at);
+        u = after_byte(q, out);
     }
-    u
+    Run { status: u, tried }
 }
 
 // The reads are counted, since nothing says that the input ends.
@@ -77,17 +101,13 @@ fn main() {
     let mut later = [0u8; 65536];
     let mut heads = [0u32; 1];
     let mut next = [0u32; 512];
-    let mut t = Status {
-        trace: start_trace(),
-        reading: true,
-        written: true,
-    };
+    let mut r = start();
     let mut reads = u64::MAX;
-    while reads > 0 && t.reading {
+    while reads > 0 && r.status.reading {
         let got = libc::read(STDIN_FILENO, &mut input);
         let n = io::count(got, &input);
-        t = take_bytes(
-            t,
+        r = take_bytes(
+            r,
             &input[..n],
             &mut image,
             &mut heads,
@@ -98,10 +118,11 @@ fn main() {
         );
         reads -= 1;
     }
-    if t.written {
-        let trace = t.trace;
+    let status = r.status;
+    if status.written {
+        let p = status.progress;
         let last = take_end(
-            trace,
+            p,
             &mut image,
             &mut heads,
             &mut next,

@@ -1,38 +1,25 @@
 // One line of a trace: a call is made, its cuts are tried, and all its stores are played.
-ghost use Prim.Native.Nat.{_≤_};
 use orderset::Change;
 use orderset::CutCounts;
 use orderset::Outcome;
 use orderset::Stores;
 use orderset::count_cuts;
 use orderset::remove;
+use session::Progress;
 use session::Session;
 use session_code::lines::carry_change;
 use session_code::lines::write_key;
-use session_code::start::start;
 use session_code::step::step;
 use text::Line;
 use text::Parse;
 use text_code::input::feed;
 use text_code::input::finish;
 use text_code::output::store_numbers;
-
-// Where the input stands: the part of a line that was read and whether there is one, the session, and the end of the output that is stored.
-pub struct Trace {
-    pub parse: Parse,
-    pub begun: bool,
-    pub session: Session,
-    pub at: usize,
-}
-
-// Before the first byte.
-pub fn start_trace() -> Trace {
-    next_line(start(), 0)
-}
+use words_code::lesser;
 
 // Before the first byte of a line.
-fn next_line(session: Session, at: usize) -> Trace {
-    Trace {
+fn next_line(session: Session, at: usize) -> Progress {
+    Progress {
         parse: Parse::Start,
         begun: false,
         session,
@@ -80,14 +67,14 @@ fn try_cuts(
 fn carry_out(
     change: Change,
     stores: Stores,
-    trace: Trace,
+    trace: Progress,
     image: &mut [u8],
     heads: &mut [u32],
     next: &mut [u32],
     copy: &mut [u8],
     later: &mut [u8],
     out: &mut [u8],
-) -> Trace {
+) -> Progress {
     let at = try_cuts(change, stores, image, copy, later, out, trace.at);
     let session = trace.session;
     let stepped = carry_change(change, stores, session, image, heads, next);
@@ -99,14 +86,14 @@ fn carry_out(
 fn write_call(
     key: u64,
     word: u64,
-    trace: Trace,
+    trace: Progress,
     image: &mut [u8],
     heads: &mut [u32],
     next: &mut [u32],
     copy: &mut [u8],
     later: &mut [u8],
     out: &mut [u8],
-) -> Trace {
+) -> Progress {
     let mut at = [0u32; 16];
     let mut value = [0u64; 16];
     let session = trace.session;
@@ -119,14 +106,14 @@ fn write_call(
 // `r K`.
 fn remove_call(
     key: u64,
-    trace: Trace,
+    trace: Progress,
     image: &mut [u8],
     heads: &mut [u32],
     next: &mut [u32],
     copy: &mut [u8],
     later: &mut [u8],
     out: &mut [u8],
-) -> Trace {
+) -> Progress {
     let mut at = [0u32; 16];
     let mut value = [0u64; 16];
     let session = trace.session;
@@ -139,14 +126,14 @@ fn remove_call(
 // A call on an image and an index of the set's size. A get, a cut and a line of none of the forms change nothing.
 fn make_call(
     line: Line,
-    trace: Trace,
+    trace: Progress,
     image: &mut [u8],
     heads: &mut [u32],
     next: &mut [u32],
     copy: &mut [u8],
     later: &mut [u8],
     out: &mut [u8],
-) -> Trace {
+) -> Progress {
     match line {
         Line::Write { key, word } => {
             write_call(key, word, trace, image, heads, next, copy, later, out)
@@ -159,27 +146,17 @@ fn make_call(
     }
 }
 
-// The lesser number.
-fn lesser(a: usize, b: usize) -> usize
-    ensures { λ r. ⌜ (r ≤ a) × (r ≤ b) ⌝ }
-{
-    if a < b {
-        return a;
-    }
-    b
-}
-
 // A line on the set of the session, if it has one and what is lent is long enough for it.
 fn take_call(
     line: Line,
-    trace: Trace,
+    trace: Progress,
     image: &mut [u8],
     heads: &mut [u32],
     next: &mut [u32],
     copy: &mut [u8],
     later: &mut [u8],
     out: &mut [u8],
-) -> Trace {
+) -> Progress {
     let session = trace.session;
     let n = session.n;
     let room = lesser(image.len(), lesser(copy.len(), later.len())) / 128;
@@ -210,11 +187,11 @@ fn take_call(
 // A new set.
 fn take_new(
     line: Line,
-    trace: Trace,
+    trace: Progress,
     image: &mut [u8],
     heads: &mut [u32],
     next: &mut [u32],
-) -> Trace {
+) -> Progress {
     let session = trace.session;
     let stepped = step(line, session, image, heads, next);
     let after = stepped.session;
@@ -223,14 +200,14 @@ fn take_new(
 
 // A line ends.
 fn take_line(
-    trace: Trace,
+    trace: Progress,
     image: &mut [u8],
     heads: &mut [u32],
     next: &mut [u32],
     copy: &mut [u8],
     later: &mut [u8],
     out: &mut [u8],
-) -> Trace {
+) -> Progress {
     let parse = trace.parse;
     let session = trace.session;
     let ended = next_line(session, trace.at);
@@ -243,7 +220,7 @@ fn take_line(
 
 // One more byte of the input. A line of output is stored where at least 64 bytes of out are left.
 pub fn take_byte(
-    trace: Trace,
+    trace: Progress,
     byte: u8,
     image: &mut [u8],
     heads: &mut [u32],
@@ -251,13 +228,13 @@ pub fn take_byte(
     copy: &mut [u8],
     later: &mut [u8],
     out: &mut [u8],
-) -> Trace {
+) -> Progress {
     if byte == 10 {
         return take_line(trace, image, heads, next, copy, later, out);
     }
     let parse = trace.parse;
     let session = trace.session;
-    Trace {
+    Progress {
         parse: feed(parse, byte),
         begun: true,
         session,
@@ -267,14 +244,14 @@ pub fn take_byte(
 
 // The end of the input: a last line may lack its end.
 pub fn take_end(
-    trace: Trace,
+    trace: Progress,
     image: &mut [u8],
     heads: &mut [u32],
     next: &mut [u32],
     copy: &mut [u8],
     later: &mut [u8],
     out: &mut [u8],
-) -> Trace {
+) -> Progress {
     if trace.begun {
         return take_line(trace, image, heads, next, copy, later, out);
     }

@@ -2,6 +2,10 @@
 use mathlib.Core.Path.{_≡_, refl, sym, ap, _∙_}
 use mathlib.Core.Bool.{Bool, true, false, cond, _&&_, true≢false}
 use mathlib.Core.Logic.{_⊎_, inl, inr}
+use Prim.Native.Nat.{ℕ, _≤_, min}
+use native.Mathlib.Omega.{arith}
+use lib.Dec.{ltb}
+use borrow.Author.Tests.{lt-ltb, ltb-true}
 
 pub pick-true {ℓ} : {A : Type ℓ} (b : Bool) (x y : A) → b ≡ true → cond b x y ≡ x
 pick-true b x y e = ap (λ (t : Bool). cond t x y) e
@@ -49,3 +53,9 @@ pub same-test : (a b : Bool) → (a ≡ true → b ≡ true) → (b ≡ true →
 same-test true b h g = sym (h refl)
 same-test false true h g = absurd (true-false (g refl) refl)
 same-test false false h g = refl
+
+-- whether a list is too short, where no more than `size` entries are ever asked for and no more are used
+pub lesser-short : (count size room : ℕ) → count ≤ size → ltb (min size room) count ≡ ltb room count
+lesser-short count size room h =
+    same-test _ _ (λ e. lt-ltb room count (omega (arith, ltb-true (min size room) count e)))
+    (λ e. lt-ltb (min size room) count (omega (arith, ltb-true room count e)))

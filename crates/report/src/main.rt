@@ -4,7 +4,6 @@ ghost use mathlib.Core.Path.{_≡_};
 ghost use Prim.Native.Nat.{ℕ, _+_, _≤_, _<_};
 ghost use lib.ListN.{length, getD};
 ghost use Rattle.reporting.specs.inner.Images.{Buffers};
-use libc::STDERR_FILENO;
 use libc::STDIN_FILENO;
 use libc::STDOUT_FILENO;
 use reporting::ReportProgress;
@@ -12,6 +11,8 @@ use reporting_code::image_size;
 use reporting_code::report_block;
 use reporting_code::report_last;
 use reporting_code::start;
+use show::progress::counted;
+use show::progress::seconds;
 
 // How far the report is; the bytes at the front of the input that are not read yet; whether there may be more, and whether every write succeeded; and the
 // second of the last line on standard error.
@@ -53,18 +54,12 @@ fn may_begin(rest: &[u8]) -> bool {
     image_size(rest) != 0
 }
 
-fn seconds() -> i64 {
-    let mut t = 0;
-    libc::time(&mut t)
-}
-
 // Where another second has begun, a line on standard error says how many images were read.
 fn show_progress(second: i64, left: u32) -> i64 {
     let now = seconds();
     if now != second {
         if left <= 1000000 {
-            io::print_decimal(STDERR_FILENO, (1000000 - left) as u64);
-            io::write_all(STDERR_FILENO, b" images\n");
+            counted((1000000 - left) as u64, b" images\n");
         }
     }
     now

@@ -1,6 +1,7 @@
-// For the programs: printing to standard output, of labels, numbers and lists of them and of the answers of the calls; and lines of input.
+// For the programs: printing to standard output, of labels, numbers and lists of them and of the answers of the calls; lines of input; and lines of progress.
 pub mod fronts;
 pub mod lines;
+pub mod progress;
 
 use libc::STDOUT_FILENO;
 use orderset::Formatted;

@@ -32,12 +32,12 @@ put-next (a ∷ at) (w ∷ words) (s ∷ list) (suc i) h k m =
 
 -- ---- the stores that two lists name at their fronts
 
-pub front-length : (at words : List ℕ) (k : ℕ) → k ≤ length at → k ≤ length words → length (zipped (take k at) (take k words)) ≡ k
+pub zipped-length : (at words : List ℕ) (k : ℕ) → k ≤ length at → k ≤ length words → length (zipped (take k at) (take k words)) ≡ k
 unfolding zipped
-front-length at words zero h m = refl
-front-length [] words (suc k) h m = absurd (omega arith)
-front-length (a ∷ at) [] (suc k) h m = absurd (omega arith)
-front-length (a ∷ at) (w ∷ words) (suc k) h m = ap suc (front-length at words k (omega arith) (omega arith))
+zipped-length at words zero h m = refl
+zipped-length [] words (suc k) h m = absurd (omega arith)
+zipped-length (a ∷ at) [] (suc k) h m = absurd (omega arith)
+zipped-length (a ∷ at) (w ∷ words) (suc k) h m = ap suc (zipped-length at words k (omega arith) (omega arith))
 
 pub front-stores : (ss : List Store) (x x′ y y′ : List ℕ)
     → zipped (take (length ss) ((wordNumbers ss ++ x) ++ x′)) (take (length ss) ((values ss ++ y) ++ y′)) ≡ ss

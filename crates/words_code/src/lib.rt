@@ -4,6 +4,16 @@ ghost use Prim.Native.Nat.{_+_, _-_, _*_, _≤_, min};
 ghost use lib.ListN.{length, getD};
 ghost use Rattle.words.specs.Word.{joined, word, setBytes, setWord};
 
+// The lesser of two numbers.
+pub fn lesser(a: usize, b: usize) -> usize
+    ensures { λ r. ⌜ r ≡ min a b ⌝ }
+{
+    if b < a {
+        return b;
+    }
+    a
+}
+
 // The number whose bytes are b0 to b7, low byte first.
 pub fn join(b0: u8, b1: u8, b2: u8, b3: u8, b4: u8, b5: u8, b6: u8, b7: u8) -> u64
     ensures { λ r. ⌜ r ≡ joined b0 b1 b2 b3 b4 b5 b6 b7 ⌝ }

@@ -40,7 +40,7 @@ pub record Writable (image heads next : List ℕ) (s : State) (key prev old : �
   pub slot-in : 128 * (s .first + 1) ≤ length image
 
 -- what the writes of an insert or a replace need, for a key at this place; size is the value's length
-pub record OpenAt (l : ℕ) (image heads next : List ℕ) (s : State) (key size : ℕ) (place : Place) : Type 0 where
+pub record AllowedAt (l : ℕ) (image heads next : List ℕ) (s : State) (key size : ℕ) (place : Place) : Type 0 where
   pub inside : PlaceInside heads next s (headOf key (length heads)) place
   pub some-head : 1 ≤ length heads
   pub recordable : (size ≤ limit l) × (s .version < 2 ^ 63) × (s .first < 65536) × (128 * (s .first + 1) ≤ length image)
@@ -48,7 +48,7 @@ pub record OpenAt (l : ℕ) (image heads next : List ℕ) (s : State) (key size 
 -- an insert or a replace can be carried out
 abbrev pub WriteReady : (l : ℕ) → (image heads next : List ℕ) → State → (key size : ℕ) → Lookup → Type 0
 WriteReady l image heads next s key size (Refused number compared) = Unit
-WriteReady l image heads next s key size (Allowed place compared) = OpenAt l image heads next s key size place
+WriteReady l image heads next s key size (Allowed place compared) = AllowedAt l image heads next s key size place
 
 -- and so can a remove
 abbrev pub RemoveReady : (image heads next : List ℕ) → State → (key : ℕ) → Lookup → Type 0

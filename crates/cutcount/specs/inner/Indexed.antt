@@ -13,7 +13,7 @@ use Rattle.layout.specs.Fault.{faultOf}
 use Rattle.table.specs.Table.{mapOf, liveCount}
 use Rattle.table.specs.Complete.{tableOf}
 use Rattle.recovery.specs.Recover.{recoverFault, recoveredIndex}
-use Rattle.cutcount.specs.CutCount.{ownFault}
+use Rattle.cutcount.specs.CutCount.{acceptanceFault}
 use Rattle.cutcount.specs.declared.Indexed.{Indexed}
 use Rattle.cutcount.specs.declared.Indexed.the-variants.{Map, Nothing}
 
@@ -42,4 +42,4 @@ pub record HeldIn (l : ℕ) (image : List ℕ) (key s : ℕ) : Type 0 where
 -- heads and next are the index of the image where recovery accepts it
 pub data IndexedBy (l : ℕ) (image heads next : List ℕ) : Indexed → Type 0 where
   is-map : {live : ℕ} → Mapped l image heads next live → IndexedBy l image heads next (Map live)
-  no-map : {number : ℕ} → number ≡ ownFault l image → (number ≡ 0 → ⊥) → IndexedBy l image heads next (Nothing number)
+  no-map : {number : ℕ} → number ≡ acceptanceFault l image → (number ≡ 0 → ⊥) → IndexedBy l image heads next (Nothing number)

@@ -6,12 +6,12 @@ use Rattle.plug.proofs.main.Statement.{statement}
 use Rattle.plug.proofs.main.Tie as tie
 
 abbrev Inv-loop : tie.InvT-loop
-Inv-loop input₀ out₀ image₀ copy₀ later₀ heads₀ next₀ t₀ reads₀ input out image copy later heads next t reads =
+Inv-loop input₀ out₀ image₀ copy₀ later₀ heads₀ next₀ r₀ reads₀ input out image copy later heads next r reads =
     (length input ≡ 4096) × (length out ≡ 4096) × (length image ≡ 65536) × (length copy ≡ 65536) × (length later ≡ 65536) × (length heads ≡ 1)
     × (length next ≡ 512)
 
 abbrev μ-loop : tie.MeasureT-loop
-μ-loop input₀ out₀ image₀ copy₀ later₀ heads₀ next₀ t₀ reads₀ input out image copy later heads next t reads = reads
+μ-loop input₀ out₀ image₀ copy₀ later₀ heads₀ next₀ r₀ reads₀ input out image copy later heads next r reads = reads
 
 pub main-spec : {M : Type 1} → statement M
 main-spec =

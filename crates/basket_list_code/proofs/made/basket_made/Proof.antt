@@ -8,15 +8,15 @@ use Rattle.basket_list_code.proofs.made.basket_made.Statement.{statemen
 use Rattle.basket_list_code.proofs.made.basket_made.Tie as tie
 
 slice-aggregate-basket-in : tie.Need-slice-aggregate-basket-in
-slice-aggregate-basket-in c = front-length _ _ (omega (arith, c .before .before .before .at-most .ensures))
+slice-aggregate-basket-in c = front-length _ _ (omega (arith, c .before .before .before .lesser .ensures))
 
 slice-aggregate-basket-in-2 : tie.Need-slice-aggregate-basket-in-2
-slice-aggregate-basket-in-2 c = front-length _ _ (omega (arith, c .before .before .before .before .at-most .ensures))
+slice-aggregate-basket-in-2 c = front-length _ _ (omega (arith, c .before .before .before .before .lesser .ensures))
 
 returns : tie.Need-returns
 returns c =
-    made _ _ _ _ (c .before .before .before .before .before .before .before .before .before .before .before .before .before .before .before .before .args .state) _ _ _ _ _ _ _ _ _ _ _ _ _ _ (sym (front-length _ _ (omega (arith, c .before .before .before .before .before .before .before .before .before .before .before .before .at-most .ensures))) ∙ c .before .before .before .before .before .before .before .before .before .before .before .before .at-most .ensures)
-    (sym (front-length _ _ (omega (arith, c .before .before .before .before .before .before .before .before .before .before .before .before .at-most .ensures))) ∙ c .before .before .before .before .before .before .before .before .before .before .before .before .at-most .ensures) (c .store-count .ensures .0) (c .before .before .before .before .before .before .before .basket-in .ensures) (c .store-count .ensures .1)
+    made _ _ _ _ (c .before .before .before .before .before .before .before .before .before .before .before .before .before .before .before .before .args .state) _ _ _ _ _ _ _ _ _ _ _ _ _ _ (sym (front-length _ _ (omega (arith, c .before .before .before .before .before .before .before .before .before .before .before .before .lesser .ensures))) ∙ c .before .before .before .before .before .before .before .before .before .before .before .before .lesser .ensures)
+    (sym (front-length _ _ (omega (arith, c .before .before .before .before .before .before .before .before .before .before .before .before .lesser .ensures))) ∙ c .before .before .before .before .before .before .before .before .before .before .before .before .lesser .ensures) (c .store-count .ensures .0) (c .before .before .before .before .before .before .before .basket-in .ensures) (c .store-count .ensures .1)
 
 pub basket-made-spec : {M : Type 1} → statement M
 basket-made-spec =

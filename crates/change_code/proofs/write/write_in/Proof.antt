@@ -5,21 +5,21 @@ use native.Mathlib.Omega.{arith}
 use borrow.Author.Needs.{needs}
 use Rattle.calls.specs.Compared.{reported}
 use Rattle.calls.specs.Change.{ChangeResult, changeSays, handedOut, leftIn, unchanged, writeCompared}
-use Rattle.calls.proofs.Changes.{opened, opened-inside, changed-end}
-use Rattle.calls.proofs.Results.{refused-count, allowed-count, write-refused, write-open}
+use Rattle.calls.proofs.Changes.{allowed, allowed-inside, changed-end}
+use Rattle.calls.proofs.Results.{refused-count, allowed-count, write-refused, write-allowed}
 use Rattle.change_code.proofs.write.write_in.Statement.{statement}
 use Rattle.change_code.proofs.write.write_in.Tie as tie
 
 head-of-requires : tie.Need-head-of-requires
-head-of-requires c κs = opened _ _ _ _ _ _ _ (c .before .before .before .write-lookup .ensures .ready) (c .before .lookup2 .given .1) .some-head
+head-of-requires c κs = allowed _ _ _ _ _ _ _ (c .before .before .before .write-lookup .ensures .ready) (c .before .lookup2 .given .1) .some-head
 
 write-place-requires : tie.Need-write-place-requires
 write-place-requires c κs =
-    opened-inside _ _ _ _ _ _ _ (c .before .before .before .before .before .before .write-lookup .ensures .ready) (c .before .before .before .before .lookup2 .given .1) _ (c .before .before .head-of .ensures .1 (c .before .before .before .before .before .before .before .before .before .before .before .before .before .args .high))
+    allowed-inside _ _ _ _ _ _ _ (c .before .before .before .before .before .before .write-lookup .ensures .ready) (c .before .before .before .before .lookup2 .given .1) _ (c .before .before .head-of .ensures .1 (c .before .before .before .before .before .before .before .before .before .before .before .before .before .args .high))
 
 record-stores-requires : tie.Need-record-stores-requires
 record-stores-requires c κs =
-    let ready = opened _ _ _ _ _ _ _ (c .before .before .before .before .before .before .before .before .before .before .before .before .before .write-lookup .ensures .ready) (c .before .before .before .before .before .before .before .before .before .before .before .lookup2 .given .1) .recordable in
+    let ready = allowed _ _ _ _ _ _ _ (c .before .before .before .before .before .before .before .before .before .before .before .before .before .write-lookup .ensures .ready) (c .before .before .before .before .before .before .before .before .before .before .before .lookup2 .given .1) .recordable in
     (record { layout = c .before .before .before .before .before .before .before .before .before .before .before .before .before .before .before .before .before .before .before .before .pre; kind-fits = omega arith; number-fits = omega arith; size = ready .0; version-fits = ready .1 }, ready .2, ready .3)
 
 returns : tie.Need-returns
@@ -35,7 +35,7 @@ returns-2 c =
     ap₂ (λ (x : ChangeResult) (k : ℕ). reported x k)
     (changed-end _ _ _ _ _ _ _ _ _ _ (c .record-stores .ensures) _ _ _ _ (c .before .before .before .before .before .before .before .write-place .ensures)
     ∙ ap (leftIn _)
-    (write-open _ _ _ _ _ _ _ _ _ (c .before .before .before .before .before .before .before .before .before .before .before .before .before .before .write-lookup .ensures) _ _ _ (c .before .before .before .before .before .before .before .before .before .before .before .before .lookup2 .given .1) (c .before .before .before .before .before .before .before .before .before .before .head-of .ensures .1 (c .before .before .before .before .before .before .before .before .before .before .before .before .before .before .before .before .before .before .before .before .before .args .high))))
+    (write-allowed _ _ _ _ _ _ _ _ _ (c .before .before .before .before .before .before .before .before .before .before .before .before .before .before .write-lookup .ensures) _ _ _ (c .before .before .before .before .before .before .before .before .before .before .before .before .lookup2 .given .1) (c .before .before .before .before .before .before .before .before .before .before .head-of .ensures .1 (c .before .before .before .before .before .before .before .before .before .before .before .before .before .before .before .before .before .before .before .before .before .args .high))))
     (allowed-count (c .before .before .before .before .before .before .before .before .before .before .before .before .before .before .write-lookup .ensures) _ _ (c .before .before .before .before .before .before .before .before .before .before .before .before .lookup2 .given .1))
 
 same-length-3 : tie.Need-same-length-3

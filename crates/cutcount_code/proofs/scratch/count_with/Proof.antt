@@ -7,11 +7,11 @@ use Rattle.cutcount_code.proofs.scratch.count_with.Tie as tie
 
 returns : tie.Need-returns
 returns c =
-    lent-refused _ _ _ _ _ _ (mapped-clear _ _ _ _ _ (mapped _ _ _ _ _ (c .before .before .before .before .before .before .before .before .index-image .ensures) _ (c .before .before .enum-told .given .1))) _ (c .before .lent-copies-fault .ensures) (c .if1 .taken)
+    lent-refused _ _ _ _ _ _ (mapped-clear _ _ _ _ _ (mapped _ _ _ _ _ (c .before .before .before .before .before .before .before .before .index-image .ensures) _ (c .before .before .enum-told .given .1))) _ (c .before .arguments-fault .ensures) (c .if1 .taken)
 
 tally-requires : tie.Need-tally-requires
 tally-requires c κs =
-    let long = copies-long _ _ _ _ _ (c .before .before .before .before .before .before .before .before .before .lent-copies-fault .ensures) (c .before .before .before .before .before .before .before .before .if1 .left) in
+    let long = copies-long _ _ _ _ _ (c .before .before .before .before .before .before .before .before .before .arguments-fault .ensures) (c .before .before .before .before .before .before .before .before .if1 .left) in
     (c .before .before .before .before .before .before .before .before .before .before .before .before .before .before .before .before .before .before .before .before .before .before .before .before .before .before .before .before .pre .0, c .before .before .before .before .before .before .before .before .before .before .before .before .before .before .before .before .index-image .ensures, long .0, long .1, c .before .before .before .before .before .before .before .before .before .before .before .before .before .before .before .before .before .before .before .before .before .before .before .before .before .before .before .before .pre .2, c .before .before .before .before .before .before .before .before .before .before .before .before .before .before .before .before .before .before .before .before .before .before .before .before .before .before .before .before .pre .3)
 
 returns-2 : tie.Need-returns-2
@@ -19,7 +19,7 @@ returns-2 c = image-refused _ _ _ _ _ _ _ (not-mapped _ _ _ _ _ (c .before .befo
 
 returns-3 : tie.Need-returns-3
 returns-3 c =
-    counted-all _ _ _ _ _ _ (mapped-clear _ _ _ _ _ (mapped _ _ _ _ _ (c .before .before .before .before .before .before .before .before .before .before .before .before .before .before .before .before .before .before .before .before .before .before .before .before .before .before .before .before .before .index-image .ensures) _ (c .before .before .before .before .before .before .before .before .before .before .before .before .before .before .before .before .before .before .before .before .before .before .before .enum-told .given .1))) _ (c .before .before .before .before .before .before .before .before .before .before .before .before .before .before .before .before .before .before .before .before .before .before .lent-copies-fault .ensures) (c .before .before .before .before .before .before .before .before .before .before .before .before .before .before .before .before .before .before .before .before .before .if1 .left)
+    counted-all _ _ _ _ _ _ (mapped-clear _ _ _ _ _ (mapped _ _ _ _ _ (c .before .before .before .before .before .before .before .before .before .before .before .before .before .before .before .before .before .before .before .before .before .before .before .before .before .before .before .before .before .index-image .ensures) _ (c .before .before .before .before .before .before .before .before .before .before .before .before .before .before .before .before .before .before .before .before .before .before .before .enum-told .given .1))) _ (c .before .before .before .before .before .before .before .before .before .before .before .before .before .before .before .before .before .before .before .before .before .before .arguments-fault .ensures) (c .before .before .before .before .before .before .before .before .before .before .before .before .before .before .before .before .before .before .before .before .before .if1 .left)
     _ _ _ (c .before .before .before .before .before .before .before .before .before .before .before .before .tally .ensures .0) (c .before .before .before .before .before .before .before .before .before .before .before .before .tally .ensures .1) (c .before .before .before .before .before .before .before .before .before .before .before .before .tally .ensures .2)
 
 pub count-with-spec : {M : Type 1} → statement M

@@ -8,15 +8,15 @@ use Rattle.log_list_code.proofs.made.append_made.Statement.{statement}
 use Rattle.log_list_code.proofs.made.append_made.Tie as tie
 
 slice-aggregate-append : tie.Need-slice-aggregate-append
-slice-aggregate-append c = front-length _ _ (omega (arith, c .before .at-most .ensures))
+slice-aggregate-append c = front-length _ _ (omega (arith, c .before .lesser .ensures))
 
 slice-aggregate-append-2 : tie.Need-slice-aggregate-append-2
-slice-aggregate-append-2 c = front-length _ _ (omega (arith, c .before .before .at-most .ensures))
+slice-aggregate-append-2 c = front-length _ _ (omega (arith, c .before .before .lesser .ensures))
 
 returns : tie.Need-returns
 returns c =
     append-made _ _ _ _ _ _ _ _ _ _ (c .handed-count .ensures) _
-    (sym (front-length _ _ (omega (arith, c .before .before .before .before .before .before .at-most .ensures))) ∙ c .before .before .before .before .before .before .at-most .ensures) (sym (front-length _ _ (omega (arith, c .before .before .before .before .before .before .at-most .ensures))) ∙ c .before .before .before .before .before .before .at-most .ensures) (c .before .before .before .append .ensures)
+    (sym (front-length _ _ (omega (arith, c .before .before .before .before .before .before .lesser .ensures))) ∙ c .before .before .before .before .before .before .lesser .ensures) (sym (front-length _ _ (omega (arith, c .before .before .before .before .before .before .lesser .ensures))) ∙ c .before .before .before .before .before .before .lesser .ensures) (c .before .before .before .append .ensures)
 
 pub append-made-spec : {M : Type 1} → statement M
 append-made-spec =

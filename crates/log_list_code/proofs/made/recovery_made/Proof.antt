@@ -8,15 +8,15 @@ use Rattle.log_list_code.proofs.made.recovery_made.Statement.{statement
 use Rattle.log_list_code.proofs.made.recovery_made.Tie as tie
 
 slice-aggregate-recover-log : tie.Need-slice-aggregate-recover-log
-slice-aggregate-recover-log c = front-length _ _ (omega (arith, c .before .at-most .ensures))
+slice-aggregate-recover-log c = front-length _ _ (omega (arith, c .before .lesser .ensures))
 
 slice-aggregate-recover-log-2 : tie.Need-slice-aggregate-recover-log-2
-slice-aggregate-recover-log-2 c = front-length _ _ (omega (arith, c .before .before .at-most .ensures))
+slice-aggregate-recover-log-2 c = front-length _ _ (omega (arith, c .before .before .lesser .ensures))
 
 returns : tie.Need-returns
 returns c =
     recovery-made _ _ _ _ _ _ _ _ _ _ (c .handed-count .ensures)
-    (sym (front-length _ _ (omega (arith, c .before .before .before .before .before .before .at-most .ensures))) ∙ c .before .before .before .before .before .before .at-most .ensures) (sym (front-length _ _ (omega (arith, c .before .before .before .before .before .before .at-most .ensures))) ∙ c .before .before .before .before .before .before .at-most .ensures) (c .before .before .before .recover-log .ensures)
+    (sym (front-length _ _ (omega (arith, c .before .before .before .before .before .before .lesser .ensures))) ∙ c .before .before .before .before .before .before .lesser .ensures) (sym (front-length _ _ (omega (arith, c .before .before .before .before .before .before .lesser .ensures))) ∙ c .before .before .before .before .before .before .lesser .ensures) (c .before .before .before .recover-log .ensures)
 
 pub recovery-made-spec : {M : Type 1} → statement M
 recovery-made-spec =
