@@ -1,5 +1,8 @@
 # The C side: the archive's tests, the example and the measurements. The proofs are checked by .ci/run.
 #   make archive   the libraries, proved and built: target/staticlib/liborderset_c.a and liblog_c.a   (rt)
+#   make lib       one library of them and of the handle: target/lib/liborderset.a and liborderset.so.1   (gcc)
+#   make install   headers, library, orderset.pc, manual pages and tools below $(DESTDIR)$(PREFIX)        (gcc)
+#   make uninstall the same away
 #   make test      the tests of docs/TESTS.md: the archive, the headers and the gateway       (gcc g++ python3)
 #   make planted   that each test fails where a fault is planted                                      (gcc g++)
 #   make gateway   the example: a new file, orders, a restart, and the orders again                   (gcc)
@@ -11,6 +14,7 @@
 RT ?= rt
 OUT := target/c
 ARCHIVE := target/staticlib/liborderset_c.a
+ARCHIVE2 := target/staticlib/liborderset2_c.a
 PLUG := target/bin/plug
 LOG_ARCHIVE := target/staticlib/liblog_c.a
 REPORT := target/bin/report
@@ -25,16 +29,19 @@ CFLAGS ?= -O2
 CXXFLAGS ?= -O2
 C := $(CC) -std=c11 -Wall -Wextra -Iinclude $(CFLAGS) $(LDFLAGS)
 CPLUS := $(CXX) -std=c++11 -Wall -Wextra -Iinclude $(CXXFLAGS) $(LDFLAGS)
-HEADERS := include/orderset.h include/orderset_log.h include/orderset_persist.h
+HEADERS := $(wildcard include/*.h)
 CRATES := crates.txt $(shell find crates -name '*.rt' -o -name '*.antt')
 
 .PHONY: test planted gateway recorder heads bench archive run-names run-header run-persist run-guard run-storm run-lock \
 	run-watch run-kills run-heads run-report run-plug run-differential run-log_header run-log_storm run-log_guard \
 	run-log_kills run-log_differential
-archive: $(ARCHIVE) $(LOG_ARCHIVE)
+archive: $(ARCHIVE) $(ARCHIVE2) $(LOG_ARCHIVE)
 
 $(ARCHIVE): $(CRATES)
 	$(RT) staticlib orderset_c
+
+$(ARCHIVE2): $(CRATES)
+	$(RT) staticlib orderset2_c
 
 $(LOG_ARCHIVE): $(CRATES)
 	$(RT) staticlib log_c
@@ -84,7 +91,7 @@ $(OUT)/gateway_on_disk: examples/gateway.c tests/disk.c $(HEADERS) $(ARCHIVE) | 
 
 .NOTPARALLEL:
 test: run-names run-header run-persist run-lock run-watch run-heads run-report run-plug run-storm run-kills run-guard \
-	run-differential run-log_header run-log_storm run-log_kills run-log_guard run-log_differential
+	run-differential run-log_header run-log_storm run-log_kills run-log_guard run-log_differential run-tools run-install
 run-names:
 	@tests/names
 run-header run-log_header: run-%: $(OUT)/%
@@ -130,6 +137,66 @@ gateway: $(OUT)/gateway
 	$(OUT)/gateway $(OUT)/orders.img new 7 100 acknowledge 7 acknowledge 7 fill 7 40 new 8 5 fill 8 5 new 9 3 \
 		withdraw 9 new 10 2 basket 3 new 11 4 new 12 4 withdraw 10 list
 	$(OUT)/gateway $(OUT)/orders.img list
+
+# ---- the library, the tools for the desk, and where they go
+
+VERSION := 1.0.0
+PREFIX ?= /usr/local
+LIB := target/lib
+# what is global in the library: the names of the headers
+PUBLIC := orderset_* orderset2_* log_append log_recover log_read
+DESK := orderset-show orderset-check
+TO = $(DESTDIR)$(PREFIX)
+
+.PHONY: lib tools install uninstall run-tools run-install
+lib: $(LIB)/liborderset.a $(LIB)/liborderset.so.1
+tools: $(DESK:%=$(OUT)/%)
+
+$(LIB):
+	mkdir -p $@
+
+# each archive becomes an object of its own, whose inner names are local: the archives have some of them in common
+PARTS := $(patsubst target/staticlib/lib%.a,$(LIB)/%.o,$(ARCHIVE) $(ARCHIVE2) $(LOG_ARCHIVE))
+$(PARTS): $(LIB)/%.o: target/staticlib/lib%.a | $(LIB)
+	ld -r --force-group-allocation --whole-archive $< -o $@
+	objcopy --wildcard $(PUBLIC:%='--keep-global-symbol=%') $@
+
+$(LIB)/orderset_file.o: src/orderset_file.c $(HEADERS) | $(LIB)
+	$(C) -fPIC -c $< -o $@
+
+$(LIB)/liborderset.a: $(LIB)/orderset_file.o $(PARTS)
+	rm -f $@
+	ar rcs $@ $^
+
+$(LIB)/liborderset.so.1: $(LIB)/orderset_file.o $(PARTS)
+	$(CC) -shared $(CFLAGS) $(LDFLAGS) -Wl,-soname,liborderset.so.1 -Wl,-z,defs -Wl,-z,noexecstack $^ -pthread -o $@
+
+$(OUT)/orderset-show: tools/orderset-show.c tools/picture.c
+$(DESK:%=$(OUT)/%): $(OUT)/%: tools/%.c tools/desk.c $(wildcard tools/*.h) $(HEADERS) $(LIB)/liborderset.a | $(OUT)
+	$(C) -DVERSION='"$(VERSION)"' $(filter %.c,$^) $(LIB)/liborderset.a -pthread -o $@
+
+install: lib tools
+	install -d "$(TO)/bin" "$(TO)/include" "$(TO)/lib/pkgconfig" "$(TO)/share/man/man1" "$(TO)/share/man/man3"
+	install -m 644 include/* "$(TO)/include"
+	install -m 644 $(LIB)/liborderset.a "$(TO)/lib"
+	install -m 755 $(LIB)/liborderset.so.1 "$(TO)/lib/liborderset.so.$(VERSION)"
+	ln -sf liborderset.so.$(VERSION) "$(TO)/lib/liborderset.so.1"
+	ln -sf liborderset.so.1 "$(TO)/lib/liborderset.so"
+	sed 's|@PREFIX@|$(PREFIX)|; s|@VERSION@|$(VERSION)|' src/orderset.pc.in >"$(TO)/lib/pkgconfig/orderset.pc"
+	install -m 755 $(DESK:%=$(OUT)/%) "$(TO)/bin"
+	install -m 644 man/*.1 "$(TO)/share/man/man1"
+	install -m 644 man/*.3 "$(TO)/share/man/man3"
+
+uninstall:
+	cd "$(TO)" && rm -f $(DESK:%=bin/%) $(wildcard include/*) lib/liborderset.a lib/liborderset.so* \
+		lib/pkgconfig/orderset.pc $(patsubst man/%,share/man/man1/%,$(wildcard man/*.1)) \
+		$(patsubst man/%,share/man/man3/%,$(wildcard man/*.3))
+
+# the tools on good, wrong and damaged files; and README's programs, compiled against what install leaves
+run-tools: $(DESK:%=$(OUT)/%)
+	@tests/tools.py $(OUT)
+run-install: lib tools
+	@tests/install.sh
 
 heads: $(ARCHIVE)
 	$(MAKE) -f bench/Makefile heads
