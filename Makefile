@@ -176,7 +176,8 @@ $(DESK:%=$(OUT)/%): $(OUT)/%: tools/%.c tools/desk.c $(wildcard tools/*.h) $(HEA
 	$(C) -DVERSION='"$(VERSION)"' $(filter %.c,$^) $(LIB)/liborderset.a -pthread -o $@
 
 install: lib tools
-	install -d "$(TO)/bin" "$(TO)/include" "$(TO)/lib/pkgconfig" "$(TO)/share/man/man1" "$(TO)/share/man/man3"
+	install -d "$(TO)/bin" "$(TO)/include" "$(TO)/lib/pkgconfig" "$(TO)/share/man/man1" "$(TO)/share/man/man3" \
+		"$(TO)/share/doc/orderset"
 	install -m 644 include/* "$(TO)/include"
 	install -m 644 $(LIB)/liborderset.a "$(TO)/lib"
 	install -m 755 $(LIB)/liborderset.so.1 "$(TO)/lib/liborderset.so.$(VERSION)"
@@ -186,17 +187,18 @@ install: lib tools
 	install -m 755 $(DESK:%=$(OUT)/%) "$(TO)/bin"
 	install -m 644 man/*.1 "$(TO)/share/man/man1"
 	install -m 644 man/*.3 "$(TO)/share/man/man3"
+	install -m 644 docs/OPERATIONS.md "$(TO)/share/doc/orderset"
 
 uninstall:
 	cd "$(TO)" && rm -f $(DESK:%=bin/%) $(wildcard include/*) lib/liborderset.a lib/liborderset.so* \
 		lib/pkgconfig/orderset.pc $(patsubst man/%,share/man/man1/%,$(wildcard man/*.1)) \
-		$(patsubst man/%,share/man/man3/%,$(wildcard man/*.3))
+		$(patsubst man/%,share/man/man3/%,$(wildcard man/*.3)) share/doc/orderset/OPERATIONS.md
 
 # the tools on good, wrong and damaged files; and README's programs, compiled against what install leaves
 run-tools: $(DESK:%=$(OUT)/%)
 	@tests/tools.py $(OUT)
 run-install: lib tools
-	@tests/install.sh
+	@tests/install.py
 
 heads: $(ARCHIVE)
 	$(MAKE) -f bench/Makefile heads

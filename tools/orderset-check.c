@@ -250,9 +250,10 @@ static void explain(struct desk *d, uint32_t slot_class, const char *meaning) {
 
 static int accepted(struct desk *d) {
     printf("%s: accepted\n", d->path);
-    printf("layout %" PRIu32 ", %" PRIu32 " slots, %" PRIu64 " bytes; %" PRIu32 " open orders, %" PRIu32
-           " spare slots; next version %" PRIu64 "\n",
-           d->is.layout, d->is.slots, d->is.bytes, d->is.live, d->is.spare, d->is.next_version);
+    printf("layout %" PRIu32 ", %" PRIu32 " slots, %" PRIu64 " bytes; %" PRIu32 " open order%s, %" PRIu32
+           " spare slot%s; next version %" PRIu64 "\n",
+           d->is.layout, d->is.slots, d->is.bytes, d->is.live, d->is.live == 1 ? "" : "s", d->is.spare,
+           d->is.spare == 1 ? "" : "s", d->is.next_version);
     fputs("slots:", stdout);
     for (int i = 0; i < ORDERSET_SLOT_UNKNOWN; i++)
         printf("%s %" PRIu64 " %s", i ? "," : "", d->is.count[i], desk_class[i]);
