@@ -91,7 +91,7 @@ $(OUT)/gateway_on_disk: examples/gateway.c tests/disk.c $(HEADERS) $(ARCHIVE) | 
 
 .NOTPARALLEL:
 test: run-names run-header run-persist run-lock run-watch run-heads run-report run-plug run-storm run-kills run-guard \
-	run-differential run-log_header run-log_storm run-log_kills run-log_guard run-log_differential run-tools run-install
+	run-differential run-log_header run-log_storm run-log_kills run-log_guard run-log_differential
 run-names:
 	@tests/names
 run-header run-log_header: run-%: $(OUT)/%
@@ -149,6 +149,7 @@ DESK := orderset-show orderset-check
 TO = $(DESTDIR)$(PREFIX)
 
 .PHONY: lib tools install uninstall run-tools run-install
+test: run-tools run-install
 lib: $(LIB)/liborderset.a $(LIB)/liborderset.so.1
 tools: $(DESK:%=$(OUT)/%)
 

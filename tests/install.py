@@ -19,7 +19,7 @@ def so(right, what, *seen):
     global count
     count += 1
     if not right:
-        print("NOT SO:", what, *(str(s)[:3000] for s in seen), sep="\n  ")
+        print(f"NOT SO: {what}", *(str(s)[:3000] for s in seen), sep="\n  ")
         sys.exit(1)
 
 

@@ -6,6 +6,7 @@ set -u
 export LC_ALL=C
 cd "$(dirname "$0")/.."
 archive=target/staticlib/liborderset_c.a
+archive2=target/staticlib/liborderset2_c.a
 log_archive=target/staticlib/liblog_c.a
 report=target/bin/report
 plug=target/bin/plug
@@ -18,7 +19,7 @@ unseen=0
 copy_tree() {
     rm -rf "$tree"
     mkdir -p "$tree/target" "$tree/crates"
-    cp -r Makefile crates.txt include examples tests "$tree"
+    cp -r Makefile crates.txt include examples tests src tools man docs README.md "$tree"
     ln -s "$PWD/target/staticlib" "$tree/target/staticlib"
     ln -s "$PWD/target/bin" "$tree/target/bin"
 }
@@ -39,7 +40,8 @@ fault() {
     if cmp -s "$file" "$tree/$file"; then
         echo "the edit changes nothing" >"$log"
         not_seen "$test" "$what"
-    elif make -s -C "$tree" -o "$archive" -o "$log_archive" -o "$report" -o "$plug" "run-$test" SEED=1 >"$log" 2>&1 ||
+    elif make -s -C "$tree" -o "$archive" -o "$archive2" -o "$log_archive" -o "$report" -o "$plug" "run-$test" SEED=1 \
+        >"$log" 2>&1 ||
         ! grep -qE "$message" "$log"; then
         not_seen "$test" "$what"
     else
@@ -771,6 +773,63 @@ fault log_differential 'a struck append is to be read' $differential 's/all \? \
     'DIFFERENCE in what can be read after a struck append'
 fault log_differential "recovery's stores are not made" $differential \
     '/^static void laws/,/^}/{s/^    make_all\(\);//}' 'DIFFERENCE in what can be read after a struck append'
+
+show=tools/orderset-show.c
+check=tools/orderset-check.c
+desk=tools/desk.c
+picture=tools/picture.c
+fault tools 'live and hidden change names' $desk 's/"live", "hidden"/"hidden", "live"/' \
+    'NOT SO: a good file: the output of orderset-show'
+fault tools 'void slots are opened before they are shown' $desk \
+    '/^void desk_open/,/^}/s/ORDERSET_FILE_INSPECT/ORDERSET_FILE_READ/' \
+    "NOT SO: a good file: the output of orderset-show is 'slot 1"
+fault tools 'an order is shown as bytes' $desk 's/if \(orderset_file_order\(/if (0 \&\& orderset_file_order(/' \
+    'NOT SO: a good file: the output of orderset-show'
+fault tools 'a key of layout 2 is shown by its low word' $desk 's/layout == ORDERSET2_LAYOUT/layout == 3/' \
+    'NOT SO: layout 2: the output of orderset-show'
+fault tools 'a full disk is not told' $desk 's/if \(fflush\(out\) \|\| ferror\(out\)\)/if (0)/' 'NOT SO: a full disk is told'
+fault tools 'progress is not told' $desk 's/^    each_second\(1\);//' 'NOT SO: progress is told'
+fault tools 'a refused file is shown with status 0' $show 's/d.is.refusal \? DESK_REFUSED : DESK_GOOD/DESK_GOOD/' \
+    'NOT SO: .*: the status of orderset-show is 1'
+fault tools 'a picture takes the place of the set' $show 's/picture.st_ino == file.st_ino/0/' 'NOT SO: a picture over the set'
+fault tools 'a picture has any name' $show 's/length < 5 \|\| //; s/strcmp\(a->svg \+ length - 4, ".svg"\)/length < 1/' \
+    'NOT SO: a picture of any name'
+fault tools 'the last slot is not drawn' $picture '/^static void draw_slots/,/^}/s/slot <= d/slot < d/' \
+    'NOT SO: a picture has 20 squares'
+fault tools 'a square has the class of another' $picture \
+    '/^static void draw_slot\(/,/^}/s/desk_class\[r->slot_class\]/desk_class[r->slot_class ? 1 : 0]/' \
+    'NOT SO: 2 squares are hidden'
+fault tools 'two squares are in one place' $picture 's/% grid->columns \* grid->pitch;/% 9 * grid->pitch;/' \
+    'NOT SO: squares are apart'
+fault tools 'the legend counts another class' $picture 's/: d->is.count\[i\];/: d->is.count[0];/' \
+    'NOT SO: the legend says 2 hidden'
+fault tools 'the name of the file is not escaped' $picture "s/if \\(byte == '&' .*\\)\$/if (0)/" 'not well-formed|NOT SO'
+fault tools 'the slot at fault is not marked' $picture 's/if \(r->fault \|\| .*/if (0)/' 'NOT SO: the slot at fault is marked'
+fault tools 'an accepted file has status 1' $check '/^static int accepted/,/^}/s/DESK_GOOD/DESK_REFUSED/' \
+    'NOT SO: a good file: the status of orderset-check is 0'
+fault tools 'the slot at fault is not named' $check '/^static int refused/,/^}/s/if \(d->is.fault_slot\)/if (0)/' \
+    'NOT SO: .*: the output of orderset-check'
+fault tools 'line A is printed as line B' $check 's/print_line\("B", words \+ 8\)/print_line("B", words)/' \
+    'NOT SO: check of a file with no 24 says: line B'
+fault tools 'a single record is in conflict' $check 's/return count > said\(first\);/return count >= said(first);/' \
+    'NOT SO: only records in conflict'
+fault tools 'a complete basket is void' $check 's/, end\) < said\(/, end) <= said(/' 'NOT SO: check of a file with no 25'
+fault tools 'what to do is not said of damage' $check 's/other_file : keep_it/other_file : ""/' \
+    'NOT SO: check of a file with no 5 says what to do'
+
+fault install 'inner names are global' Makefile '/objcopy --wildcard/d' 'NOT SO: the shared library gives|multiple definition'
+fault install 'a name of the headers is local' Makefile 's/^PUBLIC := orderset_\*/PUBLIC := orderset_file_*/' 'undefined'
+fault install 'another soname' Makefile 's/-soname,liborderset.so.1/-soname,liborderset.so.2/' 'NOT SO: the soname'
+fault install 'a header is not installed' Makefile 's/install -m 644 include\/\*/install -m 644 include\/orderset.h/' \
+    'NOT SO: what is installed'
+fault install 'uninstall leaves the archive' Makefile 's/ lib\/liborderset.a lib/ lib/' 'NOT SO: uninstall leaves nothing'
+fault install 'the .pc file names no library' src/orderset.pc.in 's/ -lorderset//' 'NOT SO: .*pkg-config.* ends with status 0'
+fault install "README's program prints another line" README.md 's/^7: ordered 100, filled 80/7: ordered 100, filled 90/' \
+    'NOT SO: first.c, shared, prints what README says'
+fault install 'the tool prints another line than README' $check 's/: accepted\\n/: good\\n/' \
+    'NOT SO: the commands print what README says'
+fault install 'a call is in no manual page' man/orderset_file.3 '/orderset_file_slot\(/d' 'NOT SO: orderset_file.3 has every call'
+fault install 'a number is not in OPERATIONS' docs/OPERATIONS.md '/^\| 23 /d' 'NOT SO: OPERATIONS says of each number'
 
 echo "$count faults planted, $((count - unseen)) seen"
 [ $unseen -eq 0 ]

@@ -100,7 +100,7 @@ def so(right, what, *seen):
     global count
     count += 1
     if not right:
-        print("NOT SO:", what, *(repr(s)[:2000] for s in seen), sep="\n  ")
+        print(f"NOT SO: {what}", *(repr(s)[:2000] for s in seen), sep="\n  ")
         sys.exit(1)
 
 
@@ -212,6 +212,7 @@ def refused(desk):
         named = f"refused, no {number}" + (f" of slot {slot}" if slot else "")
         out = desk.asked(says, "orderset-check", [path], 1, re.compile(f"no{number}.img: {named}\n"))[1]
         so(says in out, f"check of a file with no {number} says: {says}", out)
+        so(out.count("share version") == (number == 7), "only records in conflict are said to share a version", out)
         so("What to do:" in out, f"check of a file with no {number} says what to do", out)
         desk.asked(says, "orderset-show", [path], 1, "", re.compile(f"{named}: "))
         slots = desk.run("orderset-show", "--slots", path)
@@ -351,7 +352,8 @@ def progress(desk):
     seen = desk.run("orderset-show", "--slots", path)
     so(seen[0] == 0 and len(seen[1].splitlines()) == 50000, "a long chain is shown", seen[0], seen[2])
     took = time.monotonic() - begun
-    so(took < 4 or re.search(r"orderset-show: (counting the slots|slots shown, \d+ of 50000)\n", seen[2]),
+    so(took < 4 or re.search(r"orderset-show: (reading and recovering the file|counting the slots|slots shown, \d+ of 50000)\n",
+                              seen[2]),
        f"progress is told in a run of {took:.1f} seconds", seen[2])
 
 
