@@ -385,20 +385,21 @@ class log_file {
         return {told, shown};
     }
 
-    // The next message after this number that can be read; END after the last one.
+    // The next message after this number that can be read; END after the last one. A damaged file may leave some out.
     result next(numbered &m) const {
-        answer<numbers> shown = range();
+        const answer<numbers> shown = range();
         if (!shown)
             return shown;
-        const std::uint64_t number = m.number < shown->first ? shown->first : m.number + 1;
-        if (number > shown->last) {
-            m = {};
-            return result(ORDERSET_FILE_END);
+        for (std::uint64_t number = m.number < shown->first ? shown->first : m.number + 1; number <= shown->last;
+             number++) {
+            const answer<orderset::message> found = read(number);
+            if (found)
+                m = {number, *found};
+            if (found != ORDERSET_LOG_NOT_SHOWN)
+                return found;
         }
-        answer<orderset::message> found = read(number);
-        if (found)
-            m = {number, *found};
-        return found;
+        m = {};
+        return ORDERSET_FILE_END;
     }
     // The messages that can be read, by rising number. The log outlives it and is not moved meanwhile.
     steps<const log_file, numbered> messages() const { return steps<const log_file, numbered>(*this); }

@@ -353,6 +353,28 @@ void logs() {
     }
 }
 
+// A message that is not complete, as no cut leaves it behind a later one, is left out.
+void damaged_log() {
+    std::remove(path.c_str());
+    same_number(orderset::log_file::create(path.c_str(), 4), 0, "create");
+    auto log = orderset::log_file::open(path.c_str(), mode::write);
+    for (const char *message : {"one", "two", "three"})
+        same_number(log->append(message), 0, "append");
+    log->close();
+    if (std::FILE *damaged = std::fopen(path.c_str(), "r+")) {
+        std::fseek(damaged, 2 * ORDERSET_LOG_CELL_BYTES + 8, SEEK_SET); // the length of message 2
+        std::fputc(0, damaged);
+        std::fclose(damaged);
+    }
+    log = orderset::log_file::open(path.c_str(), mode::read);
+    std::string given;
+    auto messages = log->messages();
+    for (const orderset::numbered &m : messages)
+        given += m.message.text();
+    same_number(messages.result(), 0, "messages");
+    expect(given == "onethree", "the other messages are given: %s", given.c_str());
+}
+
 // ---- files, locks and modes
 
 void refusals() {
@@ -426,6 +448,7 @@ int main(int count, char **word) {
     histories(1);
     histories(2);
     logs();
+    damaged_log();
     std::remove(path.c_str());
     std::printf("%" PRIu64 " answers, %" PRIu64 " restarts: as the plain map and list (%.0f s)\n", calls, restarts,
                 seconds());
