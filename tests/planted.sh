@@ -778,7 +778,7 @@ fault file 'no lock' $handle 's/flock\(file, how \| LOCK_NB\)/(void)how, 0/' 'NO
 fault file 'a lock that writers share' $handle "${opened}s/LOCK_EX : LOCK_SH/LOCK_SH : LOCK_SH/" \
     'NOT SO: a second process that writes gives 1011'
 fault file 'a reader keeps its lock' $handle '/^static uint32_t copy_file/,/^}/{/close\(a->file\);/d}' \
-    'NOT SO: an open gives 0 .*: 1011'
+    'NOT SO: .* gives .*: 1011'
 fault file 'the file becomes a standard stream' $handle 's/if \(file < 0 \|\| file > STDERR_FILENO\)/if (file != -2)/' \
     'NOT SO: the file does not become a standard stream'
 fault file 'the high word of a key is not looked at' $handle 's/return key.high \&\& /return 0 \&\& /' \
@@ -804,7 +804,7 @@ fault file 'a writer does not open void slots' $handle \
     's/return persist\(a, at, value, count\) \? ORDERSET_FILE_SYSTEM : ORDERSET_FILE_OK;/return 0;/' \
     'NOT SO: a writer of half a basket has 0 void slots'
 fault file 'the value of layout 2 is read as that of layout 1' $handle \
-    's/begins = s->layout == ORDERSET2_LAYOUT \? 32 : 24/begins = 24/' 'NOT SO: an inspection tells the slot'
+    's/begins = s->layout == ORDERSET2_LAYOUT \? 32 : 24/begins = 24/' 'NOT SO: an inspection of half a basket'
 fault file 'bytes past a value are not looked at' $handle 's/^        if \(value\[i\]\)/        if (value[i] \&\& i > 80)/' \
     'NOT SO: an inspection tells the slot'
 fault file 'an iteration leaves out the last slot' $handle 's/slot = slot < slots_of\(set\)/slot = slot + 1 < slots_of(set)/' \
@@ -829,7 +829,7 @@ fault file_storm 'an open does not make the file durable' $handle \
     's/: orderset_persist_image\(a->bytes, a->length, line_flush\(a\)\)/: 0/' 'LOST (orders|message|an open)'
 fault file_storm "recovery's stores are not made" $handle \
     's/return persist\(a, at, value, count\) \? ORDERSET_FILE_SYSTEM : ORDERSET_FILE_OK;/return 0;/' \
-    'LOST (orders|message|an open)'
+    'LOST (orders|message|an open|a call)'
 fault file_storm 'stores are made and not flushed' $handle \
     's/: orderset_persist_list\(a->bytes, a->length, at, value, count, line_flush\(a\)\)/: (orderset_store_list(a->bytes, at, value, count), 0)/' \
     'LOST (orders|message|an open)'
