@@ -112,6 +112,23 @@ run-kills: $(OUT)/kills $(OUT)/gateway $(OUT)/gateway_on_disk
 run-log_kills: $(OUT)/log_kills $(OUT)/recorder
 	@$(OUT)/log_kills $(OUT)/recorder $(OUT)/log_kills.log $(SEED)
 
+# the handles of orderset_file.h, over the three archives; file_storm has their source in its own
+FILE_TESTS := file file_storm file_kills
+$(OUT)/file: tests/file.c tests/file_model.c tests/child.c tests/chance.c
+$(OUT)/file_storm: tests/file_storm.c tests/file_model.c tests/cache.c tests/chance.c
+$(OUT)/file_kills: tests/file_kills.c tests/file_model.c tests/disk.c tests/child.c tests/chance.c
+$(OUT)/file: HANDLES := src/orderset_file.c -Wl,--wrap=posix_fallocate,--wrap=msync
+$(OUT)/file_kills: HANDLES := src/orderset_file.c -Wl,--wrap=mmap,--wrap=msync,--wrap=fsync,--wrap=renameat2
+
+$(FILE_TESTS:%=$(OUT)/%): $(wildcard tests/*.h) $(HEADERS) include/orderset_file.h src/orderset_file.c \
+		$(ARCHIVE2) $(ARCHIVE) $(LOG_ARCHIVE) | $(OUT)
+	$(C) -Itests $(filter tests/%.c,$^) $(HANDLES) $(filter %.a,$^) -pthread -o $@
+
+.PHONY: run-file run-file_storm run-file_kills
+test: run-file run-file_storm run-file_kills
+run-file run-file_storm run-file_kills: run-%: $(OUT)/%
+	@$(OUT)/$* $(OUT)/$*.img $(SEED)
+
 # every test fails where a fault is planted
 planted: $(ARCHIVE) $(LOG_ARCHIVE) $(REPORT)
 	tests/planted.sh
@@ -191,9 +208,10 @@ install: lib tools
 	install -m 644 docs/OPERATIONS.md "$(TO)/share/doc/orderset"
 
 uninstall:
-	cd "$(TO)" && rm -f $(DESK:%=bin/%) $(wildcard include/*) lib/liborderset.a lib/liborderset.so* \
+	cd "$(TO)" && rm -f $(DESK:%=bin/%) $(wildcard include/*) lib/liborderset.a lib/liborderset.so \
+		lib/liborderset.so.1 lib/liborderset.so.$(VERSION) \
 		lib/pkgconfig/orderset.pc $(patsubst man/%,share/man/man1/%,$(wildcard man/*.1)) \
-		$(patsubst man/%,share/man/man3/%,$(wildcard man/*.3)) share/doc/orderset/OPERATIONS.md
+		$(patsubst man/%,share/man/man3/%,$(wildcard man/*.3)) share/doc/orderset/OPERATIONS.md && rmdir share/doc/orderset
 
 # the tools on good, wrong and damaged files; and README's programs, compiled against what install leaves
 run-tools: $(DESK:%=$(OUT)/%)

@@ -19,7 +19,7 @@ unseen=0
 copy_tree() {
     rm -rf "$tree"
     mkdir -p "$tree/target" "$tree/crates"
-    cp -r Makefile crates.txt include examples tests src tools man docs README.md "$tree"
+    cp -r Makefile crates.txt include src examples tests tools man docs bindings README.md "$tree"
     ln -s "$PWD/target/staticlib" "$tree/target/staticlib"
     ln -s "$PWD/target/bin" "$tree/target/bin"
 }
@@ -830,6 +830,87 @@ fault install 'the tool prints another line than README' $check 's/: accepted\\n
     'NOT SO: the commands print what README says'
 fault install 'a call is in no manual page' man/orderset_file.3 '/orderset_file_slot\(/d' 'NOT SO: orderset_file.3 has every call'
 fault install 'a number is not in OPERATIONS' docs/OPERATIONS.md '/^\| 23 /d' 'NOT SO: OPERATIONS says of each number'
+
+handle=src/orderset_file.c
+opened='/^static uint32_t open_locked/,/^}/'
+fault file 'no lock' $handle 's/flock\(file, how \| LOCK_NB\)/(void)how, 0/' 'NOT SO: a second process that writes gives 1011'
+fault file 'a lock that writers share' $handle "${opened}s/LOCK_EX : LOCK_SH/LOCK_SH : LOCK_SH/" \
+    'NOT SO: a second process that writes gives 1011'
+fault file 'a reader keeps its lock' $handle '/^static uint32_t copy_file/,/^}/{/close\(a->file\);/d}' \
+    'NOT SO: .* gives .*: 1011'
+fault file 'the file becomes a standard stream' $handle 's/if \(file < 0 \|\| file > STDERR_FILENO\)/if (file != -2)/' \
+    'NOT SO: the file does not become a standard stream'
+fault file 'the high word of a key is not looked at' $handle 's/return key.high \&\& /return 0 \&\& /' \
+    'NOT SO: a key of 128 bits in layout 1 gives 1015'
+fault file 'a reader changes its copy' $handle \
+    '/^static uint32_t may_change/,/^}/s/a->mode != ORDERSET_FILE_WRITE/a->mode > 2/' \
+    'NOT SO: a change through a reader gives 1014'
+fault file 'a handle goes on after a failed sync' $handle '/a->stopped = 1;/d' \
+    'NOT SO: a change after a failed sync gives 1017'
+fault file 'an open asks for no blocks' $handle \
+    '/^static uint32_t map_file/,/^}/s/errno = posix_fallocate\(.*\)\)\)/errno = 0))/' \
+    'NOT SO: an open on a full disk gives 1010'
+fault file 'a create that fails leaves its file' $handle '/unlink\(fresh\);/d' 'NOT SO: a create that fails leaves nothing'
+fault file 'create takes the place of a file' $handle \
+    's/if \(lstat\(path, \&found\) == 0\)/if (lstat(path, \&found) == 1)/; s/if \(errno != ENOENT \|\| asp/if (asp/
+     s/RENAME_NOREPLACE/0/' 'NOT SO: create where a file is gives 1012'
+fault file 'any bytes are a log' $handle 's/if \(mark > 1\)/if (mark > UINT64_MAX - 1 \&\& mark < 1)/' \
+    'NOT SO: a log with a mark of 2 gives 1018'
+fault file 'an inspection opens void slots' $handle \
+    '/^static uint32_t start\(/,/^}/s/s->area.mode == ORDERSET_FILE_INSPECT/s->area.mode > 2/' \
+    'NOT SO: an inspection of half a basket has 2 void slots'
+fault file 'a writer does not open void slots' $handle \
+    's/return persist\(a, at, value, count\) \? ORDERSET_FILE_SYSTEM : ORDERSET_FILE_OK;/return 0;/' \
+    'NOT SO: a writer of half a basket has 0 void slots'
+fault file 'the value of layout 2 is read as that of layout 1' $handle \
+    's/begins = s->layout == ORDERSET2_LAYOUT \? 32 : 24/begins = 24/' 'NOT SO: an inspection of half a basket'
+fault file 'bytes past a value are not looked at' $handle 's/^        if \(value\[i\]\)/        if (value[i] \&\& i > 80)/' \
+    'NOT SO: an inspection tells the slot'
+fault file 'an iteration leaves out the last slot' $handle 's/slot = slot < slots_of\(set\)/slot = slot + 1 < slots_of(set)/' \
+    'NOT SO: .* shows? what was answered'
+fault file 'hidden puts are counted as live' $handle 's/is_live\(s, slot\) \? ORDERSET_SLOT_LIVE : ORDERSET_SLOT_HIDDEN/0/' \
+    'NOT SO: .* (shows what was answered|count the slots)'
+fault file 'the heads are as many as the slots' $handle 's/if \(divisor \* divisor > heads\)/if (heads)/' \
+    'NOT SO: the heads are a prime near N'
+fault file 'recovery on the stack of the caller' $handle \
+    's/error = pthread_create\(.*\);/thread = pthread_self(), work(argument);/; s/error = pthread_join\(.*\);/error = 0;/' \
+    'Segmentation fault|Error 139'
+fault file 'absent is given as found' $handle '/^uint32_t orderset_file_get/,/^}/s/\? ORDERSET_FILE_ABSENT :/? 0 :/' \
+    'NOT SO: .* shows? what was answered'
+fault file 'one text is missing' $handle '/\[19\] = /d' 'NOT SO: each number of the papers has words'
+fault file 'a log shows as many messages as cells' $handle 's/l->last - cells_of\(l\) \+ 2/l->last - cells_of(l) + 1/' \
+    'NOT SO: the numbers that can be read'
+fault file 'the length of an output is not looked at' $handle \
+    's/if \(answer\[ORDERSET_LOG_LENGTH\] > room\)/if (answer[ORDERSET_LOG_LENGTH] > 384 + room)/' \
+    'NOT SO: a short output gives 13'
+
+fault file_storm 'an open does not make the file durable' $handle \
+    's/: orderset_persist_image\(a->bytes, a->length, line_flush\(a\)\)/: 0/' 'LOST (orders|message|an open)'
+fault file_storm "recovery's stores are not made" $handle \
+    's/return persist\(a, at, value, count\) \? ORDERSET_FILE_SYSTEM : ORDERSET_FILE_OK;/return 0;/' \
+    'LOST (orders|message|an open|a call)'
+fault file_storm 'stores are made and not flushed' $handle \
+    's/: orderset_persist_list\(a->bytes, a->length, at, value, count, line_flush\(a\)\)/: (orderset_store_list(a->bytes, at, value, count), 0)/' \
+    'LOST (orders|message|an open)'
+fault file_storm 'the stores of the last key of a basket are not made' $handle \
+    's/ORDERSET_BASKET_STORES\(count\)/ORDERSET_BASKET_STORES(count - 1)/' 'LOST orders'
+fault file_storm 'one store of an append is not made' $handle \
+    's/persist\(\&log->area, log->at, log->value, log->answer\[ORDERSET_LOG_COUNT\]\)/persist(\&log->area, log->at, log->value, log->answer[1] - 1)/' \
+    'LOST (message|an append|an open)'
+fault file_storm 'a replace of layout 2 drops the high word' $handle \
+    's/orderset2_##name\(lent, \(key\).low, \(key\).high,/orderset2_##name(lent, (key).low, (key).high \& 3,/' 'LOST'
+
+fault file_kills 'a new file is not synced' $handle \
+    '/^static uint32_t format\(/,/^}/{s/msync\(image, length, MS_SYNC\) \|\| //; s/fsync\(file\) \? /0 ? /}' \
+    'NOT SO: a new file is synced'
+fault file_kills 'the directory of a new file is not synced' $handle \
+    '/^static uint32_t make\(/,/^}/s/return sync_name\(path\) \?/return 0 ?/' \
+    'NOT SO: the directory of a new file is synced'
+fault file_kills 'an open does not make the file durable' $handle \
+    's/if \(fsync\(a->file\) \|\| /if (/; s/\? orderset_persist_image_file\(a->bytes, a->length\)/? 0/' \
+    'NOT SO: after [0-9]+ kills'
+fault file_kills 'a failed sync is answered as done' $handle 's/^    if \(!failed\)/    if (failed < 2)/' 'NOT SO: '
+fault file_kills 'a handle goes on after a failed sync' $handle '/a->stopped = 1;/d' 'NOT SO: .* refuses every call'
 
 echo "$count faults planted, $((count - unseen)) seen"
 [ $unseen -eq 0 ]
