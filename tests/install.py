@@ -108,11 +108,11 @@ def blocks():
 
 
 def as_printed(folder):
-    """The commands in order, each file where README has it, with a home of its own; what they print is README's."""
-    names = {"c": "first.c", "rust": "src/main.rs", "toml": "Cargo.toml"}
-    repository = os.getcwd()
-    script = "set -e\nmake() { command make -s --no-print-directory -C '" + repository + "' " + \
-        " ".join(f"-o {a}" for a in ARCHIVES) + " \"$@\"; }\n"
+    """The commands in order, from this folder on, with a home of its own; a program is written where it stands among
+    them. What they print is README's."""
+    names = {"c": "first.c", "rust": "src/main.rs"}
+    script = "set -e\nmake() { command make -s --no-print-directory " + " ".join(f"-o {a}" for a in ARCHIVES) + \
+        " \"$@\"; }\n"
     expected = []
     for language, text in blocks():
         if language == "sh":
@@ -121,17 +121,18 @@ def as_printed(folder):
         elif language == "text":
             expected[-1] = text
         else:
-            script += f"mkdir -p $(dirname {names[language]})\ncat >{names[language]} <<'END OF FILE'\n{text}END OF FILE\n"
+            file = f"$HOME/first/{names[language]}"
+            script += f"mkdir -p $(dirname {file})\ncat >{file} <<'END OF FILE'\n{text}END OF FILE\n"
     home = f"{folder}/home"
-    os.makedirs(f"{home}/work")
-    env = {**os.environ, "HOME": home, "JEMOKEPI": repository, "CARGO_NET_OFFLINE": "true",
+    os.makedirs(home)
+    env = {**os.environ, "HOME": home, "CARGO_NET_OFFLINE": "true",
            "CARGO_HOME": os.environ.get("CARGO_HOME", os.path.expanduser("~/.cargo")),
            "RUSTUP_HOME": os.environ.get("RUSTUP_HOME", os.path.expanduser("~/.rustup"))}
-    seen = re.split(r"^== \d+\n", run("bash", "-c", script, cwd=f"{home}/work", env=env), flags=re.M)[1:]
+    seen = re.split(r"^== \d+\n", run("bash", "-c", script, env=env), flags=re.M)[1:]
     so(len(expected) > 2 and expected.count("") < len(expected), "README has commands with what they print", expected)
     for i, text in enumerate(expected):
         so(i < len(seen) and (seen[i] == text or text == ""), f"the commands print what README says:\n{text}", seen)
-    so(os.path.exists(f"{home}/work/orders.svg"), "README's picture is made")
+    so(os.path.exists(f"{home}/first/orders.svg"), "README's picture is made")
 
 
 # ---- documents beside the headers

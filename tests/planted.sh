@@ -790,7 +790,7 @@ fault tools 'a key of layout 2 is shown by its low word' $desk 's/layout == ORDE
 fault tools 'a full disk is not told' $desk 's/if \(fflush\(out\) \|\| ferror\(out\)\)/if (0)/' 'NOT SO: a full disk is told'
 fault tools 'progress is not told' $desk 's/^    each_second\(1\);//' 'NOT SO: progress is told'
 fault tools 'a refused file is shown with status 0' $show 's/d.is.refusal \? DESK_REFUSED : DESK_GOOD/DESK_GOOD/' \
-    'NOT SO: .*: the status of orderset-show is 1'
+    'NOT SO: a file with no 1: the status of orderset-show is 1'
 fault tools 'a picture takes the place of the set' $show 's/picture.st_ino == file.st_ino/0/' 'NOT SO: a picture over the set'
 fault tools 'a picture has any name' $show 's/length < 5 \|\| //; s/strcmp\(a->svg \+ length - 4, ".svg"\)/length < 1/' \
     'NOT SO: a picture of any name'
@@ -808,7 +808,7 @@ fault tools 'the slot at fault is not marked' $picture 's/if \(r->fault \|\| .*/
 fault tools 'an accepted file has status 1' $check '/^static int accepted/,/^}/s/DESK_GOOD/DESK_REFUSED/' \
     'NOT SO: a good file: the status of orderset-check is 0'
 fault tools 'the slot at fault is not named' $check '/^static int refused/,/^}/s/if \(d->is.fault_slot\)/if (0)/' \
-    'NOT SO: .*: the output of orderset-check'
+    'NOT SO: a file with no 6: the output of orderset-check'
 fault tools 'line A is printed as line B' $check 's/print_line\("B", words \+ 8\)/print_line("B", words)/' \
     'NOT SO: check of a file with no 24 says: line B'
 fault tools 'a single record is in conflict' $check 's/return count > said\(first\);/return count >= said(first);/' \

@@ -210,11 +210,12 @@ def refused(desk):
         met.add(number)
         path = desk.file(f"no{number}.img", content)
         named = f"refused, no {number}" + (f" of slot {slot}" if slot else "")
-        out = desk.asked(says, "orderset-check", [path], 1, re.compile(f"no{number}.img: {named}\n"))[1]
-        so(says in out, f"check of a file with no {number} says: {says}", out)
+        what = f"a file with no {number}"
+        out = desk.asked(what, "orderset-check", [path], 1, re.compile(f"no{number}.img: {named}\n"))[1]
+        so(says in out, f"check of {what} says: {says}", out)
         so(out.count("share version") == (number == 7), "only records in conflict are said to share a version", out)
-        so("What to do:" in out, f"check of a file with no {number} says what to do", out)
-        desk.asked(says, "orderset-show", [path], 1, "", re.compile(f"{named}: "))
+        so("What to do:" in out, f"check of {what} says what to do", out)
+        desk.asked(what, "orderset-show", [path], 1, "", re.compile(f"{named}: "))
         slots = desk.run("orderset-show", "--slots", path)
         so(slots[0] == 1, "the slots of a refused file are shown, with status 1", slots)
         length = len(content.bytes if isinstance(content, Image) else content)
