@@ -160,8 +160,7 @@ gateway: $(OUT)/gateway
 VERSION := 1.0.0
 PREFIX ?= /usr/local
 LIB := target/lib
-# what is global in the library: the names of the headers
-PUBLIC := orderset_* orderset2_* log_append log_recover log_read
+ARCHIVES := $(ARCHIVE) $(ARCHIVE2) $(LOG_ARCHIVE)
 DESK := orderset-show orderset-check
 TO = $(DESTDIR)$(PREFIX)
 
@@ -173,21 +172,17 @@ tools: $(DESK:%=$(OUT)/%)
 $(LIB):
 	mkdir -p $@
 
-# each archive becomes an object of its own, whose inner names are local: the archives have some of them in common
-PARTS := $(patsubst target/staticlib/lib%.a,$(LIB)/%.o,$(ARCHIVE) $(ARCHIVE2) $(LOG_ARCHIVE))
-$(PARTS): $(LIB)/%.o: target/staticlib/lib%.a | $(LIB)
-	ld -r --force-group-allocation --whole-archive $< -o $@
-	objcopy --wildcard $(PUBLIC:%='--keep-global-symbol=%') $@
-
 $(LIB)/orderset_file.o: src/orderset_file.c $(HEADERS) | $(LIB)
 	$(C) -fPIC -c $< -o $@
 
-$(LIB)/liborderset.a: $(LIB)/orderset_file.o $(PARTS)
+# the archives have no global name but those of the headers; run-install looks
+$(LIB)/liborderset.a: $(LIB)/orderset_file.o $(ARCHIVES)
 	rm -f $@
-	ar rcs $@ $^
+	printf '%s\n' 'create $@' $(ARCHIVES:%='addlib %') 'addmod $<' save end | ar -M
 
-$(LIB)/liborderset.so.1: $(LIB)/orderset_file.o $(PARTS)
-	$(CC) -shared $(CFLAGS) $(LDFLAGS) -Wl,-soname,liborderset.so.1 -Wl,-z,defs -Wl,-z,noexecstack $^ -pthread -o $@
+$(LIB)/liborderset.so.1: $(LIB)/liborderset.a
+	$(CC) -shared $(CFLAGS) $(LDFLAGS) -Wl,-soname,$(@F) -Wl,-z,defs -Wl,-z,noexecstack -Wl,--whole-archive $< \
+		-Wl,--no-whole-archive -pthread -o $@
 
 $(OUT)/orderset-show: tools/orderset-show.c tools/picture.c
 $(DESK:%=$(OUT)/%): $(OUT)/%: tools/%.c tools/desk.c $(wildcard tools/*.h) $(HEADERS) $(LIB)/liborderset.a | $(OUT)

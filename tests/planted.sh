@@ -817,9 +817,10 @@ fault tools 'a complete basket is void' $check 's/, end\) < said\(/, end) <= sai
 fault tools 'what to do is not said of damage' $check 's/other_file : keep_it/other_file : ""/' \
     'NOT SO: check of a file with no 5 says what to do'
 
-fault install 'inner names are global' Makefile '/objcopy --wildcard/d' 'NOT SO: the shared library gives|multiple definition'
-fault install 'a name of the headers is local' Makefile 's/^PUBLIC := orderset_\*/PUBLIC := orderset_file_*/' 'undefined'
-fault install 'another soname' Makefile 's/-soname,liborderset.so.1/-soname,liborderset.so.2/' 'NOT SO: the soname'
+fault install 'an inner name is global' src/orderset_file.c 's/^static uint32_t lock\(/uint32_t lock(/' \
+    'NOT SO: the shared library gives the names of the headers'
+fault install 'an archive is left out' Makefile 's/^(ARCHIVES := .*) \$\(LOG_ARCHIVE\)/\1/' 'undefined reference'
+fault install 'another soname' Makefile 's/-soname,\$\(@F\)/-soname,liborderset.so.2/' 'NOT SO: the soname'
 fault install 'a header is not installed' Makefile 's/install -m 644 include\/\*/install -m 644 include\/orderset.h/' \
     'NOT SO: what is installed'
 fault install 'uninstall leaves the archive' Makefile 's/ lib\/liborderset.a lib/ lib/' 'NOT SO: uninstall leaves nothing'
