@@ -29,7 +29,7 @@ CFLAGS ?= -O2
 CXXFLAGS ?= -O2
 C := $(CC) -std=c11 -Wall -Wextra -Iinclude $(CFLAGS) $(LDFLAGS)
 CPLUS := $(CXX) -std=c++11 -Wall -Wextra -Iinclude $(CXXFLAGS) $(LDFLAGS)
-HEADERS := $(wildcard include/*.h)
+HEADERS := include/orderset.h include/orderset_log.h include/orderset_persist.h
 CRATES := crates.txt $(shell find crates -name '*.rt' -o -name '*.antt')
 
 .PHONY: test planted gateway recorder heads bench archive run-names run-header run-persist run-guard run-storm run-lock \
@@ -172,7 +172,7 @@ tools: $(DESK:%=$(OUT)/%)
 $(LIB):
 	mkdir -p $@
 
-$(LIB)/orderset_file.o: src/orderset_file.c $(HEADERS) | $(LIB)
+$(LIB)/orderset_file.o: src/orderset_file.c $(wildcard include/*.h) | $(LIB)
 	$(C) -fPIC -c $< -o $@
 
 # the archives have no global name but those of the headers; run-install looks
@@ -185,7 +185,7 @@ $(LIB)/liborderset.so.1: $(LIB)/liborderset.a
 		-Wl,--no-whole-archive -pthread -o $@
 
 $(OUT)/orderset-show: tools/orderset-show.c tools/picture.c
-$(DESK:%=$(OUT)/%): $(OUT)/%: tools/%.c tools/desk.c $(wildcard tools/*.h) $(HEADERS) $(LIB)/liborderset.a | $(OUT)
+$(DESK:%=$(OUT)/%): $(OUT)/%: tools/%.c tools/desk.c $(wildcard tools/*.h include/*.h) $(LIB)/liborderset.a | $(OUT)
 	$(C) -DVERSION='"$(VERSION)"' $(filter %.c,$^) $(LIB)/liborderset.a -pthread -o $@
 
 install: lib tools

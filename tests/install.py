@@ -148,7 +148,8 @@ def manuals():
        set(re.findall(r"\b(orderset_(?:log_)?file_\w+)\(", page)) ^ handle)
     header = open("include/orderset_file.h").read()
     numbers = set(re.findall(r"\b(ORDERSET_FILE_\w+) = (1\d{3})", header))
-    so({(n, v) for v, n in re.findall(r"^\.B (1\d{3}) (\w+)$", page, re.M)} == numbers, "orderset_file.3 has every number")
+    so({(n, v) for v, n in re.findall(r"^\.B (1\d{3}) (\w+)$", page, re.M)} == numbers,
+       "orderset_file.3 has every number")
     page = open("man/orderset.3").read()
     lower = {n for n in declared() - handle if not n.startswith("orderset2_")}
     so(lower <= set(re.findall(r"\b(?:orderset|log)_\w+", page)), "orderset.3 has every call",

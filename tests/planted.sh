@@ -811,7 +811,7 @@ fault tools 'the slot at fault is not named' $check '/^static int refused/,/^}/s
     'NOT SO: a file with no 6: the output of orderset-check'
 fault tools 'line A is printed as line B' $check 's/print_line\("B", words \+ 8\)/print_line("B", words)/' \
     'NOT SO: check of a file with no 24 says: line B'
-fault tools 'a single record is in conflict' $check 's/return count > said\(first\);/return count >= said(first);/' \
+fault tools 'a single record is in conflict' $check 's/if \(count > said\(first\)\)/if (count >= said(first))/' \
     'NOT SO: only records in conflict'
 fault tools 'a complete basket is void' $check 's/, end\) < said\(/, end) <= said(/' 'NOT SO: check of a file with no 25'
 fault tools 'what to do is not said of damage' $check 's/other_file : keep_it/other_file : ""/' \

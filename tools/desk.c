@@ -35,7 +35,7 @@ void desk_printed(const struct desk *d, FILE *out, const char *name) {
 
 void desk_options(const char *tool, const char *help, int count, char **word) {
     const struct desk d = {.tool = tool};
-    for (int i = 1; i < count; i++) {
+    for (int i = 1; i < count && strcmp(word[i], "--"); i++) {
         if (!strcmp(word[i], "--help"))
             fputs(help, stdout);
         else if (!strcmp(word[i], "--version"))

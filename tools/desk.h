@@ -33,8 +33,8 @@ void desk_open(struct desk *d, const char *tool, const char *path);
 /* A slot, 1 to N. */
 void desk_slot(struct desk *d, uint32_t slot, struct orderset_record *record);
 
-/* Of a step that takes over a second, standard error tells each second how far it is: what, or what and *done of all.
- * what is kept. desk_rest ends it. */
+/* Of a step that takes over a second, standard error tells each second how far it is: what, and where all is not 0
+ * desk_done of all. what is kept. desk_rest ends it. */
 void desk_step(const char *tool, const char *what, uint32_t all);
 extern volatile uint32_t desk_done;
 void desk_rest(void);

@@ -141,6 +141,8 @@ static size_t said(const struct whole *record) {
 
 /* Whether records of one version are no basket, or no part of one. */
 static int in_conflict(const struct whole *first, size_t count) {
+    if (count > said(first))
+        return 1;
     for (size_t i = 0; i < count; i++) {
         if (first[i].records != first->records)
             return 1;
@@ -148,7 +150,7 @@ static int in_conflict(const struct whole *first, size_t count) {
             if (first[i].key.low == first[j].key.low && first[i].key.high == first[j].key.high)
                 return 1;
     }
-    return count > said(first);
+    return 0;
 }
 
 static void print_sharers(struct desk *d, const struct whole *first, size_t count) {
@@ -163,11 +165,13 @@ static void print_sharers(struct desk *d, const struct whole *first, size_t coun
 }
 
 static void say_shared(struct desk *d) {
-    size_t count;
+    size_t count, found = 0;
     struct whole *whole = whole_records(d, &count);
     for (const struct whole *w = whole, *end = whole + count; w < end; w += sharers(w, end))
-        if (in_conflict(w, sharers(w, end)))
+        if (in_conflict(w, sharers(w, end)) && ++found <= SHOWN)
             print_sharers(d, w, sharers(w, end));
+    if (found > SHOWN)
+        printf("  and %zu more versions; orderset-show --slots shows all\n", found - SHOWN);
     free(whole);
 }
 
@@ -199,13 +203,13 @@ static void say_where(struct desk *d) {
 /* ---- what to do */
 
 static const char keep_it[] =
-    "What to do: leave the file as it is and keep a copy of it. No power cut and no kill leaves this: the memory or the\n"
-    "disk failed, or another program wrote to the file. Test the device before you use it again. Go on with a copy from\n"
-    "before the damage, or with a new file, and ask the exchange for the open orders.\n";
+    "What to do: leave the file as it is and keep a copy of it. No power cut and no kill leaves this: the memory\n"
+    "or the disk failed, or another program wrote to the file. Test the device before you use it again. Go on\n"
+    "with a copy from before the damage, or with a new file, and ask the exchange for the open orders.\n";
 static const char other_file[] =
-    "What to do: look whether this is the right file. If it is, it was cut short, extended or overwritten: keep it as it\n"
-    "is, and go on with a copy from before, or with a new file, and ask the exchange for the open orders. Do not make a\n"
-    "new set of that name before the file is kept elsewhere.\n";
+    "What to do: look whether this is the right file. If it is, it was cut short, extended or overwritten: keep it\n"
+    "as it is, and go on with a copy from before, or with a new file, and ask the exchange for the open orders. Do\n"
+    "not make a new set of that name before the file is kept elsewhere.\n";
 static const char start_too[] =
     "See also whether each start made the file durable before it recovered: those by orderset_file_open do.\n";
 
@@ -260,11 +264,12 @@ static int accepted(struct desk *d) {
     putchar('\n');
     desk_step(tool, "slots looked at", d->is.slots);
     explain(d, ORDERSET_SLOT_VOID,
-            "  of a basket that a power cut or a kill struck; none of it counts, and it was not answered. The next start\n"
-            "  that writes opens such slots, and then they are broken. Nothing is to be done.\n");
+            "  of a basket that a power cut or a kill struck; none of it counts, and it was not answered. The next\n"
+            "  start that writes opens such slots, and then they are broken. Nothing is to be done.\n");
     explain(d, ORDERSET_SLOT_BROKEN,
-            "  a power cut or a kill struck the call that wrote there; it does not count, and was not answered. Such slots\n"
-            "  are used again first. Nothing is to be done: up to eight broken and void slots are no sign of damage.\n");
+            "  a power cut or a kill struck the call that wrote there; it does not count, and was not answered.\n"
+            "  Such slots are used again first. Nothing is to be done: up to eight broken and void slots are no\n"
+            "  sign of damage.\n");
     desk_rest();
     return DESK_GOOD;
 }

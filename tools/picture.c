@@ -115,8 +115,9 @@ static void label_square(FILE *out, const struct grid *grid, const struct orders
         return;
     snprintf(attributes, sizeof attributes, " font-size=\"%" PRIu32 "\" text-anchor=\"middle\" fill=\"%s\"", size,
              l->text);
+    const uint32_t below = grid->pitch >= NUMBERED ? 7 : 0; /* the number of the slot */
     if (*l->letter)
-        put_text(out, middle, y + grid->pitch / 2 + size / 3 + (grid->pitch >= NUMBERED ? 7 : 0), attributes, l->letter);
+        put_text(out, middle, y + grid->pitch / 2 + size / 3 + below, attributes, l->letter);
     if (grid->pitch < NUMBERED)
         return;
     snprintf(attributes, sizeof attributes, " font-size=\"12\" text-anchor=\"middle\" fill=\"%s\"", l->text);
@@ -150,11 +151,11 @@ static void label_row(FILE *out, const struct grid *grid, uint32_t slot) {
     if ((slot - 1) % grid->columns || row % every)
         return;
     snprintf(number, sizeof number, "%" PRIu32, slot);
-    put_text(out, grid->left - 8, grid->top + row * grid->pitch + (grid->pitch + 9) / 2, " font-size=\"12\" text-anchor=\"end\"",
-             number);
+    put_text(out, grid->left - 8, grid->top + row * grid->pitch + (grid->pitch + 9) / 2,
+             " font-size=\"12\" text-anchor=\"end\"", number);
 }
 
-/* Whether a small square is to be found by a ring around it: where it is at fault, void or broken, and these are few. */
+/* Whether a small square is found by a ring around it: where it is at fault, void or broken, and these are few. */
 static int is_ringed(const struct desk *d, const struct grid *grid, const struct orderset_record *r) {
     const uint64_t few = d->is.count[ORDERSET_SLOT_VOID] + d->is.count[ORDERSET_SLOT_BROKEN];
     if (grid->pitch >= LETTERED)
@@ -193,8 +194,9 @@ void draw_picture(struct desk *d, FILE *out) {
     struct grid grid = grid_for(d->is.slots);
     const uint32_t legend = ORDERSET_COUNTS + (d->unknown ? 1 : 0), above = d->is.refusal ? 2 : 0;
     grid.top = MARGIN + 14 + 24 + above * 22 + 12 + legend * LINE + 24;
-    const uint32_t rows = (d->is.slots + grid.columns - 1) / grid.columns, wide = grid.left + grid.columns * grid.pitch;
-    const uint32_t width = wide + MARGIN > WIDTH ? wide + MARGIN : WIDTH, height = grid.top + rows * grid.pitch + MARGIN;
+    const uint32_t rows = (d->is.slots + grid.columns - 1) / grid.columns;
+    const uint32_t wide = grid.left + grid.columns * grid.pitch + MARGIN, width = wide > WIDTH ? wide : WIDTH;
+    const uint32_t height = grid.top + rows * grid.pitch + MARGIN;
     fprintf(out,
             "<?xml version=\"1.0\" encoding=\"UTF-8\"?>\n"
             "<svg xmlns=\"http://www.w3.org/2000/svg\" width=\"%" PRIu32 "\" height=\"%" PRIu32
