@@ -1,12 +1,12 @@
 # The C side: the archive's tests, the example and the measurements. The proofs are checked by .ci/run.
 #   make archive   the libraries, proved and built: target/staticlib/liborderset_c.a and liblog_c.a   (rt)
-#   make lib       one library of them and of the handle: target/lib/liborderset.a and liborderset.so.1   (gcc)
-#   make install   headers, library, orderset.pc, manual pages and tools below $(DESTDIR)$(PREFIX)        (gcc)
-#   make uninstall the same away
 #   make test      the tests of docs/TESTS.md: the archive, the headers and the gateway       (gcc g++ python3)
 #   make planted   that each test fails where a fault is planted                                      (gcc g++)
 #   make gateway   the example: a new file, orders, a restart, and the orders again                   (gcc)
 #   make recorder  the example of the log: a new file, messages, a restart, and the last messages     (gcc)
+#   make lib       one library of the archives and the handle: target/lib/liborderset.a and liborderset.so.1   (gcc)
+#   make install   headers, library, orderset.pc, manual pages and tools below $(DESTDIR)$(PREFIX)        (gcc)
+#   make uninstall the same away
 #   make heads     the table of docs/HEADS.md: the slots compared and the time of a get, by the number of heads  (gcc)
 #   make bench     the table and the chart of docs/PERFORMANCE.md
 #                  (gcc python3 valgrind libpmemobj-dev liblmdb-dev libsqlite3-dev)
@@ -35,7 +35,7 @@ CRATES := crates.txt $(shell find crates -name '*.rt' -o -name '*.antt')
 .PHONY: test planted gateway recorder heads bench archive run-names run-header run-persist run-guard run-storm run-lock \
 	run-watch run-kills run-heads run-report run-plug run-differential run-log_header run-log_storm run-log_guard \
 	run-log_kills run-log_differential
-archive: $(ARCHIVE) $(ARCHIVE2) $(LOG_ARCHIVE)
+archive: $(ARCHIVE) $(LOG_ARCHIVE)
 
 $(ARCHIVE): $(CRATES)
 	$(RT) staticlib orderset_c
