@@ -166,10 +166,11 @@ $(CXX_TESTS:%=$(OUT)/%): tests/file.cc $(OUT)/chance.o $(wildcard include/*) $(L
 	$(CXX) $(STANDARD) -Wall -Wextra -Werror -Iinclude -Itests $(CXXFLAGS) $(LDFLAGS) tests/file.cc $(OUT)/chance.o \
 		$(LIB)/liborderset.a -pthread -o $@
 
-.PHONY: run-cxx run-rust
+.PHONY: run-cxx run-rust $(CXX_TESTS:%=run-%)
 test: run-cxx run-rust
-run-cxx: $(CXX_TESTS:%=$(OUT)/%)
-	@for test in $(CXX_TESTS); do $(OUT)/$$test $$test $(OUT)/cxx.img $(SEED) || exit 1; done
+run-cxx: $(CXX_TESTS:%=run-%)
+$(CXX_TESTS:%=run-%): run-%: $(OUT)/%
+	@$(OUT)/$* $* $(OUT)/cxx.img $(SEED)
 run-rust: export CARGO_TARGET_DIR ?= $(CURDIR)/target/rust
 run-rust: export ORDERSET_LIB := $(CURDIR)/$(LIB)
 run-rust: export SEED := $(SEED)

@@ -28,6 +28,12 @@ impl From<u128> for Key {
     }
 }
 
+impl fmt::Display for Key {
+    fn fmt(&self, f: &mut fmt::Formatter<'_>) -> fmt::Result {
+        self.0.fmt(f)
+    }
+}
+
 /// Up to N bytes that were copied out of a file; a slice of them.
 #[derive(Clone, Copy)]
 pub struct Bytes<const N: usize> {
