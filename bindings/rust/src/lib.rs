@@ -50,9 +50,9 @@
 //! # std::fs::remove_file(read).unwrap();
 //! ```
 //!
-//! One handle writes a file at a time, in all processes; a program that does not ask for the lock (flock) is not held off,
-//! and one that cuts the file short while it is open ends the process. After [`Kind::NotDurable`] every call is refused:
-//! open the file again, and ask whether the call was done.
+//! One handle writes a file at a time, in all processes; a program that does not ask for the lock (flock) is not held
+//! off, and one that cuts the file short while it is open ends the process. After [`Kind::NotDurable`] every call is
+//! refused: open the file again, and ask whether the call was done.
 //!
 //! `cargo build` links `liborderset.a` from the folder that the environment variable `ORDERSET_LIB` names, or else from
 //! `target/lib` of the repository, where `make lib` leaves it.

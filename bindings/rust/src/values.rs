@@ -107,8 +107,9 @@ numbered! {
         Read = 0,
         /// The file itself, alone.
         Write = 1,
-        /// A copy for the support desk, also of a file that recovery refuses: then each call but [`crate::Set::slot`] and
-        /// [`crate::Set::statistics`] is refused by that number. Of a log it is [`Mode::Read`].
+        /// A copy for the support desk, also of a file that recovery refuses: then each call but
+        /// [`crate::Set::slot`] and [`crate::Set::statistics`] is refused by that number. Of a log it is
+        /// [`Mode::Read`].
         Inspect = 2,
     }
 
