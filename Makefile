@@ -219,3 +219,26 @@ heads: $(ARCHIVE)
 
 bench: $(ARCHIVE) $(LOG_ARCHIVE)
 	$(MAKE) -f bench/Makefile run
+
+# the headers for C++ and for Rust, over the library of `make lib`; the tests are tests/file.cc and bindings/rust/tests
+LIB := target/lib
+CXX_TESTS := cxx17 cxx20 cxx17_plain
+$(OUT)/cxx17: STANDARD := -std=c++17
+$(OUT)/cxx20: STANDARD := -std=c++20
+$(OUT)/cxx17_plain: STANDARD := -std=c++17 -fno-exceptions -fno-rtti
+$(OUT)/chance.o: tests/chance.c tests/chance.h | $(OUT)
+	$(C) -c tests/chance.c -o $@
+$(CXX_TESTS:%=$(OUT)/%): tests/file.cc $(OUT)/chance.o $(wildcard include/*) $(LIB)/liborderset.a
+	$(CXX) $(STANDARD) -Wall -Wextra -Werror -Iinclude -Itests $(CXXFLAGS) $(LDFLAGS) tests/file.cc $(OUT)/chance.o \
+		$(LIB)/liborderset.a -pthread -o $@
+
+.PHONY: run-cxx run-rust $(CXX_TESTS:%=run-%)
+test: run-cxx run-rust
+run-cxx: $(CXX_TESTS:%=run-%)
+$(CXX_TESTS:%=run-%): run-%: $(OUT)/%
+	@$(OUT)/$* $* $(OUT)/cxx.img $(SEED)
+run-rust: export CARGO_TARGET_DIR ?= $(CURDIR)/target/rust
+run-rust: export ORDERSET_LIB := $(CURDIR)/$(LIB)
+run-rust: export SEED := $(SEED)
+run-rust: $(LIB)/liborderset.a
+	@cd bindings/rust && cargo test --offline --quiet --lib --tests -- --nocapture && cargo test --offline --quiet --doc

@@ -168,7 +168,9 @@ def main():
     manuals()
     with tempfile.TemporaryDirectory() as folder:
         installed(folder)
-        first = dict(reversed(blocks()))["c"]
+        first, rust = (dict(reversed(blocks()))[language] for language in ("c", "rust"))
+        example = open("bindings/rust/examples/first.rs").read()
+        so(rust == example.partition("\n")[2], "README's program in Rust is the crate's example")
         printed = next(text for language, text in blocks() if language == "text")
         linked(folder, first, printed)
         as_printed(folder)

@@ -825,7 +825,7 @@ fault install 'a header is not installed' Makefile 's/install -m 644 include\/\*
     'NOT SO: what is installed'
 fault install 'uninstall leaves the archive' Makefile 's/ lib\/liborderset.a lib/ lib/' 'NOT SO: uninstall leaves nothing'
 fault install 'the .pc file names no library' src/orderset.pc.in 's/ -lorderset//' 'NOT SO: .*pkg-config.* ends with status 0'
-fault install "README's program prints another line" README.md 's/^7: ordered 100, filled 80/7: ordered 100, filled 90/' \
+fault install "README's program prints another line" README.md '0,/^7: ordered 100, filled 80/s//7: ordered 100, filled 90/' \
     'NOT SO: first.c, shared, prints what README says'
 fault install 'the tool prints another line than README' $check 's/: accepted\\n/: good\\n/' \
     'NOT SO: the commands print what README says'
@@ -912,6 +912,52 @@ fault file_kills 'an open does not make the file durable' $handle \
     'NOT SO: after [0-9]+ kills'
 fault file_kills 'a failed sync is answered as done' $handle 's/^    if \(!failed\)/    if (failed < 2)/' 'NOT SO: '
 fault file_kills 'a handle goes on after a failed sync' $handle '/a->stopped = 1;/d' 'NOT SO: .* refuses every call'
+
+plus=include/orderset.hpp
+fault cxx 'replace inserts' $plus 's/orderset_file_replace\(handle/orderset_file_insert(handle/' 'NOT SO: replace gives'
+fault cxx 'the high word of a key is dropped' $plus 's/return \{low, high\};/return {low, 0};/' \
+    'NOT SO: (insert of a wide key|.*) gives 1015'
+fault cxx 'an answer counts as an error' $plus 's/number_ >= ORDERSET_FILE_SYSTEM/number_ >= ORDERSET_FILE_ABSENT/' \
+    'NOT SO: .* is done, an answer or an error'
+fault cxx 'the errno is lost' $plus 's/\? errno : 0\)/? 0 : 0)/' 'NOT SO: errno is ENOENT'
+fault cxx 'a basket drops its last key' $plus 's/given, items.size\(\)\)/given, items.size() - 1)/' 'NOT SO: '
+fault cxx 'an iteration leaves out the first order' $plus 's/of_\(of\) \{ \+\+\*this; \}/of_(of) { ++*this; if (of_) ++*this; }/' \
+    'NOT SO: orders gives the plain map'
+fault cxx 'an iteration does not tell that it is refused' $plus 's/ORDERSET_FILE_END \? orderset::result\(\) : told_/0 ? told_ : 0u/' \
+    'NOT SO: orders of a refused file gives 1'
+fault cxx 'a damaged message ends the iteration' $plus 's/if \(found != ORDERSET_LOG_NOT_SHOWN\)/if (number)/' \
+    'NOT SO: (messages gives 0|the other messages are given)'
+fault cxx 'a file stays open' $plus 's/\{ orderset_file_close\(set\); \}/{ (void)set; }/' 'NOT SO: .* gives 0: 1011'
+fault cxx 'a wrong order is taken' $plus 's/if \(orderset_file_order\((.*)\)\)$/if (orderset_file_order(\1) + 1)/' \
+    'NOT SO: order_of knows an order'
+fault cxx 'no lock' $handle 's/flock\(file, how \| LOCK_NB\)/(void)how, 0/' 'NOT SO: a second open gives 1011'
+
+export CARGO_TARGET_DIR=$PWD/target/planted/rust
+rust=bindings/rust/src
+fault rust 'the high word of a key is dropped' $rust/values.rs 's/high: \(self.0 >> 64\) as u64/high: 0/' 'NOT SO: '
+fault rust 'a field of a struct has moved' include/orderset_file.h 's/uint32_t slot_class; /uint64_t slot_class; /' \
+    'NOT SO: the header says the same'
+fault rust 'an argument of a call is another' $rust/sys.rs \
+    's/uint32_t orderset_file_slot\(struct orderset_file \*, uint32_t/uint32_t orderset_file_slot(struct orderset_file *, uint64_t/' \
+    'NOT SO: the header says the same'
+fault rust 'a number is another' $rust/error.rs 's/Locked = 1011/Locked = 1021/' 'NOT SO: '
+fault rust 'the error of the system is lost' $rust/error.rs 's/number == sys::SYSTEM \|\| //' 'NOT SO: .* the error of the system'
+fault rust 'a set is shared by threads' $rust/set.rs 's/^unsafe impl Send for Set \{\}/& unsafe impl Sync for Set {}/' \
+    'Test compiled successfully'
+fault rust 'a file stays open' $rust/set.rs 's/unsafe \{ sys::orderset_file_close\(self.handle.as_ptr\(\)\) \}//' 'number: 1011'
+fault rust 'an iteration leaves out the first order' $rust/set.rs 's/^        orders.step\(\)\?;/&&/' \
+    'NOT SO: .* leaves the plain map'
+fault rust 'more than eight items of a basket are cut off' $rust/set.rs 's/if items.len\(\) > lent.len\(\) \{ 0 \}/if items.len() > lent.len() { 8 }/' \
+    'NOT SO: '
+fault rust 'the stores of the last key of a basket are not made' $handle \
+    's/ORDERSET_BASKET_STORES\(count\)/ORDERSET_BASKET_STORES(count - 1)/' 'NOT SO: '
+fault rust "recovery's stores are not made" $handle \
+    's/return persist\(a, at, value, count\) \? ORDERSET_FILE_SYSTEM : ORDERSET_FILE_OK;/return 0;/' \
+    'NOT SO: recovery opens a line for each void slot'
+fault rust 'a cut call is to be there' bindings/rust/tests/on_files/cuts.rs \
+    's/all\(\|\&count\| count == 8\)/all(|\&count| count >= 7)/' 'NOT SO: .* leaves the plain map'
+fault rust 'a cut append is to be there' bindings/rust/tests/on_files/cuts.rs 's/if image == after \{/if image != before {/' \
+    'NOT SO: a cut leaves the plain list'
 
 echo "$count faults planted, $((count - unseen)) seen"
 [ $unseen -eq 0 ]

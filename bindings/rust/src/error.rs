@@ -4,7 +4,6 @@ use std::{fmt, io};
 
 /// Why a call was refused, or how it failed: the number of the C header, and the error of the system where there is
 /// one. A refused call changed nothing; of [`Kind::NotDurable`] that is not known.
-#[derive(Debug)]
 pub struct Error {
     number: u32,
     io: Option<io::Error>,
@@ -50,6 +49,13 @@ impl fmt::Display for Error {
     fn fmt(&self, f: &mut fmt::Formatter<'_>) -> fmt::Result {
         write!(f, "{} ({})", self.text(), self.number)?;
         self.io.as_ref().map_or(Ok(()), |io| write!(f, ": {io}"))
+    }
+}
+
+/// As a program shows it whose `main` returns the error: with the words.
+impl fmt::Debug for Error {
+    fn fmt(&self, f: &mut fmt::Formatter<'_>) -> fmt::Result {
+        f.debug_struct("Error").field("number", &self.number).field("text", &self.text()).field("io", &self.io).finish()
     }
 }
 

@@ -18,8 +18,8 @@
 //! assert_eq!(set.get(8u64)?.unwrap(), b"eight");
 //! for record in set.orders()? {
 //!     match record.order() {
-//!         Some(order) => println!("{:?}: {} of {} open", record.key, order.open(), order.ordered),
-//!         None => println!("{:?}: {:?}", record.key, record.value),
+//!         Some(order) => println!("{}: {} of {} open", record.key, order.open(), order.ordered),
+//!         None => println!("{}: {:?}", record.key, record.value),
 //!     }
 //! }
 //! # assert_eq!(set.orders()?.filter_map(|record| record.order()).map(|order| order.open()).sum::<u64>(), 60);
@@ -49,6 +49,10 @@
 //! # run(path).unwrap();
 //! # std::fs::remove_file(read).unwrap();
 //! ```
+//!
+//! One handle writes a file at a time, in all processes; a program that does not ask for the lock (flock) is not held
+//! off, and one that cuts the file short while it is open ends the process. After [`Kind::NotDurable`] every call is
+//! refused: open the file again, and ask whether the call was done.
 //!
 //! `cargo build` links `liborderset.a` from the folder that the environment variable `ORDERSET_LIB` names, or else from
 //! `target/lib` of the repository, where `make lib` leaves it.

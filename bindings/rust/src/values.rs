@@ -28,6 +28,12 @@ impl From<u128> for Key {
     }
 }
 
+impl fmt::Display for Key {
+    fn fmt(&self, f: &mut fmt::Formatter<'_>) -> fmt::Result {
+        self.0.fmt(f)
+    }
+}
+
 /// Up to N bytes that were copied out of a file; a slice of them.
 #[derive(Clone, Copy)]
 pub struct Bytes<const N: usize> {
@@ -101,8 +107,9 @@ numbered! {
         Read = 0,
         /// The file itself, alone.
         Write = 1,
-        /// A copy for the support desk, also of a file that recovery refuses: then each call but [`crate::Set::slot`] and
-        /// [`crate::Set::statistics`] is refused by that number. Of a log it is [`Mode::Read`].
+        /// A copy for the support desk, also of a file that recovery refuses: then each call but
+        /// [`crate::Set::slot`] and [`crate::Set::statistics`] is refused by that number. Of a log it is
+        /// [`Mode::Read`].
         Inspect = 2,
     }
 

@@ -51,7 +51,8 @@ fn a_reader_changes_nothing_and_sees_the_file_as_it_was() {
 fn wrong_files_are_refused() {
     let file = Scratch::new("wrong");
     let error = refused(Set::open(&file.0, Mode::Write), Kind::System);
-    assert_eq!(error.io().unwrap().kind(), io::ErrorKind::NotFound, "NOT SO: {error}");
+    let io = error.io().expect("NOT SO: it has the error of the system");
+    assert_eq!(io.kind(), io::ErrorKind::NotFound, "NOT SO: {error}");
     refused(Set::open(env!("CARGO_TARGET_TMPDIR"), Mode::Read), Kind::NotRegular);
     refused(Set::open("a\0b", Mode::Read), Kind::System);
     fs::write(&file.0, b"another file").unwrap();
