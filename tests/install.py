@@ -78,6 +78,10 @@ def installed(folder):
     found = files_of(place)
     versions = {f for f in found if re.fullmatch(r"lib/liborderset\.so\.\d+\.\d+\.\d+", f)}
     so(found - versions == due and len(versions) == 1, "what is installed is what is there", found ^ due)
+    version = versions.pop().partition(".so.")[2]
+    said = {path: open(path).read() for path in glob.glob("man/*.[13]")}
+    so(all(f'"orderset {version}"' in text for text in said.values()), f"each manual page is of version {version}")
+    so(f'\nversion = "{version}"\n' in open("bindings/rust/Cargo.toml").read(), f"the crate is of version {version}")
     told = open(f"{place}/lib/pkgconfig/orderset.pc").read()
     so(f"prefix={PREFIX}\n" in told and folder not in told, "the .pc file says the prefix", told)
     library(place)
