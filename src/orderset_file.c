@@ -158,6 +158,7 @@ static int sync_name(const char *path) {
     return failed ? -1 : 0;
 }
 
+_Static_assert(ORDERSET_FILE_CLFLUSH + ORDERSET_CLWB == ORDERSET_FILE_CLWB, "the kinds of flush in the same order");
 static enum orderset_flush line_flush(const struct area *a) {
     return (enum orderset_flush)(a->flush - ORDERSET_FILE_CLFLUSH);
 }

@@ -125,6 +125,8 @@ static void run_set(void) {
         lost("an open gives %" PRIu32 ": %s", number, orderset_file_text(number));
     calling = 1;
     opened += set->voids[0];
+    if (set->area.flush < ORDERSET_FILE_CLFLUSH)
+        lost("flushes: the file is taken as one on a disk");
     if (under_way && shows(set, &after))
         now = after;
     else if (!shows(set, &now))

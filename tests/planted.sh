@@ -847,6 +847,9 @@ fault file_kills 'a new file is not synced' $handle \
 fault file_kills 'the directory of a new file is not synced' $handle \
     '/^static uint32_t make\(/,/^}/s/return sync_name\(path\) \?/return 0 ?/' \
     'NOT SO: the directory of a new file is synced'
+fault file_kills 'an open does not sync the directory' $handle \
+    '/^static uint32_t make_durable/,/^}/s/return sync_name\(path\) \?/return 0 ?/' \
+    'NOT SO: an open syncs the file and its directory'
 fault file_kills 'an open does not make the file durable' $handle \
     's/if \(fsync\(a->file\) \|\| /if (/; s/\? orderset_persist_image_file\(a->bytes, a->length\)/? 0/' \
     'NOT SO: after [0-9]+ kills'
