@@ -777,7 +777,7 @@ opened='/^static uint32_t open_locked/,/^}/'
 fault file 'no lock' $handle 's/flock\(file, how \| LOCK_NB\)/(void)how, 0/' 'NOT SO: a second process that writes gives 1011'
 fault file 'a lock that writers share' $handle "${opened}s/LOCK_EX : LOCK_SH/LOCK_SH : LOCK_SH/" \
     'NOT SO: a second process that writes gives 1011'
-fault file 'a reader keeps its lock' $handle '/^static uint32_t copy_file/,/^}/{/close\(a->file\);/d}' \
+fault file 'a reader keeps its lock' $handle '/^static uint32_t copy_file/,/^}/{/unlock\(a\);/d}' \
     'NOT SO: .* gives .*: 1011'
 fault file 'the file becomes a standard stream' $handle 's/if \(file < 0 \|\| file > STDERR_FILENO\)/if (file != -2)/' \
     'NOT SO: the file does not become a standard stream'
