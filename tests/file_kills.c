@@ -357,7 +357,7 @@ int main(int count, char **word) {
     snprintf(shadow, sizeof shadow, "%s.durable", path);
     snprintf(events, sizeof events, "%s.events", path);
     for (uint32_t layout = 1; layout <= 2; layout++) {
-        make_plain(&now, 12 + (uint32_t)below(8), layout);
+        make_plain(&now, 12 + (uint32_t)below(30), layout);
         length = ORDERSET_IMAGE_BYTES(now.slots);
         change = change_set;
         begin(create_set);
