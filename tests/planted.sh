@@ -852,7 +852,7 @@ fault file_kills 'an open does not sync the directory' $handle \
     'NOT SO: an open syncs the file and its directory'
 fault file_kills 'an open does not make the file durable' $handle \
     's/if \(fsync\(a->file\) \|\| /if (/; s/\? orderset_persist_image_file\(a->bytes, a->length\)/? 0/' \
-    'NOT SO: after [0-9]+ kills'
+    'NOT SO: (after [0-9]+ kills|an open syncs the file)'
 fault file_kills 'a failed sync is answered as done' $handle 's/^    if \(!failed\)/    if (failed < 2)/' 'NOT SO: '
 fault file_kills 'a handle goes on after a failed sync' $handle '/a->stopped = 1;/d' 'NOT SO: .* refuses every call'
 
