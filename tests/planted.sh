@@ -837,7 +837,7 @@ opened='/^static uint32_t open_locked/,/^}/'
 fault file 'no lock' $handle 's/flock\(file, how \| LOCK_NB\)/(void)how, 0/' 'NOT SO: a second process that writes gives 1011'
 fault file 'a lock that writers share' $handle "${opened}s/LOCK_EX : LOCK_SH/LOCK_SH : LOCK_SH/" \
     'NOT SO: a second process that writes gives 1011'
-fault file 'a reader keeps its lock' $handle '/^static uint32_t copy_file/,/^}/{/close\(a->file\);/d}' \
+fault file 'a reader keeps its lock' $handle '/^static uint32_t copy_file/,/^}/{/unlock\(a\);/d}' \
     'NOT SO: .* gives .*: 1011'
 fault file 'the file becomes a standard stream' $handle 's/if \(file < 0 \|\| file > STDERR_FILENO\)/if (file != -2)/' \
     'NOT SO: the file does not become a standard stream'
@@ -907,9 +907,12 @@ fault file_kills 'a new file is not synced' $handle \
 fault file_kills 'the directory of a new file is not synced' $handle \
     '/^static uint32_t make\(/,/^}/s/return sync_name\(path\) \?/return 0 ?/' \
     'NOT SO: the directory of a new file is synced'
+fault file_kills 'an open does not sync the directory' $handle \
+    '/^static uint32_t make_durable/,/^}/s/return sync_name\(path\) \?/return 0 ?/' \
+    'NOT SO: an open syncs the file and its directory'
 fault file_kills 'an open does not make the file durable' $handle \
     's/if \(fsync\(a->file\) \|\| /if (/; s/\? orderset_persist_image_file\(a->bytes, a->length\)/? 0/' \
-    'NOT SO: after [0-9]+ kills'
+    'NOT SO: (after [0-9]+ kills|an open syncs the file)'
 fault file_kills 'a failed sync is answered as done' $handle 's/^    if \(!failed\)/    if (failed < 2)/' 'NOT SO: '
 fault file_kills 'a handle goes on after a failed sync' $handle '/a->stopped = 1;/d' 'NOT SO: .* refuses every call'
 
