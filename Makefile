@@ -130,7 +130,7 @@ run-file run-file_storm run-file_kills: run-%: $(OUT)/%
 	@$(OUT)/$* $(OUT)/$*.img $(SEED)
 
 # every test fails where a fault is planted
-planted: $(ARCHIVE) $(LOG_ARCHIVE) $(REPORT)
+planted: $(ARCHIVE) $(LOG_ARCHIVE) $(REPORT) $(PLUG)
 	tests/planted.sh
 
 $(OUT)/gateway $(OUT)/sender: $(OUT)/%: examples/%.c $(HEADERS) $(ARCHIVE) | $(OUT)

@@ -177,7 +177,12 @@ fault plug 'a pair is left out' tests/plug.c 's/b <= 8; b\+\+/b < 8; b++/' 'NOT 
 fault plug 'the counts are swapped' tests/plug.c 's/as_before, as_after\);/as_after, as_before);/' 'NOT SO: of the trace'
 fault plug 'the image is not restored' tests/plug.c 's/memcpy\(copy, image, size\);/if (a + b == 0) &/' 'NOT SO: of the trace'
 fault plug 'keys are compared and not values' tests/plug.c 's/ \&\& !memcmp\(x, y, p.length\)//' 'NOT SO: of the trace'
-fault plug 'a cut line is carried out' tests/plug.c "s/of_form\(line, 'n', 1, a\)/of_form(line, 'c', 2, a) ? size = 0 : &/" \
+fault plug 'the output before a flush is lost' tests/plug.c \
+    's/^    due_length \+= /    due_length = due_length > BUFFER - 64 ? 0 : due_length;\n&/' 'NOT SO: of the trace'
+fault plug 'the input after the first read is lost' tests/plug.c 's/cat (.{4,8}) 2/head -c 4096 \1 2/' 'NOT SO: of the trace'
+fault plug 'a byte is printed after the last line' tests/plug.c 's/exec (.*2>.dev.null)" :/\1; printf x" :/' \
+    'NOT SO: of the trace'
+fault plug 'a cut line forgets the set' tests/plug.c "s/of_form\(line, 'n', 1, a\)/of_form(line, 'c', 2, a) ? size = 0 : &/" \
     'NOT SO: of the trace'
 fault plug 'a store is missing' tests/plug.c 's/for \(int i = 0; i < 16; i\+\+\)$/for (int i = 15; i > 0; i--)/' 'NOT SO'
 
