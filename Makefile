@@ -4,6 +4,9 @@
 #   make planted   that each test fails where a fault is planted                                      (gcc g++)
 #   make gateway   the example: a new file, orders, a restart, and the orders again                   (gcc)
 #   make recorder  the example of the log: a new file, messages, a restart, and the last messages     (gcc)
+#   make lib       one library of the archives and the handle: target/lib/liborderset.a and liborderset.so.1   (gcc)
+#   make install   headers, library, orderset.pc, manual pages and tools below $(DESTDIR)$(PREFIX)        (gcc)
+#   make uninstall the same away
 #   make heads     the table of docs/HEADS.md: the slots compared and the time of a get, by the number of heads  (gcc)
 #   make bench     the table and the chart of docs/PERFORMANCE.md
 #                  (gcc python3 valgrind libpmemobj-dev liblmdb-dev libsqlite3-dev)
@@ -11,6 +14,7 @@
 RT ?= rt
 OUT := target/c
 ARCHIVE := target/staticlib/liborderset_c.a
+ARCHIVE2 := target/staticlib/liborderset2_c.a
 PLUG := target/bin/plug
 LOG_ARCHIVE := target/staticlib/liblog_c.a
 REPORT := target/bin/report
@@ -35,6 +39,9 @@ archive: $(ARCHIVE) $(LOG_ARCHIVE)
 
 $(ARCHIVE): $(CRATES)
 	$(RT) staticlib orderset_c
+
+$(ARCHIVE2): $(CRATES)
+	$(RT) staticlib orderset2_c
 
 $(LOG_ARCHIVE): $(CRATES)
 	$(RT) staticlib log_c
@@ -123,7 +130,7 @@ run-file run-file_storm run-file_kills: run-%: $(OUT)/%
 	@$(OUT)/$* $(OUT)/$*.img $(SEED)
 
 # every test fails where a fault is planted
-planted: $(ARCHIVE) $(LOG_ARCHIVE) $(REPORT)
+planted: $(ARCHIVE) $(LOG_ARCHIVE) $(REPORT) $(PLUG)
 	tests/planted.sh
 
 $(OUT)/gateway $(OUT)/sender: $(OUT)/%: examples/%.c $(HEADERS) $(ARCHIVE) | $(OUT)
@@ -147,6 +154,65 @@ gateway: $(OUT)/gateway
 	$(OUT)/gateway $(OUT)/orders.img new 7 100 acknowledge 7 acknowledge 7 fill 7 40 new 8 5 fill 8 5 new 9 3 \
 		withdraw 9 new 10 2 basket 3 new 11 4 new 12 4 withdraw 10 list
 	$(OUT)/gateway $(OUT)/orders.img list
+
+# ---- the library, the tools for the desk, and where they go
+
+VERSION := 1.0.0
+PREFIX ?= /usr/local
+LIB := target/lib
+ARCHIVES := $(ARCHIVE) $(ARCHIVE2) $(LOG_ARCHIVE)
+DESK := orderset-show orderset-check
+TO = $(DESTDIR)$(PREFIX)
+
+.PHONY: lib tools install uninstall run-tools run-install
+test: run-tools run-install
+lib: $(LIB)/liborderset.a $(LIB)/liborderset.so.1
+tools: $(DESK:%=$(OUT)/%)
+
+$(LIB):
+	mkdir -p $@
+
+$(LIB)/orderset_file.o: src/orderset_file.c $(wildcard include/*.h) | $(LIB)
+	$(C) -fPIC -c $< -o $@
+
+# the archives have no global name but those of the headers; run-install looks
+$(LIB)/liborderset.a: $(LIB)/orderset_file.o $(ARCHIVES)
+	rm -f $@
+	printf '%s\n' 'create $@' $(ARCHIVES:%='addlib %') 'addmod $<' save end | ar -M
+
+$(LIB)/liborderset.so.1: $(LIB)/liborderset.a
+	$(CC) -shared $(CFLAGS) $(LDFLAGS) -Wl,-soname,$(@F) -Wl,-z,defs -Wl,-z,noexecstack -Wl,--whole-archive $< \
+		-Wl,--no-whole-archive -pthread -o $@
+
+$(OUT)/orderset-show: tools/orderset-show.c tools/picture.c
+$(DESK:%=$(OUT)/%): $(OUT)/%: tools/%.c tools/desk.c $(wildcard tools/*.h include/*.h) $(LIB)/liborderset.a | $(OUT)
+	$(C) -DVERSION='"$(VERSION)"' $(filter %.c,$^) $(LIB)/liborderset.a -pthread -o $@
+
+install: lib tools
+	install -d "$(TO)/bin" "$(TO)/include" "$(TO)/lib/pkgconfig" "$(TO)/share/man/man1" "$(TO)/share/man/man3" \
+		"$(TO)/share/doc/orderset"
+	install -m 644 include/* "$(TO)/include"
+	install -m 644 $(LIB)/liborderset.a "$(TO)/lib"
+	install -m 755 $(LIB)/liborderset.so.1 "$(TO)/lib/liborderset.so.$(VERSION)"
+	ln -sf liborderset.so.$(VERSION) "$(TO)/lib/liborderset.so.1"
+	ln -sf liborderset.so.1 "$(TO)/lib/liborderset.so"
+	sed 's|@PREFIX@|$(PREFIX)|; s|@VERSION@|$(VERSION)|' src/orderset.pc.in >"$(TO)/lib/pkgconfig/orderset.pc"
+	install -m 755 $(DESK:%=$(OUT)/%) "$(TO)/bin"
+	install -m 644 man/*.1 "$(TO)/share/man/man1"
+	install -m 644 man/*.3 "$(TO)/share/man/man3"
+	install -m 644 docs/OPERATIONS.md "$(TO)/share/doc/orderset"
+
+uninstall:
+	cd "$(TO)" && rm -f $(DESK:%=bin/%) $(wildcard include/*) lib/liborderset.a lib/liborderset.so \
+		lib/liborderset.so.1 lib/liborderset.so.$(VERSION) \
+		lib/pkgconfig/orderset.pc $(patsubst man/%,share/man/man1/%,$(wildcard man/*.1)) \
+		$(patsubst man/%,share/man/man3/%,$(wildcard man/*.3)) share/doc/orderset/OPERATIONS.md && rmdir share/doc/orderset
+
+# the tools on good, wrong and damaged files; and README's programs, compiled against what install leaves
+run-tools: $(DESK:%=$(OUT)/%)
+	@tests/tools.py $(OUT)
+run-install: lib tools
+	@tests/install.py
 
 heads: $(ARCHIVE)
 	$(MAKE) -f bench/Makefile heads

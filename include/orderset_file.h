@@ -144,7 +144,7 @@ struct orderset_statistics {
     uint32_t layout;         /* 1 or 2; 0 where the header says neither */
     uint32_t slots, heads;   /* N and B; 0 where the length is of no set */
     uint32_t live, spare;    /* open orders, and N less these; of a refused file 0 */
-    uint32_t compared;       /* slots that the last insert, replace, remove, get or locate compared */
+    uint32_t compared;       /* as orderset_file_compared */
     uint32_t opened;         /* void slots that recovery found, and that the open opened unless in INSPECT */
     uint32_t refusal, fault_slot; /* of recovery, in INSPECT; fault_slot is 0 where it names none */
     int32_t error;           /* errno of ORDERSET_FILE_NOT_DURABLE, 0 where there was none */
@@ -206,6 +206,9 @@ ORDERSET_FILE_CALL uint32_t orderset_file_get(struct orderset_file *set, struct 
  * WIDE_KEY. */
 ORDERSET_FILE_CALL uint32_t orderset_file_locate(struct orderset_file *set, struct orderset_key key, uint32_t *slot,
                                                  uint64_t *version);
+
+/* The slots that the last insert, replace, remove, get or locate compared: docs/HEADS.md. */
+uint32_t orderset_file_compared(const struct orderset_file *set);
 
 /* The steps of the book. Refusals as in insert; 17, 18, 19; a second acknowledge gives ALREADY. */
 ORDERSET_FILE_CALL uint32_t orderset_file_book_new(struct orderset_file *set, struct orderset_key key,

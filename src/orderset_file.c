@@ -113,6 +113,11 @@ static uint32_t map_file(struct area *a) {
     return map(a, MAP_SHARED, a->file) ? ORDERSET_FILE_SYSTEM : ORDERSET_FILE_OK;
 }
 
+static void unlock(struct area *a) {
+    close(a->file);
+    a->file = -1;
+}
+
 /* A copy, after which the lock ends: where a page cannot be read, that is an error and no signal. */
 static uint32_t copy_file(struct area *a) {
     size_t done = 0;
@@ -128,8 +133,7 @@ static uint32_t copy_file(struct area *a) {
             return ORDERSET_FILE_SYSTEM;
         done += (size_t)got;
     }
-    close(a->file);
-    a->file = -1;
+    unlock(a);
     return ORDERSET_FILE_OK;
 }
 
@@ -158,6 +162,7 @@ static int sync_name(const char *path) {
     return failed ? -1 : 0;
 }
 
+_Static_assert(ORDERSET_FILE_CLFLUSH + ORDERSET_CLWB == ORDERSET_FILE_CLWB, "the kinds of flush in the same order");
 static enum orderset_flush line_flush(const struct area *a) {
     return (enum orderset_flush)(a->flush - ORDERSET_FILE_CLFLUSH);
 }
@@ -196,8 +201,10 @@ static uint32_t open_area(struct area *a, const char *path, size_t part, size_t 
     uint32_t number = open_locked(a, path);
     if (number)
         return number;
-    if (a->length % part || a->length / part < least || a->length / part > most)
+    if (a->length % part || a->length / part < least || a->length / part > most) {
+        unlock(a);
         return refusal;
+    }
     if (a->mode != ORDERSET_FILE_WRITE)
         return copy_file(a);
     number = map_file(a);
@@ -546,6 +553,10 @@ uint32_t orderset_file_locate(struct orderset_file *set, struct orderset_key key
     if (returned)
         return ORDERSET_REFUSAL(returned);
     return answer[0] == ORDERSET_ABSENT ? ORDERSET_FILE_ABSENT : ORDERSET_FILE_OK;
+}
+
+uint32_t orderset_file_compared(const struct orderset_file *set) {
+    return set->compared;
 }
 
 int orderset_file_order(const void *value, size_t length, struct orderset_order *order) {

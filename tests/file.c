@@ -379,6 +379,7 @@ static void reading_only(void) {
     all_refused(set, one, ORDERSET_FILE_READ_ONLY, "a change through a reader");
     gives(orderset_file_locate(set, one, NULL, NULL), 0, "a question to a reader");
     holds(statistics_of(set).flush == ORDERSET_FILE_NO_FLUSH, "a reader flushes nothing");
+    holds(orderset_file_compared(set) == 1 && statistics_of(set).compared == 1, "one slot was compared");
     orderset_file_close(set);
     holds(is_unchanged(&before), "a reader leaves the file");
     new_set(FEW_SLOTS, 2);

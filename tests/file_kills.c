@@ -283,15 +283,35 @@ static void set_failing(int fails) {
         unsetenv("DISK_FAILS");
 }
 
+/* What the disk noted. */
+static void hear_events(char all[256]) {
+    FILE *in = fopen(events, "r");
+    memset(all, 0, 256);
+    expect(in && fread(all, 1, 255, in) > 0, "a file is synced");
+    fclose(in);
+}
+
 /* The new file and its name are durable: the file is synced before it gets its name, and the directory after that. */
 static void check_new_file(void) {
-    char all[256] = "";
-    FILE *in = fopen(events, "r");
-    expect(in && fread(all, 1, sizeof all - 1, in) > 0, "a new file is synced");
-    fclose(in);
+    char all[256];
+    hear_events(all);
     const char *name = strstr(all, "rename\n"), *synced = strstr(all, "sync file\n");
     expect(name && synced && synced < name, "a new file is synced before it gets its name");
     expect(name && strstr(name, "sync directory\n"), "the directory of a new file is synced");
+}
+
+/* An open for writing syncs the file and its directory: the one that made it may have been killed before that. */
+static void check_open(void) {
+    struct orderset_file *set;
+    struct orderset_log_file *log;
+    unlink(events);
+    if (change == change_set && orderset_file_open(path, ORDERSET_FILE_WRITE, &set) == 0)
+        orderset_file_close(set);
+    if (change == change_log && orderset_log_file_open(path, ORDERSET_FILE_WRITE, &log) == 0)
+        orderset_log_file_close(log);
+    char all[256];
+    hear_events(all);
+    expect(strstr(all, "sync file\n") && strstr(all, "sync directory\n"), "an open syncs the file and its directory");
 }
 
 static void begin(uint32_t (*create_it)(void)) {
@@ -302,8 +322,9 @@ static void begin(uint32_t (*create_it)(void)) {
     unsetenv("DISK_SHADOW");
     setenv("DISK_LOG", events, 1);
     expect(create_it() == 0, "a file is made: %s", strerror(errno));
-    unsetenv("DISK_LOG");
     check_new_file();
+    check_open();
+    unsetenv("DISK_LOG");
     read_all(path, image);
     write_all(shadow, image);
     setenv("DISK_SHADOW", shadow, 1);
@@ -336,7 +357,7 @@ int main(int count, char **word) {
     snprintf(shadow, sizeof shadow, "%s.durable", path);
     snprintf(events, sizeof events, "%s.events", path);
     for (uint32_t layout = 1; layout <= 2; layout++) {
-        make_plain(&now, 12 + (uint32_t)below(8), layout);
+        make_plain(&now, 12 + (uint32_t)below(30), layout);
         length = ORDERSET_IMAGE_BYTES(now.slots);
         change = change_set;
         begin(create_set);

@@ -7,7 +7,7 @@
 enum { SENT = ORDERSET_SENT, ACKNOWLEDGED = ORDERSET_ACKNOWLEDGED };
 
 void make_plain(struct plain *p, uint32_t slots, uint32_t layout) {
-    *p = (struct plain){.slots = slots, .layout = layout};
+    *p = (struct plain){.slots = slots, .layout = layout, .keys = 1 + (uint32_t)below(KEYS)};
     for (uint64_t i = 0; i < KEYS; i++) {
         const uint64_t word = below(2) ? i : chance() / KEYS * KEYS + i; /* distinct: word mod KEYS is i */
         p->key[i] = layout == 1 ? (struct orderset_key){word, 0} : (struct orderset_key){below(3), word};
@@ -56,11 +56,12 @@ static struct value any_value(const struct plain *p) {
 }
 
 static void any_basket(const struct plain *p, struct call *c) {
-    c->count = below(100) ? 1 + below(ORDERSET_BASKET_MAX) : below(2) * (ORDERSET_BASKET_MAX + 1);
-    uint64_t key = below(KEYS);
-    for (size_t i = 0; i < c->count; i++, key += below(64) ? 1 + below(2) : 0) {
+    const uint64_t most = p->keys < ORDERSET_BASKET_MAX ? p->keys : ORDERSET_BASKET_MAX;
+    c->count = below(100) ? 1 + below(most) : below(2) * (ORDERSET_BASKET_MAX + 1);
+    uint64_t key = below(p->keys);
+    for (size_t i = 0; i < c->count; i++, key += below(64) ? 1 : 0) {
         struct call_item *item = &c->item[i];
-        item->key = (uint32_t)(key % KEYS);
+        item->key = (uint32_t)(key % p->keys);
         item->kind = p->value[item->key].held ? ORDERSET_REPLACE + (uint32_t)below(2) : ORDERSET_INSERT;
         if (below(64) == 0)
             item->kind = (uint32_t)below(5);
@@ -72,7 +73,7 @@ void any_call(const struct plain *p, struct call *c) {
     memset(c, 0, sizeof *c);
     c->count = 1;
     c->quantity = below(8) ? below(4) : UINT64_MAX - below(2);
-    c->item[0].key = (uint32_t)below(KEYS);
+    c->item[0].key = (uint32_t)below(p->keys);
     c->item[0].value = any_value(p);
     const struct value *now = &p->value[c->item[0].key];
     c->kind = (enum call_kind)below(BASKET + 2);

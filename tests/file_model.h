@@ -13,7 +13,7 @@ struct value {
 };
 
 struct plain {
-    uint32_t slots, layout;
+    uint32_t slots, layout, keys; /* keys: only the first so many are used */
     struct orderset_key key[KEYS];
     struct value value[KEYS];
 };
@@ -29,7 +29,7 @@ struct call {
     } item[ORDERSET_BASKET_MAX + 1];
 };
 
-/* An empty map with other keys; in layout 2 many have the same low word. */
+/* An empty map with other keys, some or all of them in use; in layout 2 many have the same low word. */
 void make_plain(struct plain *p, uint32_t slots, uint32_t layout);
 
 uint32_t count_held(const struct plain *p);

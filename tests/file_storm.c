@@ -93,7 +93,7 @@ static int storm_thread(pthread_t *thread, const pthread_attr_t *attributes, voi
 /* ---- the plain map or list of what was answered, and what may have been struck */
 
 static const char *path;
-static uint64_t strikes, cuts, kills, in_open, in_call, in_basket, answered, opened, messages_answered;
+static uint64_t strikes, cuts, kills, in_open, in_call, baskets, answered, opened, messages_answered;
 static int under_way, log_storm;
 
 static struct plain now, after;
@@ -125,6 +125,8 @@ static void run_set(void) {
         lost("an open gives %" PRIu32 ": %s", number, orderset_file_text(number));
     calling = 1;
     opened += set->voids[0];
+    if (set->area.flush < ORDERSET_FILE_CLFLUSH)
+        lost("flushes: the file is taken as one on a disk");
     if (under_way && shows(set, &after))
         now = after;
     else if (!shows(set, &now))
@@ -135,13 +137,13 @@ static void run_set(void) {
         any_call(&now, &c);
         const uint32_t wanted = due(&now, &c, &after);
         under_way = wanted == 0;
-        in_basket += c.kind == BASKET;
         number = carry_out(set, &now, &c);
         if (!may_give(wanted, number, &c))
             lost("a call of kind %d gives %" PRIu32 ", due is %" PRIu32, c.kind, number, wanted);
         if (number == 0)
             now = after; /* answered: what strikes from here on must not take it */
         answered += number == 0;
+        baskets += number == 0 && c.kind == BASKET && c.count > 1;
         under_way = 0;
         point();
     }
@@ -149,7 +151,7 @@ static void run_set(void) {
 
 static void make_set(void) {
     uint64_t answer[ORDERSET_FORMAT_ANSWER];
-    make_plain(&now, (uint32_t)(2 + below(below(4) ? 12 : 24)), 1 + (uint32_t)below(2));
+    make_plain(&now, (uint32_t)(2 + below(below(2) ? 12 : 40)), 1 + (uint32_t)below(2));
     length = ORDERSET_IMAGE_BYTES(now.slots);
     if (orderset_format(visible, length, now.layout, answer))
         lost("format");
@@ -265,8 +267,8 @@ int main(int count, char **word) {
         }
     }
     printf("%" PRIu64 " cuts and %" PRIu64 " kills, %" PRIu64 " of them in an open and %" PRIu64 " in a call, %" PRIu64
-           " baskets, %" PRIu64 " lines opened, %" PRIu64 " changes and %" PRIu64
+           " lines opened, %" PRIu64 " changes, %" PRIu64 " of them baskets, and %" PRIu64
            " messages answered: nothing lost (%.0f s)\n",
-           cuts, kills, in_open, in_call, in_basket, opened, answered, messages_answered, seconds());
-    return in_open == 0 || in_call == 0 || opened == 0 || messages_answered == 0;
+           cuts, kills, in_open, in_call, opened, answered, baskets, messages_answered, seconds());
+    return in_open == 0 || in_call == 0 || opened == 0 || baskets == 0 || messages_answered == 0;
 }

@@ -19,7 +19,7 @@ unseen=0
 copy_tree() {
     rm -rf "$tree"
     mkdir -p "$tree/target" "$tree/crates"
-    cp -r Makefile crates.txt include src bindings examples tests "$tree"
+    cp -r Makefile crates.txt include src examples tests tools man docs bindings README.md "$tree"
     ln -s "$PWD/target/staticlib" "$tree/target/staticlib"
     ln -s "$PWD/target/bin" "$tree/target/bin"
 }
@@ -177,7 +177,12 @@ fault plug 'a pair is left out' tests/plug.c 's/b <= 8; b\+\+/b < 8; b++/' 'NOT 
 fault plug 'the counts are swapped' tests/plug.c 's/as_before, as_after\);/as_after, as_before);/' 'NOT SO: of the trace'
 fault plug 'the image is not restored' tests/plug.c 's/memcpy\(copy, image, size\);/if (a + b == 0) &/' 'NOT SO: of the trace'
 fault plug 'keys are compared and not values' tests/plug.c 's/ \&\& !memcmp\(x, y, p.length\)//' 'NOT SO: of the trace'
-fault plug 'a cut line is carried out' tests/plug.c "s/of_form\(line, 'n', 1, a\)/of_form(line, 'c', 2, a) ? size = 0 : &/" \
+fault plug 'the output before a flush is lost' tests/plug.c \
+    's/^    due_length \+= /    due_length = due_length > BUFFER - 64 ? 0 : due_length;\n&/' 'NOT SO: of the trace'
+fault plug 'the input after the first read is lost' tests/plug.c 's/cat (.{4,8}) 2/head -c 4096 \1 2/' 'NOT SO: of the trace'
+fault plug 'a byte is printed after the last line' tests/plug.c 's/exec (.*2>.dev.null)" :/\1; printf x" :/' \
+    'NOT SO: of the trace'
+fault plug 'a cut line forgets the set' tests/plug.c "s/of_form\(line, 'n', 1, a\)/of_form(line, 'c', 2, a) ? size = 0 : &/" \
     'NOT SO: of the trace'
 fault plug 'a store is missing' tests/plug.c 's/for \(int i = 0; i < 16; i\+\+\)$/for (int i = 15; i > 0; i--)/' 'NOT SO'
 
@@ -774,12 +779,70 @@ fault log_differential 'a struck append is to be read' $differential 's/all \? \
 fault log_differential "recovery's stores are not made" $differential \
     '/^static void laws/,/^}/{s/^    make_all\(\);//}' 'DIFFERENCE in what can be read after a struck append'
 
+show=tools/orderset-show.c
+check=tools/orderset-check.c
+desk=tools/desk.c
+picture=tools/picture.c
+fault tools 'live and hidden change names' $desk 's/"live", "hidden"/"hidden", "live"/' \
+    'NOT SO: a good file: the output of orderset-show'
+fault tools 'void slots are opened before they are shown' $desk \
+    '/^void desk_open/,/^}/s/ORDERSET_FILE_INSPECT/ORDERSET_FILE_READ/' \
+    "NOT SO: a good file: the output of orderset-show is 'slot 1"
+fault tools 'an order is shown as bytes' $desk 's/if \(orderset_file_order\(/if (0 \&\& orderset_file_order(/' \
+    'NOT SO: a good file: the output of orderset-show'
+fault tools 'a key of layout 2 is shown by its low word' $desk 's/layout == ORDERSET2_LAYOUT/layout == 3/' \
+    'NOT SO: layout 2: the output of orderset-show'
+fault tools 'a full disk is not told' $desk 's/if \(fflush\(out\) \|\| ferror\(out\)\)/if (0)/' 'NOT SO: a full disk is told'
+fault tools 'progress is not told' $desk 's/^    each_second\(1\);//' 'NOT SO: progress is told'
+fault tools 'a refused file is shown with status 0' $show 's/d.is.refusal \? DESK_REFUSED : DESK_GOOD/DESK_GOOD/' \
+    'NOT SO: a file with no 1: the status of orderset-show is 1'
+fault tools 'a picture takes the place of the set' $show 's/picture.st_ino == file.st_ino/0/' 'NOT SO: a picture over the set'
+fault tools 'a picture has any name' $show 's/length < 5 \|\| //; s/strcmp\(a->svg \+ length - 4, ".svg"\)/length < 1/' \
+    'NOT SO: a picture of any name'
+fault tools 'the last slot is not drawn' $picture '/^static void draw_slots/,/^}/s/slot <= d/slot < d/' \
+    'NOT SO: a picture has 20 squares'
+fault tools 'a square has the class of another' $picture \
+    '/^static void draw_slot\(/,/^}/s/desk_class\[r->slot_class\]/desk_class[r->slot_class ? 1 : 0]/' \
+    'NOT SO: 2 squares are hidden'
+fault tools 'two squares are in one place' $picture 's/% grid->columns \* grid->pitch;/% 9 * grid->pitch;/' \
+    'NOT SO: squares are apart'
+fault tools 'the legend counts another class' $picture 's/: d->is.count\[i\];/: d->is.count[0];/' \
+    'NOT SO: the legend says 2 hidden'
+fault tools 'the name of the file is not escaped' $picture "s/if \\(byte == '&' .*\\)\$/if (0)/" 'not well-formed|NOT SO'
+fault tools 'the slot at fault is not marked' $picture 's/if \(r->fault \|\| .*/if (0)/' 'NOT SO: the slot at fault is marked'
+fault tools 'an accepted file has status 1' $check '/^static int accepted/,/^}/s/DESK_GOOD/DESK_REFUSED/' \
+    'NOT SO: a good file: the status of orderset-check is 0'
+fault tools 'the slot at fault is not named' $check '/^static int refused/,/^}/s/if \(d->is.fault_slot\)/if (0)/' \
+    'NOT SO: a file with no 6: the output of orderset-check'
+fault tools 'line A is printed as line B' $check 's/print_line\("B", words \+ 8\)/print_line("B", words)/' \
+    'NOT SO: check of a file with no 24 says: line B'
+fault tools 'a single record is in conflict' $check 's/if \(count > said\(first\)\)/if (count >= said(first))/' \
+    'NOT SO: only records in conflict'
+fault tools 'a complete basket is void' $check 's/, end\) < said\(/, end) <= said(/' 'NOT SO: check of a file with no 25'
+fault tools 'what to do is not said of damage' $check 's/other_file : keep_it/other_file : ""/' \
+    'NOT SO: check of a file with no 5 says what to do'
+
+fault install 'an inner name is global' src/orderset_file.c 's/^static uint32_t lock\(/uint32_t lock(/' \
+    'NOT SO: the shared library gives the names of the headers'
+fault install 'an archive is left out' Makefile 's/^(ARCHIVES := .*) \$\(LOG_ARCHIVE\)/\1/' 'undefined reference'
+fault install 'another soname' Makefile 's/-soname,\$\(@F\)/-soname,liborderset.so.2/' 'NOT SO: the soname'
+fault install 'a header is not installed' Makefile 's/install -m 644 include\/\*/install -m 644 include\/orderset.h/' \
+    'NOT SO: what is installed'
+fault install 'uninstall leaves the archive' Makefile 's/ lib\/liborderset.a lib/ lib/' 'NOT SO: uninstall leaves nothing'
+fault install 'the .pc file names no library' src/orderset.pc.in 's/ -lorderset//' 'NOT SO: .*pkg-config.* ends with status 0'
+fault install "README's program prints another line" README.md '0,/^7: ordered 100, filled 80/s//7: ordered 100, filled 90/' \
+    'NOT SO: first.c, shared, prints what README says'
+fault install 'the tool prints another line than README' $check 's/: accepted\\n/: good\\n/' \
+    'NOT SO: the commands print what README says'
+fault install 'a call is in no manual page' man/orderset_file.3 '/orderset_file_slot\(/d' 'NOT SO: orderset_file.3 has every call'
+fault install 'a number is not in OPERATIONS' docs/OPERATIONS.md '/^\| 23 /d' 'NOT SO: OPERATIONS says of each number'
+
 handle=src/orderset_file.c
 opened='/^static uint32_t open_locked/,/^}/'
 fault file 'no lock' $handle 's/flock\(file, how \| LOCK_NB\)/(void)how, 0/' 'NOT SO: a second process that writes gives 1011'
 fault file 'a lock that writers share' $handle "${opened}s/LOCK_EX : LOCK_SH/LOCK_SH : LOCK_SH/" \
     'NOT SO: a second process that writes gives 1011'
-fault file 'a reader keeps its lock' $handle '/^static uint32_t copy_file/,/^}/{/close\(a->file\);/d}' \
+fault file 'a reader keeps its lock' $handle '/^static uint32_t copy_file/,/^}/{/unlock\(a\);/d}' \
     'NOT SO: .* gives .*: 1011'
 fault file 'the file becomes a standard stream' $handle 's/if \(file < 0 \|\| file > STDERR_FILENO\)/if (file != -2)/' \
     'NOT SO: the file does not become a standard stream'
@@ -849,9 +912,12 @@ fault file_kills 'a new file is not synced' $handle \
 fault file_kills 'the directory of a new file is not synced' $handle \
     '/^static uint32_t make\(/,/^}/s/return sync_name\(path\) \?/return 0 ?/' \
     'NOT SO: the directory of a new file is synced'
+fault file_kills 'an open does not sync the directory' $handle \
+    '/^static uint32_t make_durable/,/^}/s/return sync_name\(path\) \?/return 0 ?/' \
+    'NOT SO: an open syncs the file and its directory'
 fault file_kills 'an open does not make the file durable' $handle \
     's/if \(fsync\(a->file\) \|\| /if (/; s/\? orderset_persist_image_file\(a->bytes, a->length\)/? 0/' \
-    'NOT SO: after [0-9]+ kills'
+    'NOT SO: (after [0-9]+ kills|an open syncs the file)'
 fault file_kills 'a failed sync is answered as done' $handle 's/^    if \(!failed\)/    if (failed < 2)/' 'NOT SO: '
 fault file_kills 'a handle goes on after a failed sync' $handle '/a->stopped = 1;/d' 'NOT SO: .* refuses every call'
 
