@@ -240,6 +240,10 @@ void look(const orderset::file &set, const plain &p, key k) {
     const std::uint32_t due = p.too_wide(k) ? ORDERSET_FILE_WIDE_KEY : p.holds(k) ? 0 : ORDERSET_FILE_ABSENT;
     same_number(got, due, "get");
     same_number(found, due, "locate");
+    expect(p.too_wide(k)
+               || (set.compared() == set.statistics().compared && set.compared() <= p.map.size()
+                   && (due || set.compared())),
+           "locate compares %u slots of %zu keys", set.compared(), p.map.size());
     expect(got.has_value() == p.holds(k) && same_bytes(*got, due ? text() : p.map.at(k)), "get gives the value");
     if (due) {
         expect(found->slot == 0 && found->version == 0, "where there is no value, locate gives zeros");
