@@ -330,6 +330,8 @@ class file {
         result told = orderset_file_slot(handle(), number, &found);
         return {told, found};
     }
+    // the slots that the last insert, replace, remove, get or locate compared
+    std::uint32_t compared() const { return orderset_file_compared(handle()); }
     orderset_statistics statistics() const {
         orderset_statistics told;
         orderset_file_statistics(handle(), &told);

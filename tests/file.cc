@@ -1,6 +1,6 @@
 // orderset.hpp: random calls on files of both layouts against std::map, with restarts, and of the log against
-// std::vector; then what is refused by the files, the locks and the modes. Built for C++17 and C++20, and without
-// exceptions.
+// std::vector; then what is refused by the files, the locks and the modes, and after a sync that fails. Built for C++17
+// and C++20, and without exceptions.
 //     file NAME PATH [SEED]    NAME is for its line; PATH is made anew
 #include <cinttypes>
 #include <cstdarg>
@@ -11,10 +11,24 @@
 #include <string>
 #include <vector>
 
+#include <sys/mman.h>
+#include <sys/syscall.h>
+#include <unistd.h>
+
 #include "orderset.hpp"
 
 extern "C" {
 #include "chance.h"
+}
+
+// msync in the place of the system's: it can be made to fail.
+static bool failing;
+extern "C" int msync(void *address, size_t length, int flags) {
+    if (failing) {
+        errno = EIO;
+        return -1;
+    }
+    return static_cast<int>(syscall(SYS_msync, address, length, flags));
 }
 
 namespace {
@@ -226,6 +240,10 @@ void look(const orderset::file &set, const plain &p, key k) {
     const std::uint32_t due = p.too_wide(k) ? ORDERSET_FILE_WIDE_KEY : p.holds(k) ? 0 : ORDERSET_FILE_ABSENT;
     same_number(got, due, "get");
     same_number(found, due, "locate");
+    expect(p.too_wide(k)
+               || (set.compared() == set.statistics().compared && set.compared() <= p.map.size()
+                   && (due || set.compared())),
+           "locate compares %u slots of %zu keys", set.compared(), p.map.size());
     expect(got.has_value() == p.holds(k) && same_bytes(*got, due ? text() : p.map.at(k)), "get gives the value");
     if (due) {
         expect(found->slot == 0 && found->version == 0, "where there is no value, locate gives zeros");
@@ -438,6 +456,53 @@ void refusals() {
     same_number(orders.result(), 1, "orders of a refused file");
 }
 
+// ---- after a failed sync
+
+void stopped_set() {
+    std::remove(path.c_str());
+    same_number(orderset::file::create(path.c_str(), 4, 1), 0, "create");
+    auto set = open_again({}, mode::write);
+    same_number(set.insert(7, "seven"), 0, "insert");
+    if (set.statistics().flush != ORDERSET_FILE_MSYNC)
+        return; // on non-volatile memory there is no sync that fails
+    failing = true;
+    const auto told = set.insert(8, "eight");
+    failing = false;
+    same_number(told, ORDERSET_FILE_NOT_DURABLE, "an insert whose sync fails");
+    expect(told.system_error() == EIO && set.system_error() == EIO && set.statistics().error == EIO,
+           "the errno of a failed sync is told: %d", told.system_error());
+    same_number(set.get(7), ORDERSET_FILE_STOPPED, "get after a failed sync");
+    same_number(set.remove(7), ORDERSET_FILE_STOPPED, "remove after a failed sync");
+    auto orders = set.orders();
+    expect(orders.begin() == orders.end(), "a set that is stopped gives no order");
+    same_number(orders.result(), ORDERSET_FILE_STOPPED, "orders after a failed sync");
+    set = open_again(std::move(set), mode::write);
+    expect(set.get(7)->text() == "seven", "what was answered is there");
+    const auto eight = set.get(8);
+    expect(eight == ORDERSET_FILE_ABSENT || eight->text() == "eight", "the insert is done or not");
+}
+
+void stopped_log() {
+    std::remove(path.c_str());
+    same_number(orderset::log_file::create(path.c_str(), 4), 0, "create");
+    auto log = orderset::log_file::open(path.c_str(), mode::write);
+    same_number(log->append("one"), 0, "append");
+    if (log->statistics().flush != ORDERSET_FILE_MSYNC)
+        return;
+    failing = true;
+    const auto told = log->append("two");
+    failing = false;
+    same_number(told, ORDERSET_FILE_NOT_DURABLE, "an append whose sync fails");
+    expect(*told == 0 && told.system_error() == EIO && log->system_error() == EIO, "it has no number");
+    same_number(log->read(1), ORDERSET_FILE_STOPPED, "read after a failed sync");
+    const auto shown = log->range();
+    same_number(shown, ORDERSET_FILE_STOPPED, "range after a failed sync");
+    expect(shown->first == 1 && shown->last == 0, "a refused range is empty");
+    auto messages = log->messages();
+    expect(messages.begin() == messages.end(), "a log that is stopped gives no message");
+    same_number(messages.result(), ORDERSET_FILE_STOPPED, "messages after a failed sync");
+}
+
 } // namespace
 
 int main(int count, char **word) {
@@ -449,6 +514,8 @@ int main(int count, char **word) {
     histories(2);
     logs();
     damaged_log();
+    stopped_set();
+    stopped_log();
     std::remove(path.c_str());
     std::printf("%" PRIu64 " answers, %" PRIu64 " restarts: as the plain map and list (%.0f s)\n", calls, restarts,
                 seconds());

@@ -928,6 +928,10 @@ fault cxx 'the high word of a key is dropped' $plus 's/return \{low, high\};/ret
 fault cxx 'an answer counts as an error' $plus 's/number_ >= ORDERSET_FILE_SYSTEM/number_ >= ORDERSET_FILE_ABSENT/' \
     'NOT SO: .* is done, an answer or an error'
 fault cxx 'the errno is lost' $plus 's/\? errno : 0\)/? 0 : 0)/' 'NOT SO: errno is ENOENT'
+fault cxx 'the errno of a failed sync is lost' $plus 's/ \|\| number == ORDERSET_FILE_NOT_DURABLE \? errno/ ? errno/' \
+    'NOT SO: the errno of a failed sync is told'
+fault cxx 'a refused answer has a value' $plus 's/value_\(told \? std::move\(given\) : T\(\)\)/value_(std::move(given))/' \
+    'NOT SO: a refused range is empty'
 fault cxx 'a basket drops its last key' $plus 's/given, items.size\(\)\)/given, items.size() - 1)/' 'NOT SO: '
 fault cxx 'an iteration leaves out the first order' $plus 's/of_\(of\) \{ \+\+\*this; \}/of_(of) { ++*this; if (of_) ++*this; }/' \
     'NOT SO: orders gives the plain map'
@@ -950,6 +954,8 @@ fault rust 'an argument of a call is another' $rust/sys.rs \
     'NOT SO: the header says the same'
 fault rust 'a number is another' $rust/error.rs 's/Locked = 1011/Locked = 1021/' 'NOT SO: '
 fault rust 'the error of the system is lost' $rust/error.rs 's/number == sys::SYSTEM \|\| //' 'NOT SO: .* the error of the system'
+fault rust 'the errno of a failed sync is lost' $rust/error.rs 's/ \|\| number == sys::NOT_DURABLE//' \
+    'NOT SO: .* the error of the sync'
 fault rust 'a set is shared by threads' $rust/set.rs 's/^unsafe impl Send for Set \{\}/& unsafe impl Sync for Set {}/' \
     'Test compiled successfully'
 fault rust 'a file stays open' $rust/set.rs 's/unsafe \{ sys::orderset_file_close\(self.handle.as_ptr\(\)\) \}//' 'number: 1011'

@@ -56,7 +56,8 @@ impl Set {
 
     /// Drops the key; false where it was not held.
     pub fn remove(&mut self, key: impl Into<Key>) -> Result<bool> {
-        done_or(unsafe { sys::orderset_file_remove(self.handle.as_ptr(), key.into().words()) }, sys::ABSENT)
+        let key = key.into().words();
+        done_or(unsafe { sys::orderset_file_remove(self.handle.as_ptr(), key) }, sys::ABSENT)
     }
 
     /// Changes 1 to 8 distinct keys, all or none.
@@ -73,42 +74,45 @@ impl Set {
 
     /// What the key holds.
     pub fn get(&self, key: impl Into<Key>) -> Result<Option<Value>> {
-        let mut bytes = [0; sys::VALUE_MAX];
-        let mut length = 0;
+        let key = key.into().words();
+        let (mut bytes, mut length) = ([0; sys::VALUE_MAX], 0);
         let number = unsafe {
             let output = bytes.as_mut_ptr().cast();
-            sys::orderset_file_get(self.handle.as_ptr(), key.into().words(), output, bytes.len(), &mut length)
+            sys::orderset_file_get(self.handle.as_ptr(), key, output, bytes.len(), &mut length)
         };
         Ok(done_or(number, sys::ABSENT)?.then_some(Bytes { bytes, length: length.min(sys::VALUE_MAX) }))
     }
 
     /// Where the key stands.
     pub fn locate(&self, key: impl Into<Key>) -> Result<Option<Place>> {
+        let key = key.into().words();
         let (mut slot, mut version) = (0, 0);
-        let number =
-            unsafe { sys::orderset_file_locate(self.handle.as_ptr(), key.into().words(), &mut slot, &mut version) };
+        let number = unsafe { sys::orderset_file_locate(self.handle.as_ptr(), key, &mut slot, &mut version) };
         Ok(done_or(number, sys::ABSENT)?.then_some(Place { slot, version }))
     }
 
     /// Gives the key, which is not held, a sent order of the quantity.
     pub fn book_new(&mut self, key: impl Into<Key>, quantity: u64) -> Result<()> {
-        done(unsafe { sys::orderset_file_book_new(self.handle.as_ptr(), key.into().words(), quantity) })
+        let key = key.into().words();
+        done(unsafe { sys::orderset_file_book_new(self.handle.as_ptr(), key, quantity) })
     }
 
     /// Makes the key's sent order an acknowledged one; false where it was that before.
     pub fn book_acknowledge(&mut self, key: impl Into<Key>) -> Result<bool> {
-        let number = unsafe { sys::orderset_file_book_acknowledge(self.handle.as_ptr(), key.into().words()) };
-        done_or(number, sys::ALREADY)
+        let key = key.into().words();
+        done_or(unsafe { sys::orderset_file_book_acknowledge(self.handle.as_ptr(), key) }, sys::ALREADY)
     }
 
     /// Adds the quantity to what is filled of the key's order; a fill of all that is open removes it.
     pub fn book_fill(&mut self, key: impl Into<Key>, quantity: u64) -> Result<()> {
-        done(unsafe { sys::orderset_file_book_fill(self.handle.as_ptr(), key.into().words(), quantity) })
+        let key = key.into().words();
+        done(unsafe { sys::orderset_file_book_fill(self.handle.as_ptr(), key, quantity) })
     }
 
     /// Removes the key's order.
     pub fn book_withdraw(&mut self, key: impl Into<Key>) -> Result<()> {
-        done(unsafe { sys::orderset_file_book_withdraw(self.handle.as_ptr(), key.into().words()) })
+        let key = key.into().words();
+        done(unsafe { sys::orderset_file_book_withdraw(self.handle.as_ptr(), key) })
     }
 
     /// The open orders by rising slot. The set is borrowed, so that nothing changes between two steps:
@@ -131,6 +135,11 @@ impl Set {
         let mut record = sys::Record::NONE;
         done(unsafe { sys::orderset_file_slot(self.handle.as_ptr(), slot, &mut record) })?;
         Ok(Record::of(&record))
+    }
+
+    /// The slots that the last insert, replace, remove, get or locate compared.
+    pub fn compared(&self) -> u32 {
+        unsafe { sys::orderset_file_compared(self.handle.as_ptr()) }
     }
 
     /// It looks at every slot.

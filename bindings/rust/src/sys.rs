@@ -128,6 +128,7 @@ extern "C" {
     pub fn orderset_file_order(value: *const c_void, length: usize, order: *mut Order) -> c_int;
     pub fn orderset_file_next(set: *mut File, record: *mut Record) -> u32;
     pub fn orderset_file_slot(set: *mut File, slot: u32, record: *mut Record) -> u32;
+    pub fn orderset_file_compared(set: *const File) -> u32;
     pub fn orderset_file_statistics(set: *mut File, statistics: *mut Statistics);
 
     pub fn orderset_log_file_create(path: *const c_char, cells: u32) -> u32;
@@ -172,6 +173,7 @@ mod tests {
         int orderset_file_order(const void *, size_t, struct orderset_order *);
         uint32_t orderset_file_next(struct orderset_file *, struct orderset_record *);
         uint32_t orderset_file_slot(struct orderset_file *, uint32_t, struct orderset_record *);
+        uint32_t orderset_file_compared(const struct orderset_file *);
         void orderset_file_statistics(struct orderset_file *, struct orderset_statistics *);
         uint32_t orderset_log_file_create(const char *, uint32_t);
         uint32_t orderset_log_file_open(const char *, uint32_t, struct orderset_log_file **);

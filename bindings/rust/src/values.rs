@@ -258,7 +258,7 @@ pub struct Statistics {
     /// Open orders, and N less these; of a refused file 0.
     pub live: u32,
     pub spare: u32,
-    /// Slots that the last insert, replace, remove, get or locate compared.
+    /// As [`crate::Set::compared`].
     pub compared: u32,
     /// Void slots that recovery found, and that the open opened unless in [`Mode::Inspect`].
     pub opened: u32,

@@ -382,6 +382,7 @@ fn a_record_has_its_order() {
     let open: BTreeMap<Key, u64> = records.iter().map(|r| (r.key, r.order().unwrap().open())).collect();
     assert_eq!(open, BTreeMap::from([(Key::from(7u64), 5), (Key::from(wide), 7)]), "NOT SO: what is open");
     let place = set.locate(wide).unwrap().unwrap();
+    assert!(matches!(set.compared(), 1 | 2), "NOT SO: of two keys one or two slots are compared: {}", set.compared());
     let record = set.slot(place.slot).unwrap();
     assert_eq!((record.key, record.version), (Key(wide), place.version), "NOT SO: the slot is the key's");
     assert!(records.contains(&record), "NOT SO: the slot is as the iteration gives it");

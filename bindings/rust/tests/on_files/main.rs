@@ -2,3 +2,4 @@
 mod cuts;
 mod files;
 mod scratch;
+mod syncs;
