@@ -4,6 +4,9 @@
 #   make planted   that each test fails where a fault is planted                                      (gcc g++)
 #   make gateway   the example: a new file, orders, a restart, and the orders again                   (gcc)
 #   make recorder  the example of the log: a new file, messages, a restart, and the last messages     (gcc)
+#   make lib       one library of the archives and the handle: target/lib/liborderset.a and liborderset.so.1   (gcc)
+#   make install   headers, library, orderset.pc, manual pages and tools below $(DESTDIR)$(PREFIX)        (gcc)
+#   make uninstall the same away
 #   make heads     the table of docs/HEADS.md: the slots compared and the time of a get, by the number of heads  (gcc)
 #   make bench     the table and the chart of docs/PERFORMANCE.md
 #                  (gcc python3 valgrind libpmemobj-dev liblmdb-dev libsqlite3-dev)
@@ -115,6 +118,23 @@ run-kills run-kills2: run-%: $(OUT)/% $(OUT)/gateway $(OUT)/gateway_on_disk
 run-log_kills: $(OUT)/log_kills $(OUT)/recorder
 	@$(OUT)/log_kills $(OUT)/recorder $(OUT)/log_kills.log $(SEED)
 
+# the handles of orderset_file.h, over the three archives; file_storm has their source in its own
+FILE_TESTS := file file_storm file_kills
+$(OUT)/file: tests/file.c tests/file_model.c tests/child.c tests/chance.c
+$(OUT)/file_storm: tests/file_storm.c tests/file_model.c tests/cache.c tests/chance.c
+$(OUT)/file_kills: tests/file_kills.c tests/file_model.c tests/disk.c tests/child.c tests/chance.c
+$(OUT)/file: HANDLES := src/orderset_file.c -Wl,--wrap=posix_fallocate,--wrap=msync
+$(OUT)/file_kills: HANDLES := src/orderset_file.c -Wl,--wrap=mmap,--wrap=msync,--wrap=fsync,--wrap=renameat2
+
+$(FILE_TESTS:%=$(OUT)/%): $(wildcard tests/*.h) $(HEADERS) include/orderset_file.h src/orderset_file.c \
+		$(ARCHIVE2) $(ARCHIVE) $(LOG_ARCHIVE) | $(OUT)
+	$(C) -Itests $(filter tests/%.c,$^) $(HANDLES) $(filter %.a,$^) -pthread -o $@
+
+.PHONY: run-file run-file_storm run-file_kills
+test: run-file run-file_storm run-file_kills
+run-file run-file_storm run-file_kills: run-%: $(OUT)/%
+	@$(OUT)/$* $(OUT)/$*.img $(SEED)
+
 # every test fails where a fault is planted
 planted: $(ARCHIVE) $(ARCHIVE2) $(LOG_ARCHIVE) $(REPORT) $(PLUG)
 	tests/planted.sh
@@ -144,8 +164,90 @@ gateway: $(OUT)/gateway
 	$(OUT)/gateway $(OUT)/wide.img make 1000 2
 	$(OUT)/gateway $(OUT)/wide.img new 0x20261116000000000000000000000007 100 new 0x20261117000000000000000000000007 5 list
 
+# ---- the library, the tools for the desk, and where they go
+
+VERSION := 1.0.0
+PREFIX ?= /usr/local
+LIB := target/lib
+ARCHIVES := $(ARCHIVE) $(ARCHIVE2) $(LOG_ARCHIVE)
+DESK := orderset-show orderset-check
+TO = $(DESTDIR)$(PREFIX)
+
+.PHONY: lib tools install uninstall run-tools run-install
+test: run-tools run-install
+lib: $(LIB)/liborderset.a $(LIB)/liborderset.so.1
+tools: $(DESK:%=$(OUT)/%)
+
+$(LIB):
+	mkdir -p $@
+
+$(LIB)/orderset_file.o: src/orderset_file.c $(wildcard include/*.h) | $(LIB)
+	$(C) -fPIC -c $< -o $@
+
+# the archives have no global name but those of the headers; run-install looks
+$(LIB)/liborderset.a: $(LIB)/orderset_file.o $(ARCHIVES)
+	rm -f $@
+	printf '%s\n' 'create $@' $(ARCHIVES:%='addlib %') 'addmod $<' save end | ar -M
+
+$(LIB)/liborderset.so.1: $(LIB)/liborderset.a
+	$(CC) -shared $(CFLAGS) $(LDFLAGS) -Wl,-soname,$(@F) -Wl,-z,defs -Wl,-z,noexecstack -Wl,--whole-archive $< \
+		-Wl,--no-whole-archive -pthread -o $@
+
+$(OUT)/orderset-show: tools/orderset-show.c tools/picture.c
+$(DESK:%=$(OUT)/%): $(OUT)/%: tools/%.c tools/desk.c $(wildcard tools/*.h include/*.h) $(LIB)/liborderset.a | $(OUT)
+	$(C) -DVERSION='"$(VERSION)"' $(filter %.c,$^) $(LIB)/liborderset.a -pthread -o $@
+
+install: lib tools
+	install -d "$(TO)/bin" "$(TO)/include" "$(TO)/lib/pkgconfig" "$(TO)/share/man/man1" "$(TO)/share/man/man3" \
+		"$(TO)/share/doc/orderset"
+	install -m 644 include/* "$(TO)/include"
+	install -m 644 $(LIB)/liborderset.a "$(TO)/lib"
+	install -m 755 $(LIB)/liborderset.so.1 "$(TO)/lib/liborderset.so.$(VERSION)"
+	ln -sf liborderset.so.$(VERSION) "$(TO)/lib/liborderset.so.1"
+	ln -sf liborderset.so.1 "$(TO)/lib/liborderset.so"
+	sed 's|@PREFIX@|$(PREFIX)|; s|@VERSION@|$(VERSION)|' src/orderset.pc.in >"$(TO)/lib/pkgconfig/orderset.pc"
+	install -m 755 $(DESK:%=$(OUT)/%) "$(TO)/bin"
+	install -m 644 man/*.1 "$(TO)/share/man/man1"
+	install -m 644 man/*.3 "$(TO)/share/man/man3"
+	install -m 644 docs/OPERATIONS.md "$(TO)/share/doc/orderset"
+
+uninstall:
+	cd "$(TO)" && rm -f $(DESK:%=bin/%) $(wildcard include/*) lib/liborderset.a lib/liborderset.so \
+		lib/liborderset.so.1 lib/liborderset.so.$(VERSION) \
+		lib/pkgconfig/orderset.pc $(patsubst man/%,share/man/man1/%,$(wildcard man/*.1)) \
+		$(patsubst man/%,share/man/man3/%,$(wildcard man/*.3)) share/doc/orderset/OPERATIONS.md && rmdir share/doc/orderset
+
+# the tools on good, wrong and damaged files; and README's programs, compiled against what install leaves
+run-tools: $(DESK:%=$(OUT)/%)
+	@tests/tools.py $(OUT)
+run-install: lib tools
+	@tests/install.py
+
 heads: $(ARCHIVE)
 	$(MAKE) -f bench/Makefile heads
 
 bench: $(ARCHIVE) $(LOG_ARCHIVE)
 	$(MAKE) -f bench/Makefile run
+
+# the headers for C++ and for Rust, over the library of `make lib`; the tests are tests/file.cc and bindings/rust/tests
+LIB := target/lib
+CXX_TESTS := cxx17 cxx20 cxx17_plain
+$(OUT)/cxx17: STANDARD := -std=c++17
+$(OUT)/cxx20: STANDARD := -std=c++20
+$(OUT)/cxx17_plain: STANDARD := -std=c++17 -fno-exceptions -fno-rtti
+$(OUT)/chance.o: tests/chance.c tests/chance.h | $(OUT)
+	$(C) -c tests/chance.c -o $@
+$(CXX_TESTS:%=$(OUT)/%): tests/file.cc $(OUT)/chance.o $(wildcard include/*) $(LIB)/liborderset.a
+	$(CXX) $(STANDARD) -Wall -Wextra -Werror -Iinclude -Itests $(CXXFLAGS) $(LDFLAGS) tests/file.cc $(OUT)/chance.o \
+		$(LIB)/liborderset.a -pthread -o $@
+
+.PHONY: run-cxx run-rust $(CXX_TESTS:%=run-%)
+test: run-cxx run-rust
+run-cxx: $(CXX_TESTS:%=run-%)
+$(CXX_TESTS:%=run-%): run-%: $(OUT)/%
+	@$(OUT)/$* $* $(OUT)/cxx.img $(SEED)
+run-rust: export CARGO_TARGET_DIR ?= $(CURDIR)/target/rust
+run-rust: export ORDERSET_LIB := $(CURDIR)/$(LIB)
+run-rust: export SEED := $(SEED)
+run-rust: $(LIB)/liborderset.a
+	@cd bindings/rust && cargo test --offline --quiet --lib --tests -- --nocapture && cargo test --offline --quiet --doc

@@ -19,7 +19,7 @@ unseen=0
 copy_tree() {
     rm -rf "$tree"
     mkdir -p "$tree/target" "$tree/crates"
-    cp -r Makefile crates.txt include examples tests "$tree"
+    cp -r Makefile crates.txt include src examples tests tools man docs bindings README.md "$tree"
     ln -s "$PWD/target/staticlib" "$tree/target/staticlib"
     ln -s "$PWD/target/bin" "$tree/target/bin"
 }
@@ -818,6 +818,200 @@ fault log_differential 'a struck append is to be read' $differential 's/all \? \
     'DIFFERENCE in what can be read after a struck append'
 fault log_differential "recovery's stores are not made" $differential \
     '/^static void laws/,/^}/{s/^    make_all\(\);//}' 'DIFFERENCE in what can be read after a struck append'
+
+show=tools/orderset-show.c
+check=tools/orderset-check.c
+desk=tools/desk.c
+picture=tools/picture.c
+fault tools 'live and hidden change names' $desk 's/"live", "hidden"/"hidden", "live"/' \
+    'NOT SO: a good file: the output of orderset-show'
+fault tools 'void slots are opened before they are shown' $desk \
+    '/^void desk_open/,/^}/s/ORDERSET_FILE_INSPECT/ORDERSET_FILE_READ/' \
+    "NOT SO: a good file: the output of orderset-show is 'slot 1"
+fault tools 'an order is shown as bytes' $desk 's/if \(orderset_file_order\(/if (0 \&\& orderset_file_order(/' \
+    'NOT SO: a good file: the output of orderset-show'
+fault tools 'a key of layout 2 is shown by its low word' $desk 's/layout == ORDERSET2_LAYOUT/layout == 3/' \
+    'NOT SO: layout 2: the output of orderset-show'
+fault tools 'a full disk is not told' $desk 's/if \(fflush\(out\) \|\| ferror\(out\)\)/if (0)/' 'NOT SO: a full disk is told'
+fault tools 'progress is not told' $desk 's/^    each_second\(1\);//' 'NOT SO: progress is told'
+fault tools 'a refused file is shown with status 0' $show 's/d.is.refusal \? DESK_REFUSED : DESK_GOOD/DESK_GOOD/' \
+    'NOT SO: a file with no 1: the status of orderset-show is 1'
+fault tools 'a picture takes the place of the set' $show 's/picture.st_ino == file.st_ino/0/' 'NOT SO: a picture over the set'
+fault tools 'a picture has any name' $show 's/length < 5 \|\| //; s/strcmp\(a->svg \+ length - 4, ".svg"\)/length < 1/' \
+    'NOT SO: a picture of any name'
+fault tools 'the last slot is not drawn' $picture '/^static void draw_slots/,/^}/s/slot <= d/slot < d/' \
+    'NOT SO: a picture has 20 squares'
+fault tools 'a square has the class of another' $picture \
+    '/^static void draw_slot\(/,/^}/s/desk_class\[r->slot_class\]/desk_class[r->slot_class ? 1 : 0]/' \
+    'NOT SO: 2 squares are hidden'
+fault tools 'two squares are in one place' $picture 's/% grid->columns \* grid->pitch;/% 9 * grid->pitch;/' \
+    'NOT SO: squares are apart'
+fault tools 'the legend counts another class' $picture 's/: d->is.count\[i\];/: d->is.count[0];/' \
+    'NOT SO: the legend says 2 hidden'
+fault tools 'the name of the file is not escaped' $picture "s/if \\(byte == '&' .*\\)\$/if (0)/" 'not well-formed|NOT SO'
+fault tools 'the slot at fault is not marked' $picture 's/if \(r->fault \|\| .*/if (0)/' 'NOT SO: the slot at fault is marked'
+fault tools 'an accepted file has status 1' $check '/^static int accepted/,/^}/s/DESK_GOOD/DESK_REFUSED/' \
+    'NOT SO: a good file: the status of orderset-check is 0'
+fault tools 'the slot at fault is not named' $check '/^static int refused/,/^}/s/if \(d->is.fault_slot\)/if (0)/' \
+    'NOT SO: a file with no 6: the output of orderset-check'
+fault tools 'line A is printed as line B' $check 's/print_line\("B", words \+ 8\)/print_line("B", words)/' \
+    'NOT SO: check of a file with no 24 says: line B'
+fault tools 'a single record is in conflict' $check 's/if \(count > said\(first\)\)/if (count >= said(first))/' \
+    'NOT SO: only records in conflict'
+fault tools 'a complete basket is void' $check 's/, end\) < said\(/, end) <= said(/' 'NOT SO: check of a file with no 25'
+fault tools 'what to do is not said of damage' $check 's/other_file : keep_it/other_file : ""/' \
+    'NOT SO: check of a file with no 5 says what to do'
+
+fault install 'an inner name is global' src/orderset_file.c 's/^static uint32_t lock\(/uint32_t lock(/' \
+    'NOT SO: the shared library gives the names of the headers'
+fault install 'an archive is left out' Makefile 's/^(ARCHIVES := .*) \$\(LOG_ARCHIVE\)/\1/' 'undefined reference'
+fault install 'another soname' Makefile 's/-soname,\$\(@F\)/-soname,liborderset.so.2/' 'NOT SO: the soname'
+fault install 'a header is not installed' Makefile 's/install -m 644 include\/\*/install -m 644 include\/orderset.h/' \
+    'NOT SO: what is installed'
+fault install 'uninstall leaves the archive' Makefile 's/ lib\/liborderset.a lib/ lib/' 'NOT SO: uninstall leaves nothing'
+fault install 'the .pc file names no library' src/orderset.pc.in 's/ -lorderset//' 'NOT SO: .*pkg-config.* ends with status 0'
+fault install "README's program prints another line" README.md '0,/^7: ordered 100, filled 80/s//7: ordered 100, filled 90/' \
+    'NOT SO: first.c, shared, prints what README says'
+fault install 'the tool prints another line than README' $check 's/: accepted\\n/: good\\n/' \
+    'NOT SO: the commands print what README says'
+fault install 'a call is in no manual page' man/orderset_file.3 '/orderset_file_slot\(/d' 'NOT SO: orderset_file.3 has every call'
+fault install 'a number is not in OPERATIONS' docs/OPERATIONS.md '/^\| 23 /d' 'NOT SO: OPERATIONS says of each number'
+
+handle=src/orderset_file.c
+opened='/^static uint32_t open_locked/,/^}/'
+fault file 'no lock' $handle 's/flock\(file, how \| LOCK_NB\)/(void)how, 0/' 'NOT SO: a second process that writes gives 1011'
+fault file 'a lock that writers share' $handle "${opened}s/LOCK_EX : LOCK_SH/LOCK_SH : LOCK_SH/" \
+    'NOT SO: a second process that writes gives 1011'
+fault file 'a reader keeps its lock' $handle '/^static uint32_t copy_file/,/^}/{/unlock\(a\);/d}' \
+    'NOT SO: .* gives .*: 1011'
+fault file 'the file becomes a standard stream' $handle 's/if \(file < 0 \|\| file > STDERR_FILENO\)/if (file != -2)/' \
+    'NOT SO: the file does not become a standard stream'
+fault file 'the high word of a key is not looked at' $handle 's/return key.high \&\& /return 0 \&\& /' \
+    'NOT SO: a key of 128 bits in layout 1 gives 1015'
+fault file 'a reader changes its copy' $handle \
+    '/^static uint32_t may_change/,/^}/s/a->mode != ORDERSET_FILE_WRITE/a->mode > 2/' \
+    'NOT SO: a change through a reader gives 1014'
+fault file 'a handle goes on after a failed sync' $handle '/a->stopped = 1;/d' \
+    'NOT SO: a change after a failed sync gives 1017'
+fault file 'an open asks for no blocks' $handle \
+    '/^static uint32_t map_file/,/^}/s/errno = posix_fallocate\(.*\)\)\)/errno = 0))/' \
+    'NOT SO: an open on a full disk gives 1010'
+fault file 'a create that fails leaves its file' $handle '/unlink\(fresh\);/d' 'NOT SO: a create that fails leaves nothing'
+fault file 'create takes the place of a file' $handle \
+    's/if \(lstat\(path, \&found\) == 0\)/if (lstat(path, \&found) == 1)/; s/if \(errno != ENOENT \|\| asp/if (asp/
+     s/RENAME_NOREPLACE/0/' 'NOT SO: create where a file is gives 1012'
+fault file 'any bytes are a log' $handle 's/if \(mark > 1\)/if (mark > UINT64_MAX - 1 \&\& mark < 1)/' \
+    'NOT SO: a log with a mark of 2 gives 1018'
+fault file 'an inspection opens void slots' $handle \
+    '/^static uint32_t start\(/,/^}/s/s->area.mode == ORDERSET_FILE_INSPECT/s->area.mode > 2/' \
+    'NOT SO: an inspection of half a basket has 2 void slots'
+fault file 'a writer does not open void slots' $handle \
+    's/return persist\(a, at, value, count\) \? ORDERSET_FILE_SYSTEM : ORDERSET_FILE_OK;/return 0;/' \
+    'NOT SO: a writer of half a basket has 0 void slots'
+fault file 'the value of layout 2 is read as that of layout 1' $handle \
+    's/begins = s->layout == ORDERSET2_LAYOUT \? 32 : 24/begins = 24/' 'NOT SO: an inspection of half a basket'
+fault file 'bytes past a value are not looked at' $handle 's/^        if \(value\[i\]\)/        if (value[i] \&\& i > 80)/' \
+    'NOT SO: an inspection tells the slot'
+fault file 'an iteration leaves out the last slot' $handle 's/slot = slot < slots_of\(set\)/slot = slot + 1 < slots_of(set)/' \
+    'NOT SO: .* shows? what was answered'
+fault file 'hidden puts are counted as live' $handle 's/is_live\(s, slot\) \? ORDERSET_SLOT_LIVE : ORDERSET_SLOT_HIDDEN/0/' \
+    'NOT SO: .* (shows what was answered|count the slots)'
+fault file 'the heads are as many as the slots' $handle 's/if \(divisor \* divisor > heads\)/if (heads)/' \
+    'NOT SO: the heads are a prime near N'
+fault file 'recovery on the stack of the caller' $handle \
+    's/error = pthread_create\(.*\);/thread = pthread_self(), work(argument);/; s/error = pthread_join\(.*\);/error = 0;/' \
+    'Segmentation fault|Error 139'
+fault file 'absent is given as found' $handle '/^uint32_t orderset_file_get/,/^}/s/\? ORDERSET_FILE_ABSENT :/? 0 :/' \
+    'NOT SO: .* shows? what was answered'
+fault file 'one text is missing' $handle '/\[19\] = /d' 'NOT SO: each number of the papers has words'
+fault file 'a log shows as many messages as cells' $handle 's/l->last - cells_of\(l\) \+ 2/l->last - cells_of(l) + 1/' \
+    'NOT SO: the numbers that can be read'
+fault file 'the length of an output is not looked at' $handle \
+    's/if \(answer\[ORDERSET_LOG_LENGTH\] > room\)/if (answer[ORDERSET_LOG_LENGTH] > 384 + room)/' \
+    'NOT SO: a short output gives 13'
+
+fault file_storm 'an open does not make the file durable' $handle \
+    's/: orderset_persist_image\(a->bytes, a->length, line_flush\(a\)\)/: 0/' 'LOST (orders|message|an open)'
+fault file_storm "recovery's stores are not made" $handle \
+    's/return persist\(a, at, value, count\) \? ORDERSET_FILE_SYSTEM : ORDERSET_FILE_OK;/return 0;/' \
+    'LOST (orders|message|an open|a call)'
+fault file_storm 'stores are made and not flushed' $handle \
+    's/: orderset_persist_list\(a->bytes, a->length, at, value, count, line_flush\(a\)\)/: (orderset_store_list(a->bytes, at, value, count), 0)/' \
+    'LOST (orders|message|an open)'
+fault file_storm 'the stores of the last key of a basket are not made' $handle \
+    's/ORDERSET_BASKET_STORES\(count\)/ORDERSET_BASKET_STORES(count - 1)/' 'LOST orders'
+fault file_storm 'one store of an append is not made' $handle \
+    's/persist\(\&log->area, log->at, log->value, log->answer\[ORDERSET_LOG_COUNT\]\)/persist(\&log->area, log->at, log->value, log->answer[1] - 1)/' \
+    'LOST (message|an append|an open)'
+fault file_storm 'a replace of layout 2 drops the high word' $handle \
+    's/orderset2_##name\(lent, \(key\).low, \(key\).high,/orderset2_##name(lent, (key).low, (key).high \& 3,/' 'LOST'
+
+fault file_kills 'a new file is not synced' $handle \
+    '/^static uint32_t format\(/,/^}/{s/msync\(image, length, MS_SYNC\) \|\| //; s/fsync\(file\) \? /0 ? /}' \
+    'NOT SO: a new file is synced'
+fault file_kills 'the directory of a new file is not synced' $handle \
+    '/^static uint32_t make\(/,/^}/s/return sync_name\(path\) \?/return 0 ?/' \
+    'NOT SO: the directory of a new file is synced'
+fault file_kills 'an open does not sync the directory' $handle \
+    '/^static uint32_t make_durable/,/^}/s/return sync_name\(path\) \?/return 0 ?/' \
+    'NOT SO: an open syncs the file and its directory'
+fault file_kills 'an open does not make the file durable' $handle \
+    's/if \(fsync\(a->file\) \|\| /if (/; s/\? orderset_persist_image_file\(a->bytes, a->length\)/? 0/' \
+    'NOT SO: (after [0-9]+ kills|an open syncs the file)'
+fault file_kills 'a failed sync is answered as done' $handle 's/^    if \(!failed\)/    if (failed < 2)/' 'NOT SO: '
+fault file_kills 'a handle goes on after a failed sync' $handle '/a->stopped = 1;/d' 'NOT SO: .* refuses every call'
+
+plus=include/orderset.hpp
+fault cxx 'replace inserts' $plus 's/orderset_file_replace\(handle/orderset_file_insert(handle/' 'NOT SO: replace gives'
+fault cxx 'the high word of a key is dropped' $plus 's/return \{low, high\};/return {low, 0};/' \
+    'NOT SO: (insert of a wide key|.*) gives 1015'
+fault cxx 'an answer counts as an error' $plus 's/number_ >= ORDERSET_FILE_SYSTEM/number_ >= ORDERSET_FILE_ABSENT/' \
+    'NOT SO: .* is done, an answer or an error'
+fault cxx 'the errno is lost' $plus 's/\? errno : 0\)/? 0 : 0)/' 'NOT SO: errno is ENOENT'
+fault cxx 'the errno of a failed sync is lost' $plus 's/ \|\| number == ORDERSET_FILE_NOT_DURABLE \? errno/ ? errno/' \
+    'NOT SO: the errno of a failed sync is told'
+fault cxx 'a refused answer has a value' $plus 's/value_\(told \? std::move\(given\) : T\(\)\)/value_(std::move(given))/' \
+    'NOT SO: a refused range is empty'
+fault cxx 'a basket drops its last key' $plus 's/given, items.size\(\)\)/given, items.size() - 1)/' 'NOT SO: '
+fault cxx 'an iteration leaves out the first order' $plus 's/of_\(of\) \{ \+\+\*this; \}/of_(of) { ++*this; if (of_) ++*this; }/' \
+    'NOT SO: orders gives the plain map'
+fault cxx 'an iteration does not tell that it is refused' $plus 's/ORDERSET_FILE_END \? orderset::result\(\) : told_/0 ? told_ : 0u/' \
+    'NOT SO: orders of a refused file gives 1'
+fault cxx 'a damaged message ends the iteration' $plus 's/if \(found != ORDERSET_LOG_NOT_SHOWN\)/if (number)/' \
+    'NOT SO: (messages gives 0|the other messages are given)'
+fault cxx 'a file stays open' $plus 's/\{ orderset_file_close\(set\); \}/{ (void)set; }/' 'NOT SO: .* gives 0: 1011'
+fault cxx 'a wrong order is taken' $plus 's/if \(orderset_file_order\((.*)\)\)$/if (orderset_file_order(\1) + 1)/' \
+    'NOT SO: order_of knows an order'
+fault cxx 'no lock' $handle 's/flock\(file, how \| LOCK_NB\)/(void)how, 0/' 'NOT SO: a second open gives 1011'
+
+export CARGO_TARGET_DIR=$PWD/target/planted/rust
+rust=bindings/rust/src
+fault rust 'the high word of a key is dropped' $rust/values.rs 's/high: \(self.0 >> 64\) as u64/high: 0/' 'NOT SO: '
+fault rust 'a field of a struct has moved' include/orderset_file.h 's/uint32_t slot_class; /uint64_t slot_class; /' \
+    'NOT SO: the header says the same'
+fault rust 'an argument of a call is another' $rust/sys.rs \
+    's/uint32_t orderset_file_slot\(struct orderset_file \*, uint32_t/uint32_t orderset_file_slot(struct orderset_file *, uint64_t/' \
+    'NOT SO: the header says the same'
+fault rust 'a number is another' $rust/error.rs 's/Locked = 1011/Locked = 1021/' 'NOT SO: '
+fault rust 'the error of the system is lost' $rust/error.rs 's/number == sys::SYSTEM \|\| //' 'NOT SO: .* the error of the system'
+fault rust 'the errno of a failed sync is lost' $rust/error.rs 's/ \|\| number == sys::NOT_DURABLE//' \
+    'NOT SO: .* the error of the sync'
+fault rust 'a set is shared by threads' $rust/set.rs 's/^unsafe impl Send for Set \{\}/& unsafe impl Sync for Set {}/' \
+    'Test compiled successfully'
+fault rust 'a file stays open' $rust/set.rs 's/unsafe \{ sys::orderset_file_close\(self.handle.as_ptr\(\)\) \}//' 'number: 1011'
+fault rust 'an iteration leaves out the first order' $rust/set.rs 's/^        orders.step\(\)\?;/&&/' \
+    'NOT SO: .* leaves the plain map'
+fault rust 'more than eight items of a basket are cut off' $rust/set.rs 's/if items.len\(\) > lent.len\(\) \{ 0 \}/if items.len() > lent.len() { 8 }/' \
+    'NOT SO: '
+fault rust 'the stores of the last key of a basket are not made' $handle \
+    's/ORDERSET_BASKET_STORES\(count\)/ORDERSET_BASKET_STORES(count - 1)/' 'NOT SO: '
+fault rust "recovery's stores are not made" $handle \
+    's/return persist\(a, at, value, count\) \? ORDERSET_FILE_SYSTEM : ORDERSET_FILE_OK;/return 0;/' \
+    'NOT SO: recovery opens a line for each void slot'
+fault rust 'a cut call is to be there' bindings/rust/tests/on_files/cuts.rs \
+    's/all\(\|\&count\| count == 8\)/all(|\&count| count >= 7)/' 'NOT SO: .* leaves the plain map'
+fault rust 'a cut append is to be there' bindings/rust/tests/on_files/cuts.rs 's/if image == after \{/if image != before {/' \
+    'NOT SO: a cut leaves the plain list'
 
 echo "$count faults planted, $((count - unseen)) seen"
 [ $unseen -eq 0 ]

@@ -1,0 +1,200 @@
+use crate::error::{done, done_or};
+use crate::values::Bytes;
+use crate::{c_path, sys, Item, Key, Layout, Mode, Place, Record, Result, Statistics, Value};
+use std::fmt;
+use std::iter::FusedIterator;
+use std::path::Path;
+use std::ptr::{self, NonNull};
+
+/// A set in a file. What a change returned is durable; a drop closes the file and ends the lock.
+///
+/// It can be sent to another thread, and is used by one at a time:
+/// ```compile_fail,E0277
+/// fn shared<T: Sync>() {}
+/// shared::<orderset::Set>();
+/// ```
+pub struct Set {
+    handle: NonNull<sys::File>,
+}
+
+// SAFETY: a handle is bound to no thread. It is not Sync: also a get writes to it.
+unsafe impl Send for Set {}
+
+impl Set {
+    /// Makes a file of an empty set with so many slots, 2 to 65,535: room for one open order less. A cut or a kill
+    /// leaves the whole file or none.
+    pub fn create(path: impl AsRef<Path>, slots: u32, layout: Layout) -> Result<()> {
+        let path = c_path(path.as_ref())?;
+        // SAFETY: a string that ends with a zero.
+        done(unsafe { sys::orderset_file_create(path.as_ptr(), slots, layout as u32) })
+    }
+
+    /// Opens a file and recovers it.
+    pub fn open(path: impl AsRef<Path>, mode: Mode) -> Result<Set> {
+        let path = c_path(path.as_ref())?;
+        let mut set = ptr::null_mut();
+        // SAFETY: a string that ends with a zero, and the handle is written.
+        done(unsafe { sys::orderset_file_open(path.as_ptr(), mode as u32, &mut set) })?;
+        let handle = NonNull::new(set).expect("a file that was opened has a handle");
+        Ok(Set { handle })
+    }
+
+    // SAFETY of all calls below: the handle is open until the drop, &mut self or a Set that is not Sync keeps two calls
+    // apart, slices are lent with their lengths, and what is written is a variable of the right type.
+
+    /// Gives the key, which is not held, the value.
+    pub fn insert(&mut self, key: impl Into<Key>, value: &[u8]) -> Result<()> {
+        let key = key.into().words();
+        done(unsafe { sys::orderset_file_insert(self.handle.as_ptr(), key, value.as_ptr().cast(), value.len()) })
+    }
+
+    /// Gives the key, which is held, the value in the place of the one that it has.
+    pub fn replace(&mut self, key: impl Into<Key>, value: &[u8]) -> Result<()> {
+        let key = key.into().words();
+        done(unsafe { sys::orderset_file_replace(self.handle.as_ptr(), key, value.as_ptr().cast(), value.len()) })
+    }
+
+    /// Drops the key; false where it was not held.
+    pub fn remove(&mut self, key: impl Into<Key>) -> Result<bool> {
+        let key = key.into().words();
+        done_or(unsafe { sys::orderset_file_remove(self.handle.as_ptr(), key) }, sys::ABSENT)
+    }
+
+    /// Changes 1 to 8 distinct keys, all or none.
+    pub fn basket(&mut self, items: &[Item<'_>]) -> Result<()> {
+        let none = sys::Item { kind: 0, key: Key(0).words(), value: ptr::null(), length: 0 };
+        let mut lent = [none; sys::BASKET_MAX];
+        for (place, item) in lent.iter_mut().zip(items) {
+            *place = item.lent();
+        }
+        // more than there is room for is refused as none is
+        let count = if items.len() > lent.len() { 0 } else { items.len() };
+        done(unsafe { sys::orderset_file_basket(self.handle.as_ptr(), lent.as_ptr(), count) })
+    }
+
+    /// What the key holds.
+    pub fn get(&self, key: impl Into<Key>) -> Result<Option<Value>> {
+        let key = key.into().words();
+        let (mut bytes, mut length) = ([0; sys::VALUE_MAX], 0);
+        let number = unsafe {
+            let output = bytes.as_mut_ptr().cast();
+            sys::orderset_file_get(self.handle.as_ptr(), key, output, bytes.len(), &mut length)
+        };
+        Ok(done_or(number, sys::ABSENT)?.then_some(Bytes { bytes, length: length.min(sys::VALUE_MAX) }))
+    }
+
+    /// Where the key stands.
+    pub fn locate(&self, key: impl Into<Key>) -> Result<Option<Place>> {
+        let key = key.into().words();
+        let (mut slot, mut version) = (0, 0);
+        let number = unsafe { sys::orderset_file_locate(self.handle.as_ptr(), key, &mut slot, &mut version) };
+        Ok(done_or(number, sys::ABSENT)?.then_some(Place { slot, version }))
+    }
+
+    /// Gives the key, which is not held, a sent order of the quantity.
+    pub fn book_new(&mut self, key: impl Into<Key>, quantity: u64) -> Result<()> {
+        let key = key.into().words();
+        done(unsafe { sys::orderset_file_book_new(self.handle.as_ptr(), key, quantity) })
+    }
+
+    /// Makes the key's sent order an acknowledged one; false where it was that before.
+    pub fn book_acknowledge(&mut self, key: impl Into<Key>) -> Result<bool> {
+        let key = key.into().words();
+        done_or(unsafe { sys::orderset_file_book_acknowledge(self.handle.as_ptr(), key) }, sys::ALREADY)
+    }
+
+    /// Adds the quantity to what is filled of the key's order; a fill of all that is open removes it.
+    pub fn book_fill(&mut self, key: impl Into<Key>, quantity: u64) -> Result<()> {
+        let key = key.into().words();
+        done(unsafe { sys::orderset_file_book_fill(self.handle.as_ptr(), key, quantity) })
+    }
+
+    /// Removes the key's order.
+    pub fn book_withdraw(&mut self, key: impl Into<Key>) -> Result<()> {
+        let key = key.into().words();
+        done(unsafe { sys::orderset_file_book_withdraw(self.handle.as_ptr(), key) })
+    }
+
+    /// The open orders by rising slot. The set is borrowed, so that nothing changes between two steps:
+    /// ```compile_fail,E0502
+    /// # fn drop_all(set: &mut orderset::Set) -> orderset::Result<()> {
+    /// for order in set.orders()? {
+    ///     set.remove(order.key)?;
+    /// }
+    /// # Ok(())
+    /// # }
+    /// ```
+    pub fn orders(&self) -> Result<Orders<'_>> {
+        let mut orders = Orders { set: self, at: sys::Record::NONE };
+        orders.step()?;
+        Ok(orders)
+    }
+
+    /// What slot 1 to N holds, whatever its class.
+    pub fn slot(&self, slot: u32) -> Result<Record> {
+        let mut record = sys::Record::NONE;
+        done(unsafe { sys::orderset_file_slot(self.handle.as_ptr(), slot, &mut record) })?;
+        Ok(Record::of(&record))
+    }
+
+    /// The slots that the last insert, replace, remove, get or locate compared.
+    pub fn compared(&self) -> u32 {
+        unsafe { sys::orderset_file_compared(self.handle.as_ptr()) }
+    }
+
+    /// It looks at every slot.
+    pub fn statistics(&self) -> Statistics {
+        let mut statistics = sys::Statistics::default();
+        unsafe { sys::orderset_file_statistics(self.handle.as_ptr(), &mut statistics) };
+        Statistics::of(&statistics)
+    }
+}
+
+impl Drop for Set {
+    fn drop(&mut self) {
+        // SAFETY: no call follows.
+        unsafe { sys::orderset_file_close(self.handle.as_ptr()) }
+    }
+}
+
+impl fmt::Debug for Set {
+    fn fmt(&self, f: &mut fmt::Formatter<'_>) -> fmt::Result {
+        f.debug_struct("Set").finish_non_exhaustive()
+    }
+}
+
+/// The open orders of a set: [`Set::orders`].
+pub struct Orders<'a> {
+    set: &'a Set,
+    at: sys::Record, // the one to give next; its slot is 0 where there is none
+}
+
+impl Orders<'_> {
+    fn step(&mut self) -> Result<bool> {
+        // SAFETY: as in the calls of the set.
+        done_or(unsafe { sys::orderset_file_next(self.set.handle.as_ptr(), &mut self.at) }, sys::END)
+    }
+}
+
+impl Iterator for Orders<'_> {
+    type Item = Record;
+
+    fn next(&mut self) -> Option<Record> {
+        if self.at.slot == 0 {
+            return None;
+        }
+        let given = Record::of(&self.at);
+        if self.step().is_err() {
+            self.at = sys::Record::NONE; // the first step was not refused, and nothing has changed: this is not met
+        }
+        Some(given)
+    }
+}
+
+impl FusedIterator for Orders<'_> {}
+
+impl fmt::Debug for Orders<'_> {
+    fn fmt(&self, f: &mut fmt::Formatter<'_>) -> fmt::Result {
+        f.debug_struct("Orders").finish_non_exhaustive()
+    }
+}

@@ -1,0 +1,712 @@
+/* The handles of orderset_file.h on files of this machine: random changes of a set in both layouts and random messages
+ * of a log, against a plain map and a plain list, with the file closed and opened again; and case by case what is to
+ * be refused: two handles and two processes on one file, a full disk, failing syncs, a file that is read-only, cut
+ * short, damaged or of something else, keys that are too wide. What is refused or only read leaves every byte of the
+ * file.
+ *
+ *     file FILE [SEED]
+ */
+#define _GNU_SOURCE
+#include <errno.h>
+#include <fcntl.h>
+#include <inttypes.h>
+#include <pthread.h>
+#include <signal.h>
+#include <stdio.h>
+#include <stdlib.h>
+#include <string.h>
+#include <sys/mman.h>
+#include <sys/prctl.h>
+#include <sys/stat.h>
+#include <sys/wait.h>
+#include <unistd.h>
+
+#include "chance.h"
+#include "child.h"
+#include "file_model.h"
+
+enum { SETS = 4, CALLS = 250, LOGS = 4, MESSAGES = 60 };
+enum { MOST = 1 << 24, SMALL_STACK = 65536, FEW_SLOTS = 9, NAME = 1024 };
+enum { READ = ORDERSET_FILE_READ, WRITE = ORDERSET_FILE_WRITE, INSPECT = ORDERSET_FILE_INSPECT };
+
+static const char *path;
+static uint64_t cases, changes, reopened, messages;
+
+/* ---- a disk that is full, and one that does not sync */
+
+static int disk_full, sync_fails;
+
+int __real_posix_fallocate(int file, off_t offset, off_t size);
+int __real_msync(void *address, size_t size, int flags);
+int __wrap_posix_fallocate(int file, off_t offset, off_t size);
+int __wrap_msync(void *address, size_t size, int flags);
+
+int __wrap_posix_fallocate(int file, off_t offset, off_t size) {
+    return disk_full ? ENOSPC : __real_posix_fallocate(file, offset, size);
+}
+
+int __wrap_msync(void *address, size_t size, int flags) {
+    errno = EIO;
+    return sync_fails ? -1 : __real_msync(address, size, flags);
+}
+
+/* ---- what a case expects */
+
+static void gives(uint32_t number, uint32_t wanted, const char *what) {
+    expect(number == wanted, "%s gives %" PRIu32 " (%s): %" PRIu32 " (%s)", what, wanted, orderset_file_text(wanted),
+           number, orderset_file_text(number));
+    cases++;
+}
+
+static void holds(int is_so, const char *what) {
+    expect(is_so, "%s", what);
+    cases++;
+}
+
+static struct orderset_file *open_set(uint32_t mode) {
+    struct orderset_file *set;
+    gives(orderset_file_open(path, mode, &set), 0, "an open");
+    return set;
+}
+
+/* An open that is refused gives no handle. */
+static void no_set(uint32_t mode, uint32_t wanted, const char *what) {
+    struct orderset_file *set = (struct orderset_file *)&cases;
+    gives(orderset_file_open(path, mode, &set), wanted, what);
+    holds(set == NULL, what);
+}
+
+static void no_log(uint32_t mode, uint32_t wanted, const char *what) {
+    struct orderset_log_file *log = (struct orderset_log_file *)&cases;
+    gives(orderset_log_file_open(path, mode, &log), wanted, what);
+    holds(log == NULL, what);
+}
+
+static struct orderset_statistics statistics_of(struct orderset_file *set) {
+    struct orderset_statistics s;
+    orderset_file_statistics(set, &s);
+    return s;
+}
+
+/* ---- the bytes of the file */
+
+struct contents {
+    size_t size;
+    uint8_t *bytes;
+};
+
+static struct contents contents_of_file(void) {
+    struct contents c = {0, malloc(MOST)};
+    int in = open(path, O_RDONLY | O_CLOEXEC);
+    ssize_t got = in < 0 || !c.bytes ? -1 : read(in, c.bytes, MOST);
+    expect(got >= 0, "%s is read", path);
+    close(in);
+    c.size = (size_t)got;
+    return c;
+}
+
+static void write_file(const void *bytes, size_t size) {
+    int out = open(path, O_WRONLY | O_CREAT | O_TRUNC | O_CLOEXEC, 0600);
+    expect(out >= 0 && write(out, bytes, size) == (ssize_t)size, "%s is written", path);
+    close(out);
+}
+
+static int is_unchanged(const struct contents *before) {
+    struct contents c = contents_of_file();
+    const int same = c.size == before->size && memcmp(c.bytes, before->bytes, c.size) == 0;
+    free(c.bytes);
+    return same;
+}
+
+static uint64_t word_at(const struct contents *c, size_t i) {
+    uint64_t word;
+    memcpy(&word, c->bytes + 8 * i, sizeof word);
+    return word;
+}
+
+static void new_set(uint32_t slots, uint32_t layout) {
+    unlink(path);
+    gives(orderset_file_create(path, slots, layout), 0, "create");
+}
+
+/* ---- random changes */
+
+/* The counts are those of the proved call, which there is in layout 1. */
+static void check_counts(const struct plain *p) {
+    static uint32_t heads[1], next[ORDERSET_SLOTS_MAX + 1];
+    uint64_t counts[ORDERSET_COUNTS];
+    struct contents c = contents_of_file();
+    struct orderset_file *set = open_set(INSPECT);
+    const struct orderset_statistics s = statistics_of(set);
+    if (p->layout == 1) {
+        expect(orderset_count_slots(c.bytes, c.size, heads, 1, next, ORDERSET_NEXT_LENGTH(p->slots), counts) == 0,
+               "the slots are counted");
+        holds(memcmp(counts, s.count, sizeof counts) == 0, "the statistics count the slots");
+    }
+    holds(shows(set, p), "an inspection shows what was answered");
+    orderset_file_close(set);
+    free(c.bytes);
+}
+
+static struct orderset_file *close_and_open(struct orderset_file *set, const struct plain *p) {
+    orderset_file_close(set);
+    struct contents before = contents_of_file();
+    check_counts(p);
+    set = open_set(READ);
+    holds(shows(set, p), "a reader shows what was answered");
+    holds(is_unchanged(&before), "a reader and an inspection leave the file");
+    struct orderset_file *writer = open_set(WRITE);
+    orderset_file_close(set);
+    holds(shows(writer, p), "an open shows what was answered");
+    free(before.bytes);
+    reopened++;
+    return writer;
+}
+
+static void random_changes(uint32_t layout) {
+    static struct plain now, later;
+    make_plain(&now, (uint32_t)(2 + below(below(2) ? 12 : 40)), layout);
+    new_set(now.slots, layout);
+    struct orderset_file *set = open_set(WRITE);
+    for (int i = 0; i < CALLS; i++) {
+        struct call c;
+        any_call(&now, &c);
+        const uint32_t wanted = due(&now, &c, &later), number = carry_out(set, &now, &c);
+        expect(may_give(wanted, number, &c), "call %d of kind %d gives %" PRIu32 ": due is %" PRIu32, i, c.kind, number,
+               wanted);
+        if (number == 0)
+            now = later;
+        changes += number == 0;
+        if (below(16) == 0)
+            holds(shows(set, &now), "the handle shows what was answered");
+        if (below(32) == 0)
+            set = close_and_open(set, &now);
+    }
+    set = close_and_open(set, &now);
+    orderset_file_close(set);
+}
+
+/* ---- new files */
+
+static int left_over(void) {
+    char command[2 * NAME];
+    snprintf(command, sizeof command, "ls '%s'.new-* >/dev/null 2>&1", path);
+    return system(command) == 0;
+}
+
+static void new_files(void) {
+    char missing[NAME];
+    unlink(path);
+    snprintf(missing, sizeof missing, "%s.no/orders.img", path);
+    gives(orderset_file_create(path, 1, 1), 1, "create of one slot");
+    gives(orderset_file_create(path, 65536, 1), 1, "create of 65,536 slots");
+    gives(orderset_file_create(path, 2, 3), 32, "create in layout 3");
+    gives(orderset_log_file_create(path, 1), 30, "create of one cell");
+    gives(orderset_log_file_create(path, 1001), 30, "create of 1,001 cells");
+    gives(orderset_file_create(missing, 2, 1), ORDERSET_FILE_SYSTEM, "create where no directory is");
+    holds(errno == ENOENT, "errno tells that no directory is there");
+    no_set(WRITE, ORDERSET_FILE_SYSTEM, "an open of no file");
+    holds(errno == ENOENT, "errno tells that no file is there");
+    disk_full = 1;
+    gives(orderset_file_create(path, 2, 1), ORDERSET_FILE_SYSTEM, "create on a full disk");
+    holds(errno == ENOSPC && access(path, F_OK) && !left_over(), "a create that fails leaves nothing");
+    disk_full = 0;
+    new_set(FEW_SLOTS, 2);
+    struct contents before = contents_of_file();
+    gives(orderset_file_create(path, 2, 1), ORDERSET_FILE_EXISTS, "create where a file is");
+    gives(orderset_log_file_create(path, 2), ORDERSET_FILE_EXISTS, "create of a log where a file is");
+    holds(is_unchanged(&before) && !left_over(), "create leaves a file that is there");
+    disk_full = 1;
+    no_set(WRITE, ORDERSET_FILE_SYSTEM, "an open on a full disk");
+    holds(errno == ENOSPC && is_unchanged(&before), "errno tells that the disk is full");
+    disk_full = 0;
+    free(before.bytes);
+}
+
+/* ---- files that are no sets */
+
+static void no_set_in(uint32_t wanted, const char *what) {
+    struct contents before = contents_of_file();
+    no_set(WRITE, wanted, what);
+    no_set(READ, wanted, what);
+    struct orderset_file *set = open_set(INSPECT);
+    holds(statistics_of(set).refusal == wanted, what);
+    orderset_file_close(set);
+    holds(is_unchanged(&before), "a file that is no set stays as it is");
+    free(before.bytes);
+}
+
+static void wrong_files(void) {
+    static uint8_t bytes[ORDERSET_IMAGE_BYTES(FEW_SLOTS)];
+    new_set(FEW_SLOTS, 1 + (uint32_t)below(2));
+    no_set(3, ORDERSET_FILE_BAD_MODE, "an open in mode 3");
+    truncate(path, ORDERSET_IMAGE_BYTES(FEW_SLOTS - 1)) ? expect(0, "truncate") : (void)0;
+    no_set_in(3, "a set without its last slot");
+    write_file(bytes, 0);
+    no_set_in(1, "an empty file");
+    write_file(bytes, sizeof bytes - 1);
+    no_set_in(1, "a file of another length");
+    write_file(bytes, sizeof bytes);
+    no_set_in(2, "a file of zeros");
+    fill(bytes, sizeof bytes);
+    write_file(bytes, sizeof bytes);
+    no_set_in(3, "a file of random bytes");
+    unlink(path);
+    gives(orderset_log_file_create(path, 2), 0, "create of a log");
+    no_set_in(2, "a log of two cells, as long as a set of six slots");
+    unlink(path);
+    expect(mkdir(path, 0700) == 0, "a directory");
+    no_set(WRITE, ORDERSET_FILE_NOT_REGULAR, "a directory");
+    no_set(READ, ORDERSET_FILE_NOT_REGULAR, "a directory");
+    rmdir(path);
+    expect(mkfifo(path, 0600) == 0, "a pipe");
+    no_set(READ, ORDERSET_FILE_NOT_REGULAR, "a pipe");
+    unlink(path);
+}
+
+/* ---- two handles, two processes, rights */
+
+/* A process that has the file open until it is killed. */
+static pid_t other_process(uint32_t mode) {
+    int ends[2];
+    char byte;
+    expect(pipe2(ends, O_CLOEXEC) == 0, "a pipe");
+    fflush(stdout);
+    const pid_t child = fork();
+    if (child == 0) {
+        struct orderset_file *set;
+        prctl(PR_SET_PDEATHSIG, SIGKILL);
+        if (orderset_file_open(path, mode, &set) == 0 && write(ends[1], "", 1) == 1)
+            pause();
+        _exit(1);
+    }
+    close(ends[1]);
+    expect(child > 0 && read(ends[0], &byte, 1) == 1, "another process opens the file");
+    close(ends[0]);
+    return child;
+}
+
+static void end_process(pid_t child) {
+    kill(child, SIGKILL);
+    expect(waitpid(child, NULL, 0) == child, "the other process ends");
+}
+
+static void two_handles(void) {
+    new_set(FEW_SLOTS, 1);
+    pid_t child = other_process(WRITE);
+    no_set(WRITE, ORDERSET_FILE_LOCKED, "a second process that writes");
+    no_set(READ, ORDERSET_FILE_LOCKED, "a process that reads beside one that writes");
+    no_set(INSPECT, ORDERSET_FILE_LOCKED, "a process that inspects beside one that writes");
+    end_process(child);
+    struct orderset_file *set = open_set(WRITE);
+    no_set(WRITE, ORDERSET_FILE_LOCKED, "a second handle that writes");
+    orderset_file_close(set);
+    child = other_process(READ);
+    orderset_file_close(open_set(WRITE));
+    end_process(child);
+    unlink(path);
+    gives(orderset_log_file_create(path, 3), 0, "create of a log");
+    struct orderset_log_file *log;
+    gives(orderset_log_file_open(path, WRITE, &log), 0, "an open of a log");
+    no_log(WRITE, ORDERSET_FILE_LOCKED, "a second handle that writes the log");
+    orderset_log_file_close(log);
+    orderset_file_close(NULL);
+    orderset_log_file_close(NULL);
+}
+
+/* In a process without rights, and without standard input: the file does not take its place. */
+static void rights(void) {
+    int status;
+    new_set(FEW_SLOTS, 1);
+    chmod(path, 0444);
+    fflush(stdout);
+    const pid_t child = fork();
+    if (child == 0) {
+        struct orderset_file *set;
+        close(STDIN_FILENO);
+        chmod(path, 0644);
+        if (orderset_file_open(path, WRITE, &set) || fcntl(STDIN_FILENO, F_GETFD) != -1)
+            _exit(1);
+        orderset_file_close(set);
+        chmod(path, 0444);
+        if (geteuid() == 0 && setuid(65534))
+            _exit(2);
+        const uint32_t number = orderset_file_open(path, WRITE, &set);
+        _exit(number == ORDERSET_FILE_SYSTEM && errno == EACCES ? 0 : 3);
+    }
+    expect(waitpid(child, &status, 0) == child, "the other process ends");
+    holds(WIFEXITED(status) && WEXITSTATUS(status) != 1, "the file does not become a standard stream");
+    holds(WIFEXITED(status) && WEXITSTATUS(status) == 0, "an open for writing of a file that may not be written");
+    orderset_file_close(open_set(READ));
+}
+
+/* ---- handles that do not write, and that cannot */
+
+static const struct orderset_key one = {1, 0}, two = {2, 0}, three = {3, 0}, wide = {1, 1};
+
+static void all_refused(struct orderset_file *set, struct orderset_key key, uint32_t wanted, const char *what) {
+    const struct orderset_item item = {ORDERSET_INSERT, key, "x", 1};
+    gives(orderset_file_insert(set, key, "x", 1), wanted, what);
+    gives(orderset_file_replace(set, key, "x", 1), wanted, what);
+    gives(orderset_file_remove(set, key), wanted, what);
+    gives(orderset_file_basket(set, &item, 1), wanted, what);
+    gives(orderset_file_book_new(set, key, 5), wanted, what);
+    gives(orderset_file_book_acknowledge(set, key), wanted, what);
+    gives(orderset_file_book_fill(set, key, 5), wanted, what);
+    gives(orderset_file_book_withdraw(set, key), wanted, what);
+}
+
+static void no_questions(struct orderset_file *set, struct orderset_key key, uint32_t wanted, const char *what) {
+    uint8_t bytes[ORDERSET_VALUE_MAX];
+    uint32_t slot = 7;
+    uint64_t version = 7;
+    size_t size = 7;
+    gives(orderset_file_get(set, key, bytes, sizeof bytes, &size), wanted, what);
+    gives(orderset_file_locate(set, key, &slot, &version), wanted, what);
+    holds(size == 0 && slot == 0 && version == 0, "a refused question leaves zeros");
+}
+
+static void reading_only(void) {
+    struct contents before;
+    new_set(FEW_SLOTS, 1);
+    struct orderset_file *set = open_set(WRITE);
+    gives(orderset_file_insert(set, one, "a", 1), 0, "insert");
+    all_refused(set, wide, ORDERSET_FILE_WIDE_KEY, "a key of 128 bits in layout 1");
+    no_questions(set, wide, ORDERSET_FILE_WIDE_KEY, "a key of 128 bits in layout 1");
+    orderset_file_close(set);
+    before = contents_of_file();
+    set = open_set(READ);
+    all_refused(set, one, ORDERSET_FILE_READ_ONLY, "a change through a reader");
+    gives(orderset_file_locate(set, one, NULL, NULL), 0, "a question to a reader");
+    holds(statistics_of(set).flush == ORDERSET_FILE_NO_FLUSH, "a reader flushes nothing");
+    holds(orderset_file_compared(set) == 1 && statistics_of(set).compared == 1, "one slot was compared");
+    orderset_file_close(set);
+    holds(is_unchanged(&before), "a reader leaves the file");
+    new_set(FEW_SLOTS, 2);
+    set = open_set(WRITE);
+    gives(orderset_file_insert(set, wide, "a", 1), 0, "insert of a key of 128 bits in layout 2");
+    gives(orderset_file_locate(set, one, NULL, NULL), ORDERSET_FILE_ABSENT, "a key with another high word");
+    orderset_file_close(set);
+    free(before.bytes);
+}
+
+static void failing_syncs(void) {
+    struct orderset_record r = {0};
+    new_set(FEW_SLOTS, 1);
+    struct orderset_file *set = open_set(WRITE);
+    gives(orderset_file_insert(set, one, "a", 1), 0, "insert");
+    if (statistics_of(set).flush != ORDERSET_FILE_MSYNC) {
+        orderset_file_close(set);
+        return; /* non-volatile memory: there is no sync */
+    }
+    sync_fails = 1;
+    gives(orderset_file_replace(set, one, "b", 1), ORDERSET_FILE_NOT_DURABLE, "a replace that is not synced");
+    holds(errno == EIO && orderset_file_errno(set) == EIO && statistics_of(set).error == EIO, "errno tells why");
+    sync_fails = 0;
+    all_refused(set, one, ORDERSET_FILE_STOPPED, "a change after a failed sync");
+    no_questions(set, one, ORDERSET_FILE_STOPPED, "a question after a failed sync");
+    gives(orderset_file_next(set, &r), ORDERSET_FILE_STOPPED, "next after a failed sync");
+    gives(orderset_file_slot(set, 1, &r), ORDERSET_FILE_STOPPED, "a slot after a failed sync");
+    orderset_file_close(set);
+    sync_fails = 1;
+    no_set(WRITE, ORDERSET_FILE_SYSTEM, "an open that cannot make the file durable");
+    sync_fails = 0;
+    set = open_set(WRITE);
+    gives(orderset_file_next(set, &r), 0, "next after a failed sync and an open");
+    holds(r.length == 1 && (r.value[0] == 'a' || r.value[0] == 'b'), "the replace is done or not");
+    gives(orderset_file_replace(set, one, "c", 1), 0, "a replace after it");
+    orderset_file_close(set);
+}
+
+/* ---- void slots and damaged ones */
+
+/* A basket of three that a cut struck: one of its lines is as before. */
+static void half_basket(uint32_t layout) {
+    const struct orderset_item item[3] = {{ORDERSET_REPLACE, one, "x", 1}, {ORDERSET_INSERT, two, "y", 1},
+                                          {ORDERSET_INSERT, three, "z", 1}};
+    size_t line;
+    new_set(FEW_SLOTS, layout);
+    struct orderset_file *set = open_set(WRITE);
+    gives(orderset_file_insert(set, one, "a", 1), 0, "insert");
+    struct contents before = contents_of_file();
+    gives(orderset_file_basket(set, item, 3), 0, "a basket");
+    orderset_file_close(set);
+    struct contents after = contents_of_file();
+    for (line = after.size / 64; memcmp(before.bytes + 64 * (line - 1), after.bytes + 64 * (line - 1), 64) == 0;)
+        line--;
+    memcpy(after.bytes + 64 * (line - 1), before.bytes + 64 * (line - 1), 64);
+    write_file(after.bytes, after.size);
+    free(before.bytes);
+    free(after.bytes);
+}
+
+static void shows_one(struct orderset_file *set, uint64_t voids, uint64_t broken, const char *what) {
+    struct orderset_record r = {0};
+    const struct orderset_statistics s = statistics_of(set);
+    gives(orderset_file_next(set, &r), 0, what);
+    holds(r.key.low == 1 && r.length == 1 && r.value[0] == 'a' && r.records == 0, what);
+    gives(orderset_file_next(set, &r), ORDERSET_FILE_END, what);
+    expect(s.count[ORDERSET_SLOT_VOID] == voids && s.count[ORDERSET_SLOT_BROKEN] == broken,
+           "%s has %" PRIu64 " void slots and %" PRIu64 " broken ones: %" PRIu64 " and %" PRIu64, what, voids, broken,
+           s.count[ORDERSET_SLOT_VOID], s.count[ORDERSET_SLOT_BROKEN]);
+}
+
+static void void_slots(uint32_t layout) {
+    static struct plain held;
+    half_basket(layout);
+    struct contents before = contents_of_file();
+    struct orderset_file *set = open_set(INSPECT);
+    shows_one(set, 2, 1, "an inspection of half a basket");
+    orderset_file_close(set);
+    if (layout == 1) {
+        held = (struct plain){.slots = FEW_SLOTS, .layout = 1, .key = {one}};
+        for (uint64_t i = 1; i < KEYS; i++)
+            held.key[i].low = 1 + i;
+        held.value[0] = (struct value){.held = 1, .length = 1, .bytes = "a"};
+        check_counts(&held);
+    }
+    set = open_set(READ);
+    shows_one(set, 0, 3, "a reader of half a basket");
+    orderset_file_close(set);
+    holds(is_unchanged(&before), "a reader leaves void slots in the file");
+    set = open_set(WRITE);
+    shows_one(set, 0, 3, "a writer of half a basket");
+    holds(statistics_of(set).opened == 2, "a writer opens void slots");
+    orderset_file_close(set);
+    holds(!is_unchanged(&before), "a writer opens void slots in the file");
+    set = open_set(INSPECT);
+    shows_one(set, 0, 3, "an inspection after that");
+    orderset_file_close(set);
+    free(before.bytes);
+}
+
+/* One record, and a word of it that is changed; recovery names the slot unless it is by a mark. */
+static void damaged(uint32_t layout, size_t word, uint64_t flip, uint32_t wanted) {
+    struct orderset_record r = {0};
+    new_set(FEW_SLOTS, layout);
+    struct orderset_file *set = open_set(WRITE);
+    gives(orderset_file_insert(set, two, "abc", 3), 0, "insert");
+    gives(orderset_file_next(set, &r), 0, "next");
+    orderset_file_close(set);
+    struct contents c = contents_of_file();
+    const uint32_t slot = r.slot;
+    const uint64_t damage = word_at(&c, 16 * slot + word) ^ flip;
+    memcpy(c.bytes + 128 * slot + 8 * word, &damage, sizeof damage);
+    write_file(c.bytes, c.size);
+    no_set(WRITE, wanted, "an open of a damaged file");
+    set = open_set(INSPECT);
+    const struct orderset_statistics s = statistics_of(set);
+    holds(s.refusal == wanted && s.fault_slot == (wanted == 5 ? 0 : slot), "an inspection tells the refusal");
+    gives(orderset_file_slot(set, slot, &r), 0, "a slot of a damaged file");
+    holds(r.fault == wanted && r.key.low == 2, "an inspection tells the slot");
+    holds(r.slot_class == (wanted == 5 ? ORDERSET_SLOT_BROKEN : ORDERSET_SLOT_UNKNOWN), "a damaged slot is not live");
+    no_questions(set, one, wanted, "a question about a damaged file");
+    gives(orderset_file_slot(set, 0, &r), ORDERSET_FILE_NO_SLOT, "slot 0");
+    gives(orderset_file_slot(set, FEW_SLOTS + 1, &r), ORDERSET_FILE_NO_SLOT, "the slot after the last");
+    orderset_file_close(set);
+    holds(is_unchanged(&c), "a damaged file stays as it is");
+    free(c.bytes);
+}
+
+static void damages(uint32_t layout) {
+    const size_t kind = layout + 1; /* the kind word; in it the length is bits 8 to 15, here 3 */
+    damaged(layout, 0, 2, 5);
+    damaged(layout, kind, 1u << 24, 6);
+    damaged(layout, kind, 1u << 16, 6);
+    damaged(layout, kind, 1 ^ 4, 22);
+    damaged(layout, kind, (3 ^ (layout == 1 ? 81 : 73)) << 8, 23);
+    damaged(layout, kind + 1, 1u << 24, 24);
+    damaged(layout, 8 + 6, 1, 24);
+}
+
+/* ---- numbers in words; orders; a small stack */
+
+static void words(void) {
+    static const char none[] = "a number that is not defined";
+    struct orderset_order order;
+    const uint64_t good[3] = {2, 9, 4}, bad[3] = {2, 9, 9};
+    for (uint32_t i = 0; i <= 33; i++)
+        holds(!strcmp(orderset_file_text(i), none) == (i == 12 || i == 16), "each number of the papers has words");
+    for (uint32_t i = ORDERSET_FILE_SYSTEM; i <= ORDERSET_FILE_BAD_MODE; i++)
+        holds(strcmp(orderset_file_text(i), none) != 0, "each number of the handles has words");
+    for (uint32_t i = ORDERSET_FILE_ABSENT; i <= ORDERSET_FILE_END; i++)
+        holds(strcmp(orderset_file_text(i), none) != 0, "each answer of the handles has words");
+    holds(!strcmp(orderset_file_text(34), none) && !strcmp(orderset_file_text(UINT32_MAX), none), "no other has");
+    holds(orderset_file_order(good, 24, &order) && order.state == 2 && order.ordered == 9 && order.filled == 4,
+          "a value that is an order");
+    holds(!orderset_file_order(bad, 24, &order) && order.ordered == 0, "a value that is filled and no order");
+    holds(!orderset_file_order(good, 23, &order), "a value of 23 bytes is no order");
+}
+
+static void *on_small_stack(void *argument) {
+    (void)argument;
+    struct orderset_file *set = open_set(WRITE);
+    static struct orderset_record r;
+    const struct orderset_item item[2] = {{ORDERSET_INSERT, wide, "y", 1}, {ORDERSET_INSERT, two, "z", 1}};
+    gives(orderset_file_book_new(set, one, 100), 0, "a new order");
+    gives(orderset_file_basket(set, item, 2), 0, "a basket");
+    gives(orderset_file_next(set, &r), 0, "next");
+    holds(statistics_of(set).heads == 65521 && statistics_of(set).live == 3, "the heads are a prime near N");
+    orderset_file_close(set);
+    return NULL;
+}
+
+static void small_stack(void) {
+    pthread_attr_t attributes;
+    pthread_t thread;
+    new_set(65535, 2);
+    pthread_attr_init(&attributes);
+    expect(pthread_attr_setstacksize(&attributes, SMALL_STACK) == 0, "a small stack");
+    expect(pthread_create(&thread, &attributes, on_small_stack, NULL) == 0, "a thread");
+    pthread_join(thread, NULL);
+    pthread_attr_destroy(&attributes);
+}
+
+/* ---- the log */
+
+static struct {
+    uint32_t cells;
+    uint64_t count;
+    size_t size[MESSAGES + 1];
+    uint8_t bytes[MESSAGES + 1][ORDERSET_LOG_MESSAGE_MAX];
+} list;
+
+static void check_log(struct orderset_log_file *log) {
+    uint8_t bytes[ORDERSET_LOG_MESSAGE_MAX];
+    uint64_t first, last, oldest = list.count < list.cells ? 1 : list.count - list.cells + 2;
+    size_t size;
+    gives(orderset_log_file_range(log, &first, &last), 0, "the range of a log");
+    holds(first == oldest && last == list.count, "the numbers that can be read");
+    for (uint64_t s = first; s <= last; s++) {
+        gives(orderset_log_file_read(log, s, bytes, sizeof bytes, &size), 0, "a message");
+        holds(size == list.size[s] && memcmp(bytes, list.bytes[s], size) == 0, "a message is as it was answered");
+    }
+    gives(orderset_log_file_read(log, first - 1, bytes, sizeof bytes, &size), 31, "the message before the first");
+    gives(orderset_log_file_read(log, last + 1, bytes, sizeof bytes, &size), 31, "the message after the last");
+    holds(size == 0, "a refused read leaves a length of 0");
+    if (last > 0)
+        gives(orderset_log_file_read(log, last, bytes, list.size[last] - 1, &size), 13, "a short output");
+}
+
+static void append_one(struct orderset_log_file *log) {
+    uint64_t number = 7;
+    const uint64_t s = list.count + 1;
+    list.size[s] = below(8) ? 1 + below(ORDERSET_LOG_MESSAGE_MAX) : ORDERSET_LOG_MESSAGE_MAX;
+    fill(list.bytes[s], list.size[s]);
+    gives(orderset_log_file_append(log, list.bytes[s], list.size[s], below(4) ? &number : NULL), 0, "an append");
+    holds(number == 7 || number == s, "an append tells its number");
+    list.count++;
+    messages++;
+    gives(orderset_log_file_append(log, NULL, 0, &number), 29, "an empty message");
+    gives(orderset_log_file_append(log, list.bytes, 385, &number), 29, "a message of 385 bytes");
+    holds(number == 0, "a refused append has no number");
+}
+
+static void random_messages(void) {
+    struct orderset_log_file *log;
+    list.cells = 2 + (uint32_t)below(below(2) ? 4 : 40);
+    list.count = 0;
+    unlink(path);
+    gives(orderset_log_file_create(path, list.cells), 0, "create of a log");
+    gives(orderset_log_file_open(path, WRITE, &log), 0, "an open of a log");
+    check_log(log);
+    while (list.count < MESSAGES) {
+        append_one(log);
+        if (below(8))
+            continue;
+        check_log(log);
+        orderset_log_file_close(log);
+        struct contents before = contents_of_file();
+        gives(orderset_log_file_open(path, below(2) ? READ : INSPECT, &log), 0, "an open of a log");
+        check_log(log);
+        gives(orderset_log_file_append(log, "x", 1, NULL), ORDERSET_FILE_READ_ONLY, "an append through a reader");
+        orderset_log_file_close(log);
+        holds(is_unchanged(&before), "a reader leaves the log");
+        free(before.bytes);
+        gives(orderset_log_file_open(path, WRITE, &log), 0, "an open of a log");
+        reopened++;
+    }
+    check_log(log);
+    orderset_log_file_close(log);
+}
+
+static void no_log_in(uint32_t wanted, const char *what) {
+    struct contents before = contents_of_file();
+    no_log(WRITE, wanted, what);
+    no_log(READ, wanted, what);
+    holds(is_unchanged(&before), "a file that is no log stays as it is");
+    free(before.bytes);
+}
+
+static void wrong_logs(void) {
+    uint8_t bytes[2 * ORDERSET_LOG_CELL_BYTES] = {0};
+    write_file(bytes, sizeof bytes - 1);
+    no_log_in(30, "a log that was cut short");
+    write_file(bytes, ORDERSET_LOG_CELL_BYTES);
+    no_log_in(30, "a log of one cell");
+    bytes[ORDERSET_LOG_CELL_BYTES] = 2;
+    write_file(bytes, sizeof bytes);
+    no_log_in(ORDERSET_FILE_NOT_A_LOG, "a log with a mark of 2");
+    fill(bytes, sizeof bytes);
+    write_file(bytes, sizeof bytes);
+    no_log_in(ORDERSET_FILE_NOT_A_LOG, "a file of random bytes");
+    new_set(6, 1);
+    no_log_in(ORDERSET_FILE_NOT_A_LOG, "a set of six slots, as long as a log of two cells");
+    no_log(3, ORDERSET_FILE_BAD_MODE, "an open in mode 3");
+}
+
+static void failing_log(void) {
+    struct orderset_log_file *log;
+    struct orderset_log_statistics s;
+    uint64_t number;
+    size_t size;
+    unlink(path);
+    gives(orderset_log_file_create(path, 4), 0, "create of a log");
+    gives(orderset_log_file_open(path, WRITE, &log), 0, "an open of a log");
+    gives(orderset_log_file_append(log, "a", 1, &number), 0, "an append");
+    orderset_log_file_statistics(log, &s);
+    holds(s.cells == 4 && s.first == 1 && s.last == 1 && s.bytes == 4 * 448, "the statistics of a log");
+    if (s.flush == ORDERSET_FILE_MSYNC) {
+        sync_fails = 1;
+        gives(orderset_log_file_append(log, "b", 1, &number), ORDERSET_FILE_NOT_DURABLE, "an append, not synced");
+        sync_fails = 0;
+        holds(number == 0 && orderset_log_file_errno(log) == EIO, "an append that is not synced has no number");
+        gives(orderset_log_file_append(log, "c", 1, &number), ORDERSET_FILE_STOPPED, "an append after it");
+        gives(orderset_log_file_read(log, 1, NULL, 0, &size), ORDERSET_FILE_STOPPED, "a read after it");
+        gives(orderset_log_file_range(log, &number, &number), ORDERSET_FILE_STOPPED, "a range after it");
+    }
+    orderset_log_file_close(log);
+    gives(orderset_log_file_open(path, WRITE, &log), 0, "an open of a log");
+    gives(orderset_log_file_append(log, "d", 1, &number), 0, "an append after that");
+    holds(number == 2 || number == 3, "the append that was not synced is there or not");
+    orderset_log_file_close(log);
+}
+
+int main(int count, char **word) {
+    begin_chance("file", count > 2 ? word[2] : NULL);
+    expect(count > 1, "file FILE [SEED]");
+    path = word[1];
+    rmdir(path);
+    new_files();
+    wrong_files();
+    two_handles();
+    rights();
+    reading_only();
+    failing_syncs();
+    for (uint32_t layout = 1; layout <= 2; layout++) {
+        void_slots(layout);
+        damages(layout);
+        for (int i = 0; i < SETS; i++)
+            random_changes(layout);
+    }
+    words();
+    small_stack();
+    wrong_logs();
+    failing_log();
+    for (int i = 0; i < LOGS; i++)
+        random_messages();
+    printf("%" PRIu64 " cases, %" PRIu64 " changes and %" PRIu64 " messages answered, files opened again %" PRIu64
+           " times: all as they should be (%.0f s)\n",
+           cases, changes, messages, reopened, seconds());
+    return 0;
+}

@@ -1,0 +1,274 @@
+/* A storm of power cuts and kills over the handles of orderset_file.h. The source of the handles is compiled into this
+ * test with orderset_persist.h over a simulated cache (cache.h), and what it maps is that cache's memory, as if the
+ * file were on non-volatile memory: so every store, flush and fence of an open and of a call can be the last one.
+ * After each strike the file is opened again, which may be struck too; then every answered change must be there, the
+ * one that was struck wholly or not at all, and nothing else. The set in both layouts, and the log.
+ *
+ *     file_storm FILE [SEED [STRIKES]]     FILE has only the length of what is mapped
+ */
+#define _GNU_SOURCE
+#include <errno.h>
+#include <fcntl.h>
+#include <inttypes.h>
+#include <pthread.h>
+#include <signal.h>
+#include <stdarg.h>
+#include <stdio.h>
+#include <stdlib.h>
+#include <string.h>
+#include <sys/file.h>
+#include <sys/mman.h>
+#include <sys/stat.h>
+#include <time.h>
+#include <unistd.h>
+
+#include "cache.h"
+#include "chance.h"
+#include "file_model.h"
+
+enum { STRIKES = 60000, BLOCKS = 8, MOST_CELLS = 9 };
+
+/* ---- what the handles get from the system: memory of the cache, and what a strike leaves behind is given back */
+
+static int locked = -1;      /* the file of the handle that is open */
+static void *block[BLOCKS];  /* what it allocated */
+
+static int storm_flock(int file, int how) {
+    (void)how;
+    locked = file;
+    return 0;
+}
+
+static void *storm_mmap(void *address, size_t size, int access, int flags, int file, off_t offset) {
+    if ((flags & MAP_SYNC) == MAP_SYNC)
+        return visible;
+    return mmap(address, size, access, flags, file, offset);
+}
+
+static int storm_munmap(void *bytes, size_t size) {
+    return bytes == visible ? 0 : munmap(bytes, size);
+}
+
+static void *storm_calloc(size_t count, size_t size) {
+    int i = 0;
+    while (block[i])
+        i++;
+    return block[i] = calloc(count, size);
+}
+
+static void storm_free(void *bytes) {
+    for (int i = 0; i < BLOCKS; i++)
+        if (block[i] == bytes)
+            block[i] = NULL;
+    free(bytes);
+}
+
+static void give_back(void) {
+    for (int i = 0; i < BLOCKS; i++) {
+        free(block[i]);
+        block[i] = NULL;
+    }
+    close(locked);
+}
+
+/* Recovery on the stack of this test: it has no store, so that nothing strikes in it. */
+static int storm_thread(pthread_t *thread, const pthread_attr_t *attributes, void *(*work)(void *), void *argument) {
+    (void)thread, (void)attributes;
+    work(argument);
+    return 0;
+}
+
+#define pthread_create storm_thread
+#define pthread_join(thread, result) ((void)(thread), 0)
+#define flock storm_flock
+#define mmap storm_mmap
+#define munmap storm_munmap
+#define calloc storm_calloc
+#define free storm_free
+#define fsync(file) ((void)(file), 0) /* nothing is in the file */
+#include "../src/orderset_file.c"
+#undef mmap
+#undef free
+
+/* ---- the plain map or list of what was answered, and what may have been struck */
+
+static const char *path;
+static uint64_t strikes, cuts, kills, in_open, in_call, baskets, answered, opened, messages_answered;
+static int under_way, log_storm;
+
+static struct plain now, after;
+
+static struct {
+    size_t cells, size;
+    uint64_t count;
+    uint8_t last[MOST_CELLS][ORDERSET_LOG_MESSAGE_MAX]; /* message s at s % MOST_CELLS */
+    size_t length[MOST_CELLS];
+} list;
+static uint8_t message[ORDERSET_LOG_MESSAGE_MAX];
+
+static void __attribute__((noreturn, format(printf, 1, 2))) lost(const char *what, ...) {
+    va_list words;
+    printf("\nLOST ");
+    va_start(words, what);
+    vprintf(what, words);
+    va_end(words);
+    printf("\nseed %" PRIu64 ", strike %" PRIu64 ", call under way: %d\n", seed, strikes, under_way);
+    exit(1);
+}
+
+/* ---- the set */
+
+static void run_set(void) {
+    struct orderset_file *set;
+    uint32_t number = orderset_file_open(path, ORDERSET_FILE_WRITE, &set);
+    if (number)
+        lost("an open gives %" PRIu32 ": %s", number, orderset_file_text(number));
+    calling = 1;
+    opened += set->voids[0];
+    if (set->area.flush < ORDERSET_FILE_CLFLUSH)
+        lost("flushes: the file is taken as one on a disk");
+    if (under_way && shows(set, &after))
+        now = after;
+    else if (!shows(set, &now))
+        lost("orders: found is neither what was answered nor what was under way");
+    under_way = 0;
+    for (;;) {
+        struct call c;
+        any_call(&now, &c);
+        const uint32_t wanted = due(&now, &c, &after);
+        under_way = wanted == 0;
+        number = carry_out(set, &now, &c);
+        if (!may_give(wanted, number, &c))
+            lost("a call of kind %d gives %" PRIu32 ", due is %" PRIu32, c.kind, number, wanted);
+        if (number == 0)
+            now = after; /* answered: what strikes from here on must not take it */
+        answered += number == 0;
+        baskets += number == 0 && c.kind == BASKET && c.count > 1;
+        under_way = 0;
+        point();
+    }
+}
+
+static void make_set(void) {
+    uint64_t answer[ORDERSET_FORMAT_ANSWER];
+    make_plain(&now, (uint32_t)(2 + below(below(2) ? 12 : 40)), 1 + (uint32_t)below(2));
+    length = ORDERSET_IMAGE_BYTES(now.slots);
+    if (orderset_format(visible, length, now.layout, answer))
+        lost("format");
+}
+
+/* ---- the log */
+
+static void check_log(struct orderset_log_file *log) {
+    uint8_t found[ORDERSET_LOG_MESSAGE_MAX];
+    uint64_t first, last, oldest = list.count >= list.cells ? list.count - list.cells + 2 : 1;
+    size_t size;
+    if (orderset_log_file_range(log, &first, &last) || first != oldest || last != list.count)
+        lost("message: the numbers are %" PRIu64 " to %" PRIu64 ", not %" PRIu64 " to %" PRIu64, first, last, oldest,
+             list.count);
+    for (uint64_t s = first; s <= last; s++)
+        if (orderset_log_file_read(log, s, found, sizeof found, &size) || size != list.length[s % MOST_CELLS]
+            || memcmp(found, list.last[s % MOST_CELLS], size))
+            lost("message %" PRIu64, s);
+    if (orderset_log_file_read(log, last + 1, found, sizeof found, &size) != ORDERSET_LOG_NOT_SHOWN)
+        lost("message %" PRIu64 " was never appended", last + 1);
+}
+
+static void add_message(void) {
+    list.count++;
+    list.length[list.count % MOST_CELLS] = list.size;
+    memcpy(list.last[list.count % MOST_CELLS], message, list.size);
+}
+
+static void run_log(void) {
+    struct orderset_log_file *log;
+    uint64_t given;
+    uint32_t number = orderset_log_file_open(path, ORDERSET_FILE_WRITE, &log);
+    if (number)
+        lost("an open gives %" PRIu32 ": %s", number, orderset_file_text(number));
+    calling = 1;
+    opened += log->answer[ORDERSET_LOG_COUNT];
+    if (under_way && log->last == list.count + 1)
+        add_message();
+    under_way = 0;
+    check_log(log);
+    for (;;) {
+        list.size = 1 + below(below(2) ? ORDERSET_LOG_MESSAGE_MAX : 64);
+        fill(message, list.size);
+        under_way = 1;
+        number = orderset_log_file_append(log, message, list.size, &given);
+        if (number || given != list.count + 1)
+            lost("an append gives %" PRIu32 ", message %" PRIu64, number, given);
+        add_message();
+        under_way = 0;
+        messages_answered++;
+        point();
+    }
+}
+
+static void make_log(void) {
+    list.cells = 2 + below(MOST_CELLS - 2);
+    list.count = 0;
+    length = ORDERSET_LOG_BYTES(list.cells);
+    memset(visible, 0, length);
+}
+
+/* ---- the storm */
+
+static void make_memory(void) {
+    log_storm = below(3) == 0;
+    if (log_storm)
+        make_log();
+    else
+        make_set();
+    int file = open(path, O_RDWR | O_CREAT | O_CLOEXEC, 0600);
+    if (file < 0 || ftruncate(file, (off_t)length) || close(file))
+        lost("%s: %s", path, strerror(errno));
+    all_durable();
+    under_way = 0;
+}
+
+static void run_until_struck(void) {
+    calling = 0;
+    if (setjmp(struck))
+        return;
+    if (log_storm)
+        run_log();
+    else
+        run_set();
+}
+
+static void strike(void) {
+    const int kill_it = (int)below(2);
+    if (kill_it)
+        process_kill();
+    else
+        power_cut();
+    give_back();
+    kills += (uint64_t)kill_it;
+    cuts += (uint64_t)!kill_it;
+    in_open += (uint64_t)!calling;
+    in_call += (uint64_t)(calling && under_way);
+    strikes++;
+}
+
+int main(int count, char **word) {
+    uint64_t wanted = count > 3 ? strtoull(word[3], NULL, 10) : STRIKES;
+    begin_chance("file_storm", count > 2 ? word[2] : NULL);
+    if (count < 2)
+        lost("file_storm FILE [SEED [STRIKES]]");
+    path = word[1];
+    while (strikes < wanted) {
+        make_memory();
+        for (uint64_t k = 20 + below(500); k > 0 && strikes < wanted; k--) {
+            fuse = (unsigned)(below(3) ? length / 64 + 4 + below(below(4) ? 70 : 500) : below(length / 64 + 4));
+            run_until_struck();
+            strike();
+        }
+    }
+    printf("%" PRIu64 " cuts and %" PRIu64 " kills, %" PRIu64 " of them in an open and %" PRIu64 " in a call, %" PRIu64
+           " lines opened, %" PRIu64 " changes, %" PRIu64 " of them baskets, and %" PRIu64
+           " messages answered: nothing lost (%.0f s)\n",
+           cuts, kills, in_open, in_call, opened, answered, baskets, messages_answered, seconds());
+    return in_open == 0 || in_call == 0 || opened == 0 || baskets == 0 || messages_answered == 0;
+}

@@ -1,0 +1,187 @@
+#!/usr/bin/env python3
+"""tests/install.py installs into a temporary folder and compares what is there with what the headers, the manual pages
+and README say: the names that the library gives, README's first programs, compiled and run as printed, also statically,
+and that uninstall leaves nothing. It ends with status 1 at the first thing that is not so."""
+import glob
+import os
+import re
+import shutil
+import subprocess
+import sys
+import tempfile
+
+ARCHIVES = [f"target/staticlib/lib{name}.a" for name in ("orderset_c", "orderset2_c", "log_c")]
+PREFIX = "/opt/orderset"
+count = 0
+
+
+def so(right, what, *seen):
+    global count
+    count += 1
+    if not right:
+        print(f"NOT SO: {what}", *(str(s)[:3000] for s in seen), sep="\n  ")
+        sys.exit(1)
+
+
+def run(*command, **options):
+    done = subprocess.run(command, text=True, stdout=subprocess.PIPE, stderr=subprocess.STDOUT, **options)
+    so(done.returncode == 0, f"{command} ends with status 0", done.returncode, done.stdout)
+    return done.stdout
+
+
+def make(*words):
+    """The archives are there: they are not made again."""
+    return run("make", "-s", "--no-print-directory", *(w for a in ARCHIVES for w in ("-o", a)), *words)
+
+
+def files_of(folder):
+    return {os.path.relpath(os.path.join(at, name), folder) for at, _, names in os.walk(folder) for name in names}
+
+
+# ---- what is installed
+
+def declared():
+    """The functions that the headers declare; those of orderset_persist.h are in the header itself."""
+    names = set()
+    for path in set(glob.glob("include/*.h")) - {"include/orderset_persist.h"}:
+        text = re.sub(r"/\*.*?\*/", "", open(path).read(), flags=re.S)
+        names |= set(re.findall(r"^[\w *]+?\b(\w+)\([^;{]*?\);", text, re.M | re.S))
+    return names
+
+
+def names_in(path, *options):
+    lines = run("nm", "--defined-only", "--extern-only", *options, path).splitlines()
+    return sorted(line.split()[2] for line in lines if len(line.split()) == 3)
+
+
+def library(place):
+    due = sorted(declared())
+    so(len(due) > 50, "the headers declare functions", due)
+    so(names_in(f"{place}/lib/liborderset.so", "-D") == due, "the shared library gives the names of the headers",
+       set(names_in(f"{place}/lib/liborderset.so", "-D")) ^ set(due))
+    so(names_in(f"{place}/lib/liborderset.a") == due, "the archive gives the names of the headers, each once",
+       set(names_in(f"{place}/lib/liborderset.a")) ^ set(due))
+    told = run("readelf", "-dW", f"{place}/lib/liborderset.so")
+    so("Library soname: [liborderset.so.1]" in told and "TEXTREL" not in told, "the soname is liborderset.so.1", told)
+    so("GNU_STACK" in (p := run("readelf", "-lW", f"{place}/lib/liborderset.so")) and "RWE" not in p,
+       "no stack is to be executable", p)
+
+
+def installed(folder):
+    place = folder + PREFIX
+    make("install", f"DESTDIR={folder}", f"PREFIX={PREFIX}")
+    due = {f"include/{os.path.basename(p)}" for p in glob.glob("include/*")}
+    due |= {f"share/man/man{p[-1]}/{os.path.basename(p)}" for p in glob.glob("man/*.[13]")}
+    due |= {f"bin/{os.path.basename(p)[:-2]}" for p in glob.glob("tools/orderset-*.c")}
+    due |= {f"lib/{n}" for n in ("liborderset.a", "liborderset.so", "liborderset.so.1", "pkgconfig/orderset.pc")}
+    due |= {"share/doc/orderset/OPERATIONS.md"}
+    found = files_of(place)
+    versions = {f for f in found if re.fullmatch(r"lib/liborderset\.so\.\d+\.\d+\.\d+", f)}
+    so(found - versions == due and len(versions) == 1, "what is installed is what is there", found ^ due)
+    version = versions.pop().partition(".so.")[2]
+    said = {path: open(path).read() for path in glob.glob("man/*.[13]")}
+    so(all(f'"orderset {version}"' in text for text in said.values()), f"each manual page is of version {version}")
+    so(f'\nversion = "{version}"\n' in open("bindings/rust/Cargo.toml").read(), f"the crate is of version {version}")
+    told = open(f"{place}/lib/pkgconfig/orderset.pc").read()
+    so(f"prefix={PREFIX}\n" in told and folder not in told, "the .pc file says the prefix", told)
+    library(place)
+
+
+def linked(folder, source, output):
+    """first.c by pkg-config, against the shared library and against the archive."""
+    place, work = folder + PREFIX, f"{folder}/work"
+    os.mkdir(work)
+    open(f"{work}/first.c", "w").write(source)
+    env = {**os.environ, "PKG_CONFIG_PATH": f"{place}/lib/pkgconfig", "PKG_CONFIG_SYSROOT_DIR": folder}
+    for how, options, static in ("shared", "", ""), ("static", "--static", "-static"):
+        run("sh", "-ec", f"gcc -std=c11 -Wall -Wextra -Werror first.c {static} $(pkg-config --cflags --libs "
+            f"{options} orderset) -o {how}", cwd=work, env=env)
+        needed = "NEEDED" in (dynamic := run("readelf", "-d", f"{work}/{how}")) and "liborderset.so.1" in dynamic
+        so(needed == (how == "shared"), f"a {how} program needs the library or not", dynamic)
+        seen = "".join(run(f"./{how}", cwd=work, env={"LD_LIBRARY_PATH": f"{place}/lib"}) for _ in range(2))
+        so(seen == output, f"first.c, {how}, prints what README says", seen)
+        os.remove(f"{work}/orders.img")
+
+
+# ---- README
+
+def blocks():
+    """The fenced blocks of README's first section: language and text."""
+    section = re.search(r"^## Ten minutes\n(.*?)^## ", open("README.md").read(), re.M | re.S)[1]
+    return re.findall(r"^```(\w+)\n(.*?)^```$", section, re.M | re.S)
+
+
+def as_printed(folder):
+    """The commands in order, from this folder on, with a home of its own; a program is written where it stands among
+    them. What they print is README's."""
+    names = {"c": "first.c", "rust": "src/main.rs"}
+    script = "set -e\nmake() { command make -s --no-print-directory " + " ".join(f"-o {a}" for a in ARCHIVES) + \
+        " \"$@\"; }\n"
+    expected = []
+    for language, text in blocks():
+        if language == "sh":
+            script += f"echo '== {len(expected)}'\n" + text
+            expected.append("")
+        elif language == "text":
+            expected[-1] = text
+        else:
+            file = f"$HOME/first/{names[language]}"
+            script += f"mkdir -p $(dirname {file})\ncat >{file} <<'END OF FILE'\n{text}END OF FILE\n"
+    home = f"{folder}/home"
+    os.makedirs(home)
+    env = {**os.environ, "HOME": home, "CARGO_NET_OFFLINE": "true",
+           "CARGO_HOME": os.environ.get("CARGO_HOME", os.path.expanduser("~/.cargo")),
+           "RUSTUP_HOME": os.environ.get("RUSTUP_HOME", os.path.expanduser("~/.rustup"))}
+    seen = re.split(r"^== \d+\n", run("bash", "-c", script, env=env), flags=re.M)[1:]
+    so(len(expected) > 2 and expected.count("") < len(expected), "README has commands with what they print", expected)
+    for i, text in enumerate(expected):
+        so(i < len(seen) and (seen[i] == text or text == ""), f"the commands print what README says:\n{text}", seen)
+    so(os.path.exists(f"{home}/first/orders.svg"), "README's picture is made")
+
+
+# ---- documents beside the headers
+
+def manuals():
+    for page in sorted(glob.glob("man/*.[13]")):
+        if shutil.which("groff"):
+            done = subprocess.run(["groff", "-man", "-Tutf8", "-ww", page], capture_output=True, text=True)
+            so(done.stderr == "" and done.stdout, f"groff reads {page} without a warning", done.stderr)
+    page = open("man/orderset_file.3").read()
+    handle = {n for n in declared() if re.match("orderset_(log_)?file_", n)}
+    so(set(re.findall(r"\b(orderset_(?:log_)?file_\w+)\(", page)) == handle, "orderset_file.3 has every call",
+       set(re.findall(r"\b(orderset_(?:log_)?file_\w+)\(", page)) ^ handle)
+    header = open("include/orderset_file.h").read()
+    numbers = set(re.findall(r"\b(ORDERSET_FILE_\w+) = (1\d{3})", header))
+    so({(n, v) for v, n in re.findall(r"^\.B (1\d{3}) (\w+)$", page, re.M)} == numbers,
+       "orderset_file.3 has every number")
+    page = open("man/orderset.3").read()
+    lower = {n for n in declared() - handle if not n.startswith("orderset2_")}
+    so(lower <= set(re.findall(r"\b(?:orderset|log)_\w+", page)), "orderset.3 has every call",
+       lower - set(re.findall(r"\b(?:orderset|log)_\w+", page)))
+    due = {int(n) for _, n in numbers}
+    for path in "include/orderset.h", "include/orderset_log.h":
+        for body in re.findall(r"enum orderset_\w*refusal \{(.*?)\};", open(path).read(), re.S):
+            due |= {int(n) for n in re.findall(r"^    \w+ = (\d+)", body, re.M)} - {0}
+    rows = re.findall(r"^\| ([\d, ]+) \| .* \| .* \|$", open("docs/OPERATIONS.md").read(), re.M)
+    told = [int(n) for row in rows for n in row.split(",")]
+    so(sorted(told) == sorted(due), "OPERATIONS says of each number, once, what to do", set(told) ^ due)
+
+
+def main():
+    os.chdir(os.path.join(os.path.dirname(os.path.abspath(__file__)), ".."))
+    manuals()
+    with tempfile.TemporaryDirectory() as folder:
+        installed(folder)
+        first, rust = (dict(reversed(blocks()))[language] for language in ("c", "rust"))
+        example = open("bindings/rust/examples/first.rs").read()
+        so(rust == example.partition("\n")[2], "README's program in Rust is the crate's example")
+        printed = next(text for language, text in blocks() if language == "text")
+        linked(folder, first, printed)
+        as_printed(folder)
+        make("uninstall", f"DESTDIR={folder}", f"PREFIX={PREFIX}")
+        so(files_of(folder + PREFIX) == set(), "uninstall leaves nothing", files_of(folder + PREFIX))
+    print(f"install: {count} comparisons")
+
+
+if __name__ == "__main__":
+    main()

@@ -1,0 +1,187 @@
+#define _GNU_SOURCE
+#include "desk.h"
+
+#include <errno.h>
+#include <inttypes.h>
+#include <signal.h>
+#include <stdarg.h>
+#include <stdlib.h>
+#include <string.h>
+#include <sys/time.h>
+#include <unistd.h>
+
+#ifndef VERSION
+#define VERSION "of no release"
+#endif
+
+const char *const desk_class[DESK_CLASSES] = {"live", "hidden", "removed", "void", "broken", "empty", "unknown"};
+
+/* ---- what is said */
+
+_Noreturn void desk_fail(const char *tool, const char *words, ...) {
+    va_list list;
+    va_start(list, words);
+    fprintf(stderr, "%s: ", tool);
+    vfprintf(stderr, words, list);
+    fputc('\n', stderr);
+    va_end(list);
+    exit(DESK_FAILED);
+}
+
+void desk_printed(const struct desk *d, FILE *out, const char *name) {
+    if (fflush(out) || ferror(out))
+        desk_fail(d->tool, "%s: %s", name, strerror(errno));
+}
+
+void desk_options(const char *tool, const char *help, int count, char **word) {
+    const struct desk d = {.tool = tool};
+    for (int i = 1; i < count && strcmp(word[i], "--"); i++) {
+        if (!strcmp(word[i], "--help"))
+            fputs(help, stdout);
+        else if (!strcmp(word[i], "--version"))
+            printf("%s %s\n", tool, VERSION);
+        else
+            continue;
+        desk_printed(&d, stdout, "standard output");
+        exit(DESK_GOOD);
+    }
+}
+
+/* ---- how far it is */
+
+static struct {
+    const char *tool, *what;
+    uint32_t all;
+} step;
+volatile uint32_t desk_done;
+
+static char *put_text(char *to, const char *end, const char *text) {
+    while (*text && to < end)
+        *to++ = *text++;
+    return to;
+}
+
+static char *put_number(char *to, const char *end, uint32_t number) {
+    char digits[12];
+    size_t at = sizeof digits;
+    digits[--at] = 0;
+    do
+        digits[--at] = (char)('0' + number % 10);
+    while (number /= 10);
+    return put_text(to, end, digits + at);
+}
+
+/* In a handler of a signal: only what may be called there. */
+static void tell(int number) {
+    char line[400], *to = line;
+    const char *end = line + sizeof line - 1;
+    const int error = errno;
+    (void)number;
+    to = put_text(put_text(put_text(to, end, step.tool), end, ": "), end, step.what);
+    if (step.all) {
+        to = put_number(put_text(to, end, ", "), end, desk_done);
+        to = put_number(put_text(to, end, " of "), end, step.all);
+    }
+    *to++ = '\n';
+    if (write(STDERR_FILENO, line, (size_t)(to - line)) < 0)
+        errno = error;
+    errno = error;
+}
+
+static void each_second(time_t seconds) {
+    const struct itimerval timer = {{seconds, 0}, {seconds, 0}};
+    setitimer(ITIMER_REAL, &timer, NULL);
+}
+
+void desk_step(const char *tool, const char *what, uint32_t all) {
+    struct sigaction action = {.sa_handler = tell, .sa_flags = SA_RESTART};
+    desk_rest();
+    step.tool = tool;
+    step.what = what;
+    step.all = all;
+    desk_done = 0;
+    sigaction(SIGALRM, &action, NULL);
+    each_second(1);
+}
+
+void desk_rest(void) {
+    each_second(0);
+}
+
+/* ---- the file */
+
+void desk_open(struct desk *d, const char *tool, const char *path) {
+    *d = (struct desk){.tool = tool, .path = path};
+    desk_step(tool, "reading and recovering the file", 0);
+    uint32_t number = orderset_file_open(path, ORDERSET_FILE_INSPECT, &d->set);
+    const int error = errno;
+    if (number == ORDERSET_FILE_SYSTEM)
+        desk_fail(tool, "%s: %s", path, strerror(error));
+    if (number)
+        desk_fail(tool, "%s: no %" PRIu32 ": %s", path, number, orderset_file_text(number));
+    desk_step(tool, "counting the slots", 0);
+    orderset_file_statistics(d->set, &d->is);
+    desk_rest();
+    d->unknown = d->is.slots;
+    for (int i = 0; i < ORDERSET_SLOT_UNKNOWN; i++)
+        d->unknown -= d->is.count[i];
+}
+
+void desk_slot(struct desk *d, uint32_t slot, struct orderset_record *record) {
+    uint32_t number = orderset_file_slot(d->set, slot, record);
+    if (number)
+        desk_fail(d->tool, "%s: slot %" PRIu32 ": no %" PRIu32 ": %s", d->path, slot, number,
+                  orderset_file_text(number));
+    desk_done = slot;
+}
+
+void desk_print_log(FILE *out, const struct desk *d) {
+    struct orderset_log_statistics is;
+    struct orderset_log_file *log;
+    if (orderset_log_file_open(d->path, ORDERSET_FILE_INSPECT, &log))
+        return;
+    orderset_log_file_statistics(log, &is);
+    orderset_log_file_close(log);
+    fprintf(out, "%s: it can be read as a message log of %" PRIu32 " cells", d->path, is.cells);
+    if (is.last)
+        fprintf(out, ", with messages %" PRIu64 " to %" PRIu64, is.first, is.last);
+    fputs(is.last ? "; this tool is for sets\n" : ", which is empty; this tool is for sets\n", out);
+}
+
+/* ---- keys, values and slots in words */
+
+void desk_print_key(FILE *out, uint32_t layout, struct orderset_key key) {
+    if (layout == ORDERSET2_LAYOUT)
+        fprintf(out, "0x%016" PRIx64 "%016" PRIx64, key.high, key.low);
+    else
+        fprintf(out, "%" PRIu64, key.low);
+}
+
+void desk_print_value(FILE *out, const struct orderset_record *record) {
+    struct orderset_order order;
+    if (orderset_file_order(record->value, record->length, &order)) {
+        fprintf(out, "%s, ordered %" PRIu64 ", filled %" PRIu64,
+                order.state == ORDERSET_SENT ? "sent" : "acknowledged", order.ordered, order.filled);
+        return;
+    }
+    fprintf(out, "%" PRIu64 " byte%s", record->length, record->length == 1 ? "" : "s");
+    for (uint64_t i = 0; i < record->length; i++)
+        fprintf(out, "%s%02x", i ? "" : " ", (unsigned)record->value[i]);
+}
+
+void desk_print_slot(FILE *out, uint32_t layout, const struct orderset_record *record) {
+    fprintf(out, "slot %" PRIu32 ": %s", record->slot, desk_class[record->slot_class]);
+    if (record->slot_class != ORDERSET_SLOT_EMPTY) {
+        fputs(record->slot_class == ORDERSET_SLOT_BROKEN ? "; in its words: key " : ", key ", out);
+        desk_print_key(out, layout, record->key);
+        fprintf(out, ", version %" PRIu64, record->version);
+        if (record->records)
+            fprintf(out, ", one of %" PRIu32 " of a basket", record->records);
+        if (record->slot_class != ORDERSET_SLOT_REMOVE) {
+            fputs(": ", out);
+            desk_print_value(out, record);
+        }
+    }
+    if (record->fault)
+        fprintf(out, "; no %" PRIu32 ": %s", record->fault, orderset_file_text(record->fault));
+}

@@ -1,0 +1,10 @@
+/* A picture of the slots of a set, in SVG. */
+#ifndef PICTURE_H
+#define PICTURE_H
+
+#include "desk.h"
+
+/* A square for each slot by what it holds, with a legend and the numbers of the file. */
+void draw_picture(struct desk *d, FILE *out);
+
+#endif
