@@ -1,7 +1,8 @@
 # The C side: the archive's tests, the example and the measurements. The proofs are checked by .ci/run.
 #   make archive   the libraries, proved and built: target/staticlib/liborderset_c.a, liborderset2_c.a and liblog_c.a (rt)
-#   make test      the tests of docs/TESTS.md: the archive, the headers and the gateway       (gcc g++ python3)
-#   make planted   that each test fails where a fault is planted                                      (gcc g++)
+#   make test      the tests of docs/TESTS.md: the archives, the headers, the gateway, the handle, the bindings and the tools
+#                                                                        (gcc g++ python3 pkg-config cargo groff)
+#   make planted   that each test fails where a fault is planted                     (gcc g++ python3 pkg-config cargo)
 #   make gateway   the example: a new file, orders, a restart, and the orders again                   (gcc)
 #   make recorder  the example of the log: a new file, messages, a restart, and the last messages     (gcc)
 #   make lib       one library of the archives and the handle: target/lib/liborderset.a and liborderset.so.1   (gcc)
