@@ -185,13 +185,14 @@ $(LIB):
 $(LIB)/orderset_file.o: src/orderset_file.c $(wildcard include/*.h) | $(LIB)
 	$(C) -fPIC -c $< -o $@
 
-# the archives have no global name but those of the headers; run-install looks
+# the archives have no global name but those of the headers, and within the shared library no program's own function takes
+# the place of one of these; run-install looks
 $(LIB)/liborderset.a: $(LIB)/orderset_file.o $(ARCHIVES)
 	rm -f $@
 	printf '%s\n' 'create $@' $(ARCHIVES:%='addlib %') 'addmod $<' save end | ar -M
 
 $(LIB)/liborderset.so.1: $(LIB)/liborderset.a
-	$(CC) -shared $(CFLAGS) $(LDFLAGS) -Wl,-soname,$(@F) -Wl,-z,defs -Wl,-z,noexecstack -Wl,--whole-archive $< \
+	$(CC) -shared $(CFLAGS) $(LDFLAGS) -Wl,-soname,$(@F) -Wl,-z,defs -Wl,-z,noexecstack -Wl,-Bsymbolic -Wl,--whole-archive $< \
 		-Wl,--no-whole-archive -pthread -o $@
 
 $(OUT)/orderset-show: tools/orderset-show.c tools/picture.c
@@ -231,7 +232,6 @@ bench: $(ARCHIVE) $(LOG_ARCHIVE)
 	$(MAKE) -f bench/Makefile run
 
 # the headers for C++ and for Rust, over the library of `make lib`; the tests are tests/file.cc and bindings/rust/tests
-LIB := target/lib
 CXX_TESTS := cxx17 cxx20 cxx17_plain
 $(OUT)/cxx17: STANDARD := -std=c++17
 $(OUT)/cxx20: STANDARD := -std=c++20
@@ -246,7 +246,7 @@ $(CXX_TESTS:%=$(OUT)/%): tests/file.cc $(OUT)/chance.o $(wildcard include/*) $(L
 test: run-cxx run-rust
 run-cxx: $(CXX_TESTS:%=run-%)
 $(CXX_TESTS:%=run-%): run-%: $(OUT)/%
-	@$(OUT)/$* $* $(OUT)/cxx.img $(SEED)
+	@$(OUT)/$* $* $(OUT)/$*.img $(SEED)
 run-rust: export CARGO_TARGET_DIR ?= $(CURDIR)/target/rust
 run-rust: export ORDERSET_LIB := $(CURDIR)/$(LIB)
 run-rust: export SEED := $(SEED)

@@ -63,6 +63,9 @@ def library(place):
        set(names_in(f"{place}/lib/liborderset.a")) ^ set(due))
     told = run("readelf", "-dW", f"{place}/lib/liborderset.so")
     so("Library soname: [liborderset.so.1]" in told and "TEXTREL" not in told, "the soname is liborderset.so.1", told)
+    moved = run("readelf", "-rW", f"{place}/lib/liborderset.so")
+    so(not [name for name in due if re.search(rf"\s{name}(@|\s|$)", moved)],
+       "within the shared library no program's own function takes the place of one of its own", moved)
     so("GNU_STACK" in (p := run("readelf", "-lW", f"{place}/lib/liborderset.so")) and "RWE" not in p,
        "no stack is to be executable", p)
 

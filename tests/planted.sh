@@ -634,6 +634,8 @@ fault header 'in layout 2 hidden puts are to be counted as live' tests/header.cc
 fault storm2 'a key is inserted by its low word alone' tests/storm.c \
     's/return SET\(insert\)\((.*)KEY\(key\)/return SET(insert)(\1KEY((m_key)low_word(key))/' 'LOST'
 
+fault install 'a program can put its own function in the place of one of the library' Makefile 's/ -Wl,-Bsymbolic//' \
+    "within the shared library"
 fault kills2 'the high word of a key is left out' $gateway 's/key->high = key->high << 4 \| key->low >> 60;//' \
     "NOT SO: (key|the answer is|an order)"
 for test in kills kills2; do
