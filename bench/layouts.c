@@ -1,5 +1,6 @@
-/* The time of recovery in layout 1 and in layout 2, and of gets. N slots, N - 1 orders of 24 bytes in random slots, random keys: of layout 2 both words
- * are random, or only the high one and the low one is one of 1,000. The two layouts are timed in turn. Prints, for each N, the median and the best.
+/* The time of the calls in layout 1 and in layout 2: recovery and get with N - 1 orders of 24 bytes, and with half as many replace, and a remove and an
+ * insert in turn, with orderset_play. Orders in random slots, random keys: of layout 2 both words are random, or only the high one and the low one is one
+ * of 1,000. The two layouts are timed in turn. Prints, for each N, the median and the best.
  *     layouts [REPETITIONS] */
 #include <stdio.h>
 #include <stdlib.h>
@@ -9,7 +10,10 @@
 #include "orderset.h"
 #include "orderset2.h"
 
-enum { MAX_N = ORDERSET_SLOTS_MAX, MAX_REPETITIONS = 10000, GETS = 512, WAYS = 3 };
+enum { MAX_N = ORDERSET_SLOTS_MAX, MAX_REPETITIONS = 10000, CALLS = 512, WAYS = 3 };
+enum operation { RECOVERY, GET, REPLACE, IN_TURN, OPERATIONS };
+
+static const char *const names[OPERATIONS] = {"recovery", "get", "replace", "remove and insert"};
 
 /* layout 1; layout 2 with random keys; layout 2 with few low words */
 static const struct way {
@@ -21,11 +25,11 @@ struct set {
     uint8_t image[ORDERSET_IMAGE_BYTES(MAX_N)];
     uint32_t heads[ORDERSET_HEADS_MAX], next[MAX_N + 1], state[ORDERSET_STATE];
     uint64_t version[1], low[MAX_N], high[MAX_N];
-    double recovery[MAX_REPETITIONS], get[MAX_REPETITIONS];
+    double took[OPERATIONS][MAX_REPETITIONS];
 };
 
 static struct set sets[WAYS];
-static uint32_t n, b;
+static uint32_t n, b, live;
 static uint8_t bytes[24], out[ORDERSET_VALUE_MAX];
 
 static uint64_t seed = 1;
@@ -64,17 +68,28 @@ static void write_order(struct set *s, const struct way *way, uint32_t i, int is
     must(code == 0 && orderset_play(s->image, length, at, value, 8, 8) == 0, "write");
 }
 
+static void remove_order(struct set *s, const struct way *way, uint32_t i) {
+    uint32_t at[ORDERSET_STORES];
+    uint64_t value[ORDERSET_STORES], answer[ORDERSET_CHANGE_ANSWER];
+    const size_t length = ORDERSET_IMAGE_BYTES(n);
+    uint64_t code = way->layout == ORDERSET_LAYOUT ? orderset_remove(s->image, length, s->heads, b, s->next, n + 1, s->state, s->version, s->low[i], at, value,
+                                                                     answer)
+                                                   : orderset2_remove(s->image, length, s->heads, b, s->next, n + 1, s->state, s->version, s->low[i],
+                                                                      s->high[i], at, value, answer);
+    must(code == 0 && answer[0] == ORDERSET_GIVEN && orderset_play(s->image, length, at, value, 8, 8) == 0, "remove");
+}
+
 static void fill(struct set *s, const struct way *way) {
     uint64_t answer[ORDERSET_FORMAT_ANSWER];
     must(orderset_format(s->image, ORDERSET_IMAGE_BYTES(n), way->layout, answer) == 0, "format");
     recover(s, way);
-    for (uint32_t i = 0; i < n - 1; i++) {
+    for (uint32_t i = 0; i < live; i++) {
         s->low[i] = way->lows ? chance() % way->lows : chance();
         s->high[i] = chance();
         write_order(s, way, i, 1);
     }
     for (uint32_t i = 0; i < 4 * n; i++)
-        write_order(s, way, (uint32_t)(chance() % (n - 1)), 0);
+        write_order(s, way, (uint32_t)(chance() % live), 0);
 }
 
 static void get(struct set *s, const struct way *way, uint32_t i) {
@@ -97,27 +112,44 @@ static int by_size(const void *x, const void *y) {
     return (a > c) - (a < c);
 }
 
+static void run(struct set *s, const struct way *way, enum operation operation) {
+    for (int k = 0; operation != RECOVERY && k < CALLS; k++) {
+        const uint32_t i = (uint32_t)(chance() % live);
+        if (operation == GET)
+            get(s, way, i);
+        else if (operation == IN_TURN)
+            remove_order(s, way, i), write_order(s, way, i, 1);
+        else
+            write_order(s, way, i, 0);
+    }
+    if (operation == RECOVERY)
+        recover(s, way);
+}
+
+static void print(enum operation operation, unsigned repetitions) {
+    const double *first = sets[0].took[operation], calls = operation == RECOVERY ? 1 : CALLS;
+    for (int w = 0; w < WAYS; w++) {
+        double *took = sets[w].took[operation];
+        qsort(took, repetitions, sizeof *took, by_size);
+        printf("N %u, B %u, %u orders, %s, %s: median %.0f ns, best %.0f ns, x layout 1: %.2f and %.2f\n", n, b, live, names[operation], ways[w].name,
+               took[repetitions / 2] / calls, took[0] / calls, took[repetitions / 2] / first[repetitions / 2], took[0] / first[0]);
+    }
+}
+
 static void measure(uint32_t slots, uint32_t heads, unsigned repetitions) {
     n = slots;
     b = heads;
-    for (int w = 0; w < WAYS; w++)
-        fill(&sets[w], &ways[w]);
-    for (unsigned r = 0; r < repetitions; r++)
-        for (int w = 0; w < WAYS; w++) {
-            double from = nanoseconds();
-            recover(&sets[w], &ways[w]);
-            double between = nanoseconds();
-            for (int k = 0; k < GETS; k++)
-                get(&sets[w], &ways[w], (uint32_t)(chance() % (n - 1)));
-            sets[w].recovery[r] = between - from;
-            sets[w].get[r] = (nanoseconds() - between) / GETS;
-        }
-    for (int w = 0; w < WAYS; w++) {
-        qsort(sets[w].recovery, repetitions, sizeof(double), by_size);
-        qsort(sets[w].get, repetitions, sizeof(double), by_size);
-        printf("N %u, B %u, %s: recovery median %.1f us, best %.1f us, x layout 1: %.2f and %.2f; get %.0f ns, best %.0f ns\n", n, b, ways[w].name,
-               sets[w].recovery[repetitions / 2] / 1e3, sets[w].recovery[0] / 1e3, sets[w].recovery[repetitions / 2] / sets[0].recovery[repetitions / 2],
-               sets[w].recovery[0] / sets[0].recovery[0], sets[w].get[repetitions / 2], sets[w].get[0]);
+    for (enum operation operation = RECOVERY; operation < OPERATIONS; operation++) {
+        live = operation < REPLACE ? n - 1 : n / 2;
+        for (int w = 0; w < WAYS; w++)
+            fill(&sets[w], &ways[w]);
+        for (unsigned r = 0; r < repetitions; r++)
+            for (int w = 0; w < WAYS; w++) {
+                double from = nanoseconds();
+                run(&sets[w], &ways[w], operation);
+                sets[w].took[operation][r] = nanoseconds() - from;
+            }
+        print(operation, repetitions);
     }
 }
 
