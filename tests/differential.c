@@ -1651,7 +1651,7 @@ static void plant(struct set *s, enum fault fault) {
     case ONE_LINE: memcpy(s->at + 8, s->at, 8 * sizeof *s->at); break;
     case OTHER_STATE: set_order(image, 3, below(2) ? 3 * below(2) : below(3) + (4ull << below(62)), 100, 40); break;
     case ALL_FILLED: set_order(image, 3, 1 + below(2), 100, 100 + below(2) * below(1000)); break;
-    case OTHER_SIZE: image[3 * 128 + 17] = (uint8_t)(below(2) ? 23 - below(24) : 25 + below(56)); break;
+    case OTHER_SIZE: image[3 * 128 + 8 * KIND_WORD + 1] = (uint8_t)(below(2) ? 23 - below(24) : 25 + below(VALUE_MAX - 24)); break;
     case LARGE_ORDER: set_order(image, 3, 1, UINT64_MAX, UINT64_MAX - 1); break;
     case ALL_SLOTS: chain_all(index, 5); break;
     case ALL_BUT_ONE: chain_all(index, 6); break;
