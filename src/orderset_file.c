@@ -19,7 +19,7 @@
 
 #include "orderset_persist.h"
 
-enum { TRIES = 20, PAUSE = 10000000 /* nanoseconds */, STACK = 4 << 20 /* of recovery, in bytes */ };
+enum { TRIES = 20, PAUSE = 10000000 /* nanoseconds */, STACK = 8 << 20 /* of recovery, in bytes */ };
 
 /* The bytes of a file: the file itself, mapped, or a copy. */
 struct area {
@@ -64,19 +64,20 @@ static int above_streams(int file) {
 }
 
 /* The lock goes with the descriptor. A reader has it for as long as it copies, so it is worth a few tries. */
-static uint32_t lock(int file, int how) {
+static uint32_t lock(int file, int how, int *tries) {
     const struct timespec pause = {0, PAUSE};
-    for (int i = 0; flock(file, how | LOCK_NB); i++) {
+    while (flock(file, how | LOCK_NB)) {
         if (errno != EWOULDBLOCK && errno != EINTR)
             return ORDERSET_FILE_SYSTEM;
-        if (i == TRIES)
+        if (*tries == 0)
             return ORDERSET_FILE_LOCKED;
+        --*tries;
         nanosleep(&pause, NULL);
     }
     return ORDERSET_FILE_OK;
 }
 
-static uint32_t open_locked(struct area *a, const char *path) {
+static uint32_t open_and_lock(struct area *a, const char *path, int *tries) {
     const int writing = a->mode == ORDERSET_FILE_WRITE;
     struct stat found;
     a->file = above_streams(open(path, (writing ? O_RDWR : O_RDONLY) | O_CLOEXEC | O_NONBLOCK));
@@ -86,12 +87,32 @@ static uint32_t open_locked(struct area *a, const char *path) {
         return ORDERSET_FILE_SYSTEM;
     if (!S_ISREG(found.st_mode))
         return ORDERSET_FILE_NOT_REGULAR;
-    uint32_t number = lock(a->file, writing ? LOCK_EX : LOCK_SH);
-    if (number)
-        return number;
-    if (fstat(a->file, &found)) /* under the lock */
-        return ORDERSET_FILE_SYSTEM;
-    a->length = (size_t)found.st_size;
+    return lock(a->file, writing ? LOCK_EX : LOCK_SH, tries);
+}
+
+static void unlock(struct area *a) {
+    close(a->file);
+    a->file = -1;
+}
+
+/* While the lock was waited for, another file may have got the name: then that one is opened. The one that was opened
+ * first has another name or none, and what is written to it would be lost. */
+static uint32_t open_locked(struct area *a, const char *path) {
+    int tries = TRIES;
+    struct stat opened, named;
+    for (;;) {
+        uint32_t number = open_and_lock(a, path, &tries);
+        if (number)
+            return number;
+        if (fstat(a->file, &opened))
+            return ORDERSET_FILE_SYSTEM;
+        if (stat(path, &named) == 0 && named.st_dev == opened.st_dev && named.st_ino == opened.st_ino)
+            break;
+        unlock(a);
+        if (tries-- == 0)
+            return ORDERSET_FILE_LOCKED;
+    }
+    a->length = (size_t)opened.st_size;
     return ORDERSET_FILE_OK;
 }
 
@@ -101,10 +122,27 @@ static int map(struct area *a, int flags, int file) {
     return a->bytes ? 0 : -1;
 }
 
+/* The file has this length at least, and all its blocks. */
+static int extend(int file, size_t length) {
+    do
+        errno = posix_fallocate(file, 0, (off_t)length);
+    while (errno == EINTR);
+    return errno ? -1 : 0;
+}
+
+/* All blocks of a file, which keeps its length, where the file system can. */
+static int ask_for_blocks(int file, size_t length) {
+    int failed;
+    do
+        failed = fallocate(file, FALLOC_FL_KEEP_SIZE, 0, (off_t)length);
+    while (failed && errno == EINTR);
+    return failed && errno == EOPNOTSUPP ? extend(file, length) : failed;
+}
+
 /* The file itself. A store to a hole of the file, on a full disk, would end the program: so all blocks are asked
  * for. */
 static uint32_t map_file(struct area *a) {
-    if ((errno = posix_fallocate(a->file, 0, (off_t)a->length)))
+    if (ask_for_blocks(a->file, a->length))
         return ORDERSET_FILE_SYSTEM;
     a->flush = ORDERSET_FILE_CLFLUSH + (uint32_t)orderset_best_flush();
     if (map(a, MAP_SHARED_VALIDATE | MAP_SYNC, a->file) == 0)
@@ -113,18 +151,10 @@ static uint32_t map_file(struct area *a) {
     return map(a, MAP_SHARED, a->file) ? ORDERSET_FILE_SYSTEM : ORDERSET_FILE_OK;
 }
 
-static void unlock(struct area *a) {
-    close(a->file);
-    a->file = -1;
-}
-
-/* A copy, after which the lock ends: where a page cannot be read, that is an error and no signal. */
-static uint32_t copy_file(struct area *a) {
+static uint32_t read_at(const struct area *a, size_t from, void *bytes, size_t size) {
     size_t done = 0;
-    if (map(a, MAP_PRIVATE | MAP_ANONYMOUS, -1))
-        return ORDERSET_FILE_SYSTEM;
-    while (done < a->length) {
-        ssize_t got = pread(a->file, a->bytes + done, a->length - done, (off_t)done);
+    while (done < size) {
+        ssize_t got = pread(a->file, (uint8_t *)bytes + done, size - done, (off_t)(from + done));
         if (got < 0 && errno == EINTR)
             continue;
         if (got == 0)
@@ -133,18 +163,22 @@ static uint32_t copy_file(struct area *a) {
             return ORDERSET_FILE_SYSTEM;
         done += (size_t)got;
     }
+    return ORDERSET_FILE_OK;
+}
+
+/* A copy, after which the lock ends: where a page cannot be read, that is an error and no signal. */
+static uint32_t copy_file(struct area *a) {
+    if (map(a, MAP_PRIVATE | MAP_ANONYMOUS, -1) || read_at(a, 0, a->bytes, a->length))
+        return ORDERSET_FILE_SYSTEM;
     unlock(a);
     return ORDERSET_FILE_OK;
 }
 
-/* errno stays. */
 static void close_area(struct area *a) {
-    const int error = errno;
     if (a->bytes)
         munmap(a->bytes, a->length);
     if (a->file >= 0)
         close(a->file);
-    errno = error;
 }
 
 /* The name of the file is durable: a rename by itself is not, and a program that was killed may have left it so. */
@@ -196,15 +230,26 @@ static uint32_t persist_opening(struct area *a, const uint32_t *at, const uint64
     return orderset_play_list(a->bytes, a->length, at, count, value, count);
 }
 
-/* The bytes, as they are to be before recovery. A file whose length is not one of the parts is refused as it is. */
-static uint32_t open_area(struct area *a, const char *path, size_t part, size_t least, size_t most, uint32_t refusal) {
+/* What a file of the set is, and one of the log. */
+struct form {
+    size_t part, least, most; /* the length is so many parts of so many bytes */
+    uint32_t refusal;         /* of any other length */
+    uint32_t (*look)(const struct area *a);
+};
+
+/* The bytes, as they are to be before recovery. A file of another form is refused as it is, before anything is written
+ * to it. */
+static uint32_t open_area(struct area *a, const char *path, const struct form *f) {
     uint32_t number = open_locked(a, path);
     if (number)
         return number;
-    if (a->length % part || a->length / part < least || a->length / part > most) {
+    if (a->length % f->part || a->length / f->part < f->least || a->length / f->part > f->most) {
         unlock(a);
-        return refusal;
+        return f->refusal;
     }
+    number = f->look(a);
+    if (number)
+        return number;
     if (a->mode != ORDERSET_FILE_WRITE)
         return copy_file(a);
     number = map_file(a);
@@ -250,27 +295,39 @@ static uint32_t on_own_stack(void *(*work)(void *), void *argument) {
 /* The bytes of a new file: an empty set, or in layout 0 the zeros of an empty log. */
 static uint32_t format(int file, size_t length, uint64_t layout) {
     uint64_t answer[ORDERSET_FORMAT_ANSWER];
-    if ((errno = posix_fallocate(file, 0, (off_t)length)))
+    if (extend(file, length))
         return ORDERSET_FILE_SYSTEM;
     if (layout) {
         uint8_t *image = mmap(NULL, length, PROT_READ | PROT_WRITE, MAP_SHARED, file, 0);
         if (image == MAP_FAILED)
             return ORDERSET_FILE_SYSTEM;
-        uint32_t number = orderset_format(image, length, layout, answer);
-        if (msync(image, length, MS_SYNC) || munmap(image, length))
-            return ORDERSET_FILE_SYSTEM;
-        if (number)
-            return number;
+        const uint32_t number = orderset_format(image, length, layout, answer);
+        const int failed = msync(image, length, MS_SYNC), error = errno;
+        munmap(image, length);
+        errno = error;
+        if (failed || number)
+            return failed ? ORDERSET_FILE_SYSTEM : number;
     }
     return fsync(file) ? ORDERSET_FILE_SYSTEM : ORDERSET_FILE_OK;
 }
 
+/* The file gets its own name, which no other has. Some file systems cannot rename so: there it has two names for a
+ * moment. */
+static int give_name(const char *fresh, const char *path) {
+    if (renameat2(AT_FDCWD, fresh, AT_FDCWD, path, RENAME_NOREPLACE) == 0)
+        return 0;
+    if (errno != EINVAL && errno != ENOSYS)
+        return -1;
+    return link(fresh, path) || unlink(fresh) ? -1 : 0;
+}
+
 /* Makes the file under the other name, and gives it its own. */
 static uint32_t make(int file, const char *fresh, const char *path, size_t length, uint64_t layout) {
-    uint32_t number = lock(file, LOCK_EX);
+    int tries = TRIES;
+    uint32_t number = lock(file, LOCK_EX, &tries);
     if (!number)
         number = format(file, length, layout);
-    if (!number && renameat2(AT_FDCWD, fresh, AT_FDCWD, path, RENAME_NOREPLACE))
+    if (!number && give_name(fresh, path))
         number = errno == EEXIST ? ORDERSET_FILE_EXISTS : ORDERSET_FILE_SYSTEM;
     if (number) {
         const int error = errno;
@@ -289,11 +346,13 @@ static uint32_t create(const char *path, size_t length, uint64_t layout) {
         return ORDERSET_FILE_EXISTS;
     if (errno != ENOENT || asprintf(&fresh, "%s.new-XXXXXX", path) < 0)
         return ORDERSET_FILE_SYSTEM;
-    int file = above_streams(mkostemp(fresh, O_CLOEXEC));
+    const int made = mkostemp(fresh, O_CLOEXEC), file = above_streams(made);
     uint32_t number = file < 0 ? ORDERSET_FILE_SYSTEM : make(file, fresh, path, length, layout);
     const int error = errno;
     if (file >= 0)
         close(file);
+    else if (made >= 0)
+        unlink(fresh);
     free(fresh);
     errno = error;
     return number;
@@ -354,7 +413,25 @@ static uint32_t start(struct orderset_file *s) {
     return persist_opening(&s->area, s->open_at, s->open_value, s->voids[0]);
 }
 
+/* The header, as recovery tests it: of a copy recovery says it. */
+static uint32_t look_at_header(const struct area *a) {
+    uint64_t word[ORDERSET_LINE_BYTES / 8];
+    if (a->mode != ORDERSET_FILE_WRITE)
+        return ORDERSET_FILE_OK;
+    if (read_at(a, 0, word, sizeof word))
+        return ORDERSET_FILE_SYSTEM;
+    if (word[0] == 0)
+        return ORDERSET_NO_FORMAT;
+    int same = word[0] == a->length / ORDERSET_SLOT_BYTES - 1;
+    same &= word[1] == ORDERSET_LAYOUT || word[1] == ORDERSET2_LAYOUT;
+    for (size_t i = 2; i < sizeof word / sizeof *word; i++)
+        same &= word[i] == 0;
+    return same ? ORDERSET_FILE_OK : ORDERSET_NO_HEADER;
+}
+
 uint32_t orderset_file_open(const char *path, uint32_t mode, struct orderset_file **set) {
+    static const struct form form = {ORDERSET_SLOT_BYTES, ORDERSET_SLOTS_MIN + 1, ORDERSET_SLOTS_MAX + 1,
+                                     ORDERSET_NO_IMAGE_LENGTH, look_at_header};
     *set = NULL;
     if (mode > ORDERSET_FILE_INSPECT)
         return ORDERSET_FILE_BAD_MODE;
@@ -363,8 +440,7 @@ uint32_t orderset_file_open(const char *path, uint32_t mode, struct orderset_fil
         return ORDERSET_FILE_SYSTEM;
     s->area.mode = mode;
     s->area.file = -1;
-    uint32_t number = open_area(&s->area, path, ORDERSET_SLOT_BYTES, ORDERSET_SLOTS_MIN + 1, ORDERSET_SLOTS_MAX + 1,
-                                ORDERSET_NO_IMAGE_LENGTH);
+    uint32_t number = open_area(&s->area, path, &form);
     if (number == ORDERSET_NO_IMAGE_LENGTH)
         s->refusal = number;
     if (!number)
@@ -377,13 +453,16 @@ uint32_t orderset_file_open(const char *path, uint32_t mode, struct orderset_fil
     return ORDERSET_FILE_OK;
 }
 
+/* errno stays. */
 void orderset_file_close(struct orderset_file *set) {
+    const int error = errno;
     if (!set)
         return;
     close_area(&set->area);
     free(set->heads);
     free(set->next);
     free(set);
+    errno = error;
 }
 
 /* ---- the set: calls */
@@ -746,14 +825,15 @@ static size_t cells_of(const struct orderset_log_file *l) {
 }
 
 /* A log has no header. Its marks are 0 or 1, and word 0 of a set is neither. */
-static int is_log(const struct orderset_log_file *l) {
-    for (size_t i = 0; i < cells_of(l); i++) {
+static uint32_t look_at_marks(const struct area *a) {
+    for (size_t at = 0; at < a->length; at += ORDERSET_LOG_CELL_BYTES) {
         uint64_t mark;
-        memcpy(&mark, l->area.bytes + i * ORDERSET_LOG_CELL_BYTES, sizeof mark);
+        if (read_at(a, at, &mark, sizeof mark))
+            return ORDERSET_FILE_SYSTEM;
         if (mark > 1)
-            return 0;
+            return ORDERSET_FILE_NOT_A_LOG;
     }
-    return 1;
+    return ORDERSET_FILE_OK;
 }
 
 static void *recover_log(void *argument) {
@@ -764,8 +844,6 @@ static void *recover_log(void *argument) {
 }
 
 static uint32_t start_log(struct orderset_log_file *l) {
-    if (!is_log(l))
-        return ORDERSET_FILE_NOT_A_LOG;
     uint32_t number = on_own_stack(recover_log, l);
     if (number || l->refusal)
         return number ? number : l->refusal;
@@ -774,6 +852,8 @@ static uint32_t start_log(struct orderset_log_file *l) {
 }
 
 uint32_t orderset_log_file_open(const char *path, uint32_t mode, struct orderset_log_file **log) {
+    static const struct form form = {ORDERSET_LOG_CELL_BYTES, ORDERSET_LOG_CELLS_MIN, ORDERSET_LOG_CELLS_MAX,
+                                     ORDERSET_LOG_NO_AREA, look_at_marks};
     *log = NULL;
     if (mode > ORDERSET_FILE_INSPECT)
         return ORDERSET_FILE_BAD_MODE;
@@ -782,8 +862,7 @@ uint32_t orderset_log_file_open(const char *path, uint32_t mode, struct orderset
         return ORDERSET_FILE_SYSTEM;
     l->area.mode = mode;
     l->area.file = -1;
-    uint32_t number = open_area(&l->area, path, ORDERSET_LOG_CELL_BYTES, ORDERSET_LOG_CELLS_MIN,
-                                ORDERSET_LOG_CELLS_MAX, ORDERSET_LOG_NO_AREA);
+    uint32_t number = open_area(&l->area, path, &form);
     if (!number)
         number = start_log(l);
     if (number) {
@@ -795,10 +874,12 @@ uint32_t orderset_log_file_open(const char *path, uint32_t mode, struct orderset
 }
 
 void orderset_log_file_close(struct orderset_log_file *log) {
+    const int error = errno;
     if (!log)
         return;
     close_area(&log->area);
     free(log);
+    errno = error;
 }
 
 uint32_t orderset_log_file_append(struct orderset_log_file *log, const void *message, size_t length,

@@ -15,9 +15,12 @@
 #include <stdio.h>
 #include <stdlib.h>
 #include <string.h>
+#include <sys/file.h>
 #include <sys/mman.h>
 #include <sys/prctl.h>
+#include <sys/resource.h>
 #include <sys/stat.h>
+#include <sys/syscall.h>
 #include <sys/wait.h>
 #include <unistd.h>
 
@@ -32,22 +35,62 @@ enum { READ = ORDERSET_FILE_READ, WRITE = ORDERSET_FILE_WRITE, INSPECT = ORDERSE
 static const char *path;
 static uint64_t cases, changes, reopened, messages;
 
-/* ---- a disk that is full, and one that does not sync */
+/* ---- a disk that is full, and one that does not sync; calls that are interrupted; what others do meanwhile */
 
 static int disk_full, sync_fails;
+static int fails_alone;                           /* the sync that fails alone: 1 is the next one; 0: none */
+static int interrupted, no_fallocate, no_rename;  /* the next call is; the file system has not got it */
+static int asked, extended;                       /* calls for blocks, and those that may extend a file */
+static void (*before_lock)(void), (*before_rename)(void);
 
 int __real_posix_fallocate(int file, off_t offset, off_t size);
 int __real_msync(void *address, size_t size, int flags);
 int __wrap_posix_fallocate(int file, off_t offset, off_t size);
 int __wrap_msync(void *address, size_t size, int flags);
 
+static int blocks(void) {
+    asked++;
+    if (interrupted)
+        return interrupted = 0, EINTR;
+    return disk_full ? ENOSPC : 0;
+}
+
 int __wrap_posix_fallocate(int file, off_t offset, off_t size) {
-    return disk_full ? ENOSPC : __real_posix_fallocate(file, offset, size);
+    const int error = blocks();
+    extended++;
+    return error ? error : __real_posix_fallocate(file, offset, size);
+}
+
+int fallocate(int file, int mode, off_t offset, off_t size) {
+    errno = no_fallocate ? EOPNOTSUPP : blocks();
+    extended += !(mode & FALLOC_FL_KEEP_SIZE);
+    return errno ? -1 : (int)syscall(SYS_fallocate, file, mode, offset, size);
+}
+
+static int this_fails(void) {
+    errno = EIO;
+    return sync_fails || (fails_alone && --fails_alone == 0);
 }
 
 int __wrap_msync(void *address, size_t size, int flags) {
-    errno = EIO;
-    return sync_fails ? -1 : __real_msync(address, size, flags);
+    return this_fails() ? -1 : __real_msync(address, size, flags);
+}
+
+int fsync(int file) {
+    return this_fails() ? -1 : (int)syscall(SYS_fsync, file);
+}
+
+int flock(int file, int how) {
+    if (before_lock)
+        before_lock();
+    return (int)syscall(SYS_flock, file, how);
+}
+
+int renameat2(int from, const char *old, int to, const char *new, unsigned flags) {
+    if (before_rename)
+        before_rename();
+    errno = EINVAL;
+    return no_rename ? -1 : (int)syscall(SYS_renameat2, from, old, to, new, flags);
 }
 
 /* ---- what a case expects */
@@ -131,18 +174,17 @@ static void new_set(uint32_t slots, uint32_t layout) {
 
 /* ---- random changes */
 
-/* The counts are those of the proved call, which there is in layout 1. */
+/* The counts are those of the proved call. */
 static void check_counts(const struct plain *p) {
     static uint32_t heads[1], next[ORDERSET_SLOTS_MAX + 1];
     uint64_t counts[ORDERSET_COUNTS];
     struct contents c = contents_of_file();
     struct orderset_file *set = open_set(INSPECT);
     const struct orderset_statistics s = statistics_of(set);
-    if (p->layout == 1) {
-        expect(orderset_count_slots(c.bytes, c.size, heads, 1, next, ORDERSET_NEXT_LENGTH(p->slots), counts) == 0,
-               "the slots are counted");
-        holds(memcmp(counts, s.count, sizeof counts) == 0, "the statistics count the slots");
-    }
+    expect((p->layout == 1 ? orderset_count_slots : orderset2_count_slots)(
+               c.bytes, c.size, heads, 1, next, ORDERSET_NEXT_LENGTH(p->slots), counts) == 0,
+           "the slots are counted");
+    holds(memcmp(counts, s.count, sizeof counts) == 0, "the statistics count the slots");
     holds(shows(set, p), "an inspection shows what was answered");
     orderset_file_close(set);
     free(c.bytes);
@@ -194,6 +236,13 @@ static int left_over(void) {
     return system(command) == 0;
 }
 
+/* Whether a file whose name begins with that of the test's is mapped. */
+static int is_mapped(void) {
+    char command[2 * NAME];
+    snprintf(command, sizeof command, "grep -qF '%s' /proc/%d/maps", strrchr(path, '/') + 1, getpid());
+    return system(command) == 0;
+}
+
 static void new_files(void) {
     char missing[NAME];
     unlink(path);
@@ -211,6 +260,10 @@ static void new_files(void) {
     gives(orderset_file_create(path, 2, 1), ORDERSET_FILE_SYSTEM, "create on a full disk");
     holds(errno == ENOSPC && access(path, F_OK) && !left_over(), "a create that fails leaves nothing");
     disk_full = 0;
+    sync_fails = 1;
+    gives(orderset_file_create(path, 2, 1), ORDERSET_FILE_SYSTEM, "create that is not synced");
+    holds(errno == EIO && access(path, F_OK) && !left_over() && !is_mapped(), "a create that fails leaves nothing");
+    sync_fails = 0;
     new_set(FEW_SLOTS, 2);
     struct contents before = contents_of_file();
     gives(orderset_file_create(path, 2, 1), ORDERSET_FILE_EXISTS, "create where a file is");
@@ -312,6 +365,51 @@ static void two_handles(void) {
     orderset_log_file_close(log);
     orderset_file_close(NULL);
     orderset_log_file_close(NULL);
+}
+
+/* ---- another file gets the name while an open waits for the lock */
+
+static char other[NAME];
+
+static void rename_once(void) {
+    before_lock = NULL;
+    expect(rename(other, path) == 0, "a rename");
+}
+
+static void remove_once(void) {
+    before_lock = NULL;
+    expect(unlink(path) == 0, "a remove");
+}
+
+/* A copy takes the place of the file, each time. */
+static void rename_always(void) {
+    struct contents c = contents_of_file();
+    expect(unlink(path) == 0 || errno == ENOENT, "a remove");
+    write_file(c.bytes, c.size);
+    free(c.bytes);
+}
+
+static void renamed_files(void) {
+    const char *name = path;
+    struct orderset_file *set;
+    snprintf(other, sizeof other, "%s.other", path);
+    path = other;
+    new_set(FEW_SLOTS + 1, 2);
+    path = name;
+    new_set(FEW_SLOTS, 1);
+    before_lock = rename_once;
+    set = open_set(WRITE);
+    holds(statistics_of(set).slots == FEW_SLOTS + 1, "an open has the file that has the name when it is locked");
+    gives(orderset_file_insert(set, (struct orderset_key){1, 1}, "a", 1), 0, "insert");
+    orderset_file_close(set);
+    set = open_set(READ);
+    gives(orderset_file_locate(set, (struct orderset_key){1, 1}, NULL, NULL), 0, "a key after a rename");
+    orderset_file_close(set);
+    before_lock = rename_always;
+    no_set(WRITE, ORDERSET_FILE_LOCKED, "an open of a name that is always another file's");
+    before_lock = remove_once;
+    no_set(READ, ORDERSET_FILE_SYSTEM, "an open of a file that is removed meanwhile");
+    holds(errno == ENOENT, "errno tells that no file is there");
 }
 
 /* In a process without rights, and without standard input: the file does not take its place. */
@@ -458,13 +556,11 @@ static void void_slots(uint32_t layout) {
     struct orderset_file *set = open_set(INSPECT);
     shows_one(set, 2, 1, "an inspection of half a basket");
     orderset_file_close(set);
-    if (layout == 1) {
-        held = (struct plain){.slots = FEW_SLOTS, .layout = 1, .key = {one}};
-        for (uint64_t i = 1; i < KEYS; i++)
-            held.key[i].low = 1 + i;
-        held.value[0] = (struct value){.held = 1, .length = 1, .bytes = "a"};
-        check_counts(&held);
-    }
+    held = (struct plain){.slots = FEW_SLOTS, .layout = layout, .key = {one}};
+    for (uint64_t i = 1; i < KEYS; i++)
+        held.key[i].low = 1 + i;
+    held.value[0] = (struct value){.held = 1, .length = 1, .bytes = "a"};
+    check_counts(&held);
     set = open_set(READ);
     shows_one(set, 0, 3, "a reader of half a basket");
     orderset_file_close(set);
@@ -690,6 +786,7 @@ int main(int count, char **word) {
     new_files();
     wrong_files();
     two_handles();
+    renamed_files();
     rights();
     reading_only();
     failing_syncs();

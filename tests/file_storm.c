@@ -49,6 +49,15 @@ static int storm_munmap(void *bytes, size_t size) {
     return bytes == visible ? 0 : munmap(bytes, size);
 }
 
+/* What is seen of the file. */
+static ssize_t storm_pread(int file, void *bytes, size_t size, off_t offset) {
+    (void)file;
+    if (size > PTRDIFF_MAX)
+        return -1;
+    memcpy(bytes, (const uint8_t *)visible + offset, size);
+    return (ssize_t)size;
+}
+
 static void *storm_calloc(size_t count, size_t size) {
     int i = 0;
     while (block[i])
@@ -83,6 +92,7 @@ static int storm_thread(pthread_t *thread, const pthread_attr_t *attributes, voi
 #define flock storm_flock
 #define mmap storm_mmap
 #define munmap storm_munmap
+#define pread storm_pread
 #define calloc storm_calloc
 #define free storm_free
 #define fsync(file) ((void)(file), 0) /* nothing is in the file */

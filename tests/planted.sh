@@ -880,12 +880,20 @@ fault install 'a call is in no manual page' man/orderset_file.3 '/orderset_file_
 fault install 'a number is not in OPERATIONS' docs/OPERATIONS.md '/^\| 23 /d' 'NOT SO: OPERATIONS says of each number'
 
 handle=src/orderset_file.c
-opened='/^static uint32_t open_locked/,/^}/'
+opened='/^static uint32_t open_and_lock/,/^}/'
 fault file 'no lock' $handle 's/flock\(file, how \| LOCK_NB\)/(void)how, 0/' 'NOT SO: a second process that writes gives 1011'
 fault file 'a lock that writers share' $handle "${opened}s/LOCK_EX : LOCK_SH/LOCK_SH : LOCK_SH/" \
     'NOT SO: a second process that writes gives 1011'
 fault file 'a reader keeps its lock' $handle '/^static uint32_t copy_file/,/^}/{/unlock\(a\);/d}' \
     'NOT SO: .* gives .*: 1011'
+fault file 'the name is not looked at under the lock' $handle \
+    's/if \(stat\(path, \&named\) == 0 .*/if (stat(path, \&named) == 0)/' \
+    'NOT SO: an open has the file that has the name when it is locked'
+fault file 'a create that fails leaves its mapping' $handle '/^static uint32_t format\(/,/^}/{/munmap\(/d}' \
+    'NOT SO: a create that fails leaves nothing'
+fault file 'removes of layout 2 are counted as hidden' $handle \
+    's/if \(\(kind_in\(s, slot\) \& 0xff\) == 2\)/if (s->layout == 1 \&\& (kind_in(s, slot) \& 0xff) == 2)/' \
+    'NOT SO: the statistics count the slots'
 fault file 'the file becomes a standard stream' $handle 's/if \(file < 0 \|\| file > STDERR_FILENO\)/if (file != -2)/' \
     'NOT SO: the file does not become a standard stream'
 fault file 'the high word of a key is not looked at' $handle 's/return key.high \&\& /return 0 \&\& /' \
@@ -896,7 +904,7 @@ fault file 'a reader changes its copy' $handle \
 fault file 'a handle goes on after a failed sync' $handle '/a->stopped = 1;/d' \
     'NOT SO: a change after a failed sync gives 1017'
 fault file 'an open asks for no blocks' $handle \
-    '/^static uint32_t map_file/,/^}/s/errno = posix_fallocate\(.*\)\)\)/errno = 0))/' \
+    '/^static uint32_t map_file/,/^}/s/if \(ask_for_blocks\(.*\)\)/if (0 \&\& ask_for_blocks(0, 0))/' \
     'NOT SO: an open on a full disk gives 1010'
 fault file 'a create that fails leaves its file' $handle '/unlink\(fresh\);/d' 'NOT SO: a create that fails leaves nothing'
 fault file 'create takes the place of a file' $handle \
@@ -949,7 +957,7 @@ fault file_storm 'a replace of layout 2 drops the high word' $handle \
     's/orderset2_##name\(lent, \(key\).low, \(key\).high,/orderset2_##name(lent, (key).low, (key).high \& 3,/' 'LOST'
 
 fault file_kills 'a new file is not synced' $handle \
-    '/^static uint32_t format\(/,/^}/{s/msync\(image, length, MS_SYNC\) \|\| //; s/fsync\(file\) \? /0 ? /}' \
+    '/^static uint32_t format\(/,/^}/{s/failed = msync\(image, length, MS_SYNC\)/failed = 0/; s/fsync\(file\) \? /0 ? /}' \
     'NOT SO: a new file is synced'
 fault file_kills 'the directory of a new file is not synced' $handle \
     '/^static uint32_t make\(/,/^}/s/return sync_name\(path\) \?/return 0 ?/' \
