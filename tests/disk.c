@@ -1,9 +1,9 @@
 /* A slow disk with a cache, for the gateway under test: linked into it with --wrap in the place of mmap, msync, fsync
  * and renameat2. The file that DISK_SHADOW names holds what is durable of the image: only a sync brings anything there,
  * a word at a time, so that a kill in the middle of one leaves each line some number of its stores. The file that
- * DISK_LOG names gets a line for each sync and each rename. After as many syncs as DISK_FAILS says, all fail. A sync that
- * fails leaves the pages clean: an fsync does not write them, until they were stored to again and an msync of the whole
- * image went well. DISK_SHADOW is not set when the gateway makes a file. */
+ * DISK_LOG names gets a line for each sync and each rename. After as many syncs as DISK_FAILS says, all fail. A sync
+ * that fails leaves the pages clean: an fsync writes nothing, until an msync of the whole image went well. DISK_SHADOW
+ * is not set when the gateway makes a file. */
 #define _GNU_SOURCE
 #include <errno.h>
 #include <fcntl.h>
@@ -80,6 +80,8 @@ static int fails(void) {
 }
 
 static void sync_words(size_t first, size_t end) {
+    if (!getenv("DISK_SHADOW"))
+        shadow = NULL; /* that of a file which was open before */
     usleep(SLOW);
     for (size_t i = first; shadow && i < end && i < image_length / 8; i++)
         ((volatile uint64_t *)shadow)[i] = ((volatile uint64_t *)image)[i];

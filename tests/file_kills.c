@@ -23,7 +23,8 @@
 #include "child.h"
 #include "file_model.h"
 
-enum { STRIKES = 120, CREATES = 40, CALLS = 60, PATH = 1024, BYTES = 8192, CELLS = 5, MESSAGE = ORDERSET_LOG_MESSAGE_MAX };
+enum { STRIKES = 120, CREATES = 40, CALLS = 60, PATH = 1024, BYTES = 8192, CELLS = 5 };
+enum { MESSAGE = ORDERSET_LOG_MESSAGE_MAX };
 enum found { AS_ANSWERED, WITH_UNDER_WAY, OTHER }; /* what a process finds at its start */
 
 static const char *path;
@@ -300,16 +301,29 @@ static void check_new_file(void) {
     expect(name && strstr(name, "sync directory\n"), "the directory of a new file is synced");
 }
 
-/* An open for writing syncs the file and its directory: the one that made it may have been killed before that. */
-static void check_open(void) {
+static void open_and_close(void) {
     struct orderset_file *set;
     struct orderset_log_file *log;
-    unlink(events);
     if (change == change_set && orderset_file_open(path, ORDERSET_FILE_WRITE, &set) == 0)
         orderset_file_close(set);
     if (change == change_log && orderset_log_file_open(path, ORDERSET_FILE_WRITE, &log) == 0)
         orderset_log_file_close(log);
+}
+
+/* After a failed sync the disk has a file of this name until the whole image is synced. */
+static void check_pages(void) {
+    char clean[PATH + 8];
+    snprintf(clean, sizeof clean, "%s.clean", shadow);
+    close(open(clean, O_WRONLY | O_CREAT | O_CLOEXEC, 0600));
+    open_and_close();
+    expect(access(clean, F_OK) != 0, "an open after a failed sync writes every page again");
+}
+
+/* An open for writing syncs the file and its directory: the one that made it may have been killed before that. */
+static void check_open(void) {
     char all[256];
+    unlink(events);
+    open_and_close();
     hear_events(all);
     expect(strstr(all, "sync file\n") && strstr(all, "sync directory\n"), "an open syncs the file and its directory");
 }
@@ -346,7 +360,7 @@ static void kill_creates(uint32_t (*create_it)(void)) {
             prctl(PR_SET_PDEATHSIG, SIGKILL);
             _exit(create_it() != 0);
         }
-        usleep((useconds_t)below(1u << below(13)));
+        usleep((useconds_t)below(64u << below(7)));
         kill(child, SIGKILL);
         expect(waitpid(child, NULL, 0) == child, "the process ends");
         const int found = access(path, F_OK) == 0;
@@ -374,6 +388,7 @@ static void begin(uint32_t (*create_it)(void)) {
     read_all(path, image);
     write_all(shadow, image);
     setenv("DISK_SHADOW", shadow, 1);
+    check_pages();
     under_way = 0;
 }
 

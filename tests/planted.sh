@@ -993,9 +993,9 @@ fault file_kills 'an open does not make the file durable' $handle \
     'NOT SO: (after [0-9]+ kills|an open syncs the file)'
 fault file_kills 'an open does not write the pages again' $handle \
     's/\? orderset_persist_image_file\(a->bytes, a->length\)/? 0/' \
-    'NOT SO: (after [0-9]+ kills|an open gives|a call of kind)'
+    'NOT SO: an open after a failed sync writes every page again'
 fault file_kills 'a new file has its name before it is whole' $handle \
-    's/number = format\(file, length, layout\);/number = give_name(fresh, path) ? 9 : format(file, length, layout);/
+    's/number = format\(file, length, layout\);/number = give_name(fresh, path) ? 9 : (usleep(3000), format(file, length, layout));/
      s/if \(!number \&\& give_name\(fresh, path\)\)/if (0)/' 'NOT SO: a create that is killed leaves a whole new file or none'
 fault file_kills 'a failed sync is answered as done' $handle 's/^    if \(!failed\)/    if (failed < 2)/' 'NOT SO: '
 fault file_kills 'a handle goes on after a failed sync' $handle '/a->stopped = 1;/d' 'NOT SO: .* refuses every call'
