@@ -349,25 +349,35 @@ static int is_new(void) {
 }
 
 /* A create that is killed at any moment leaves a whole new file, or none of that name. */
+static void kill_create(uint32_t (*create_it)(void)) {
+    int ends[2];
+    uint32_t begun;
+    expect(pipe2(ends, O_CLOEXEC) == 0, "a pipe");
+    unlink(path);
+    fflush(stdout);
+    const pid_t child = fork();
+    expect(child >= 0, "a process");
+    if (child == 0) {
+        prctl(PR_SET_PDEATHSIG, SIGKILL);
+        tell(ends[1], 0);
+        _exit(create_it() != 0);
+    }
+    expect(hears(ends[0], &begun), "the process begins");
+    usleep((useconds_t)below(16u << below(9)));
+    kill(child, SIGKILL);
+    expect(waitpid(child, NULL, 0) == child, "the process ends");
+    close(ends[0]);
+    close(ends[1]);
+    const int found = access(path, F_OK) == 0;
+    expect(!found || is_new(), "a create that is killed leaves a whole new file or none");
+    made += (uint64_t)found;
+    not_made += (uint64_t)!found;
+}
+
 static void kill_creates(uint32_t (*create_it)(void)) {
     char command[2 * PATH];
-    for (int i = 0; i < CREATES; i++) {
-        unlink(path);
-        fflush(stdout);
-        const pid_t child = fork();
-        expect(child >= 0, "a process");
-        if (child == 0) {
-            prctl(PR_SET_PDEATHSIG, SIGKILL);
-            _exit(create_it() != 0);
-        }
-        usleep((useconds_t)below(64u << below(7)));
-        kill(child, SIGKILL);
-        expect(waitpid(child, NULL, 0) == child, "the process ends");
-        const int found = access(path, F_OK) == 0;
-        expect(!found || is_new(), "a create that is killed leaves a whole new file or none");
-        made += (uint64_t)found;
-        not_made += (uint64_t)!found;
-    }
+    for (int i = 0; i < CREATES; i++)
+        kill_create(create_it);
     unlink(path);
     snprintf(command, sizeof command, "rm -f '%s'.new-??????", path);
     expect(system(command) == 0, "what is left over is removed");
