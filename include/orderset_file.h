@@ -26,21 +26,24 @@
  * so that a cut or a kill leaves no half of it; a name like that which is left over may be removed. An open that will
  * write asks for all blocks of the file, makes the whole of it and its name durable, recovers, and makes durable what
  * recovery hands out, all before it returns: so nothing that was answered is lost by a power cut, nor by a kill of the
- * process with the power on and a cut after it. On a file system on non-volatile memory (MAP_SYNC) a call is line
- * flushes and one fence; on any other it is msync, the fallback, as good as the device.
+ * process with the power on and a cut after it. For the name it syncs the directory, as create does: both need the
+ * right to read the directory. On a file system on non-volatile memory (MAP_SYNC) a call is line flushes and one fence;
+ * on any other it is msync, the fallback, as good as the device.
  *
  * Locks: one handle writes at a time, alone, in all processes; another open is refused by ORDERSET_FILE_LOCKED. A
  * handle that only reads copies the file under a shared lock, which ends with the open; it shows the file as it was
- * then, writes nothing to it, and keeps no writer out for longer than that. An open tries for a fifth of a second. The
- * lock is flock: a program that does not ask for it is not held off. A file that is cut short while it is open ends
- * the process (SIGBUS), as does a mapped page that cannot be read.
+ * then, writes nothing to it, and keeps no writer out for longer than that. After a kill or a failed sync it may show a
+ * call that had no answer and is not durable yet. An open tries for a fifth of a second; where another file gets the
+ * name meanwhile, that one is opened. The lock is flock: a program that does not ask for it is not held off. A file
+ * that is cut short while it is open ends the process (SIGBUS), as does a mapped page that cannot be read.
  *
  * After a failed sync the call returns ORDERSET_FILE_NOT_DURABLE: it is perhaps done and perhaps not. Every later call
  * is refused by ORDERSET_FILE_STOPPED. Close, open again, and ask whether it was done.
  *
  * Threads: one thread at a time for each handle; two handles know nothing of each other. Recovery needs up to 3 MiB of
  * stack and has it in a thread of its own while an open lasts, with all signals blocked; no call here needs more than
- * 16 KB. A process made by fork does not use the handle of its parent.
+ * 16 KB. A process made by fork does not use the handle of its parent, and as long as it lives and calls no exec it
+ * keeps the lock, also after the parent closed the handle or ended.
  *
  * Pointers: none may be null, but for the bytes of a value or an output of length 0, for close, and where it is
  * said. */
@@ -66,8 +69,10 @@ enum orderset_file_number {
     ORDERSET_FILE_ABSENT = 1000,      /* get, locate, remove: the key is not held; nothing was changed */
     ORDERSET_FILE_ALREADY = 1001,     /* acknowledge: the order was acknowledged before; nothing was changed */
     ORDERSET_FILE_END = 1002,         /* next: there is no further open order */
-    /* errors; but for 1016 the call changed nothing that is durable */
-    ORDERSET_FILE_SYSTEM = 1010,      /* create, open: a call of the system failed; errno */
+    /* errors; but for 1016 the call changed no order */
+    ORDERSET_FILE_SYSTEM = 1010,      /* create, open: a call of the system failed; errno. After a create the file is
+                                         perhaps there; an open perhaps made part of what recovery hands out, which
+                                         changes no order: the next open does the rest */
     ORDERSET_FILE_LOCKED = 1011,      /* another handle has the file open for writing, or now copies it */
     ORDERSET_FILE_EXISTS = 1012,      /* create: there is a file of that name */
     ORDERSET_FILE_NOT_REGULAR = 1013, /* not a regular file */

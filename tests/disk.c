@@ -1,12 +1,14 @@
 /* A slow disk with a cache, for the gateway under test: linked into it with --wrap in the place of mmap, msync, fsync
  * and renameat2. The file that DISK_SHADOW names holds what is durable of the image: only a sync brings anything there,
  * a word at a time, so that a kill in the middle of one leaves each line some number of its stores. The file that
- * DISK_LOG names gets a line for each sync and each rename. After as many syncs as DISK_FAILS says, all fail.
- * DISK_SHADOW is not set when the gateway makes a file. */
+ * DISK_LOG names gets a line for each sync and each rename. After as many syncs as DISK_FAILS says, all fail. A sync
+ * that fails leaves the pages clean: an fsync writes nothing, until an msync of the whole image went well. DISK_SHADOW
+ * is not set when the gateway makes a file. */
 #define _GNU_SOURCE
 #include <errno.h>
 #include <fcntl.h>
 #include <stdint.h>
+#include <stdio.h>
 #include <stdlib.h>
 #include <string.h>
 #include <sys/mman.h>
@@ -52,6 +54,15 @@ void *__wrap_mmap(void *address, size_t length, int access, int flags, int file,
     return mapped;
 }
 
+/* The file that says that a sync failed. It outlives the process. */
+static const char *mark(void) {
+    static char name[1024];
+    const char *path = getenv("DISK_SHADOW");
+    if (!path || snprintf(name, sizeof name, "%s.clean", path) >= (int)sizeof name)
+        return NULL;
+    return name;
+}
+
 static int fails(void) {
     static long left = -1;
     const char *number = getenv("DISK_FAILS");
@@ -60,6 +71,7 @@ static int fails(void) {
     if (left < 0)
         left = atol(number);
     if (left == 0) {
+        close(mark() ? open(mark(), O_WRONLY | O_CREAT | O_CLOEXEC, 0600) : -1);
         errno = EIO;
         return 1;
     }
@@ -68,6 +80,8 @@ static int fails(void) {
 }
 
 static void sync_words(size_t first, size_t end) {
+    if (!getenv("DISK_SHADOW"))
+        shadow = NULL; /* that of a file which was open before */
     usleep(SLOW);
     for (size_t i = first; shadow && i < end && i < image_length / 8; i++)
         ((volatile uint64_t *)shadow)[i] = ((volatile uint64_t *)image)[i];
@@ -80,6 +94,8 @@ int __wrap_msync(void *address, size_t length, int flags) {
         abort();
     if (fails())
         return -1;
+    if (mark() && length == image_length)
+        unlink(mark());
     sync_words(first, first + length / 8);
     note("sync file\n");
     return 0;
@@ -89,7 +105,7 @@ int __wrap_fsync(int file) {
     struct stat found;
     if (fstat(file, &found) || fails())
         return -1;
-    if (S_ISREG(found.st_mode) && image)
+    if (S_ISREG(found.st_mode) && image && !(mark() && access(mark(), F_OK) == 0))
         sync_words(0, image_length / 8);
     note(S_ISDIR(found.st_mode) ? "sync directory\n" : "sync file\n");
     return 0;

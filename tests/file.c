@@ -29,7 +29,7 @@
 #include "file_model.h"
 
 enum { SETS = 4, CALLS = 250, LOGS = 4, MESSAGES = 60 };
-enum { MOST = 1 << 24, SMALL_STACK = 65536, FEW_SLOTS = 9, NAME = 1024 };
+enum { MOST = 1 << 24, SMALL_STACK = 65536, CALL_STACK = 16384, NO_STACK = 8 << 20, FEW_SLOTS = 9, NAME = 1024 };
 enum { READ = ORDERSET_FILE_READ, WRITE = ORDERSET_FILE_WRITE, INSPECT = ORDERSET_FILE_INSPECT };
 
 static const char *path;
@@ -276,11 +276,65 @@ static void new_files(void) {
     free(before.bytes);
 }
 
+static void make_file_once(void) {
+    before_rename = NULL;
+    write_file("abc", 3);
+}
+
+/* Another program makes the file just before create gives it its name; a file system without that rename. */
+static void names(void) {
+    for (no_rename = 0; no_rename < 2; no_rename++) {
+        unlink(path);
+        before_rename = make_file_once;
+        gives(orderset_file_create(path, 2, 1), ORDERSET_FILE_EXISTS, "create beside another");
+        struct contents made = contents_of_file();
+        holds(made.size == 3 && !memcmp(made.bytes, "abc", 3) && !left_over(), "create leaves the file of another");
+        free(made.bytes);
+    }
+    no_rename = 1;
+    new_set(FEW_SLOTS, 1);
+    no_rename = 0;
+    holds(!left_over(), "a link and no other name is left");
+    orderset_file_close(open_set(WRITE));
+}
+
+/* Calls for blocks that are interrupted, and a file system without the one that keeps the length. */
+static void calls_for_blocks(void) {
+    interrupted = 1;
+    new_set(FEW_SLOTS, 1);
+    asked = extended = 0;
+    interrupted = 1;
+    orderset_file_close(open_set(WRITE));
+    holds(asked == 2 && extended == 0, "an open asks for blocks and keeps the length");
+    no_fallocate = 1;
+    orderset_file_close(open_set(WRITE));
+    no_fallocate = 0;
+    holds(extended == 1, "an open asks for blocks in another way");
+}
+
+/* In a process that has no descriptor above the standard streams. */
+static void no_descriptor(void) {
+    const struct rlimit few = {STDERR_FILENO + 1, STDERR_FILENO + 1};
+    int status;
+    unlink(path);
+    fflush(stdout);
+    const pid_t child = fork();
+    if (child == 0) {
+        close(STDIN_FILENO);
+        _exit(setrlimit(RLIMIT_NOFILE, &few) ? 2 : orderset_file_create(path, 2, 1) != ORDERSET_FILE_SYSTEM);
+    }
+    expect(waitpid(child, &status, 0) == child, "the other process ends");
+    holds(WIFEXITED(status) && WEXITSTATUS(status) == 0, "create without a descriptor");
+    holds(access(path, F_OK) && !left_over(), "create without a descriptor leaves nothing");
+}
+
 /* ---- files that are no sets */
 
 static void no_set_in(uint32_t wanted, const char *what) {
     struct contents before = contents_of_file();
+    asked = 0;
     no_set(WRITE, wanted, what);
+    holds(asked == 0, "for a file that is no set no blocks are asked");
     no_set(READ, wanted, what);
     struct orderset_file *set = open_set(INSPECT);
     holds(statistics_of(set).refusal == wanted, what);
@@ -357,6 +411,11 @@ static void two_handles(void) {
     child = other_process(READ);
     orderset_file_close(open_set(WRITE));
     end_process(child);
+    const int copying = open(path, O_RDONLY | O_CLOEXEC);
+    expect(flock(copying, LOCK_SH) == 0, "a lock that is shared");
+    no_set(WRITE, ORDERSET_FILE_LOCKED, "a handle that writes beside a shared lock");
+    orderset_file_close(open_set(READ));
+    close(copying);
     unlink(path);
     gives(orderset_log_file_create(path, 3), 0, "create of a log");
     struct orderset_log_file *log;
@@ -576,6 +635,28 @@ static void void_slots(uint32_t layout) {
     free(before.bytes);
 }
 
+/* Each sync of an open fails alone: there is no handle, and the next open does what is left to do. */
+static void openings_not_synced(uint32_t layout) {
+    struct orderset_file *set;
+    for (int i = 1;; i++) {
+        half_basket(layout);
+        fails_alone = i;
+        const uint32_t number = orderset_file_open(path, WRITE, &set);
+        if (number == 0) {
+            const int least = statistics_of(set).flush == ORDERSET_FILE_MSYNC ? 5 : 3;
+            expect(i == least, "%d syncs of an open fail alone: %d", least - 1, i - 1);
+            break;
+        }
+        gives(number, ORDERSET_FILE_SYSTEM, "an open of which one sync fails");
+        holds(set == NULL && errno == EIO, "an open of which one sync fails has no handle");
+        set = open_set(WRITE);
+        shows_one(set, 0, 3, "an open after one of which a sync failed");
+        orderset_file_close(set);
+    }
+    fails_alone = 0;
+    orderset_file_close(set);
+}
+
 /* One record, and a word of it that is changed; recovery names the slot unless it is by a mark. */
 static void damaged(uint32_t layout, size_t word, uint64_t flip, uint32_t wanted) {
     struct orderset_record r = {0};
@@ -634,8 +715,11 @@ static void words(void) {
     holds(!orderset_file_order(good, 23, &order), "a value of 23 bytes is no order");
 }
 
+static uint8_t *first_frame;
+
 static void *on_small_stack(void *argument) {
     (void)argument;
+    first_frame = __builtin_frame_address(0);
     struct orderset_file *set = open_set(WRITE);
     static struct orderset_record r;
     const struct orderset_item item[2] = {{ORDERSET_INSERT, wide, "y", 1}, {ORDERSET_INSERT, two, "z", 1}};
@@ -647,15 +731,26 @@ static void *on_small_stack(void *argument) {
     return NULL;
 }
 
+/* The stack is painted, and what is no longer painted was used. Below it is no memory. */
 static void small_stack(void) {
     pthread_attr_t attributes;
     pthread_t thread;
+    uint8_t *below_it = mmap(NULL, NO_STACK + SMALL_STACK, PROT_NONE, MAP_PRIVATE | MAP_ANONYMOUS, -1, 0);
+    uint8_t *stack = below_it + NO_STACK;
+    expect(below_it != MAP_FAILED && mprotect(stack, SMALL_STACK, PROT_READ | PROT_WRITE) == 0, "a small stack");
+    memset(stack, 0xa5, SMALL_STACK);
     new_set(65535, 2);
     pthread_attr_init(&attributes);
-    expect(pthread_attr_setstacksize(&attributes, SMALL_STACK) == 0, "a small stack");
+    expect(pthread_attr_setstack(&attributes, stack, SMALL_STACK) == 0, "a small stack");
     expect(pthread_create(&thread, &attributes, on_small_stack, NULL) == 0, "a thread");
     pthread_join(thread, NULL);
     pthread_attr_destroy(&attributes);
+    const uint8_t *deepest = stack;
+    while (*deepest == 0xa5)
+        deepest++;
+    expect(first_frame - deepest <= CALL_STACK, "no call needs more than 16 KB of stack: %td bytes",
+           first_frame - deepest);
+    munmap(below_it, NO_STACK + SMALL_STACK);
 }
 
 /* ---- the log */
@@ -728,7 +823,9 @@ static void random_messages(void) {
 
 static void no_log_in(uint32_t wanted, const char *what) {
     struct contents before = contents_of_file();
+    asked = 0;
     no_log(WRITE, wanted, what);
+    holds(asked == 0, "for a file that is no log no blocks are asked");
     no_log(READ, wanted, what);
     holds(is_unchanged(&before), "a file that is no log stays as it is");
     free(before.bytes);
@@ -784,14 +881,18 @@ int main(int count, char **word) {
     path = word[1];
     rmdir(path);
     new_files();
+    names();
+    calls_for_blocks();
     wrong_files();
     two_handles();
     renamed_files();
     rights();
+    no_descriptor();
     reading_only();
     failing_syncs();
     for (uint32_t layout = 1; layout <= 2; layout++) {
         void_slots(layout);
+        openings_not_synced(layout);
         damages(layout);
         for (int i = 0; i < SETS; i++)
             random_changes(layout);

@@ -3,7 +3,7 @@
  * was not each line keeps some number of its words, counted from the first. After each strike the next process opens
  * the file: every answered change is there, the one that was under way wholly or not at all, and nothing else. After a
  * failed sync a handle refuses every call. The set in both layouts, and the log. A new file is synced before it gets
- * its name, and its directory after that.
+ * its name, and its directory after that; a create that is killed leaves a whole new file or none.
  *
  *     file_kills FILE [SEED]
  */
@@ -23,14 +23,15 @@
 #include "child.h"
 #include "file_model.h"
 
-enum { STRIKES = 120, CALLS = 60, PATH = 1024, BYTES = 8192, CELLS = 5, MESSAGE = ORDERSET_LOG_MESSAGE_MAX };
+enum { STRIKES = 120, CREATES = 40, CALLS = 60, PATH = 1024, BYTES = 8192, CELLS = 5 };
+enum { MESSAGE = ORDERSET_LOG_MESSAGE_MAX };
 enum found { AS_ANSWERED, WITH_UNDER_WAY, OTHER }; /* what a process finds at its start */
 
 static const char *path;
 static char shadow[PATH], events[PATH];
 static size_t length;
 static int failing; /* the syncs of this process will fail */
-static uint64_t kills, cuts, failures, answered, in_open, struck, done_unanswered;
+static uint64_t kills, cuts, failures, answered, in_open, struck, done_unanswered, made, not_made;
 
 /* ---- what was answered, and what was under way */
 
@@ -300,18 +301,86 @@ static void check_new_file(void) {
     expect(name && strstr(name, "sync directory\n"), "the directory of a new file is synced");
 }
 
-/* An open for writing syncs the file and its directory: the one that made it may have been killed before that. */
-static void check_open(void) {
+static void open_and_close(void) {
     struct orderset_file *set;
     struct orderset_log_file *log;
-    unlink(events);
     if (change == change_set && orderset_file_open(path, ORDERSET_FILE_WRITE, &set) == 0)
         orderset_file_close(set);
     if (change == change_log && orderset_log_file_open(path, ORDERSET_FILE_WRITE, &log) == 0)
         orderset_log_file_close(log);
+}
+
+/* After a failed sync the disk has a file of this name until the whole image is synced. */
+static void check_pages(void) {
+    char clean[PATH + 8];
+    snprintf(clean, sizeof clean, "%s.clean", shadow);
+    close(open(clean, O_WRONLY | O_CREAT | O_CLOEXEC, 0600));
+    open_and_close();
+    expect(access(clean, F_OK) != 0, "an open after a failed sync writes every page again");
+}
+
+/* An open for writing syncs the file and its directory: the one that made it may have been killed before that. */
+static void check_open(void) {
     char all[256];
+    unlink(events);
+    open_and_close();
     hear_events(all);
     expect(strstr(all, "sync file\n") && strstr(all, "sync directory\n"), "an open syncs the file and its directory");
+}
+
+static int is_new(void) {
+    struct orderset_file *set;
+    struct orderset_log_file *log;
+    int same;
+    if (change == change_set) {
+        if (orderset_file_open(path, ORDERSET_FILE_READ, &set))
+            return 0;
+        struct orderset_statistics s;
+        orderset_file_statistics(set, &s);
+        same = s.slots == now.slots && s.layout == now.layout && s.count[ORDERSET_SLOT_EMPTY] == s.slots;
+        orderset_file_close(set);
+        return same;
+    }
+    if (orderset_log_file_open(path, ORDERSET_FILE_READ, &log))
+        return 0;
+    same = shows_list(log, &list);
+    orderset_log_file_close(log);
+    return same;
+}
+
+/* A create that is killed at any moment leaves a whole new file, or none of that name. */
+static void kill_create(uint32_t (*create_it)(void)) {
+    int ends[2];
+    uint32_t begun;
+    expect(pipe2(ends, O_CLOEXEC) == 0, "a pipe");
+    unlink(path);
+    fflush(stdout);
+    const pid_t child = fork();
+    expect(child >= 0, "a process");
+    if (child == 0) {
+        prctl(PR_SET_PDEATHSIG, SIGKILL);
+        tell(ends[1], 0);
+        _exit(create_it() != 0);
+    }
+    expect(hears(ends[0], &begun), "the process begins");
+    usleep((useconds_t)below(16u << below(9)));
+    kill(child, SIGKILL);
+    expect(waitpid(child, NULL, 0) == child, "the process ends");
+    close(ends[0]);
+    close(ends[1]);
+    const int found = access(path, F_OK) == 0;
+    expect(!found || is_new(), "a create that is killed leaves a whole new file or none");
+    made += (uint64_t)found;
+    not_made += (uint64_t)!found;
+}
+
+static void kill_creates(uint32_t (*create_it)(void)) {
+    char command[2 * PATH];
+    for (int i = 0; i < CREATES; i++)
+        kill_create(create_it);
+    unlink(path);
+    snprintf(command, sizeof command, "rm -f '%s'.new-??????", path);
+    expect(system(command) == 0, "what is left over is removed");
 }
 
 static void begin(uint32_t (*create_it)(void)) {
@@ -320,6 +389,7 @@ static void begin(uint32_t (*create_it)(void)) {
     unlink(shadow);
     unlink(events);
     unsetenv("DISK_SHADOW");
+    kill_creates(create_it);
     setenv("DISK_LOG", events, 1);
     expect(create_it() == 0, "a file is made: %s", strerror(errno));
     check_new_file();
@@ -328,6 +398,7 @@ static void begin(uint32_t (*create_it)(void)) {
     read_all(path, image);
     write_all(shadow, image);
     setenv("DISK_SHADOW", shadow, 1);
+    check_pages();
     under_way = 0;
 }
 
@@ -368,7 +439,8 @@ int main(int count, char **word) {
     begin(create_log);
     storm(take_log);
     printf("%" PRIu64 " kills, %" PRIu64 " cuts and %" PRIu64 " failed syncs, %" PRIu64 " in an open and %" PRIu64
-           " in a call, %" PRIu64 " of these done, %" PRIu64 " changes and messages answered: nothing lost (%.0f s)\n",
-           kills, cuts, failures, in_open, struck, done_unanswered, answered, seconds());
+           " in a call, %" PRIu64 " of these done, %" PRIu64 " changes and messages answered; creates killed %" PRIu64
+           " times, %" PRIu64 " of these done: nothing lost (%.0f s)\n",
+           kills, cuts, failures, in_open, struck, done_unanswered, answered, made + not_made, made, seconds());
     return failures == 0 || struck == 0 || in_open == 0;
 }

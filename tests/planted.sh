@@ -910,6 +910,31 @@ fault file 'a create that fails leaves its file' $handle '/unlink\(fresh\);/d' '
 fault file 'create takes the place of a file' $handle \
     's/if \(lstat\(path, \&found\) == 0\)/if (lstat(path, \&found) == 1)/; s/if \(errno != ENOENT \|\| asp/if (asp/
      s/RENAME_NOREPLACE/0/' 'NOT SO: create where a file is gives 1012'
+fault file 'a rename takes the place of a file' $handle 's/RENAME_NOREPLACE/0/' 'NOT SO: create beside another gives 1012'
+fault file 'a file made meanwhile is an error of the system' $handle 's/number = errno == EEXIST \?/number = errno == 0 ?/' \
+    'NOT SO: create beside another gives 1012'
+fault file 'no link where the rename is not there' $handle 's/if \(errno != EINVAL \&\& errno != ENOSYS\)/if (errno)/' \
+    'NOT SO: create beside another gives 1012'
+fault file 'the other name is left beside the link' $handle 's/link\(fresh, path\) \|\| unlink\(fresh\)/link(fresh, path)/' \
+    'NOT SO: a link and no other name is left'
+fault file 'a create without a descriptor leaves its file' $handle 's/else if \(made >= 0\)/else if (made == -2)/' \
+    'NOT SO: create without a descriptor leaves nothing'
+fault file 'a create is refused by a signal' $handle '/^static int extend/,/^}/s/while \(errno == EINTR\)/while (0)/' \
+    'NOT SO: create gives 0'
+fault file 'an open is refused by a signal' $handle 's/while \(failed \&\& errno == EINTR\)/while (0)/' 'NOT SO: an open gives 0'
+fault file 'an open extends a file' $handle 's/FALLOC_FL_KEEP_SIZE/0/' \
+    'NOT SO: an open asks for blocks and keeps the length'
+fault file 'blocks are asked for before the header is read' $handle \
+    '/^static uint32_t look_at_header/,/^}/s/if \(a->mode != ORDERSET_FILE_WRITE\)/if (a)/' \
+    'NOT SO: for a file that is no set no blocks are asked'
+fault file "a failed sync of recovery's stores is not told" $handle \
+    's/return persist\(a, at, value, count\) \? ORDERSET_FILE_SYSTEM : ORDERSET_FILE_OK;/return persist(a, at, value, count), 0;/' \
+    'NOT SO: 4 syncs of an open fail alone: 3'
+fault file 'a failed sync of the directory is not told' $handle \
+    's/directory < 0 \|\| fsync\(directory\)/directory < 0 || (fsync(directory), 0)/' 'NOT SO: 4 syncs of an open fail alone: 2'
+fault file 'a call uses 32 KB of stack' $handle \
+    '/^uint32_t orderset_file_next\(/a\    volatile char deep[32768];\n    deep[0] = 0;' \
+    'NOT SO: no call needs more than 16 KB of stack'
 fault file 'any bytes are a log' $handle 's/if \(mark > 1\)/if (mark > UINT64_MAX - 1 \&\& mark < 1)/' \
     'NOT SO: a log with a mark of 2 gives 1018'
 fault file 'an inspection opens void slots' $handle \
@@ -949,7 +974,7 @@ fault file_storm 'stores are made and not flushed' $handle \
     's/: orderset_persist_list\(a->bytes, a->length, at, value, count, line_flush\(a\)\)/: (orderset_store_list(a->bytes, at, value, count), 0)/' \
     'LOST (orders|message|an open)'
 fault file_storm 'the stores of the last key of a basket are not made' $handle \
-    's/ORDERSET_BASKET_STORES\(count\)/ORDERSET_BASKET_STORES(count - 1)/' 'LOST orders'
+    's/ORDERSET_BASKET_STORES\(count\)/ORDERSET_BASKET_STORES(count - 1)/' 'LOST (orders|a call)'
 fault file_storm 'one store of an append is not made' $handle \
     's/persist\(\&log->area, log->at, log->value, log->answer\[ORDERSET_LOG_COUNT\]\)/persist(\&log->area, log->at, log->value, log->answer[1] - 1)/' \
     'LOST (message|an append|an open)'
@@ -968,6 +993,12 @@ fault file_kills 'an open does not sync the directory' $handle \
 fault file_kills 'an open does not make the file durable' $handle \
     's/if \(fsync\(a->file\) \|\| /if (/; s/\? orderset_persist_image_file\(a->bytes, a->length\)/? 0/' \
     'NOT SO: (after [0-9]+ kills|an open syncs the file)'
+fault file_kills 'an open does not write the pages again' $handle \
+    's/\? orderset_persist_image_file\(a->bytes, a->length\)/? 0/' \
+    'NOT SO: an open after a failed sync writes every page again'
+fault file_kills 'a new file has its name before it is whole' $handle \
+    's/number = format\(file, length, layout\);/number = give_name(fresh, path) ? 9 : (usleep(3000), format(file, length, layout));/
+     s/if \(!number \&\& give_name\(fresh, path\)\)/if (0)/' 'NOT SO: a create that is killed leaves a whole new file or none'
 fault file_kills 'a failed sync is answered as done' $handle 's/^    if \(!failed\)/    if (failed < 2)/' 'NOT SO: '
 fault file_kills 'a handle goes on after a failed sync' $handle '/a->stopped = 1;/d' 'NOT SO: .* refuses every call'
 
