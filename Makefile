@@ -149,7 +149,7 @@ $(OUT)/recorder: examples/recorder.c $(HEADERS) $(LOG_ARCHIVE) | $(OUT)
 # a new file of four cells and two starts on it: the last three messages are there
 recorder: $(OUT)/recorder
 	rm -f $(OUT)/messages.log
-	dd if=/dev/zero of=$(OUT)/messages.log bs=448 count=4 conv=fsync status=none
+	dd if=/dev/zero of=$(OUT)/messages.log bs=448 count=4 conv=excl,fsync status=none
 	printf '%s\n' 'new 7 100' 'acknowledge 7' 'fill 7 40' | $(OUT)/recorder $(OUT)/messages.log
 	printf '%s\n' 'fill 7 60' 'new 8 5' | $(OUT)/recorder $(OUT)/messages.log
 	$(OUT)/recorder $(OUT)/messages.log list

@@ -204,14 +204,25 @@ static void lock(int file, const char *path, int how) {
     fail(path);
 }
 
+/* Where another file got the name before the lock was there, that one is opened. */
+static int open_locked(const char *path, int writing, struct stat *found) {
+    for (;;) {
+        struct stat named;
+        int file = open(path, (writing ? O_RDWR : O_RDONLY) | O_CLOEXEC | O_NONBLOCK);
+        if (file < 0)
+            fail(path);
+        lock(file, path, writing ? LOCK_EX : LOCK_SH);
+        if (fstat(file, found))
+            fail(path);
+        if (stat(path, &named) == 0 && named.st_dev == found->st_dev && named.st_ino == found->st_ino)
+            return file;
+        close(file);
+    }
+}
+
 static int open_image(const char *path, int writing, size_t *length) {
     struct stat found;
-    int file = open(path, (writing ? O_RDWR : O_RDONLY) | O_CLOEXEC | O_NONBLOCK);
-    if (file < 0)
-        fail(path);
-    lock(file, path, writing ? LOCK_EX : LOCK_SH);
-    if (fstat(file, &found))
-        fail(path);
+    const int file = open_locked(path, writing, &found);
     if (!S_ISREG(found.st_mode))
         stop(FAILED, "%s: not a file", path);
     *length = (size_t)found.st_size;

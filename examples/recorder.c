@@ -6,13 +6,14 @@
  * FILE is K cells of zeros, K from 2 to 1,000, and keeps K - 1 messages of 1 to 384 bytes. A new one is made durable
  * before its first use:
  *
- *     dd if=/dev/zero of=FILE bs=448 count=K conv=fsync && sync
+ *     dd if=/dev/zero of=FILE bs=448 count=K conv=excl,fsync && sync
  *
  * A line that is empty or too long is refused with its number, 29, and the next one is read. A last line without its
  * end is not appended, as its rest may be missing. On a file system on non-volatile memory (DAX) an append is up to
  * seven line flushes and one fence; on any other it is msync, the fallback. One recorder writes at a time. What list
- * shows was perhaps not durable yet if the last writer was killed. Status 0: all done. 1: something failed; the message
- * that was not answered is there whole or not at all.
+ * shows was perhaps not durable yet if the last writer was killed. Status 0: all read; some perhaps refused (no 29), a
+ * last line without its end perhaps left out. 1: something failed; the message that was not answered is there whole or
+ * not at all. 2: wrong arguments.
  *
  * The calls of the archive are proved; this program, the headers and what lies below them are not. */
 #define _GNU_SOURCE
@@ -25,6 +26,7 @@
 #include <sys/file.h>
 #include <sys/mman.h>
 #include <sys/stat.h>
+#include <unistd.h>
 
 #include "orderset_log.h"
 #include "orderset_persist.h"
@@ -44,12 +46,24 @@ static _Noreturn void fail(const char *what) {
 
 /* ---- a start */
 
+/* Where another file got the name before the lock was there, that one is opened. The descriptor stays open: the lock
+ * goes with it. */
+static int open_locked(int writing, struct stat *found) {
+    for (;;) {
+        struct stat named;
+        int file = open(path, (writing ? O_RDWR : O_RDONLY) | O_CLOEXEC);
+        if (file < 0 || flock(file, (writing ? LOCK_EX : LOCK_SH) | LOCK_NB) || fstat(file, found))
+            fail("open");
+        if (stat(path, &named) == 0 && named.st_dev == found->st_dev && named.st_ino == found->st_ino)
+            return file;
+        close(file);
+    }
+}
+
 static void open_area(int writing) {
     const int access = PROT_READ | (writing ? PROT_WRITE : 0);
     struct stat found;
-    int file = open(path, (writing ? O_RDWR : O_RDONLY) | O_CLOEXEC); /* stays open: the lock goes with it */
-    if (file < 0 || flock(file, (writing ? LOCK_EX : LOCK_SH) | LOCK_NB) || fstat(file, &found))
-        fail("open");
+    const int file = open_locked(writing, &found);
     length = (size_t)found.st_size;
     cells = length / ORDERSET_LOG_CELL_BYTES;
     /* a store to a hole of the file, on a full disk, would end the program */
@@ -113,13 +127,30 @@ static void append_lines(void) {
         fail("standard input");
 }
 
+/* A message may have any bytes, also zero. */
+static void list_one(uint64_t number) {
+    printf("%" PRIu64 ": ", number);
+    fwrite(area + answer[ORDERSET_LOG_OFFSET], 1, answer[ORDERSET_LOG_LENGTH], stdout);
+    putchar('\n');
+}
+
 static void list(uint64_t last) {
     for (uint64_t number = last < cells ? 1 : last - cells + 2; number <= last; number++)
         if (log_read(area, length, number, answer) == ORDERSET_LOG_OK)
-            printf("%" PRIu64 ": %.*s\n", number, (int)answer[ORDERSET_LOG_LENGTH],
-                   (const char *)area + answer[ORDERSET_LOG_OFFSET]);
+            list_one(number);
     if (fflush(stdout))
         fail("standard output");
+}
+
+/* A standard stream that is closed must not become the area's descriptor: answers would be written to the area. */
+static void hold_streams(void) {
+    int file;
+    do
+        file = open("/dev/null", O_RDONLY | O_CLOEXEC);
+    while (file >= 0 && file <= STDERR_FILENO);
+    if (file < 0)
+        fail("/dev/null");
+    close(file);
 }
 
 int main(int count, char **word) {
@@ -129,6 +160,7 @@ int main(int count, char **word) {
         return 2;
     }
     path = word[1];
+    hold_streams();
     start(!listing);
     if (listing)
         list(answer[ORDERSET_LOG_NUMBER]);

@@ -1,4 +1,4 @@
-/* orderset.h: the persistent order set for C and C++ (liborderset_c.a, x86-64 Linux).
+/* orderset.h: the persistent order set for C and C++ (installed: -lorderset; built: liborderset_c.a; x86-64 Linux).
  *
  * A map from a 64-bit key to a value of 0 to 80 bytes, kept in an image of 128 * (N + 1) bytes, N from 2 to 65,535. The
  * image is all that a restart needs: orderset_recover rebuilds the index from it. Nothing here allocates, keeps a
@@ -30,8 +30,9 @@
  *
  * How to start: recovery takes what it reads as what stands in the memory. After a power cut that is so. After anything
  * else (the process was killed, a call of orderset_persist.h failed, or nobody knows) stores may be seen that are not
- * durable; then orderset_recover comes after the whole image was made durable (orderset_persist_image), or a later
- * power cut can take an order that was answered. Do so at every start that will write.
+ * durable; then orderset_recover comes after the whole image was made durable (orderset_persist_image or, in a file
+ * with msync, orderset_persist_image_file), or a later power cut can take an order that was answered. Do so at every
+ * start that will write.
  *
  * After recovery: it hands out at most ORDERSET_OPENINGS stores, one for each void record, a record of a basket that a
  * cut left incomplete (below). They are made, their lines are flushed and a fence is passed before any other call:
@@ -96,10 +97,12 @@
  *
  * Threads: the set has no locks. Gets and locates may run beside each other, each with an output and an answer of its
  * own, and beside nothing else: from the start of an insert, a replace, a remove, a basket, a step of the book, a
- * recovery or a play until its stores are made, no other call runs; nor while slots are counted with the set's own heads
- * and next. The questions about a line may run at any time on a
- * copy of the line; a copy that is taken while another thread or process stores is taken from word 7 down to word 0
- * (see examples/sender.c).
+ * recovery or a play until its stores are made, flushed and fenced, no other call runs; nor while slots are counted
+ * with the set's own heads and next. The questions about a line may run at any time on a copy of the line; a copy that
+ * is taken while another thread or process stores is taken from word 7 down to word 0 (see examples/sender.c).
+ *
+ * Processes: the index is one process's. No second process writes or recovers an image in use; after fork only one of
+ * the two goes on, the other calls nothing on it. No call from a signal handler that can interrupt one.
  *
  * How many heads: a call walks along the chain of its key's head, so with B near N chains are short. Keys k * B all
  * have one head, and are one chain: with N = 65,535, B = 65,536 and 60,000 keys k * 65,536 a get took 280 microseconds,
@@ -215,7 +218,7 @@ enum orderset_refusal {
                                        than that number (0 meaning one), or two have one key */
     ORDERSET_ALL_LIVE = 8,          /* no slot is spare */
     ORDERSET_NO_VERSION = 9,        /* the next version is 2^63 or more */
-    ORDERSET_VALUE_TOO_LONG = 10,   /* the value exceeds 80 bytes */
+    ORDERSET_VALUE_TOO_LONG = 10,   /* the value exceeds 80 bytes, in layout 2 72 */
     ORDERSET_BAD_INDEX = 11,        /* the key's chain or the reuse chain is not one of this image, or the live count is
                                        below the number of keys that are removed */
     ORDERSET_OUTPUT_TOO_SHORT = 13, /* the output is shorter than the value; in a basket: a list is shorter than its
@@ -229,7 +232,8 @@ enum orderset_refusal {
     ORDERSET_INSERT_HELD = 20,      /* in insert: the key is held */
     ORDERSET_NOT_HELD = 21,         /* in replace: the key is not held; in a basket also in remove */
     ORDERSET_BAD_KIND = 22,         /* the kind of a valid slot is neither put nor remove */
-    ORDERSET_BAD_LENGTH = 23,       /* the length of a valid slot is over 80, or a remove's is not 0; in get: over 80 */
+    ORDERSET_BAD_LENGTH = 23,       /* the length of a valid slot is over 80, in layout 2 over 72, or a remove's is
+                                       not 0; in get: over 80, in layout 2 over 72 */
     ORDERSET_BAD_TAIL = 24,         /* a value byte of a valid slot past its length is not zero */
     ORDERSET_BROKEN_SLOTS = 25,     /* more than eight slots are broken or void: no power cut leaves that; look at the
                                        memory, and whether every start made the image durable */
@@ -242,8 +246,9 @@ enum orderset_refusal {
 };
 
 /* Makes an empty image of the bytes, in layout ORDERSET_LAYOUT or ORDERSET2_LAYOUT (orderset2.h); word 1 of the image
- * tells which. answer: {ORDERSET_GIVEN, N}. Refusals: 1, 32. A cut during format is not covered: format before the first
- * use, and make the image durable before it gets its name. */
+ * tells which. It looks at nothing that is there: all orders in the bytes are gone. Never call it at a start. answer:
+ * {ORDERSET_GIVEN, N}. Refusals: 1, 32. A cut during format is not covered: format before the first use, and make the
+ * image durable before it gets its name. */
 ORDERSET_CALL uint32_t orderset_format(uint8_t *image, size_t image_length, uint64_t layout,
                                        uint64_t answer[ORDERSET_FORMAT_ANSWER]);
 

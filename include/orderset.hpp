@@ -6,8 +6,11 @@
 //     auto set = orderset::file::open("orders.img", orderset::mode::write);
 //     if (!set) { std::fprintf(stderr, "%s\n", set.text()); return 1; }
 //     if (auto done = set->book_new(7, 100); !done) ...done.number(), done.text()
-//     for (const orderset::record &order : set->orders()) ...order.key.low, order.value
+//     auto all = set->orders();
+//     for (const orderset::record &order : all) ...order.key.low, order.value
+//     if (!all.result()) ...the iteration was refused: all.result().text()
 //
+// const does not mean that two threads may call it at once: one thread at a time for each file, as for each handle.
 // A file is closed by its destructor. One that was moved from or not opened holds no file; no call may follow but open
 // (by assignment), is_open and the destructor.
 #ifndef ORDERSET_HPP

@@ -1,5 +1,5 @@
-/* orderset2.h: the persistent order set for C and C++ in layout 2, whose keys have 128 bits (liborderset2_c.a, beside
- * liborderset_c.a; x86-64 Linux).
+/* orderset2.h: the persistent order set for C and C++ in layout 2, whose keys have 128 bits (installed: -lorderset;
+ * built: liborderset2_c.a, linked before liborderset_c.a; x86-64 Linux).
  *
  * What orderset.h says holds here too, with these differences:
  *   key      two words, low + 2^64 * high: 16-byte order numbers. Both words are compared; the key belongs to head

@@ -1,8 +1,9 @@
 /* orderset_file.h: the order set and the message log in files, each behind one handle, for C and C++
- * (src/orderset_file.c with liborderset_c.a, liborderset2_c.a, liblog_c.a and -pthread; x86-64 Linux). A handle does
- * what orderset.h, orderset2.h, orderset_log.h and orderset_persist.h ask of their caller: it locks, maps and recovers
- * the file, keeps the index, and makes the stores of every call durable before the call returns. Those who bring their
- * own memory use these headers. The calls of the archives are proved; this header and its source are not.
+ * (installed: -lorderset; built: src/orderset_file.c with liborderset2_c.a, liborderset_c.a, liblog_c.a and -pthread;
+ * x86-64 Linux). A handle does what orderset.h, orderset2.h, orderset_log.h and orderset_persist.h ask of their caller:
+ * it locks, maps and recovers the file, keeps the index, and makes the stores of every call durable before the call
+ * returns. Those who bring their own memory use these headers. The calls of the archives are proved; this header and
+ * its source are not.
  *
  *     struct orderset_file *set;
  *     uint32_t number = orderset_file_create("orders.img", 1000, 1);       once: room for 999 open orders, layout 1
@@ -28,17 +29,21 @@
  * recovery hands out, all before it returns: so nothing that was answered is lost by a power cut, nor by a kill of the
  * process with the power on and a cut after it. For the name it syncs the directory, as create does: both need the
  * right to read the directory. On a file system on non-volatile memory (MAP_SYNC) a call is line flushes and one fence;
- * on any other it is msync, the fallback, as good as the device.
+ * on any other it is msync, the fallback, as good as the device, which must not tear a 64-byte line.
  *
  * Locks: one handle writes at a time, alone, in all processes; another open is refused by ORDERSET_FILE_LOCKED. A
  * handle that only reads copies the file under a shared lock, which ends with the open; it shows the file as it was
  * then, writes nothing to it, and keeps no writer out for longer than that. After a kill or a failed sync it may show a
  * call that had no answer and is not durable yet. An open tries for a fifth of a second; where another file gets the
  * name meanwhile, that one is opened. The lock is flock: a program that does not ask for it is not held off. A file
- * that is cut short while it is open ends the process (SIGBUS), as does a mapped page that cannot be read.
+ * that is cut short while it is open ends the process (SIGBUS), as does a mapped page that cannot be read, and a full
+ * disk on btrfs, zfs or xfs with shared blocks (reflink). A file that is removed, or over which another is renamed,
+ * while it is open is still written and answered; all of that is lost at close.
  *
  * After a failed sync the call returns ORDERSET_FILE_NOT_DURABLE: it is perhaps done and perhaps not. Every later call
- * is refused by ORDERSET_FILE_STOPPED. Close, open again, and ask whether it was done.
+ * is refused by ORDERSET_FILE_STOPPED. Close, open again, and ask whether it was done. new, insert: the key is held.
+ * acknowledge: the state. fill: compare `filled` with what it was before (absent: filled in full). withdraw, remove:
+ * absent. replace: compare the value. append: the last number and its bytes. Never just repeat a fill or an append.
  *
  * Threads: one thread at a time for each handle; two handles know nothing of each other. Recovery needs up to 3 MiB of
  * stack and has it in a thread of its own while an open lasts, with all signals blocked; no call here needs more than
@@ -114,6 +119,7 @@ enum orderset_slot_class {
     ORDERSET_SLOT_UNKNOWN = 6  /* a whole record of a file that recovery refuses */
 };
 
+/* In layout 2 put the part that varies most into low: keys that share it share a chain. */
 struct orderset_key {
     uint64_t low, high;
 };
@@ -131,10 +137,11 @@ struct orderset_record {
     uint32_t slot;
     uint32_t slot_class; /* enum orderset_slot_class */
     uint32_t fault;      /* what recovery refuses of this slot by itself: 5, 6, 22, 23 or 24; else 0 */
-    uint32_t records;    /* of the basket that wrote it, 2 to 8; 0: it was written alone */
+    uint32_t records;    /* of the basket that wrote it, 2 to 8; 0: it was written alone; or what stands there, of a
+                            slot with a fault or that is broken */
     struct orderset_key key;
     uint64_t version;    /* of line A */
-    uint64_t length;     /* at most 80 */
+    uint64_t length;     /* at most 80, in layout 2 72; of fault 23 cut down to that */
     uint8_t value[ORDERSET_VALUE_MAX]; /* zeros from length on */
 };
 
@@ -182,7 +189,7 @@ const char *orderset_file_text(uint32_t number);
 ORDERSET_FILE_CALL uint32_t orderset_file_create(const char *path, uint32_t slots, uint32_t layout);
 
 /* Opens a file in a mode of enum orderset_file_mode; *set is null where it is not 0. Refusals: BAD_MODE, SYSTEM,
- * LOCKED, NOT_REGULAR and those of orderset_recover: 1, 2 and 3 mean that the file is no set, or was cut short or
+ * NOT_REGULAR, LOCKED and those of orderset_recover: 1, 2 and 3 mean that the file is no set, or was cut short or
  * extended. Where recovery names a slot, INSPECT tells it. B is the largest prime up to N. */
 ORDERSET_FILE_CALL uint32_t orderset_file_open(const char *path, uint32_t mode, struct orderset_file **set);
 
@@ -203,19 +210,22 @@ ORDERSET_FILE_CALL uint32_t orderset_file_basket(struct orderset_file *set, cons
                                                  size_t count);
 
 /* Copies the value to the front of the output, which has room bytes; 80 are always enough. *length is the value's; of
- * ABSENT and of a refusal it is 0. Refusals: STOPPED, WIDE_KEY, 13. */
+ * ABSENT and of a refusal it is 0. Refusals: STOPPED, WIDE_KEY, 11, 23, 13; 1 to 4 where the mapped header was
+ * overwritten. */
 ORDERSET_FILE_CALL uint32_t orderset_file_get(struct orderset_file *set, struct orderset_key key, void *output,
                                               size_t room, size_t *length);
 
 /* Tells where the key stands; ABSENT and a refusal leave zeros. slot and version may be null. Refusals: STOPPED,
- * WIDE_KEY. */
+ * WIDE_KEY, 11; 1 to 4 where the mapped header was overwritten. */
 ORDERSET_FILE_CALL uint32_t orderset_file_locate(struct orderset_file *set, struct orderset_key key, uint32_t *slot,
                                                  uint64_t *version);
 
-/* The slots that the last insert, replace, remove, get or locate compared: docs/HEADS.md. */
+/* The slots that the last insert, replace, remove, get or locate (not a step of the book or a basket) compared:
+ * docs/HEADS.md. */
 uint32_t orderset_file_compared(const struct orderset_file *set);
 
-/* The steps of the book. Refusals as in insert; 17, 18, 19; a second acknowledge gives ALREADY. */
+/* The steps of the book. Refusals: READ_ONLY, STOPPED, WIDE_KEY, 11 (chain), 17 of new or 18 of the others, 19 of new
+ * and fill, 11 (reuse), 28, 9; NOT_DURABLE. A second acknowledge gives ALREADY. */
 ORDERSET_FILE_CALL uint32_t orderset_file_book_new(struct orderset_file *set, struct orderset_key key,
                                                    uint64_t quantity);
 ORDERSET_FILE_CALL uint32_t orderset_file_book_acknowledge(struct orderset_file *set, struct orderset_key key);
@@ -229,7 +239,7 @@ int orderset_file_order(const void *value, size_t length, struct orderset_order 
 /* The next open order by rising slot, from all zeros on; END after the last one, and then the record is all zeros. Of
  * it only the slot is read: it says where to go on. Changes may come between two steps. A key that is held throughout
  * and is not changed comes once; one that is inserted, replaced or removed meanwhile may come, with the value it has
- * then, once, twice or not at all. Refusals: STOPPED. */
+ * then, once, twice or not at all. Refusals: STOPPED; 1, 2, 3, 4 or 11 where the file or the index was overwritten. */
 ORDERSET_FILE_CALL uint32_t orderset_file_next(struct orderset_file *set, struct orderset_record *record);
 
 /* What slot 1 to N holds, whatever its class; of one that is broken or empty, what stands in its words. Refusals:
@@ -249,7 +259,7 @@ int orderset_file_errno(const struct orderset_file *set);
  * EXISTS, SYSTEM as in orderset_file_create. */
 ORDERSET_FILE_CALL uint32_t orderset_log_file_create(const char *path, uint32_t cells);
 
-/* As orderset_file_open. Refusals: BAD_MODE, SYSTEM, LOCKED, NOT_REGULAR, 30, NOT_A_LOG (a file of the set is none). */
+/* As orderset_file_open. Refusals: BAD_MODE, SYSTEM, NOT_REGULAR, LOCKED, 30, NOT_A_LOG (a file of the set is none). */
 ORDERSET_FILE_CALL uint32_t orderset_log_file_open(const char *path, uint32_t mode, struct orderset_log_file **log);
 
 void orderset_log_file_close(struct orderset_log_file *log);

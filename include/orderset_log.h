@@ -1,4 +1,4 @@
-/* orderset_log.h: the raw message log for C and C++ (liblog_c.a, x86-64 Linux).
+/* orderset_log.h: the raw message log for C and C++ (installed: -lorderset; built: liblog_c.a; x86-64 Linux).
  *
  * A list of messages of 1 to 384 bytes, numbered from 1, of which the last K - 1 can be read. It is kept in an area of
  * K cells of 448 bytes, K from 2 to 1,000. Message s stands in cell s % K, its bytes unbroken: no mark is between them.
@@ -21,7 +21,8 @@
  * are made and fenced before the next append. If they are not finished, log_recover comes again.
  *
  * How to start: as in orderset.h, recovery takes what it reads as what stands in the memory. After anything but a power
- * cut the whole area is made durable first (orderset_persist_image).
+ * cut the whole area is made durable first (orderset_persist_image or, in a file with msync,
+ * orderset_persist_image_file).
  *
  * What a call returns: 0, or the number of its refusal (enum orderset_log_refusal). A refused call leaves everything
  * that it was lent as it was.
@@ -30,7 +31,15 @@
  * through one pointer must not overlap what it is lent through any other; two regions that are only read may overlap.
  *
  * Threads: there are no locks. Reads may run beside each other, each with an answer of its own, and beside nothing
- * else: from the start of an append or a recovery until its stores are made, no other call runs.
+ * else: from the start of an append or a recovery until its stores are made, flushed and fenced, no other call runs.
+ *
+ * Processes: recovery and appends of an area are one process's. No second process writes or recovers an area in use;
+ * after fork only one of the two goes on, the other calls nothing on it. No call from a signal handler that can
+ * interrupt one.
+ *
+ * Stack, measured: each call needs below 1 KB, whatever K is.
+ *
+ * Numbers: the number of an append that a cut made absent comes again, with another message.
  *
  * What is proved: for any area, any message and any lent lists each function returns and leaves what the definition
  * says (crates/log_exports/specs/Call), reads and writes nothing outside what it is lent, and ends. Over every list of
@@ -91,7 +100,8 @@ ORDERSET_CALL uint32_t log_recover(const uint8_t *area, size_t area_length, uint
                                    uint64_t *value, size_t value_length, uint64_t answer[ORDERSET_LOG_ANSWER]);
 
 /* Finds the message with this number. answer: {where its bytes begin in the area; how many they are}: the message is
- * area[offset] to area[offset + length - 1]. Nothing is copied. Refusals: 30, 31. */
+ * area[offset] to area[offset + length - 1]. Nothing is copied. The bytes stay until message number + K is appended:
+ * copy them before. Refusals: 30, 31. */
 ORDERSET_CALL uint32_t log_read(const uint8_t *area, size_t area_length, uint64_t number,
                                 uint64_t answer[ORDERSET_LOG_ANSWER]);
 

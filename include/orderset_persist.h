@@ -15,6 +15,9 @@
  *         orderset_persist_list(image, length, at, value, ORDERSET_BASKET_STORES(items), flush) == 0)
  *         ...answer the client
  *
+ * A file is mapped with MAP_SHARED_VALIDATE | MAP_SYNC. Where that mmap fails, the calls with flush make nothing
+ * durable although they return 0: use those that end in _file.
+ *
  * The image is mapped from non-volatile memory and 64-byte aligned, so that the eight words of a line are one cache
  * line. What mmap gives is; of other memory orderset_aligned tells it, and orderset_persist_image tests it. at and
  * value are as an insert, a replace, a remove or a step of the book handed them out for this image; those of

@@ -689,10 +689,18 @@ static uint64_t line_version(const uint8_t *line, int *whole) {
     return version;
 }
 
-static int is_live(const struct orderset_file *s, uint32_t slot) {
+/* Whether the slot has the value of a held key; a refusal where the file or the index was overwritten. */
+static uint32_t ask_live(const struct orderset_file *s, uint32_t slot, int *live) {
     uint64_t answer[ORDERSET_CHANGE_ANSWER] = {0};
     const struct orderset_key key = key_in(s, slot);
-    return OF_LAYOUT(s, locate, INDEX(s), key, answer) == 0 && answer[ORDERSET_SLOT] == slot;
+    const uint64_t returned = OF_LAYOUT(s, locate, INDEX(s), key, answer);
+    *live = returned == 0 && answer[ORDERSET_SLOT] == slot;
+    return ORDERSET_REFUSAL(returned);
+}
+
+static int is_live(const struct orderset_file *s, uint32_t slot) {
+    int live;
+    return ask_live(s, slot, &live) == 0 && live;
 }
 
 /* Void slots are those that recovery would open; a handle that is no inspection has opened them. */
@@ -759,11 +767,14 @@ static uint32_t slots_of(const struct orderset_file *s) {
 
 uint32_t orderset_file_next(struct orderset_file *set, struct orderset_record *record) {
     uint32_t number = refuse_read(set, (struct orderset_key){0, 0}), slot = record->slot;
+    int live = 0;
     if (number)
         return number;
     do
         slot = slot < slots_of(set) ? slot + 1 : 0;
-    while (slot && !is_live(set, slot));
+    while (slot && (number = ask_live(set, slot, &live)) == 0 && !live);
+    if (number)
+        return number;
     if (slot)
         read_slot(set, slot, record);
     else

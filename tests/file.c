@@ -575,6 +575,25 @@ static void failing_syncs(void) {
     orderset_file_close(set);
 }
 
+/* A program that asks for no lock writes to the header while the handle is open: no order is shown as the last one. */
+static void overwritten(void) {
+    const uint64_t zero = 0;
+    struct orderset_record r = {0};
+    new_set(FEW_SLOTS, 1);
+    struct orderset_file *set = open_set(WRITE);
+    gives(orderset_file_insert(set, one, "a", 1), 0, "insert");
+    gives(orderset_file_insert(set, two, "b", 1), 0, "insert");
+    gives(orderset_file_next(set, &r), 0, "next");
+    int file = open(path, O_WRONLY);
+    holds(pwrite(file, &zero, sizeof zero, 8) == sizeof zero, "the layout is overwritten");
+    gives(orderset_file_next(set, &r), ORDERSET_NO_HEADER, "next after the layout was overwritten");
+    holds(r.slot == 1 && r.key.low == 1, "a refused next leaves the record");
+    holds(pwrite(file, &zero, sizeof zero, 0) == sizeof zero, "the header is overwritten");
+    gives(orderset_file_next(set, &r), ORDERSET_NO_FORMAT, "next after the header was overwritten");
+    close(file);
+    orderset_file_close(set);
+}
+
 /* ---- void slots and damaged ones */
 
 /* A basket of three that a cut struck: one of its lines is as before. */
@@ -890,6 +909,7 @@ int main(int count, char **word) {
     no_descriptor();
     reading_only();
     failing_syncs();
+    overwritten();
     for (uint32_t layout = 1; layout <= 2; layout++) {
         void_slots(layout);
         openings_not_synced(layout);

@@ -103,7 +103,7 @@ def linked(folder, source, output):
         so(needed == (how == "shared"), f"a {how} program needs the library or not", dynamic)
         seen = "".join(run(f"./{how}", cwd=work, env={"LD_LIBRARY_PATH": f"{place}/lib"}) for _ in range(2))
         so(seen == output, f"first.c, {how}, prints what README says", seen)
-        os.remove(f"{work}/orders.img")
+        os.remove(f"{work}/first.img")
 
 
 # ---- README
@@ -139,7 +139,7 @@ def as_printed(folder):
     so(len(expected) > 2 and expected.count("") < len(expected), "README has commands with what they print", expected)
     for i, text in enumerate(expected):
         so(i < len(seen) and (seen[i] == text or text == ""), f"the commands print what README says:\n{text}", seen)
-    so(os.path.exists(f"{home}/first/orders.svg"), "README's picture is made")
+    so(os.path.exists(f"{home}/first/first.svg"), "README's picture is made")
 
 
 # ---- documents beside the headers

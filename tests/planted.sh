@@ -949,6 +949,9 @@ fault file 'bytes past a value are not looked at' $handle 's/^        if \(value
     'NOT SO: an inspection tells the slot'
 fault file 'an iteration leaves out the last slot' $handle 's/slot = slot < slots_of\(set\)/slot = slot + 1 < slots_of(set)/' \
     'NOT SO: .* shows? what was answered'
+fault file 'a refused step is taken as the end' $handle \
+    '/^static uint32_t ask_live/,/^}/s/return ORDERSET_REFUSAL\(returned\);/return 0;/' \
+    'NOT SO: next after the layout was overwritten gives 3'
 fault file 'hidden puts are counted as live' $handle 's/is_live\(s, slot\) \? ORDERSET_SLOT_LIVE : ORDERSET_SLOT_HIDDEN/0/' \
     'NOT SO: .* (shows what was answered|count the slots)'
 fault file 'the heads are as many as the slots' $handle 's/if \(divisor \* divisor > heads\)/if (heads)/' \
