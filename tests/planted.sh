@@ -1045,6 +1045,8 @@ fault rust 'a set is shared by threads' $rust/set.rs 's/^unsafe impl Send for Se
 fault rust 'a file stays open' $rust/set.rs 's/unsafe \{ sys::orderset_file_close\(self.handle.as_ptr\(\)\) \}//' 'number: 1011'
 fault rust 'an iteration leaves out the first order' $rust/set.rs 's/^        orders.step\(\)\?;/&&/' \
     'NOT SO: .* leaves the plain map'
+fault rust 'a refused step is taken as the end' $rust/set.rs 's/self.refused = Some\(error\);/let _ = error;/' \
+    'NOT SO: it is refused'
 fault rust 'more than eight items of a basket are cut off' $rust/set.rs 's/if items.len\(\) > lent.len\(\) \{ 0 \}/if items.len() > lent.len() { 8 }/' \
     'NOT SO: '
 fault rust 'the stores of the last key of a basket are not made' $handle \
