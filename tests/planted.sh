@@ -678,6 +678,8 @@ fault log_kills 'a message is answered before it is durable' $recorder \
     '/^static void append_line\(/,/^}/{s/^ +make_durable\(\);//; s/^}/    usleep(3000), make_durable();\n}/}' \
     'NOT SO: the last message answered'
 fault log_kills 'no lock' $recorder 's/flock\(file, .* \| LOCK_NB\)/0/' 'NOT SO: a second recorder is refused'
+fault log_kills 'the file becomes the output' $recorder 's/^    hold_streams\(\);/    (void)hold_streams;/' \
+    'NOT SO: a recorder without an output fails'
 fault log_kills 'a long line is cut short' $recorder \
     's/\(const uint8_t \*\)line, size,/(const uint8_t *)line, size > 384 ? 384 : size,/' \
     "NOT SO: the recorder answers 'no 29'"
