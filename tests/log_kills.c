@@ -1,6 +1,7 @@
 /* kill -9 of the recorder under load, with a restart each time. Every message that was answered is there, of the last
  * K - 1; the one without an answer is there whole or not at all. Empty lines and lines that are too long are refused
- * and change nothing; a second recorder is refused while one has the file, and so is a file that is no log.
+ * and change nothing; a second recorder is refused while one has the file, and so is a file that is no log. A recorder
+ * whose output is closed fails.
  *
  *     log_kills RECORDER FILE [SEED]
  */
@@ -112,12 +113,22 @@ static void run_and_kill(void) {
     check();
 }
 
+/* The answer of a recorder whose output is closed goes nowhere, and not into the file: it fails. */
+static void closed_output(void) {
+    make_file(CELL * 2);
+    const char *const words[] = {"/bin/sh", "-c", "exec \"$0\" \"$1\" >&-", recorder, path, NULL};
+    struct child c = start_child(words);
+    say(&c, "a\n");
+    expect(end_of(&c) == 1, "a recorder without an output fails");
+}
+
 int main(int count, char **word) {
     begin_chance("log_kills", count > 3 ? word[3] : NULL);
     expect(count > 2, "log_kills RECORDER FILE [SEED]");
     recorder = word[1];
     path = word[2];
     no_log_is_refused();
+    closed_output();
     for (int files = 0; files < FILES; files++) {
         cells = 2 + below(MOST - 1);
         answered = 0;

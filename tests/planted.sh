@@ -678,6 +678,8 @@ fault log_kills 'a message is answered before it is durable' $recorder \
     '/^static void append_line\(/,/^}/{s/^ +make_durable\(\);//; s/^}/    usleep(3000), make_durable();\n}/}' \
     'NOT SO: the last message answered'
 fault log_kills 'no lock' $recorder 's/flock\(file, .* \| LOCK_NB\)/0/' 'NOT SO: a second recorder is refused'
+fault log_kills 'the file becomes the output' $recorder 's/^    hold_streams\(\);/    (void)hold_streams;/' \
+    'NOT SO: a recorder without an output fails'
 fault log_kills 'a long line is cut short' $recorder \
     's/\(const uint8_t \*\)line, size,/(const uint8_t *)line, size > 384 ? 384 : size,/' \
     "NOT SO: the recorder answers 'no 29'"
@@ -1045,6 +1047,8 @@ fault rust 'a set is shared by threads' $rust/set.rs 's/^unsafe impl Send for Se
 fault rust 'a file stays open' $rust/set.rs 's/unsafe \{ sys::orderset_file_close\(self.handle.as_ptr\(\)\) \}//' 'number: 1011'
 fault rust 'an iteration leaves out the first order' $rust/set.rs 's/^        orders.step\(\)\?;/&&/' \
     'NOT SO: .* leaves the plain map'
+fault rust 'a refused step is taken as the end' $rust/set.rs 's/self.refused = Some\(error\);/let _ = error;/' \
+    'NOT SO: it is refused'
 fault rust 'more than eight items of a basket are cut off' $rust/set.rs 's/if items.len\(\) > lent.len\(\) \{ 0 \}/if items.len() > lent.len() { 8 }/' \
     'NOT SO: '
 fault rust 'the stores of the last key of a basket are not made' $handle \

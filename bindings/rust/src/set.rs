@@ -1,6 +1,6 @@
 use crate::error::{done, done_or};
 use crate::values::Bytes;
-use crate::{c_path, sys, Item, Key, Layout, Mode, Place, Record, Result, Statistics, Value};
+use crate::{c_path, sys, Error, Item, Key, Layout, Mode, Place, Record, Result, Statistics, Value};
 use std::fmt;
 use std::iter::FusedIterator;
 use std::path::Path;
@@ -125,7 +125,7 @@ impl Set {
     /// # }
     /// ```
     pub fn orders(&self) -> Result<Orders<'_>> {
-        let mut orders = Orders { set: self, at: sys::Record::NONE };
+        let mut orders = Orders { set: self, at: sys::Record::NONE, refused: None };
         orders.step()?;
         Ok(orders)
     }
@@ -167,9 +167,16 @@ impl fmt::Debug for Set {
 pub struct Orders<'a> {
     set: &'a Set,
     at: sys::Record, // the one to give next; its slot is 0 where there is none
+    refused: Option<Error>,
 }
 
 impl Orders<'_> {
+    /// Whether the iteration ended after the last order. It ends before that, with the error, where the file was
+    /// overwritten by another program meanwhile: `for order in all.by_ref() { ... }`, then `all.result()?`.
+    pub fn result(self) -> Result<()> {
+        self.refused.map_or(Ok(()), Err)
+    }
+
     fn step(&mut self) -> Result<bool> {
         // SAFETY: as in the calls of the set.
         done_or(unsafe { sys::orderset_file_next(self.set.handle.as_ptr(), &mut self.at) }, sys::END)
@@ -184,8 +191,9 @@ impl Iterator for Orders<'_> {
             return None;
         }
         let given = Record::of(&self.at);
-        if self.step().is_err() {
-            self.at = sys::Record::NONE; // the first step was not refused, and nothing has changed: this is not met
+        if let Err(error) = self.step() {
+            self.at = sys::Record::NONE;
+            self.refused = Some(error);
         }
         Some(given)
     }

@@ -1,6 +1,7 @@
 //! Files, locks, modes and errors.
 use crate::scratch::Scratch;
 use orderset::{Error, Flush, Item, Kind, Layout, Log, Mode, Set, SlotClass};
+use std::os::unix::fs::FileExt;
 use std::{fs, io, thread};
 
 fn made(name: &str, layout: Layout) -> (Scratch, Set) {
@@ -87,6 +88,21 @@ fn a_damaged_file_is_inspected() {
     assert_eq!((record.class, record.fault), (SlotClass::Unknown, 22), "NOT SO: the slot's fault");
     refused(set.get(7u64), Kind::BadKind);
     refused(set.orders(), Kind::BadKind);
+}
+
+#[test]
+fn an_iteration_tells_that_the_file_was_overwritten() {
+    let (file, mut set) = made("overwritten", Layout::One);
+    for key in 7..10u64 {
+        set.insert(key, b"").unwrap();
+    }
+    let mut all = set.orders().unwrap();
+    assert_eq!(all.by_ref().count(), 3, "NOT SO: three orders");
+    all.result().unwrap();
+    let mut all = set.orders().unwrap();
+    fs::OpenOptions::new().write(true).open(&file.0).unwrap().write_all_at(&[0; 8], 8).unwrap(); // the layout
+    assert_eq!(all.by_ref().count(), 1, "NOT SO: the order before it");
+    refused(all.result(), Kind::NoHeader);
 }
 
 #[test]
