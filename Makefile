@@ -94,7 +94,7 @@ $(OUT)/log_header: tests/log_header.cc $(HEADERS) $(ARCHIVE) $(LOG_ARCHIVE) | $(
 
 # the gateway on a simulated disk
 $(OUT)/gateway_on_disk: examples/gateway.c tests/disk.c $(HEADERS) $(ARCHIVE2) $(ARCHIVE) | $(OUT)
-	$(C) examples/gateway.c tests/disk.c $(ARCHIVE2) $(ARCHIVE) -Wl,--wrap=mmap,--wrap=msync,--wrap=fsync,--wrap=renameat2 -o $@
+	$(C) examples/gateway.c tests/disk.c $(ARCHIVE2) $(ARCHIVE) -pthread -Wl,--wrap=mmap,--wrap=msync,--wrap=fsync,--wrap=renameat2 -o $@
 
 .NOTPARALLEL:
 test: run-names run-header run-persist run-lock run-watch run-heads run-report run-report2 run-plug run-storm run-storm2 \
@@ -141,9 +141,9 @@ planted: $(ARCHIVE) $(ARCHIVE2) $(LOG_ARCHIVE) $(REPORT) $(PLUG)
 	tests/planted.sh
 
 $(OUT)/gateway $(OUT)/sender: $(OUT)/%: examples/%.c $(HEADERS) $(ARCHIVE2) $(ARCHIVE) | $(OUT)
-	$(C) examples/$*.c $(ARCHIVE2) $(ARCHIVE) -o $@
+	$(C) examples/$*.c $(ARCHIVE2) $(ARCHIVE) -pthread -o $@
 
-$(OUT)/recorder: examples/recorder.c $(HEADERS) $(LOG_ARCHIVE) | $(OUT)
+$(OUT)/recorder: examples/recorder.c $(HEADERS) include/orderset_file.h $(LOG_ARCHIVE) | $(OUT)
 	$(C) examples/recorder.c $(LOG_ARCHIVE) -o $@
 
 # a new file of four cells and two starts on it: the last three messages are there
@@ -174,8 +174,8 @@ ARCHIVES := $(ARCHIVE) $(ARCHIVE2) $(LOG_ARCHIVE)
 DESK := orderset-show orderset-check
 TO = $(DESTDIR)$(PREFIX)
 
-.PHONY: lib tools install uninstall run-tools run-install
-test: run-tools run-install
+.PHONY: lib tools install uninstall run-tools run-install run-programs
+test: run-tools run-install run-programs
 lib: $(LIB)/liborderset.a $(LIB)/liborderset.so.1
 tools: $(DESK:%=$(OUT)/%)
 
@@ -220,8 +220,13 @@ uninstall:
 		$(patsubst man/%,share/man/man3/%,$(wildcard man/*.3)) share/doc/orderset/OPERATIONS.md && rmdir share/doc/orderset
 
 # the tools on good, wrong and damaged files; and README's programs, compiled against what install leaves
-run-tools: $(DESK:%=$(OUT)/%)
+$(OUT)/preload.so: tests/preload.c | $(OUT)
+	$(C) -fPIC -shared $< -o $@
+run-tools: $(DESK:%=$(OUT)/%) $(OUT)/preload.so
 	@tests/tools.py $(OUT)
+# the examples on files that are not theirs
+run-programs: $(OUT)/gateway $(OUT)/recorder $(OUT)/preload.so
+	@tests/programs.py $(OUT)
 run-install: lib tools
 	@tests/install.py
 
@@ -242,9 +247,15 @@ $(CXX_TESTS:%=$(OUT)/%): tests/file.cc $(OUT)/chance.o $(wildcard include/*) $(L
 	$(CXX) $(STANDARD) -Wall -Wextra -Werror -Iinclude -Itests $(CXXFLAGS) $(LDFLAGS) tests/file.cc $(OUT)/chance.o \
 		$(LIB)/liborderset.a -pthread -o $@
 
-.PHONY: run-cxx run-rust $(CXX_TESTS:%=run-%)
+.PHONY: run-cxx run-rust run-standards $(CXX_TESTS:%=run-%)
 test: run-cxx run-rust
-run-cxx: $(CXX_TESTS:%=run-%)
+run-cxx: $(CXX_TESTS:%=run-%) run-standards
+$(OUT)/standards: tests/standards.cc $(wildcard include/*) $(LIB)/liborderset.a
+	$(CXX) -std=c++17 -Wall -Wextra -Werror -Iinclude $(CXXFLAGS) -c tests/standards.cc -o $@17.o
+	$(CXX) -std=c++20 -Wall -Wextra -Werror -Iinclude $(CXXFLAGS) $(LDFLAGS) tests/standards.cc $@17.o \
+		$(LIB)/liborderset.a -pthread -o $@
+run-standards: $(OUT)/standards
+	@$(OUT)/standards
 $(CXX_TESTS:%=run-%): run-%: $(OUT)/%
 	@$(OUT)/$* $* $(OUT)/$*.img $(SEED)
 run-rust: export CARGO_TARGET_DIR ?= $(CURDIR)/target/rust

@@ -35,6 +35,7 @@
 #include <errno.h>
 #include <fcntl.h>
 #include <inttypes.h>
+#include <pthread.h>
 #include <signal.h>
 #include <stdarg.h>
 #include <stdio.h>
@@ -49,7 +50,7 @@
 #include "orderset2.h"
 #include "orderset_persist.h"
 
-enum { FAILED = 1, USAGE = 2, SHOWN = 80 };
+enum { FAILED = 1, USAGE = 2, SHOWN = 80, STACK = 8 << 20 /* of recovery, in bytes */ };
 
 struct set {
     uint8_t *image;
@@ -61,6 +62,7 @@ struct set {
     uint64_t version[1];
     uint32_t voids[1], open_at[ORDERSET_OPENINGS]; /* what recovery hands out */
     uint64_t open_value[ORDERSET_OPENINGS];
+    uint64_t returned, counts[ORDERSET_COUNTS]; /* of recovery, or of the count of its slots */
     int flushes; /* the mapping is non-volatile memory */
     enum orderset_flush flush;
 };
@@ -240,7 +242,7 @@ static void map_image(struct set *s, int file, const char *path) {
     s->flush = orderset_best_flush();
 }
 
-/* A reader takes a copy: where a page cannot be read, that is an error and no signal. */
+/* A copy: where a page cannot be read, that is an error and no signal. */
 static void copy_image(struct set *s, int file, const char *path) {
     size_t done = 0;
     s->image = malloc(s->length);
@@ -306,19 +308,38 @@ static uint64_t layout_of(const struct set *s) {
     return word_of(s->image + 8);
 }
 
-/* Recovery needs up to 2.8 MB of stack; the main thread has 8 MiB, unless a limit is set (ulimit -s). */
+/* Recovery and the count of slots need up to 2.8 MB of stack, and the main thread may have less (ulimit -s). So the
+ * work is done in a thread with a stack of its own, which is waited for. */
+static void on_own_stack(void *(*work)(void *), struct set *s) {
+    pthread_attr_t attributes;
+    pthread_t thread;
+    if ((errno = pthread_attr_init(&attributes)) || (errno = pthread_attr_setstacksize(&attributes, STACK)) ||
+        (errno = pthread_create(&thread, &attributes, work, s)) || (errno = pthread_join(thread, NULL)))
+        fail("a thread with a stack of 8 MiB");
+    pthread_attr_destroy(&attributes);
+}
+
+static void *recover_image(void *set) {
+    struct set *s = set;
+    s->returned = (s->layout == ORDERSET2_LAYOUT ? orderset2_recover : orderset_recover)(
+        s->image, s->length, s->heads, s->heads_length, s->next, s->next_length, s->state, s->version, s->voids,
+        s->open_at, s->open_value);
+    return NULL;
+}
+
 static uint64_t recover(struct set *s) {
     s->next_length = s->length / ORDERSET_SLOT_BYTES;
     if (!s->heads_length)
         s->heads_length = heads_for(s->next_length - 1);
-    s->heads = calloc(s->heads_length, sizeof *s->heads);
-    s->next = calloc(s->next_length, sizeof *s->next);
+    if (!s->heads)
+        s->heads = calloc(s->heads_length, sizeof *s->heads);
+    if (!s->next)
+        s->next = calloc(s->next_length, sizeof *s->next);
     if (!s->heads || !s->next)
         fail("memory");
     s->layout = layout_of(s);
-    return (s->layout == ORDERSET2_LAYOUT ? orderset2_recover : orderset_recover)(
-        s->image, s->length, s->heads, s->heads_length, s->next, s->next_length, s->state, s->version, s->voids,
-        s->open_at, s->open_value);
+    on_own_stack(recover_image, s);
+    return s->returned;
 }
 
 /* Makes a list of stores durable: each line is flushed once, and there is one fence. */
@@ -341,14 +362,16 @@ static void open_voids(const struct set *s, const char *path, int writing) {
              path, strerror(errno));
 }
 
-/* Answers what recovery returned: its refusal with the slot that it names, or 0. */
+/* Answers what recovery returned: its refusal with the slot that it names, or 0. A copy is recovered first: no byte is
+ * written to a file that recovery refuses, and no blocks are asked for. */
 static uint64_t load(struct set *s, int file, const char *path, int writing) {
     if (s->length < ORDERSET_IMAGE_BYTES(ORDERSET_SLOTS_MIN) || s->length > ORDERSET_IMAGE_BYTES(ORDERSET_SLOTS_MAX))
         return ORDERSET_NO_IMAGE_LENGTH;
-    if (!writing) {
-        copy_image(s, file, path);
-        return recover(s);
-    }
+    copy_image(s, file, path);
+    const uint64_t returned = recover(s);
+    if (returned || !writing)
+        return returned;
+    free(s->image);
     /* a store to a hole of the file, on a full disk, would end the program */
     if ((errno = posix_fallocate(file, 0, (off_t)s->length)))
         fail(path);
@@ -388,10 +411,23 @@ static int format_file(int file, size_t length, uint64_t layout) {
     uint8_t *image = mmap(NULL, length, PROT_READ | PROT_WRITE, MAP_SHARED, file, 0);
     if (image == MAP_FAILED)
         return -1;
-    uint32_t number = orderset_format(image, length, layout, answer);
-    if (number)
-        stop(FAILED, "format says no %" PRIu32 ": %s", number, words_of(number));
+    if (orderset_format(image, length, layout, answer)) {
+        errno = EINVAL;
+        return -1;
+    }
     return msync(image, length, MS_SYNC) || munmap(image, length) || fsync(file) ? -1 : 0;
+}
+
+/* The file gets its own name, which no other has. Some file systems cannot rename so: there it has two names for a
+ * moment. */
+static int give_name(const char *fresh, const char *path) {
+    if (renameat2(AT_FDCWD, fresh, AT_FDCWD, path, RENAME_NOREPLACE) == 0)
+        return 0;
+    if ((errno != EINVAL && errno != ENOSYS) || link(fresh, path))
+        return -1;
+    if (unlink(fresh))
+        fprintf(stderr, "gateway: %s is a second name of the new file: %s; remove it\n", fresh, strerror(errno));
+    return 0;
 }
 
 /* The other name is taken: an earlier make was killed, or that file holds orders. It is never written. */
@@ -422,9 +458,8 @@ static void make(const char *path, uint64_t slots, uint64_t layout) {
         left_over(fresh, path);
     if (file < 0)
         fail(fresh);
-    lock(file, fresh, LOCK_EX);
-    if (format_file(file, ORDERSET_IMAGE_BYTES(slots), layout) ||
-        renameat2(AT_FDCWD, fresh, AT_FDCWD, path, RENAME_NOREPLACE)) {
+    if (flock(file, LOCK_EX | LOCK_NB) || format_file(file, ORDERSET_IMAGE_BYTES(slots), layout) ||
+        give_name(fresh, path)) {
         int error = errno;
         unlink(fresh);
         stop(FAILED, "%s: %s; nothing was made", path, strerror(error));
@@ -688,16 +723,22 @@ static void print_counts(const struct set *s, const uint64_t *found) {
 
 /* ---- how many slots are of each class, as the file has them: void slots are not opened before */
 
+static void *count_image(void *set) {
+    struct set *s = set;
+    s->returned = (s->layout == ORDERSET2_LAYOUT ? orderset2_count_slots : orderset_count_slots)(
+        s->image, s->length, s->heads, s->heads_length, s->next, s->next_length, s->counts);
+    return NULL;
+}
+
 static int run_count(const char *path, int count) {
     static struct set set;
-    uint64_t counts[ORDERSET_COUNTS];
+    const uint64_t *counts = set.counts;
     if (count)
         stop(USAGE, "count: nothing follows");
     recover_file(&set, path, 0);
-    uint64_t returned = (set.layout == ORDERSET2_LAYOUT ? orderset2_count_slots : orderset_count_slots)(
-        set.image, set.length, set.heads, set.heads_length, set.next, set.next_length, counts);
-    if (returned)
-        stop(FAILED, "%s: no %" PRIu32, path, ORDERSET_REFUSAL(returned));
+    on_own_stack(count_image, &set);
+    if (set.returned)
+        stop(FAILED, "%s: no %" PRIu32, path, ORDERSET_REFUSAL(set.returned));
     printf("%" PRIu64 " live, %" PRIu64 " hidden puts, %" PRIu64 " remove records, %" PRIu64 " void, %" PRIu64
            " broken, %" PRIu64 " empty\n",
            counts[0], counts[1], counts[2], counts[3], counts[4], counts[5]);
@@ -958,6 +999,7 @@ static void hold_streams(void) {
 
 int main(int count, char **word) {
     signal(SIGPIPE, SIG_IGN); /* a reader that is gone is a failed write */
+    signal(SIGXFSZ, SIG_IGN); /* and so is a limit of the file's size */
     hold_streams();
     if (count < 2)
         stop(USAGE, "usage: gateway FILE [make N [L] | heads [B] | count | new KEY QUANTITY | acknowledge KEY | "

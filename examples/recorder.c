@@ -8,8 +8,9 @@
  *
  *     dd if=/dev/zero of=FILE bs=448 count=K conv=excl,fsync && sync
  *
- * A line that is empty or too long is refused with its number, 29, and the next one is read. A last line without its
- * end is not appended, as its rest may be missing. On a file system on non-volatile memory (DAX) an append is up to
+ * A file of another length is refused with 30, and one that is no log, as a set is none, with 1018: nothing is written
+ * to it. A line that is empty or too long is refused with its number, 29, and the next one is read. A last line without
+ * its end is not appended, as its rest may be missing. On a file system on non-volatile memory (DAX) an append is up to
  * seven line flushes and one fence; on any other it is msync, the fallback. One recorder writes at a time. What list
  * shows was perhaps not durable yet if the last writer was killed. Status 0: all read; some perhaps refused (no 29), a
  * last line without its end perhaps left out. 1: something failed; the message that was not answered is there whole or
@@ -28,6 +29,7 @@
 #include <sys/stat.h>
 #include <unistd.h>
 
+#include "orderset_file.h" /* the number of a file that is no log; the calls of the handle are not used */
 #include "orderset_log.h"
 #include "orderset_persist.h"
 
@@ -44,6 +46,11 @@ static _Noreturn void fail(const char *what) {
     exit(1);
 }
 
+static _Noreturn void refuse(uint32_t number, const char *words) {
+    fprintf(stderr, "recorder: %s: no %" PRIu32 ": %s\n", path, number, words);
+    exit(1);
+}
+
 /* ---- a start */
 
 /* Where another file got the name before the lock was there, that one is opened. The descriptor stays open: the lock
@@ -51,7 +58,7 @@ static _Noreturn void fail(const char *what) {
 static int open_locked(int writing, struct stat *found) {
     for (;;) {
         struct stat named;
-        int file = open(path, (writing ? O_RDWR : O_RDONLY) | O_CLOEXEC);
+        int file = open(path, (writing ? O_RDWR : O_RDONLY) | O_CLOEXEC | O_NONBLOCK);
         if (file < 0 || flock(file, (writing ? LOCK_EX : LOCK_SH) | LOCK_NB) || fstat(file, found))
             fail("open");
         if (stat(path, &named) == 0 && named.st_dev == found->st_dev && named.st_ino == found->st_ino)
@@ -60,12 +67,29 @@ static int open_locked(int writing, struct stat *found) {
     }
 }
 
+/* A log has no header: its length and its marks say what it is. A mark is 0 or 1, and word 0 of a set is neither. */
+static void look(int file, const struct stat *found) {
+    uint64_t mark;
+    if (!S_ISREG(found->st_mode))
+        refuse(ORDERSET_FILE_NOT_REGULAR, "not a regular file");
+    cells = length / ORDERSET_LOG_CELL_BYTES;
+    if (length % ORDERSET_LOG_CELL_BYTES || cells < ORDERSET_LOG_CELLS_MIN || cells > ORDERSET_LOG_CELLS_MAX)
+        refuse(ORDERSET_LOG_NO_AREA, "the length is not 448 * K with K from 2 to 1,000");
+    for (size_t cell = 0; cell < cells; cell++) {
+        errno = EIO; /* of a file that became shorter */
+        if (pread(file, &mark, sizeof mark, (off_t)(cell * ORDERSET_LOG_CELL_BYTES)) != (ssize_t)sizeof mark)
+            fail("read");
+        if (mark > 1)
+            refuse(ORDERSET_FILE_NOT_A_LOG, "a mark is neither 0 nor 1: not a log, or damaged");
+    }
+}
+
 static void open_area(int writing) {
     const int access = PROT_READ | (writing ? PROT_WRITE : 0);
     struct stat found;
     const int file = open_locked(writing, &found);
     length = (size_t)found.st_size;
-    cells = length / ORDERSET_LOG_CELL_BYTES;
+    look(file, &found);
     /* a store to a hole of the file, on a full disk, would end the program */
     if (writing && ((errno = posix_fallocate(file, 0, found.st_size)) || fsync(file)))
         fail("make durable");
@@ -92,11 +116,10 @@ static void start(int writing) {
     open_area(writing);
     if (writing && (flushes ? orderset_persist_image(area, length, flush) : orderset_persist_image_file(area, length)))
         fail("make durable");
-    uint32_t refusal = log_recover(area, length, at, ORDERSET_LOG_CELLS_MAX, value, ORDERSET_LOG_CELLS_MAX, answer);
-    if (refusal) {
-        fprintf(stderr, "recorder: %s: recovery says no %" PRIu32 "\n", path, refusal);
-        exit(1);
-    }
+    uint32_t refusal = orderset_raw_log_recover(area, length, at, ORDERSET_LOG_CELLS_MAX, value,
+                                                ORDERSET_LOG_CELLS_MAX, answer);
+    if (refusal)
+        refuse(refusal, "recovery refuses it");
     if (writing)
         make_durable();
 }
@@ -104,8 +127,8 @@ static void start(int writing) {
 /* ---- what it does */
 
 static void append_line(const char *line, size_t size) {
-    uint32_t refusal = log_append(area, length, (const uint8_t *)line, size, at, ORDERSET_LOG_CELLS_MAX, value,
-                                  ORDERSET_LOG_CELLS_MAX, answer);
+    uint32_t refusal = orderset_raw_log_append(area, length, (const uint8_t *)line, size, at, ORDERSET_LOG_CELLS_MAX,
+                                               value, ORDERSET_LOG_CELLS_MAX, answer);
     if (refusal) {
         printf("no %" PRIu32 "\n", refusal);
     } else {
@@ -136,7 +159,7 @@ static void list_one(uint64_t number) {
 
 static void list(uint64_t last) {
     for (uint64_t number = last < cells ? 1 : last - cells + 2; number <= last; number++)
-        if (log_read(area, length, number, answer) == ORDERSET_LOG_OK)
+        if (orderset_raw_log_read(area, length, number, answer) == ORDERSET_LOG_OK)
             list_one(number);
     if (fflush(stdout))
         fail("standard output");

@@ -28,12 +28,6 @@
 #include <string_view>
 #include <type_traits>
 #include <utility>
-#if __has_include(<version>)
-#include <version>
-#endif
-#ifdef __cpp_lib_span
-#include <span>
-#endif
 
 #include "orderset_file.h"
 
@@ -41,11 +35,8 @@ namespace orderset {
 
 // ---- what calls take and give
 
-// Elements that somebody else owns.
-#ifdef __cpp_lib_span
-template <class T>
-using span = std::span<T>;
-#else
+// Elements that somebody else owns. It is one type in every standard, so that files of one program may be compiled for
+// C++17 and for C++20; a std::span is taken as any container is.
 template <class T>
 class span {
   public:
@@ -69,7 +60,6 @@ class span {
     T *data_ = nullptr;
     std::size_t size_ = 0;
 };
-#endif
 using bytes = span<const std::uint8_t>;
 
 inline bytes bytes_of(std::string_view text) {
@@ -227,6 +217,16 @@ class steps {
         using pointer = const T *;
         using reference = const T &;
 
+        // what stood there before a step: the iterator itself has it no longer
+        class passed {
+          public:
+            explicit passed(const T &at) : at_(at) {}
+            const T &operator*() const { return at_; }
+
+          private:
+            T at_;
+        };
+
         iterator() = default;
         explicit iterator(steps *of) : of_(of) { ++*this; }
         const T &operator*() const { return of_->at_; }
@@ -236,7 +236,11 @@ class steps {
                 of_ = nullptr;
             return *this;
         }
-        void operator++(int) { ++*this; }
+        passed operator++(int) {
+            passed before(of_->at_);
+            ++*this;
+            return before;
+        }
         friend bool operator==(const iterator &a, const iterator &b) { return a.of_ == b.of_; }
         friend bool operator!=(const iterator &a, const iterator &b) { return a.of_ != b.of_; }
 

@@ -849,8 +849,8 @@ static uint32_t look_at_marks(const struct area *a) {
 
 static void *recover_log(void *argument) {
     struct orderset_log_file *l = argument;
-    l->refusal = log_recover(l->area.bytes, l->area.length, l->at, ORDERSET_LOG_CELLS_MAX, l->value,
-                             ORDERSET_LOG_CELLS_MAX, l->answer);
+    l->refusal = orderset_raw_log_recover(l->area.bytes, l->area.length, l->at, ORDERSET_LOG_CELLS_MAX, l->value,
+                                          ORDERSET_LOG_CELLS_MAX, l->answer);
     return NULL;
 }
 
@@ -900,8 +900,8 @@ uint32_t orderset_log_file_append(struct orderset_log_file *log, const void *mes
     if (number)
         *number = 0;
     if (!refusal)
-        refusal = log_append(log->area.bytes, log->area.length, bytes, length, log->at, ORDERSET_LOG_CELLS_MAX,
-                             log->value, ORDERSET_LOG_CELLS_MAX, log->answer);
+        refusal = orderset_raw_log_append(log->area.bytes, log->area.length, bytes, length, log->at,
+                                          ORDERSET_LOG_CELLS_MAX, log->value, ORDERSET_LOG_CELLS_MAX, log->answer);
     if (!refusal)
         refusal = persist(&log->area, log->at, log->value, log->answer[ORDERSET_LOG_COUNT]);
     if (refusal)
@@ -918,7 +918,7 @@ uint32_t orderset_log_file_read(struct orderset_log_file *log, uint64_t number, 
     uint32_t refusal = may_read(&log->area);
     *length = 0;
     if (!refusal)
-        refusal = log_read(log->area.bytes, log->area.length, number, answer);
+        refusal = orderset_raw_log_read(log->area.bytes, log->area.length, number, answer);
     if (refusal)
         return refusal;
     if (answer[ORDERSET_LOG_LENGTH] > room)

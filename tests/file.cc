@@ -270,6 +270,13 @@ void same_map(const orderset::file &set, const plain &p) {
         expect(found.emplace(r.key, text(r.value.begin(), r.value.end())).second, "each key comes once");
     }
     same_number(orders.result(), 0, "orders");
+    std::size_t steps = 0;
+    for (auto step = orders.begin(); step != orders.end(); steps++) {
+        const orderset::record before = *step, passed = *step++;
+        expect(passed.slot == before.slot && passed.key == before.key && passed.value.text() == before.value.text(),
+               "a postfix step gives what it passes: slot %u, due %u", passed.slot, before.slot);
+    }
+    expect(steps == found.size(), "as many steps as orders: %zu", steps);
     expect(found == p.map, "orders gives the plain map: %zu orders, due %zu", found.size(), p.map.size());
     const auto told = set.statistics();
     expect(told.live == p.map.size() && told.slots == p.slots && told.layout == p.layout

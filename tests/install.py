@@ -1,7 +1,8 @@
 #!/usr/bin/env python3
 """tests/install.py installs into a temporary folder and compares what is there with what the headers, the manual pages
 and README say: the names that the library gives, README's first programs, compiled and run as printed, also statically,
-and that uninstall leaves nothing. It ends with status 1 at the first thing that is not so."""
+and that uninstall leaves nothing. Every global name begins with orderset, and a program that has functions of its own by
+other names stores by the handle all the same. It ends with status 1 at the first thing that is not so."""
 import glob
 import os
 import re
@@ -54,7 +55,19 @@ def names_in(path, *options):
     return sorted(line.split()[2] for line in lines if len(line.split()) == 3)
 
 
+def prefixed(place):
+    """A global name without the prefix could be a program's own, which then takes the place of the library's."""
+    archives = sorted(glob.glob("target/staticlib/*.a"))
+    so(set(ARCHIVES) <= set(archives), "the archives are there", archives)
+    for path, *options in *([a] for a in archives), [f"{place}/lib/liborderset.a"], [f"{place}/lib/liborderset.so", "-D"]:
+        names = names_in(path, *options)
+        so(names and all(name.startswith("orderset") for name in names),
+           f"every global name of {os.path.basename(path)} begins with orderset",
+           [name for name in names if not name.startswith("orderset")])
+
+
 def library(place):
+    prefixed(place)
     due = sorted(declared())
     so(len(due) > 50, "the headers declare functions", due)
     so(names_in(f"{place}/lib/liborderset.so", "-D") == due, "the shared library gives the names of the headers",
@@ -106,12 +119,128 @@ def linked(folder, source, output):
         os.remove(f"{work}/first.img")
 
 
+# ---- a program that has functions of its own by names that the library's could have
+
+OWN = "log_append", "log_recover", "log_read", "insert", "recover"
+
+OWN_C = """#include <signal.h>
+#include <stdio.h>
+#include <string.h>
+#include <orderset_file.h>
+
+""" + "".join(f"uint32_t {name}(void);\nuint32_t {name}(void) {{\n    return 0;\n}}\n\n" for name in OWN) + """
+static void done(uint32_t number) {
+    if (number)
+        printf("%s\\n", orderset_file_text(number));
+}
+
+static void store(void) {
+    struct orderset_file *set;
+    struct orderset_log_file *log;
+    done(orderset_file_create("own.img", 9, 1));
+    done(orderset_log_file_create("own.log", 9));
+    done(orderset_file_open("own.img", ORDERSET_FILE_WRITE, &set));
+    done(orderset_log_file_open("own.log", ORDERSET_FILE_WRITE, &log));
+    done(orderset_file_insert(set, (struct orderset_key){7, 0}, "seven", 5));
+    done(orderset_log_file_append(log, "a message", 9, NULL));
+    raise(SIGKILL);
+}
+
+int main(int count, char **word) {
+    struct orderset_log_file *log;
+    uint64_t first, last;
+    size_t length;
+    char text[ORDERSET_LOG_MESSAGE_MAX];
+    if (count > 1 && !strcmp(word[1], "store"))
+        store();
+    done(orderset_log_file_open("own.log", ORDERSET_FILE_READ, &log));
+    done(orderset_log_file_range(log, &first, &last));
+    for (uint64_t i = first; i <= last; i++) {
+        done(orderset_log_file_read(log, i, text, sizeof text, &length));
+        printf("%d: %.*s\\n", (int)i, (int)length, text);
+    }
+    return (int)(""" + " + ".join(f"{name}()" for name in OWN) + """);
+}
+"""
+
+OWN_RUST = "".join(f"#[no_mangle]\npub extern \"C\" fn {name}() -> u32 {{\n    0\n}}\n\n" for name in OWN) + """
+use orderset::{Layout, Log, Mode, Set};
+
+fn main() -> orderset::Result<()> {
+    Set::create("own.img", 9, Layout::One)?;
+    Log::create("own.log", 9)?;
+    let mut set = Set::open("own.img", Mode::Write)?;
+    let mut log = Log::open("own.log", Mode::Write)?;
+    set.insert(7u64, b"seven")?;
+    log.append(b"a message")?;
+    std::process::exit(if """ + " + ".join(f"{name}()" for name in OWN) + """ == 0 { 9 } else { 1 })
+}
+"""
+
+
+def stored(folder, work, how):
+    """What the program of C reads, and what orderset-show says, in processes of their own."""
+    so(run("./reader", cwd=work) == "1: a message\n", f"a message that {how} appended is there",
+       run("./reader", cwd=work))
+    shown = run(f"{folder}{PREFIX}/bin/orderset-show", "own.img", cwd=work)
+    so(shown == "7: 5 bytes 736576656e\n", f"an order that {how} inserted is there", shown)
+    for name in "own.img", "own.log":
+        os.remove(f"{work}/{name}")
+
+
+def ends(words, work, status, how):
+    done = subprocess.run(words, cwd=work, text=True, stdout=subprocess.PIPE, stderr=subprocess.STDOUT)
+    so(done.returncode == status and done.stdout == "", f"{how} stores, and ends with its files open", done.returncode,
+       done.stdout)
+
+
+def own_functions(folder):
+    place, work = folder + PREFIX, f"{folder}/own"
+    os.mkdir(work)
+    open(f"{work}/own.c", "w").write(OWN_C)
+    flags = ["-std=c11", "-Wall", "-Wextra", "-Werror", f"-I{place}/include", f"-L{place}/lib"]
+    run("gcc", *flags, "-static", "own.c", "-lorderset", "-pthread", "-o", "static", cwd=work)
+    run("gcc", *flags, "own.c", "-lorderset", f"-Wl,-rpath,{place}/lib", "-o", "shared", cwd=work)
+    source = OWN_C.replace("return (int)(" + " + ".join(f"{name}()" for name in OWN) + ");", "return 0;")
+    source = re.sub(r"^uint32_t (?:%s)\(void\)(?:;| \{.*?^\})\n" % "|".join(OWN), "", source, flags=re.M | re.S)
+    open(f"{work}/reader.c", "w").write(source)
+    run("gcc", *flags, "reader.c", f"-Wl,-rpath,{place}/lib", "-lorderset", "-o", "reader", cwd=work)
+    so(set(OWN) & set(names_in(f"{work}/reader")) == set(), "the reader has no function of its own")
+    for how in "static", "shared":
+        so(set(OWN) <= set(names_in(f"{work}/{how}")), f"the {how} program has functions of its own",
+           names_in(f"{work}/{how}"))
+        ends([f"./{how}", "store"], work, -9, f"a {how} program")
+        stored(folder, work, f"a {how} program")
+
+
+def own_functions_in_rust(folder):
+    """In the package that README's commands left, so that the crate is not compiled again."""
+    package = f"{folder}/home/first"
+    os.makedirs(f"{package}/src/bin")
+    open(f"{package}/src/bin/own.rs", "w").write(OWN_RUST)
+    with open(f"{package}/Cargo.toml", "a") as told:  # no_mangle is written otherwise in later editions
+        told.write('\n[[bin]]\nname = "own"\npath = "src/bin/own.rs"\nedition = "2021"\n')
+    run("cargo", "build", "--quiet", "--offline", "--bin", "own", cwd=package, env=rust_environment(folder))
+    program = f"{package}/target/debug/own"
+    so(set(OWN) <= set(names_in(program)), "the program in Rust has functions of its own")
+    ends([program], f"{folder}/own", 9, "a program in Rust")
+    stored(folder, f"{folder}/own", "a program in Rust")
+
+
 # ---- README
 
 def blocks():
     """The fenced blocks of README's first section: language and text."""
     section = re.search(r"^## Ten minutes\n(.*?)^## ", open("README.md").read(), re.M | re.S)[1]
     return re.findall(r"^```(\w+)\n(.*?)^```$", section, re.M | re.S)
+
+
+def rust_environment(folder):
+    """A home of its own, and the compiler of the real one; the program is linked with the library that README's
+    commands make."""
+    return {**os.environ, "HOME": f"{folder}/home", "CARGO_NET_OFFLINE": "true",
+            "CARGO_HOME": os.environ.get("CARGO_HOME", os.path.expanduser("~/.cargo")),
+            "RUSTUP_HOME": os.environ.get("RUSTUP_HOME", os.path.expanduser("~/.rustup"))}
 
 
 def as_printed(folder):
@@ -132,10 +261,7 @@ def as_printed(folder):
             script += f"mkdir -p $(dirname {file})\ncat >{file} <<'END OF FILE'\n{text}END OF FILE\n"
     home = f"{folder}/home"
     os.makedirs(home)
-    env = {**os.environ, "HOME": home, "CARGO_NET_OFFLINE": "true",
-           "CARGO_HOME": os.environ.get("CARGO_HOME", os.path.expanduser("~/.cargo")),
-           "RUSTUP_HOME": os.environ.get("RUSTUP_HOME", os.path.expanduser("~/.rustup"))}
-    seen = re.split(r"^== \d+\n", run("bash", "-c", script, env=env), flags=re.M)[1:]
+    seen = re.split(r"^== \d+\n", run("bash", "-c", script, env=rust_environment(folder)), flags=re.M)[1:]
     so(len(expected) > 2 and expected.count("") < len(expected), "README has commands with what they print", expected)
     for i, text in enumerate(expected):
         so(i < len(seen) and (seen[i] == text or text == ""), f"the commands print what README says:\n{text}", seen)
@@ -159,8 +285,8 @@ def manuals():
        "orderset_file.3 has every number")
     page = open("man/orderset.3").read()
     lower = {n for n in declared() - handle if not n.startswith("orderset2_")}
-    so(lower <= set(re.findall(r"\b(?:orderset|log)_\w+", page)), "orderset.3 has every call",
-       lower - set(re.findall(r"\b(?:orderset|log)_\w+", page)))
+    so(lower <= set(re.findall(r"\borderset_\w+", page)), "orderset.3 has every call",
+       lower - set(re.findall(r"\borderset_\w+", page)))
     due = {int(n) for _, n in numbers}
     for path in "include/orderset.h", "include/orderset_log.h":
         for body in re.findall(r"enum orderset_\w*refusal \{(.*?)\};", open(path).read(), re.S):
@@ -180,7 +306,9 @@ def main():
         so(rust == example.partition("\n")[2], "README's program in Rust is the crate's example")
         printed = next(text for language, text in blocks() if language == "text")
         linked(folder, first, printed)
+        own_functions(folder)
         as_printed(folder)
+        own_functions_in_rust(folder)
         make("uninstall", f"DESTDIR={folder}", f"PREFIX={PREFIX}")
         so(files_of(folder + PREFIX) == set(), "uninstall leaves nothing", files_of(folder + PREFIX))
     print(f"install: {count} comparisons")

@@ -68,23 +68,23 @@ static void handed_out(void) {
 static uint32_t call_append(void) {
     begin_call("append", handing);
     return end(APPEND,
-               log_append(r(AREA), piece[AREA].length, r(MESSAGE), piece[MESSAGE].length, w(AT),
-                          piece[AT].length / NUMBER, w(VALUE), piece[VALUE].length / WORD, w(ANSWER)),
+               orderset_raw_log_append(r(AREA), piece[AREA].length, r(MESSAGE), piece[MESSAGE].length, w(AT),
+                                       piece[AT].length / NUMBER, w(VALUE), piece[VALUE].length / WORD, w(ANSWER)),
                handing);
 }
 
 static uint32_t call_recover(void) {
     begin_call("recover", handing);
     return end(RECOVER,
-               log_recover(r(AREA), piece[AREA].length, w(AT), piece[AT].length / NUMBER, w(VALUE),
-                           piece[VALUE].length / WORD, w(ANSWER)),
+               orderset_raw_log_recover(r(AREA), piece[AREA].length, w(AT), piece[AT].length / NUMBER, w(VALUE),
+                                        piece[VALUE].length / WORD, w(ANSWER)),
                handing);
 }
 
 static void call_read(uint64_t number) {
     static const int writable[] = {ANSWER, NONE};
     begin_call("read", writable);
-    if (end(READ, log_read(r(AREA), piece[AREA].length, number, w(ANSWER)), writable))
+    if (end(READ, orderset_raw_log_read(r(AREA), piece[AREA].length, number, w(ANSWER)), writable))
         return;
     uint64_t offset = answered(ORDERSET_LOG_OFFSET), bytes = answered(ORDERSET_LOG_LENGTH);
     if (bytes < 1 || bytes > ORDERSET_LOG_MESSAGE_MAX || offset > piece[AREA].length - bytes)

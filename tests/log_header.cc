@@ -18,12 +18,13 @@ uint64_t answer[ORDERSET_LOG_ANSWER];
 const enum orderset_flush best = orderset_best_flush();
 
 uint32_t append(const char *text, size_t length) {
-    return log_append(area, sizeof area, reinterpret_cast<const uint8_t *>(text), length, at.data(), at.size(),
-                      value.data(), value.size(), answer);
+    return orderset_raw_log_append(area, sizeof area, reinterpret_cast<const uint8_t *>(text), length, at.data(),
+                                   at.size(), value.data(), value.size(), answer);
 }
 
 bool recovers(uint64_t number, uint64_t count) {
-    return log_recover(area, sizeof area, at.data(), at.size(), value.data(), value.size(), answer) == ORDERSET_LOG_OK
+    return orderset_raw_log_recover(area, sizeof area, at.data(), at.size(), value.data(), value.size(), answer)
+               == ORDERSET_LOG_OK
            && answer[ORDERSET_LOG_NUMBER] == number && answer[ORDERSET_LOG_COUNT] == count;
 }
 
@@ -37,13 +38,13 @@ bool appends(const char *text, uint64_t number) {
 }
 
 bool reads(uint64_t number, const char *text) {
-    return log_read(area, sizeof area, number, answer) == ORDERSET_LOG_OK
+    return orderset_raw_log_read(area, sizeof area, number, answer) == ORDERSET_LOG_OK
            && answer[ORDERSET_LOG_LENGTH] == std::strlen(text)
            && !std::memcmp(area + answer[ORDERSET_LOG_OFFSET], text, answer[ORDERSET_LOG_LENGTH]);
 }
 
 bool not_shown(uint64_t number) {
-    return log_read(area, sizeof area, number, answer) == ORDERSET_LOG_NOT_SHOWN;
+    return orderset_raw_log_read(area, sizeof area, number, answer) == ORDERSET_LOG_NOT_SHOWN;
 }
 
 bool starts() {
@@ -56,10 +57,11 @@ bool refused_stores_nothing() {
     const std::vector<char> text(ORDERSET_LOG_MESSAGE_MAX + 1, 'x');
     return append(text.data(), 0) == ORDERSET_LOG_BAD_MESSAGE
            && append(text.data(), text.size()) == ORDERSET_LOG_BAD_MESSAGE
-           && log_append(area, sizeof area - 1, before.data(), 1, at.data(), at.size(), value.data(), value.size(),
-                         answer)
+           && orderset_raw_log_append(area, sizeof area - 1, before.data(), 1, at.data(), at.size(), value.data(),
+                                      value.size(), answer)
                   == ORDERSET_LOG_NO_AREA
-           && log_append(area, sizeof area, before.data(), 1, at.data(), 7, value.data(), value.size(), answer)
+           && orderset_raw_log_append(area, sizeof area, before.data(), 1, at.data(), 7, value.data(), value.size(),
+                                      answer)
                   == ORDERSET_LOG_LIST_TOO_SHORT
            && !std::memcmp(area, before.data(), sizeof area);
 }

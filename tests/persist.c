@@ -415,8 +415,8 @@ static void append(enum orderset_flush flush, int watching) {
     uint8_t message[ORDERSET_LOG_MESSAGE_MAX];
     uint64_t handed[ORDERSET_LOG_ANSWER];
     fill(message, sizeof message);
-    expect(log_append(image, ORDERSET_LOG_BYTES(CELLS), message, 1 + below(sizeof message), list_at, LIST, list_value,
-                      LIST, handed)
+    expect(orderset_raw_log_append(image, ORDERSET_LOG_BYTES(CELLS), message, 1 + below(sizeof message), list_at, LIST,
+                                   list_value, LIST, handed)
                == ORDERSET_LOG_OK,
            "append");
     const size_t count = handed[ORDERSET_LOG_COUNT];
@@ -432,7 +432,8 @@ static void recover_log(enum orderset_flush flush) {
         memset(image + cell * ORDERSET_LOG_CELL_BYTES, 0, 64);
         memcpy(image + cell * ORDERSET_LOG_CELL_BYTES + 56, &stamp, sizeof stamp);
     }
-    expect(log_recover(image, ORDERSET_LOG_BYTES(CELLS), list_at, LIST, list_value, LIST, handed) == ORDERSET_LOG_OK
+    expect(orderset_raw_log_recover(image, ORDERSET_LOG_BYTES(CELLS), list_at, LIST, list_value, LIST, handed)
+                   == ORDERSET_LOG_OK
                && handed[ORDERSET_LOG_COUNT] == (CELLS + 1) / 2,
            "recovery opens the lines");
     expect(persist_list(handed[ORDERSET_LOG_COUNT], flush, 0) == (CELLS + 1) / 2, "each line is flushed once");

@@ -169,7 +169,7 @@ fault report 'an image of 512 slots is read' tests/report.c 's/MOST = 511/MOST =
 fault report 'a million and one images are read' tests/report.c 's/MILLION = 1000000/MILLION = 1000001/' \
     'NOT SO: a million images are read'
 fault report 'the gateway opens void slots before it counts' $gateway \
-    '/^static int run_count/,/^}/s/^    uint64_t returned/    open_voids(\&set, path, 0);\n&/' \
+    '/^static int run_count/,/^}/s/^    on_own_stack/    open_voids(\&set, path, 0);\n&/' \
     "NOT SO: the gateway says '[0-9]+ live"
 fault report 'the gateway counts hidden puts as live' $gateway 's/counts\[0\], counts\[1\],/counts[0] + counts[1], 0ul,/' \
     "NOT SO: the gateway says '[0-9]+ live"
@@ -840,7 +840,27 @@ fault tools 'a full disk is not told' $desk 's/if \(fflush\(out\) \|\| ferror\(o
 fault tools 'progress is not told' $desk 's/^    each_second\(1\);//' 'NOT SO: progress is told'
 fault tools 'a refused file is shown with status 0' $show 's/d.is.refusal \? DESK_REFUSED : DESK_GOOD/DESK_GOOD/' \
     'NOT SO: a file with no 1: the status of orderset-show is 1'
-fault tools 'a picture takes the place of the set' $show 's/picture.st_ino == file.st_ino/0/' 'NOT SO: a picture over the set'
+fault tools 'a picture takes the place of the set' $show 's/found.st_ino == set.st_ino/0/' 'NOT SO: a picture over the set'
+fault tools 'a link is followed' $show 's/lstat\(a->svg, \&found\)/stat(a->svg, \&found)/' 'NOT SO: a link to another set'
+fault tools 'a picture replaces any file' $show 's/S_ISREG\(found.st_mode\) \&\& is_picture\(a->svg, \&found\)/1/' \
+    'NOT SO: another set by a second name'
+fault tools 'a picture that cannot be written leaves its other name' $show 's/^        unlink\(fresh\);/        (void)fresh;/' \
+    'NOT SO: a picture that cannot be written leaves no name'
+fault tools 'no link where the rename is not there' $show 's/\(errno == EINVAL \|\| errno == ENOSYS\)/0/' \
+    'NOT SO: a picture is made, where no rename replaces nothing'
+fault tools 'the other name is left beside the link' $show 's/link\(fresh, a->svg\) \|\| unlink\(fresh\)/link(fresh, a->svg)/' \
+    'NOT SO: a picture, where no rename replaces nothing leaves no other name'
+fault tools "a picture is its owner's alone" $show 's/fchmod\(file, new_mode\(\)\)/new_mode() == 1/' \
+    'NOT SO: it is a file as any other'
+fault tools 'the words of a line are read from the file again' $check \
+    's/^    memcpy\(words, d->bytes .*/    FILE *f = fopen(d->path, "rb");\n    if (!f || fseek(f, (long)slot * 128, SEEK_SET) || fread(words, 8, WORDS, f) != WORDS)\n        desk_fail(tool, "%s", strerror(errno));\n    fclose(f);/' \
+    'NOT SO: orderset-check says the same where the name becomes fifo'
+fault tools 'a log is looked for in the file again' $desk 's/orderset_log_file_open\(d->copy/orderset_log_file_open(d->path/' \
+    'NOT SO: orderset-(check|show) says the same where the name becomes'
+fault tools 'the file is recovered and not the copy' $desk 's/orderset_file_open\(d->copy/orderset_file_open(d->path/' \
+    'NOT SO: orderset-check says the same where the name becomes'
+fault tools 'no lock' $desk 's/while \(flock\(file, LOCK_SH \| LOCK_NB\)\)/while (file < 0)/' \
+    'NOT SO: a file that is written: the status'
 fault tools 'a picture has any name' $show 's/length < 5 \|\| //; s/strcmp\(a->svg \+ length - 4, ".svg"\)/length < 1/' \
     'NOT SO: a picture of any name'
 fault tools 'the last slot is not drawn' $picture '/^static void draw_slots/,/^}/s/slot <= d/slot < d/' \
@@ -866,8 +886,21 @@ fault tools 'a complete basket is void' $check 's/, end\) < said\(/, end) <= sai
 fault tools 'what to do is not said of damage' $check 's/other_file : keep_it/other_file : ""/' \
     'NOT SO: check of a file with no 5 says what to do'
 
+redefine='"objcopy", *(w for n in ("append", "recover", "read") for w in ("--redefine-sym", f"orderset_raw_log_{n}=log_{n}"))'
 fault install 'an inner name is global' src/orderset_file.c 's/^static uint32_t lock\(/uint32_t lock(/' \
+    'NOT SO: every global name of liborderset.a begins with orderset'
+fault install 'an inner name with the prefix is global' src/orderset_file.c \
+    '1s/^/int orderset_inner(void);\nint orderset_inner(void) { return 0; }\n/' \
     'NOT SO: the shared library gives the names of the headers'
+fault install 'a name of the log has no prefix' Makefile \
+    's/ save end \| ar -M$/& \&\& objcopy --redefine-sym orderset_raw_log_append=log_append $@/' \
+    'NOT SO: every global name of liborderset.a begins with orderset'
+fault install "a program's own functions take the place of the log's" tests/install.py \
+    "s/^    place, work = folder \+ PREFIX, f\"\{folder\}\/own\"\$/&\n    run($redefine, f\"{place}\/lib\/liborderset.a\")/" \
+    'NOT SO: a message that a static program appended is there'
+fault install 'the same in Rust' tests/install.py \
+    "s/^    package = f\"\{folder\}\/home\/first\"\$/&\n    run($redefine, \"target\/lib\/liborderset.a\")/" \
+    'NOT SO: a message that a program in Rust appended is there'
 fault install 'an archive is left out' Makefile 's/^(ARCHIVES := .*) \$\(LOG_ARCHIVE\)/\1/' 'undefined reference'
 fault install 'another soname' Makefile 's/-soname,\$\(@F\)/-soname,liborderset.so.2/' 'NOT SO: the soname'
 fault install 'a header is not installed' Makefile 's/install -m 644 include\/\*/install -m 644 include\/orderset.h/' \
@@ -880,6 +913,29 @@ fault install 'the tool prints another line than README' $check 's/: accepted\\n
     'NOT SO: the commands print what README says'
 fault install 'a call is in no manual page' man/orderset_file.3 '/orderset_file_slot\(/d' 'NOT SO: orderset_file.3 has every call'
 fault install 'a number is not in OPERATIONS' docs/OPERATIONS.md '/^\| 23 /d' 'NOT SO: OPERATIONS says of each number'
+
+fault programs 'a set is taken as a log' $recorder 's/if \(mark > 1\)/if (mark > UINT64_MAX - 1)/' \
+    'NOT SO: recorder .* refuses a set of 6 slots with 1018'
+fault programs 'a file of any length is taken as a log' $recorder 's/if \(length % ORDERSET_LOG_CELL_BYTES .*/if (0)/' \
+    'NOT SO: recorder .* (refuses a set of another length|leaves)'
+fault programs 'blocks are asked for before the file is looked at' $recorder \
+    's/^    look\(file, \&found\);//; s/^    area = mmap\(NULL, length, access, MAP_SHARED_V/    look(file, \&found);\n&/' \
+    'NOT SO: recorder .* leaves .* as it was'
+fault programs 'a file is written before it is recovered' $gateway 's/^    if \(returned \|\| !writing\)$/    if (!writing)/' \
+    'NOT SO: gateway .* leaves a log of 2 cells as it was'
+fault programs 'recovery on the stack of the caller' $gateway \
+    's/\(errno = pthread_create\(.*\)\) \|\| \(errno = pthread_join\(thread, NULL\)\)\)/(thread = 0, work(s)))/' \
+    'NOT SO: with 256 KB of stack gateway'
+fault programs 'the slots are counted on the stack of the caller' $gateway \
+    's/on_own_stack\(count_image, \&set\);/count_image(\&set);/' 'NOT SO: with 256 KB of stack gateway .*count'
+fault programs 'a make without locks leaves its other name' $gateway \
+    's/if \(flock\(file, LOCK_EX \| LOCK_NB\) \|\| format_file/lock(file, fresh, LOCK_EX);\n    if (format_file/' \
+    'NOT SO: a make without locks leaves no name'
+fault programs "a limit of the file's size ends a make" $gateway '/signal\(SIGXFSZ, SIG_IGN\)/d' \
+    "NOT SO: a make with a limit of the file's size leaves no name"
+fault programs 'no link where the rename is not there' $gateway \
+    's/if \(\(errno != EINVAL \&\& errno != ENOSYS\) \|\| link\(fresh, path\)\)/if (errno)/' 'NOT SO: a set is made by a link'
+fault programs 'the other name is left beside the link' $gateway 's/if \(unlink\(fresh\)\)/if (path == fresh)/' 'NOT SO: with one name'
 
 handle=src/orderset_file.c
 opened='/^static uint32_t open_and_lock/,/^}/'
@@ -1028,6 +1084,12 @@ fault cxx 'a damaged message ends the iteration' $plus 's/if \(found != ORDERSET
 fault cxx 'a file stays open' $plus 's/\{ orderset_file_close\(set\); \}/{ (void)set; }/' 'NOT SO: .* gives 0: 1011'
 fault cxx 'a wrong order is taken' $plus 's/if \(orderset_file_order\((.*)\)\)$/if (orderset_file_order(\1) + 1)/' \
     'NOT SO: order_of knows an order'
+fault cxx 'a postfix step gives what follows' $plus \
+    's/passed before\(of_->at_\);/steps *of = of_;/; s/return before;/return passed(of->at_);/' \
+    'NOT SO: a postfix step gives what it passes'
+fault cxx 'a view is another type in C++20' $plus \
+    's/^using bytes = .*/#if __cplusplus >= 202002L\ntemplate <class T>\nstruct view : span<T> { using span<T>::span; };\nusing bytes = view<const std::uint8_t>;\n#else\n&\n#endif/' \
+    'undefined reference to .bytes_in'
 fault cxx 'no lock' $handle 's/flock\(file, how \| LOCK_NB\)/(void)how, 0/' 'NOT SO: a second open gives 1011'
 
 export CARGO_TARGET_DIR=$PWD/target/planted/rust
@@ -1056,6 +1118,8 @@ fault rust 'the stores of the last key of a basket are not made' $handle \
 fault rust "recovery's stores are not made" $handle \
     's/return persist\(a, at, value, count\) \? ORDERSET_FILE_SYSTEM : ORDERSET_FILE_OK;/return 0;/' \
     'NOT SO: recovery opens a line for each void slot'
+fault rust 'what is open of a made-up order wraps' $rust/values.rs 's/saturating_sub/wrapping_sub/' \
+    'NOT SO: of 5 with 6 filled nothing is open'
 fault rust 'a cut call is to be there' bindings/rust/tests/on_files/cuts.rs \
     's/all\(\|\&count\| count == 8\)/all(|\&count| count >= 7)/' 'NOT SO: .* leaves the plain map'
 fault rust 'a cut append is to be there' bindings/rust/tests/on_files/cuts.rs 's/if image == after \{/if image != before {/' \

@@ -7,6 +7,7 @@ tests/tools.py --picture FILE writes the file of which docs/picture.svg is the p
 import fcntl
 import os
 import re
+import resource
 import struct
 import subprocess
 import sys
@@ -305,6 +306,88 @@ def picture_names(desk):
     desk.asked("a picture of any name", "orderset-show", ["--svg", path, path], 2, "", re.compile("end in .svg"))
     desk.asked("no such folder", "orderset-show", ["--svg", "/nowhere/a.svg", path], 2, "", re.compile("No such file"))
     so(open(path, "rb").read() == whole, "no picture takes the place of a set")
+    os.remove(link)
+
+
+def in_folder(desk):
+    """Each name of the folder with what it is and holds."""
+    def told(name):
+        path = os.path.join(desk.folder, name)
+        return os.readlink(path) if os.path.islink(path) else open(path, "rb").read() if os.path.isfile(path) else ""
+    return {name: told(name) for name in os.listdir(desk.folder)}
+
+
+def picture_places(desk):
+    """A picture is never written through a link, nor over anything but a picture of the tool."""
+    path, out = os.path.join(desk.folder, "orders.img"), os.path.join(desk.folder, "out.svg")
+    other = desk.file("other.img", Image(3))
+
+    def refuses(what, says):
+        before = in_folder(desk)
+        desk.asked(what, "orderset-show", ["--svg", out, path], 2, "", re.compile(says))
+        so(in_folder(desk) == before, f"{what}: nothing in the folder changes", in_folder(desk).keys() ^ before.keys())
+        os.remove(out)
+
+    for what, name in ("another set", other), ("the set", path), ("a name that is free", path + ".none"), \
+            ("a picture", path + ".svg"):
+        os.symlink(name, out)
+        refuses(f"a link to {what}", "out.svg: a link")
+    os.link(other, out)
+    refuses("another set by a second name", "no picture of this tool")
+    svg = b'<?xml version="1.0" encoding="UTF-8"?>\n<svg xmlns="http://www.w3.org/2000/svg"/>\n'
+    for what, content in ("a text", b"a text"), ("an empty file", b""), ("a set", Image(5)), ("another picture", svg):
+        desk.file("out.svg", content)
+        refuses(f"{what} of that name", "no picture of this tool")
+    os.mkfifo(out)
+    refuses("a pipe of that name", "no picture of this tool")
+
+
+def picture_made(desk):
+    """Whole under its name or not at all; no other name is left."""
+    path, out = desk.file("small.img", Image(2)), os.path.join(desk.folder, "made.svg")
+    preload = {**os.environ, "LD_PRELOAD": os.path.join(desk.tools, "preload.so"), "PRELOAD_NO_RENAME": "1"}
+    for how, environment in ("", None), (", where no rename replaces nothing", preload):
+        before = set(os.listdir(desk.folder))
+        for turn in "made", "replaced":
+            seen = desk.run("orderset-show", "--svg", out, path, env=environment, preexec_fn=lambda: os.umask(0o027))
+            so(seen == (0, "", ""), f"a picture is {turn}{how}", seen)
+            so(set(os.listdir(desk.folder)) == before | {"made.svg"}, f"a picture{how} leaves no other name",
+               set(os.listdir(desk.folder)) ^ before)
+        so(os.stat(out).st_mode & 0o777 == 0o640 and os.stat(out).st_nlink == 1, "it is a file as any other",
+           os.stat(out))
+        so(xml.etree.ElementTree.parse(out).getroot().tag == SVG + "svg", "it is a picture")
+        os.remove(out)
+    before = in_folder(desk)
+    seen = desk.run("orderset-show", "--svg", out, path,
+                    preexec_fn=lambda: resource.setrlimit(resource.RLIMIT_FSIZE, (1000, 1000)))
+    so(seen == (2, "", f"orderset-show: {out}: File too large\n"), "a picture that cannot be written is told", seen)
+    so(in_folder(desk) == before, "a picture that cannot be written leaves no name",
+       in_folder(desk).keys() ^ before.keys())
+
+
+# ---- a file is read once, under the lock, and what is said is of that copy
+
+def read_once(desk):
+    area = bytearray(896)
+    struct.pack_into("<9Q", area, 448, 1, 1, 0x203, 0, 0, 0, 0, 3, 0x78)
+    contents = [content for _, _, _, content in refused_images()] + [picture_image(), area]
+    for content in contents:
+        path = desk.file("once.img", content)
+        for tool in "orderset-check", "orderset-show":
+            due = desk.run(tool, path)
+            for swap in "fifo", "short", "other":
+                os.remove(path)
+                desk.file("once.img", content)
+                desk.file("once.img.other", Image(5))
+                environment = {**os.environ, "LD_PRELOAD": os.path.join(desk.tools, "preload.so"),
+                               "PRELOAD_SWAP": swap, "PRELOAD_FILE": path}
+                try:
+                    seen = desk.run(tool, path, env=environment, timeout=10)
+                except subprocess.TimeoutExpired:
+                    seen = "it hangs"
+                so(seen == due, f"{tool} says the same where the name becomes {swap} after it was read", seen, due)
+            os.remove(path)
+            desk.file("once.img", content)
 
 
 # ---- files that cannot be read, and arguments
@@ -364,7 +447,8 @@ def main():
     os.chdir(os.path.join(os.path.dirname(os.path.abspath(__file__)), ".."))
     with tempfile.TemporaryDirectory() as folder:
         desk = Desk(tools, folder)
-        for test in accepted, refused, logs, pictures, picture_names, unreadable, arguments, second_layout, progress:
+        for test in accepted, refused, logs, pictures, picture_names, picture_places, picture_made, read_once, \
+                unreadable, arguments, second_layout, progress:
             test(desk)
     print(f"tools: {count} comparisons")
 

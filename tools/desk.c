@@ -2,12 +2,17 @@
 #include "desk.h"
 
 #include <errno.h>
+#include <fcntl.h>
 #include <inttypes.h>
 #include <signal.h>
 #include <stdarg.h>
 #include <stdlib.h>
 #include <string.h>
+#include <sys/file.h>
+#include <sys/mman.h>
+#include <sys/stat.h>
 #include <sys/time.h>
+#include <time.h>
 #include <unistd.h>
 
 #ifndef VERSION
@@ -110,13 +115,103 @@ void desk_rest(void) {
 
 /* ---- the file */
 
-void desk_open(struct desk *d, const char *tool, const char *path) {
-    *d = (struct desk){.tool = tool, .path = path};
-    desk_step(tool, "reading and recovering the file", 0);
-    uint32_t number = orderset_file_open(path, ORDERSET_FILE_INSPECT, &d->set);
+enum { TRIES = 20, PAUSE = 10000000 /* nanoseconds */ };
+
+/* A writer has the lock for as long as it has the file open, a create for a moment: so it is worth a few tries. */
+static uint32_t lock(int file, int *tries) {
+    while (flock(file, LOCK_SH | LOCK_NB)) {
+        struct timespec rest = {0, PAUSE};
+        if (errno != EWOULDBLOCK && errno != EINTR)
+            return ORDERSET_FILE_SYSTEM;
+        if (--*tries < 0)
+            return ORDERSET_FILE_LOCKED;
+        while (nanosleep(&rest, &rest) && errno == EINTR)
+            ;
+    }
+    return ORDERSET_FILE_OK;
+}
+
+/* The file that has the name when it is locked. */
+static uint32_t open_locked(const char *path, int *file, struct stat *found) {
+    struct stat named;
+    for (int tries = TRIES; tries >= 0; tries--) {
+        *file = open(path, O_RDONLY | O_CLOEXEC | O_NONBLOCK);
+        if (*file < 0 || fstat(*file, found))
+            return ORDERSET_FILE_SYSTEM;
+        if (!S_ISREG(found->st_mode))
+            return ORDERSET_FILE_NOT_REGULAR;
+        const uint32_t number = lock(*file, &tries);
+        if (number)
+            return number;
+        if (fstat(*file, found) || stat(path, &named))
+            return ORDERSET_FILE_SYSTEM;
+        if (named.st_dev == found->st_dev && named.st_ino == found->st_ino)
+            return ORDERSET_FILE_OK;
+        close(*file);
+        *file = -1;
+    }
+    return ORDERSET_FILE_LOCKED;
+}
+
+static int read_all(int file, uint8_t *bytes, size_t length) {
+    for (size_t done = 0; done < length;) {
+        const ssize_t got = pread(file, bytes + done, length - done, (off_t)done);
+        if (got < 0 && errno == EINTR)
+            continue;
+        if (got == 0)
+            errno = EIO; /* the file became shorter */
+        if (got <= 0)
+            return -1;
+        done += (size_t)got;
+    }
+    return 0;
+}
+
+/* Reads the bytes under the lock, and no others after it. A longer file than any set or log is not read: its length is
+ * all that is judged. */
+static uint32_t read_file(struct desk *d, size_t *length) {
+    struct stat found;
+    int file = -1;
+    uint32_t number = open_locked(d->path, &file, &found);
+    *length = number ? 0 : (size_t)found.st_size;
+    if (!number && *length <= ORDERSET_IMAGE_BYTES(ORDERSET_SLOTS_MAX)) {
+        d->bytes = malloc(*length + 1);
+        if (!d->bytes || read_all(file, d->bytes, *length))
+            number = ORDERSET_FILE_SYSTEM;
+    }
     const int error = errno;
+    if (file >= 0)
+        close(file);
+    errno = error;
+    return number;
+}
+
+/* The handles open by name: the copy is a file in memory, which has one as long as it is open. */
+static int name_copy(struct desk *d, size_t length) {
+    const int file = memfd_create("orderset", MFD_CLOEXEC);
+    if (file < 0 || ftruncate(file, (off_t)length))
+        return -1;
+    for (size_t done = 0; d->bytes && done < length;) {
+        const ssize_t put = pwrite(file, d->bytes + done, length - done, (off_t)done);
+        if (put < 0 && errno != EINTR)
+            return -1;
+        done += put < 0 ? 0 : (size_t)put;
+    }
+    snprintf(d->copy, sizeof d->copy, "/proc/self/fd/%d", file);
+    return 0;
+}
+
+void desk_open(struct desk *d, const char *tool, const char *path) {
+    size_t length;
+    *d = (struct desk){.tool = tool, .path = path};
+    signal(SIGXFSZ, SIG_IGN); /* a limit of a file's size is a failed write */
+    desk_step(tool, "reading and recovering the file", 0);
+    uint32_t number = read_file(d, &length);
     if (number == ORDERSET_FILE_SYSTEM)
-        desk_fail(tool, "%s: %s", path, strerror(error));
+        desk_fail(tool, "%s: %s", path, strerror(errno));
+    if (!number && (name_copy(d, length) || (number = orderset_file_open(d->copy, ORDERSET_FILE_INSPECT, &d->set)) ==
+                                                ORDERSET_FILE_SYSTEM))
+        desk_fail(tool, "%s: its copy in memory: %s", path, strerror(errno));
     if (number)
         desk_fail(tool, "%s: no %" PRIu32 ": %s", path, number, orderset_file_text(number));
     desk_step(tool, "counting the slots", 0);
@@ -138,7 +233,7 @@ void desk_slot(struct desk *d, uint32_t slot, struct orderset_record *record) {
 void desk_print_log(FILE *out, const struct desk *d) {
     struct orderset_log_statistics is;
     struct orderset_log_file *log;
-    if (orderset_log_file_open(d->path, ORDERSET_FILE_INSPECT, &log))
+    if (orderset_log_file_open(d->copy, ORDERSET_FILE_INSPECT, &log))
         return;
     orderset_log_file_statistics(log, &is);
     orderset_log_file_close(log);

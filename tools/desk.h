@@ -13,9 +13,11 @@ enum { DESK_GOOD = 0, DESK_REFUSED = 1, DESK_FAILED = 2 };
 enum { DESK_CLASSES = ORDERSET_SLOT_UNKNOWN + 1 };
 extern const char *const desk_class[DESK_CLASSES];
 
-/* A file that is opened by INSPECT, and what was found of it. */
+/* A file that was read once, under a shared lock, and what was found of it: all that is said is of that copy. */
 struct desk {
     const char *tool, *path;
+    uint8_t *bytes; /* null where there are more than a set or a log can have */
+    char copy[32];  /* the name of the copy, for the handles */
     struct orderset_file *set;
     struct orderset_statistics is;
     uint64_t unknown; /* whole records of a refused file */
@@ -27,7 +29,7 @@ _Noreturn void desk_fail(const char *tool, const char *words, ...) __attribute__
 /* Answers --help by the text and --version, and ends; any other option is one of the tool's. */
 void desk_options(const char *tool, const char *help, int count, char **word);
 
-/* Opens the file; ends where it cannot be read. */
+/* Reads the file and opens the copy by INSPECT; ends where it cannot be read. */
 void desk_open(struct desk *d, const char *tool, const char *path);
 
 /* A slot, 1 to N. */

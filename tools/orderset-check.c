@@ -2,11 +2,9 @@
  * read. */
 #define _GNU_SOURCE
 #include <errno.h>
-#include <fcntl.h>
 #include <inttypes.h>
 #include <stdlib.h>
 #include <string.h>
-#include <unistd.h>
 
 #include "desk.h"
 
@@ -31,15 +29,10 @@ static const char *path_of(int count, char **word) {
     return word[first];
 }
 
-/* ---- the words of the file, as they stand in it; the handle gives a slot by its meaning */
+/* ---- the words of the copy, as they stand in it; the handle gives a slot by its meaning */
 
-static int read_words(const struct desk *d, uint32_t slot, uint64_t words[WORDS]) {
-    const size_t size = WORDS * sizeof *words;
-    int file = open(d->path, O_RDONLY | O_CLOEXEC);
-    ssize_t got = file < 0 ? -1 : pread(file, words, size, (off_t)slot * ORDERSET_SLOT_BYTES);
-    if (file >= 0)
-        close(file);
-    return got == (ssize_t)size ? 0 : -1;
+static void read_words(const struct desk *d, uint32_t slot, uint64_t words[WORDS]) {
+    memcpy(words, d->bytes + (size_t)slot * ORDERSET_SLOT_BYTES, WORDS * sizeof *words);
 }
 
 static void print_line(const char *name, const uint64_t word[8]) {
@@ -51,8 +44,7 @@ static void print_line(const char *name, const uint64_t word[8]) {
 
 static void print_lines(const struct desk *d, uint32_t slot) {
     uint64_t words[WORDS];
-    if (read_words(d, slot, words))
-        desk_fail(tool, "%s: slot %" PRIu32 ": %s", d->path, slot, strerror(errno));
+    read_words(d, slot, words);
     print_line("A", words);
     print_line("B", words + 8);
 }
@@ -74,8 +66,7 @@ static void say_header(const struct desk *d) {
                ORDERSET_IMAGE_BYTES(ORDERSET_SLOTS_MAX));
         return;
     }
-    if (read_words(d, 0, words))
-        desk_fail(tool, "%s: the header: %s", d->path, strerror(errno));
+    read_words(d, 0, words);
     printf("  its length is that of %" PRIu32 " slots; its header says %" PRIu64 " slots and layout %" PRIu64 "\n",
            d->is.slots, words[0], words[1]);
     print_line("A of the header", words);

@@ -1,7 +1,9 @@
 /* orderset-show: the open orders of a set in a file, its slots, or a picture of them. The file is only read. */
 #define _GNU_SOURCE
 #include <errno.h>
+#include <fcntl.h>
 #include <inttypes.h>
+#include <signal.h>
 #include <stdlib.h>
 #include <string.h>
 #include <sys/stat.h>
@@ -55,30 +57,122 @@ static struct asked ask(int count, char **word) {
     return a;
 }
 
-/* A picture never takes the place of a set: its name ends in .svg, and it is not the file that is shown. */
+/* ---- a picture, and what it may replace */
+
+/* A picture never takes the place of a set: its name ends in .svg. */
 static void test_picture_name(const struct asked *a) {
-    struct stat picture, file;
     const size_t length = strlen(a->svg);
     if (length < 5 || strcmp(a->svg + length - 4, ".svg"))
         usage("the name of the picture must end in .svg", a->svg);
-    if (stat(a->svg, &picture) == 0 && stat(a->path, &file) == 0 && picture.st_dev == file.st_dev &&
-        picture.st_ino == file.st_ino)
-        usage("the picture would take the place of the set", a->svg);
+}
+
+/* Whether the file that was found begins as every picture does. */
+static int is_picture(const char *path, const struct stat *found) {
+    const size_t length = strlen(picture_begins);
+    char bytes[100];
+    struct stat opened;
+    const int file = open(path, O_RDONLY | O_NOFOLLOW | O_NONBLOCK | O_CLOEXEC);
+    const int same = file >= 0 && fstat(file, &opened) == 0 && opened.st_dev == found->st_dev &&
+                     opened.st_ino == found->st_ino && read(file, bytes, length) == (ssize_t)length &&
+                     !memcmp(bytes, picture_begins, length);
+    if (file >= 0)
+        close(file);
+    return same;
+}
+
+/* Why the picture may not get its name, or NULL. *there: a picture of that name is to be replaced. */
+static const char *why_not(const struct asked *a, int *there) {
+    struct stat found, set;
+    *there = lstat(a->svg, &found) == 0;
+    if (!*there)
+        return errno == ENOENT ? NULL : strerror(errno);
+    if (S_ISLNK(found.st_mode))
+        return "a link, and a picture is not written through one";
+    if (stat(a->path, &set) == 0 && found.st_dev == set.st_dev && found.st_ino == set.st_ino)
+        return "the picture would take the place of the set";
+    return S_ISREG(found.st_mode) && is_picture(a->svg, &found)
+               ? NULL
+               : "it is there, and is no picture of this tool: give another name, or remove it";
+}
+
+static void test_place(const struct asked *a) {
+    int there;
+    const char *why = why_not(a, &there);
+    if (why)
+        desk_fail(tool, "%s: %s", a->svg, why);
+}
+
+/* The picture gets its name, which no other file has, or that of a picture which it replaces. Answers why not, or NULL.
+ * Some file systems cannot rename so: there it has two names for a moment. */
+static const char *give_name(const char *fresh, const struct asked *a) {
+    int there, failed;
+    const char *why = why_not(a, &there);
+    if (why)
+        return why;
+    failed = there ? rename(fresh, a->svg) : renameat2(AT_FDCWD, fresh, AT_FDCWD, a->svg, RENAME_NOREPLACE);
+    if (failed && !there && (errno == EINVAL || errno == ENOSYS))
+        failed = link(fresh, a->svg) || unlink(fresh);
+    return failed ? strerror(errno) : NULL;
+}
+
+/* The mode of a new file. */
+static mode_t new_mode(void) {
+    const mode_t mask = umask(0);
+    umask(mask);
+    return 0666 & ~mask;
+}
+
+static int write_all(int file, const char *bytes, size_t length) {
+    for (size_t done = 0; done < length;) {
+        const ssize_t put = write(file, bytes + done, length - done);
+        if (put < 0 && errno != EINTR)
+            return -1;
+        done += put < 0 ? 0 : (size_t)put;
+    }
+    return 0;
+}
+
+/* Writes the picture under another name in the same folder and gives it its own. Signals wait meanwhile: whatever
+ * fails, the other name does not stay. */
+static void keep_picture(const struct asked *a, const char *bytes, size_t length) {
+    const char *slash = strrchr(a->svg, '/'), *why = NULL;
+    sigset_t all, before;
+    char *fresh;
+    if (asprintf(&fresh, "%.*s.orderset-show-XXXXXX", slash ? (int)(slash - a->svg + 1) : 0, a->svg) < 0)
+        desk_fail(tool, "memory: %s", strerror(errno));
+    sigfillset(&all);
+    sigprocmask(SIG_BLOCK, &all, &before);
+    const int file = mkostemp(fresh, O_CLOEXEC);
+    if (file < 0)
+        desk_fail(tool, "%s: %s", a->svg, strerror(errno));
+    if (fchmod(file, new_mode()) || write_all(file, bytes, length) || fsync(file))
+        why = strerror(errno);
+    if (close(file) && !why)
+        why = strerror(errno);
+    if (!why)
+        why = give_name(fresh, a);
+    if (why)
+        unlink(fresh);
+    sigprocmask(SIG_SETMASK, &before, NULL);
+    if (why)
+        desk_fail(tool, "%s: %s", a->svg, why);
+    free(fresh);
 }
 
 static void show_picture(struct desk *d, const struct asked *a) {
-    if (!strcmp(a->svg, "-")) {
-        draw_picture(d, stdout);
-        desk_printed(d, stdout, "standard output");
-        return;
-    }
-    FILE *out = fopen(a->svg, "w");
+    char *bytes = NULL;
+    size_t length = 0;
+    FILE *out = strcmp(a->svg, "-") ? open_memstream(&bytes, &length) : stdout;
     if (!out)
-        desk_fail(tool, "%s: %s", a->svg, strerror(errno));
+        desk_fail(tool, "memory: %s", strerror(errno));
     draw_picture(d, out);
-    desk_printed(d, out, a->svg);
+    desk_printed(d, out, out == stdout ? "standard output" : "memory");
+    if (out == stdout)
+        return;
     if (fclose(out))
-        desk_fail(tool, "%s: %s", a->svg, strerror(errno));
+        desk_fail(tool, "memory: %s", strerror(errno));
+    keep_picture(a, bytes, length);
+    free(bytes);
 }
 
 static void show_slots(struct desk *d) {
@@ -125,8 +219,10 @@ int main(int count, char **word) {
     struct desk d;
     desk_options(tool, help, count, word);
     const struct asked a = ask(count, word);
-    if (a.svg && strcmp(a.svg, "-"))
+    if (a.svg && strcmp(a.svg, "-")) {
         test_picture_name(&a);
+        test_place(&a);
+    }
     desk_open(&d, tool, a.path);
     if (d.is.refusal)
         say_refused(&d);

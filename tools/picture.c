@@ -7,6 +7,8 @@
 
 enum { MARGIN = 24, LABELS = 52, LINE = 20, WIDTH = 720, TITLED = 4096, LETTERED = 16, NUMBERED = 40, RINGS = 9 };
 
+const char picture_begins[] = "<?xml version=\"1.0\" encoding=\"UTF-8\"?>\n<!-- orderset-show: the slots of a set -->\n";
+
 /* Told apart with each kind of colour blindness (a distance of 30 or more in CIE L*a*b*), and most of them in grey. */
 static const struct look {
     const char *fill, *text, *letter, *meaning;
@@ -197,8 +199,8 @@ void draw_picture(struct desk *d, FILE *out) {
     const uint32_t rows = (d->is.slots + grid.columns - 1) / grid.columns;
     const uint32_t wide = grid.left + grid.columns * grid.pitch + MARGIN, width = wide > WIDTH ? wide : WIDTH;
     const uint32_t height = grid.top + rows * grid.pitch + MARGIN;
+    fputs(picture_begins, out);
     fprintf(out,
-            "<?xml version=\"1.0\" encoding=\"UTF-8\"?>\n"
             "<svg xmlns=\"http://www.w3.org/2000/svg\" width=\"%" PRIu32 "\" height=\"%" PRIu32
             "\" viewBox=\"0 0 %" PRIu32 " %" PRIu32 "\" font-family=\"sans-serif\" font-size=\"14\">\n"
             "<path d=\"M0 0h%" PRIu32 "v%" PRIu32 "h-%" PRIu32 "z\" fill=\"#ffffff\"/>\n",

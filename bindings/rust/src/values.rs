@@ -166,9 +166,9 @@ impl Order {
         })
     }
 
-    /// What is open of it.
+    /// What is open of it; nothing where `filled` is above `ordered`, which no order of a file has.
     pub fn open(&self) -> u64 {
-        self.ordered - self.filled
+        self.ordered.saturating_sub(self.filled)
     }
 }
 

@@ -12,7 +12,7 @@ use log_code::recover_log;
 
 // The message is appended; the answer is its number and the count of its stores, which fill the front of the lists and are to be made by the caller.
 #[no_mangle]
-pub extern "C" fn log_append(
+pub extern "C" fn orderset_raw_log_append(
     area: &[u8],
     message: &[u8],
     at: &mut [u32],
@@ -33,7 +33,7 @@ pub extern "C" fn log_append(
 
 // The log is recovered; the answer is the highest complete number and the count of the stores, as above.
 #[no_mangle]
-pub extern "C" fn log_recover(
+pub extern "C" fn orderset_raw_log_recover(
     area: &[u8],
     at: &mut [u32],
     value: &mut [u64],
@@ -53,7 +53,7 @@ pub extern "C" fn log_recover(
 
 // The message with this number; the answer is the byte of the area at which it starts and its length.
 #[no_mangle]
-pub extern "C" fn log_read(area: &[u8], number: u64, answer: &mut [u64; 2]) -> u32
+pub extern "C" fn orderset_raw_log_read(area: &[u8], number: u64, answer: &mut [u64; 2]) -> u32
     ensures { λ r. ⌜ partLeft r (now (answer .exit)) ≡ partCall (partResult (now (area .entry)) number) (now (answer .entry)) ⌝ }
 {
     let part = find(area, number);

@@ -1,6 +1,6 @@
 //! Files, locks, modes and errors.
 use crate::scratch::Scratch;
-use orderset::{Error, Flush, Item, Kind, Layout, Log, Mode, Set, SlotClass};
+use orderset::{Error, Flush, Item, Kind, Layout, Log, Mode, Order, Set, SlotClass, State};
 use std::os::unix::fs::FileExt;
 use std::{fs, io, thread};
 
@@ -129,6 +129,16 @@ fn calls_are_refused_by_the_papers_numbers() {
     let told = set.statistics();
     assert_eq!((told.layout, told.slots, told.live, told.spare), (Some(Layout::One), 6, 5, 1), "NOT SO: {told:?}");
     assert_eq!((told.count(SlotClass::Live), told.count(SlotClass::Empty)), (5, 1), "NOT SO: {told:?}");
+}
+
+#[test]
+fn a_made_up_order_has_nothing_open() {
+    let order = |ordered, filled| Order { state: State::Sent, ordered, filled };
+    let open = |ordered, filled| std::panic::catch_unwind(|| order(ordered, filled).open()).ok();
+    assert_eq!(open(100, 40), Some(60), "NOT SO: 60 of 100 are open");
+    for (ordered, filled) in [(5, 6), (0, u64::MAX), (7, 7)] {
+        assert_eq!(open(ordered, filled), Some(0), "NOT SO: of {ordered} with {filled} filled nothing is open");
+    }
 }
 
 #[test]

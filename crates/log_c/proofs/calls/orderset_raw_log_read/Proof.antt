@@ -1,14 +1,14 @@
--- `log_c::calls::log_read` meets its contract. Assumes nothing.
+-- `log_c::calls::orderset_raw_log_read` meets its contract. Assumes nothing.
 use borrow.Author.Needs.{needs}
 use Rattle.prelude.specs.Answer.{refusalIn, givenOr}
 use Rattle.log.specs.Read.{partSays}
 use Rattle.log_exports.specs.Call.{partCall}
-use Rattle.log_c.proofs.calls.log_read.Statement.{statement}
-use Rattle.log_c.proofs.calls.log_read.Tie as tie
+use Rattle.log_c.proofs.calls.orderset_raw_log_read.Statement.{statement}
+use Rattle.log_c.proofs.calls.orderset_raw_log_read.Tie as tie
 
-pub log-read-spec : {M : Type 1} → statement M
+pub orderset-raw-log-read-spec : {M : Type 1} → statement M
 unfolding refusalIn givenOr partSays partCall
-log-read-spec =
+orderset-raw-log-read-spec =
     tie.close
     (tie.spec
     (λ c κs. search needs)

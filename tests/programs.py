@@ -1,0 +1,173 @@
+#!/usr/bin/env python3
+"""tests/programs.py FOLDER runs the gateway and the recorder of that folder on files that are not theirs, with little
+stack, without locks, without a rename that replaces nothing and with a limit of the file's size. A file that is refused
+keeps its bytes, its blocks and its times; a file that is not made leaves no name. It ends with status 1 at the first
+thing that is not so."""
+import os
+import resource
+import stat
+import struct
+import subprocess
+import sys
+import tempfile
+
+CELL, SLOT = 448, 128
+count = 0
+
+
+def so(right, what, *seen):
+    global count
+    count += 1
+    if not right:
+        print(f"NOT SO: {what}", *(repr(s)[:2000] for s in seen), sep="\n  ")
+        sys.exit(1)
+
+
+class Programs:
+    def __init__(self, tools, folder):
+        self.tools, self.folder = tools, folder
+
+    def path(self, name):
+        return os.path.join(self.folder, name)
+
+    def run(self, program, *words, text="", limit=None, **environment):
+        """Status and all that it says."""
+        done = subprocess.run([os.path.join(self.tools, program), *words], text=True, input=text, timeout=60,
+                              stdout=subprocess.PIPE, stderr=subprocess.STDOUT, env={**os.environ, **environment},
+                              preexec_fn=limit and (lambda: resource.setrlimit(*limit)))
+        return done.returncode, done.stdout
+
+    def preloaded(self, what):
+        return {"LD_PRELOAD": os.path.join(self.tools, "preload.so"), what: "1"}
+
+    def make(self, name, slots, layout=1):
+        seen = self.run("gateway", self.path(name), "make", str(slots), str(layout))
+        so(seen[0] == 0, f"a set of {slots} slots is made", seen)
+        return self.path(name)
+
+    def file(self, name, content):
+        with open(self.path(name), "wb") as file:
+            file.write(content)
+        return self.path(name)
+
+    def sparse(self, name, length):
+        self.file(name, b"")
+        os.truncate(self.path(name), length)
+        return self.path(name)
+
+
+def as_it_is(path):
+    """All that a write or a claim of blocks would change; a large file is sparse."""
+    is_file = os.stat(path)
+    told = [is_file.st_size, is_file.st_blocks, is_file.st_mtime_ns, is_file.st_ctime_ns, stat.S_IFMT(is_file.st_mode)]
+    return told + [open(path, "rb").read() if stat.S_ISREG(is_file.st_mode) and is_file.st_size < 1 << 24 else b""]
+
+
+# ---- files of another kind
+
+def refuses(programs, program, words, path, number, what):
+    before = as_it_is(path)
+    seen = programs.run(program, path, *words, text="new 7 100\n")
+    so(seen[0] == 1 and f"no {number}" in seen[1], f"{program} {words} refuses {what} with {number}", seen)
+    so(as_it_is(path) == before, f"{program} {words} leaves {what} as it was", seen)
+
+
+RECORDER, GATEWAY = ((), ("list",)), ((), ("new", "7", "100"), ("list",), ("heads",), ("count",))
+
+
+def sets(programs):
+    """896 m bytes are a set of 7 m - 1 slots and a log of 2 m cells; 128,128 are 1,000 slots and 286 cells."""
+    for slots in 6, 13, 1000, 3499:
+        for layout in 1, 2:
+            path = programs.make("set", slots, layout)
+            so(os.path.getsize(path) % CELL == 0, "the length is that of a log too")
+            for words in RECORDER:
+                refuses(programs, "recorder", words, path, 1018, f"a set of {slots} slots")
+            os.remove(path)
+    path = programs.make("set", 1001)
+    for words in RECORDER:
+        refuses(programs, "recorder", words, path, 30, "a set of another length")
+
+
+def logs(programs):
+    for cells, messages in (2, 0), (2, 1), (2, 5), (286, 7), (4, 3):
+        path = programs.file("log", bytes(CELL * cells))
+        if messages:
+            seen = programs.run("recorder", path, text="message\n" * messages)
+            so(seen == (0, "".join(f"message {i + 1}\n" for i in range(messages))), "a log is taken", seen)
+        for words in GATEWAY:
+            word = struct.unpack("<Q", open(path, "rb").read(8))[0]
+            refuses(programs, "gateway", words, path, 2 if word == 0 else 3, f"a log of {cells} cells")
+
+
+def others(programs):
+    image = bytearray(open(programs.make("good", 6), "rb").read())
+    so(programs.run("gateway", programs.path("good"), "new", "7", "100")[0] == 0, "a set is taken")
+    for slot, line in (1, 0), (6, 1), (3, 0):
+        struct.pack_into("<Q", image, SLOT * slot + 64 * line, 2)
+        path = programs.file("marked", bytes(image))
+        for words in GATEWAY:
+            refuses(programs, "gateway", words, path, 5, "a set with a mark of 2")
+    area = bytearray(CELL * 5)
+    struct.pack_into("<Q", area, CELL * 4, 2)
+    for words in RECORDER:
+        refuses(programs, "recorder", words, programs.file("marked", bytes(area)), 1018, "a log with a mark of 2")
+    for length in 0, 447, 448, 600 << 20, 1001 * CELL:
+        for words in RECORDER:
+            refuses(programs, "recorder", words, programs.sparse("sparse", length), 30, f"a file of {length} bytes")
+    for length in 0, 383, 600 << 20, 65537 * SLOT:
+        for words in GATEWAY:
+            refuses(programs, "gateway", words, programs.sparse("sparse", length), 1, f"a file of {length} bytes")
+    for length in SLOT * 3, 65536 * SLOT:
+        for words in GATEWAY:
+            refuses(programs, "gateway", words, programs.sparse("sparse", length), 2, f"{length} bytes of zeros")
+    os.mkfifo(programs.path("fifo"))
+    refuses(programs, "recorder", ("list",), programs.path("fifo"), 1013, "a pipe")
+
+
+# ---- what a machine may lack
+
+def little_stack(programs):
+    """256 KB, where recovery of the largest set takes ten times that."""
+    limit = resource.RLIMIT_STACK, (256 << 10, 256 << 10)
+    for layout, key in (1, "7"), (2, "0x%032x" % 7):
+        path = programs.path(f"large{layout}")
+        for words, says in (("make", "65535", str(layout)), "made"), (("new", key, "5"), "slot 1"), \
+                (("list",), "1 held"), (("heads",), "longest 1"), (("count",), "1 live"), ((), "recovered 1"):
+            seen = programs.run("gateway", path, *words, limit=limit)
+            so(seen[0] == 0 and says in seen[1], f"with 256 KB of stack gateway {words} works", seen)
+
+
+def not_made(programs):
+    path = programs.path("new")
+    for what, options in ("without locks", programs.preloaded("PRELOAD_NO_LOCK")), \
+            ("with a limit of the file's size", {"limit": (resource.RLIMIT_FSIZE, (1000, 1000))}):
+        seen = programs.run("gateway", path, "make", "10", **options)
+        so(os.listdir(programs.folder) == [], f"a make {what} leaves no name", os.listdir(programs.folder), seen)
+        so(seen[0] == 1 and "nothing was made" in seen[1], f"{what} nothing is made", seen)
+
+
+def linked(programs):
+    """Where a file system has no rename that replaces nothing, a link serves; it replaces nothing either."""
+    without = programs.preloaded("PRELOAD_NO_RENAME")
+    path = programs.path("new")
+    seen = programs.run("gateway", path, "make", "10", **without)
+    so(seen == (0, f"made {path}: 10 slots\n"), "a set is made by a link", seen)
+    so(os.listdir(programs.folder) == ["new"], "with one name", os.listdir(programs.folder))
+    so(os.stat(path).st_nlink == 1, "and one link", os.stat(path))
+    seen = programs.run("gateway", path, "new", "7", "100")
+    so(seen[0] == 0, "it takes orders", seen)
+    seen = programs.run("gateway", path, "make", "10", **without)
+    so(seen[0] == 1 and "is there already" in seen[1], "and is not replaced", seen)
+
+
+def main():
+    tools = os.path.abspath(sys.argv[1])
+    for test in sets, logs, others, little_stack, not_made, linked:
+        with tempfile.TemporaryDirectory(dir=tools) as folder:
+            test(Programs(tools, folder))
+    print(f"programs: {count} comparisons")
+
+
+if __name__ == "__main__":
+    main()

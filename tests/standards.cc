@@ -1,0 +1,34 @@
+// One program of two files, compiled for C++17 and for C++20: what a function of the one takes, the other can give.
+//     standards
+#include <cstdio>
+
+#include "orderset.hpp"
+
+std::size_t bytes_in(orderset::bytes view);
+std::size_t items_in(orderset::span<const orderset::item> items);
+
+#if __cplusplus < 202002L
+
+std::size_t bytes_in(orderset::bytes view) {
+    return view.size();
+}
+
+std::size_t items_in(orderset::span<const orderset::item> items) {
+    return items.size();
+}
+
+#else
+#include <iterator>
+#include <span>
+
+static_assert(std::input_iterator<orderset::steps<const orderset::file, orderset::record>::iterator>);
+
+int main() {
+    const std::uint8_t text[] = {1, 2, 3};
+    const orderset::item item[] = {orderset::item::remove(7), orderset::item::remove(8)};
+    const bool so = bytes_in(text) == 3 && bytes_in(std::span<const std::uint8_t>(text, 2)) == 2 && items_in(item) == 2
+                    && std::span<const std::uint8_t>(orderset::bytes(text)).size() == 3;
+    std::printf(so ? "standards: one type in C++17 and C++20\n" : "NOT SO: a view has its length in both\n");
+    return so ? 0 : 1;
+}
+#endif
