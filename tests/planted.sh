@@ -847,9 +847,9 @@ fault tools 'a picture replaces any file' $show 's/S_ISREG\(found.st_mode\) \&\&
 fault tools 'a picture that cannot be written leaves its other name' $show 's/^        unlink\(fresh\);/        (void)fresh;/' \
     'NOT SO: a picture that cannot be written leaves no name'
 fault tools 'no link where the rename is not there' $show 's/\(errno == EINVAL \|\| errno == ENOSYS\)/0/' \
-    'NOT SO: a picture is made, where no rename replaces nothing'
+    'NOT SO: a picture is made without RENAME_NOREPLACE'
 fault tools 'the other name is left beside the link' $show 's/link\(fresh, a->svg\) \|\| unlink\(fresh\)/link(fresh, a->svg)/' \
-    'NOT SO: a picture, where no rename replaces nothing leaves no other name'
+    'NOT SO: a picture without RENAME_NOREPLACE leaves no other name'
 fault tools "a picture is its owner's alone" $show 's/fchmod\(file, new_mode\(\)\)/new_mode() == 1/' \
     'NOT SO: it is a file as any other'
 fault tools 'the words of a line are read from the file again' $check \
@@ -859,6 +859,8 @@ fault tools 'a log is looked for in the file again' $desk 's/orderset_log_file_o
     'NOT SO: orderset-(check|show) says the same where the name becomes'
 fault tools 'the file is recovered and not the copy' $desk 's/orderset_file_open\(d->copy/orderset_file_open(d->path/' \
     'NOT SO: orderset-check says the same where the name becomes'
+fault tools 'a file that becomes shorter is no error' $desk 's/errno = EIO; .*/errno = 0;/' \
+    'NOT SO: orderset-check tells that the file becomes shorter'
 fault tools 'no lock' $desk 's/while \(flock\(file, LOCK_SH \| LOCK_NB\)\)/while (file < 0)/' \
     'NOT SO: a file that is written: the status'
 fault tools 'a picture has any name' $show 's/length < 5 \|\| //; s/strcmp\(a->svg \+ length - 4, ".svg"\)/length < 1/' \

@@ -1,8 +1,9 @@
 /* What happens between two calls of a program under test, by LD_PRELOAD. The environment says what:
  *
  *     PRELOAD_SWAP=WHAT  PRELOAD_FILE=NAME    when the file of that name is closed for the first time, the name becomes
- *                                             a fifo, a file that is short, or other: the file NAME.other
- *     PRELOAD_NO_RENAME=1                     a rename that may replace nothing is not known (EINVAL)
+ *                                             a fifo, a file that is short, or other: the file NAME.other; where WHAT
+ *                                             is cut, the file is cut short before it is read for the first time
+ *     PRELOAD_NO_RENAME=1                     RENAME_NOREPLACE is not known (EINVAL)
  *     PRELOAD_NO_LOCK=1                       the file system has no locks (ENOLCK)
  */
 #define _GNU_SOURCE
@@ -24,18 +25,34 @@ static void swap(const char *what, const char *path) {
         abort();
 }
 
-int close(int file) {
-    static int swapped;
+/* Whether it is the file that PRELOAD_FILE names, and that is to be done for the first time. */
+static int is_due(int file, int cut) {
+    static int done;
     const char *what = getenv("PRELOAD_SWAP"), *path = getenv("PRELOAD_FILE");
     struct stat opened, named;
-    const int here = what && path && !swapped && fstat(file, &opened) == 0 && stat(path, &named) == 0 &&
-                     opened.st_dev == named.st_dev && opened.st_ino == named.st_ino;
-    const int failed = (int)syscall(SYS_close, file);
-    if (here) {
-        swapped = 1;
-        swap(what, path);
-    }
+    const int due = what && path && !done && cut == !strcmp(what, "cut") && fstat(file, &opened) == 0 &&
+                    stat(path, &named) == 0 && opened.st_dev == named.st_dev && opened.st_ino == named.st_ino;
+    done |= due;
+    return due;
+}
+
+int close(int file) {
+    const int due = is_due(file, 0), failed = (int)syscall(SYS_close, file);
+    if (due)
+        swap(getenv("PRELOAD_SWAP"), getenv("PRELOAD_FILE"));
     return failed;
+}
+
+ssize_t pread(int file, void *bytes, size_t length, off_t from) {
+    if (is_due(file, 1))
+        swap("short", getenv("PRELOAD_FILE"));
+    return syscall(SYS_pread64, file, bytes, length, from);
+}
+
+/* as a compiler may call it that tests lengths */
+ssize_t __pread_chk(int file, void *bytes, size_t length, off_t from, size_t room);
+ssize_t __pread_chk(int file, void *bytes, size_t length, off_t from, size_t room) {
+    return length > room ? (abort(), -1) : pread(file, bytes, length, from);
 }
 
 int renameat2(int from, const char *old, int to, const char *new, unsigned flags) {

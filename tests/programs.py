@@ -1,6 +1,6 @@
 #!/usr/bin/env python3
 """tests/programs.py FOLDER runs the gateway and the recorder of that folder on files that are not theirs, with little
-stack, without locks, without a rename that replaces nothing and with a limit of the file's size. A file that is refused
+stack, without locks, without RENAME_NOREPLACE and with a limit of the file's size. A file that is refused
 keeps its bytes, its blocks and its times; a file that is not made leaves no name. It ends with status 1 at the first
 thing that is not so."""
 import os
@@ -148,7 +148,7 @@ def not_made(programs):
 
 
 def linked(programs):
-    """Where a file system has no rename that replaces nothing, a link serves; it replaces nothing either."""
+    """Where a file system has no RENAME_NOREPLACE, a link serves; it replaces nothing either."""
     without = programs.preloaded("PRELOAD_NO_RENAME")
     path = programs.path("new")
     seen = programs.run("gateway", path, "make", "10", **without)

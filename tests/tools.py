@@ -346,7 +346,7 @@ def picture_made(desk):
     """Whole under its name or not at all; no other name is left."""
     path, out = desk.file("small.img", Image(2)), os.path.join(desk.folder, "made.svg")
     preload = {**os.environ, "LD_PRELOAD": os.path.join(desk.tools, "preload.so"), "PRELOAD_NO_RENAME": "1"}
-    for how, environment in ("", None), (", where no rename replaces nothing", preload):
+    for how, environment in ("", None), (" without RENAME_NOREPLACE", preload):
         before = set(os.listdir(desk.folder))
         for turn in "made", "replaced":
             seen = desk.run("orderset-show", "--svg", out, path, env=environment, preexec_fn=lambda: os.umask(0o027))
@@ -388,6 +388,10 @@ def read_once(desk):
                 so(seen == due, f"{tool} says the same where the name becomes {swap} after it was read", seen, due)
             os.remove(path)
             desk.file("once.img", content)
+    for tool in "orderset-check", "orderset-show":
+        path = desk.file("once.img", picture_image())
+        seen = desk.run(tool, path, env={**environment, "PRELOAD_SWAP": "cut"})
+        so(seen == (2, "", f"{tool}: {path}: Input/output error\n"), f"{tool} tells that the file becomes shorter", seen)
 
 
 # ---- files that cannot be read, and arguments
