@@ -861,6 +861,8 @@ fault tools 'the file is recovered and not the copy' $desk 's/orderset_file_open
     'NOT SO: orderset-check says the same where the name becomes'
 fault tools 'a file that becomes shorter is no error' $desk 's/errno = EIO; .*/errno = 0;/' \
     'NOT SO: orderset-check tells that the file becomes shorter'
+fault tools 'the copy becomes the output' $desk 's/^    hold_streams\(tool\);/    (void)hold_streams;/' \
+    'NOT SO: a closed output is told'
 fault tools 'no lock' $desk 's/while \(flock\(file, LOCK_SH \| LOCK_NB\)\)/while (file < 0)/' \
     'NOT SO: a file that is written: the status'
 fault tools 'a picture has any name' $show 's/length < 5 \|\| //; s/strcmp\(a->svg \+ length - 4, ".svg"\)/length < 1/' \

@@ -57,10 +57,14 @@ class Programs:
 
 
 def as_it_is(path):
-    """All that a write or a claim of blocks would change; a large file is sparse."""
-    is_file = os.stat(path)
-    told = [is_file.st_size, is_file.st_blocks, is_file.st_mtime_ns, is_file.st_ctime_ns, stat.S_IFMT(is_file.st_mode)]
-    return told + [open(path, "rb").read() if stat.S_ISREG(is_file.st_mode) and is_file.st_size < 1 << 24 else b""]
+    """All that a write or a claim of blocks would change; a large file is sparse. It is synced first, so that the file
+    system changes its blocks no more."""
+    if stat.S_ISREG(os.stat(path).st_mode):
+        with open(path, "rb") as file:
+            os.fsync(file)
+    found = os.stat(path)
+    told = [found.st_size, found.st_blocks, found.st_mtime_ns, found.st_ctime_ns, stat.S_IFMT(found.st_mode)]
+    return told + [open(path, "rb").read() if stat.S_ISREG(found.st_mode) and found.st_size < 1 << 24 else b""]
 
 
 # ---- files of another kind

@@ -417,6 +417,9 @@ def unreadable(desk):
         with open("/dev/full", "w") as full:
             seen = desk.run(tool, path, stdout=full)
             so(seen[0] == 2 and "standard output" in seen[2], "a full disk is told", seen)
+        words = ["/bin/sh", "-c", 'exec "$0" "$1" >&-', os.path.join(desk.tools, tool), path]
+        closed = subprocess.run(words, text=True, stderr=subprocess.PIPE)
+        so(closed.returncode == 2 and "standard output" in closed.stderr, "a closed output is told", closed)
 
 
 def arguments(desk):

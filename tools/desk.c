@@ -18,6 +18,9 @@
 #ifndef VERSION
 #define VERSION "of no release"
 #endif
+#ifndef MFD_NOEXEC_SEAL
+#define MFD_NOEXEC_SEAL 8u
+#endif
 
 const char *const desk_class[DESK_CLASSES] = {"live", "hidden", "removed", "void", "broken", "empty", "unknown"};
 
@@ -186,9 +189,23 @@ static uint32_t read_file(struct desk *d, size_t *length) {
     return number;
 }
 
-/* The handles open by name: the copy is a file in memory, which has one as long as it is open. */
+/* A standard stream that is closed must not become the copy: what is said would be written to it. */
+static void hold_streams(const char *tool) {
+    int file;
+    do
+        file = open("/dev/null", O_RDONLY | O_CLOEXEC);
+    while (file >= 0 && file <= STDERR_FILENO);
+    if (file < 0)
+        desk_fail(tool, "/dev/null: %s", strerror(errno));
+    close(file);
+}
+
+/* The handles open by name: the copy is a file in memory, which has one as long as it is open. Kernels before 6.3 do
+ * not know that it is never to be run; later ones may refuse one of which that is not said. */
 static int name_copy(struct desk *d, size_t length) {
-    const int file = memfd_create("orderset", MFD_CLOEXEC);
+    int file = memfd_create("orderset", MFD_CLOEXEC | MFD_NOEXEC_SEAL);
+    if (file < 0 && errno == EINVAL)
+        file = memfd_create("orderset", MFD_CLOEXEC);
     if (file < 0 || ftruncate(file, (off_t)length))
         return -1;
     for (size_t done = 0; d->bytes && done < length;) {
@@ -204,6 +221,7 @@ static int name_copy(struct desk *d, size_t length) {
 void desk_open(struct desk *d, const char *tool, const char *path) {
     size_t length;
     *d = (struct desk){.tool = tool, .path = path};
+    hold_streams(tool);
     signal(SIGXFSZ, SIG_IGN); /* a limit of a file's size is a failed write */
     desk_step(tool, "reading and recovering the file", 0);
     uint32_t number = read_file(d, &length);
