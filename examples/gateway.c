@@ -27,10 +27,11 @@
  * count, and show and list as arguments) open the file read-only, and several of them may run. What they show was
  * perhaps not durable yet if the last writer was killed.
  *
- * The calls of the archive are proved; this program, the headers and what lies below them are not. It is made so that a
- * power cut, a kill, a full disk and a failed msync lose nothing that was answered, and that no file is written that
- * recovery refuses. Each start that writes makes the directory of FILE durable too, and not the directories above it. The lock is one that other programs can ignore.
- * A mapped page that cannot be read ends the program as a kill does. */
+ * The calls of the archive are proved; this program, the headers and what lies below them are not. It is made so
+ * that a power cut, a kill, a full disk and a failed msync lose nothing that was answered, and that no file is
+ * written that recovery refuses. Each start that writes makes the directory of FILE durable too, and not the
+ * directories above it. The lock is one that other programs can ignore. A mapped page that cannot be read ends the
+ * program as a kill does. */
 #define _GNU_SOURCE
 #include <errno.h>
 #include <fcntl.h>
