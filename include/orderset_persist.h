@@ -116,8 +116,13 @@ static inline void orderset_flush_line(void *line, enum orderset_flush flush) {
     ORDERSET_FLUSHED();
 }
 
-static inline void orderset_fence(void) {
-    __asm__ volatile("sfence" : : : "memory");
+/* The one wait. sfence orders clwb and clflushopt; clflush is ordered by mfence on every processor, and by sfence not on
+ * all. */
+static inline void orderset_fence(enum orderset_flush flush) {
+    if (flush == ORDERSET_CLFLUSH)
+        __asm__ volatile("mfence" : : : "memory");
+    else
+        __asm__ volatile("sfence" : : : "memory");
     ORDERSET_FENCED();
 }
 
@@ -141,7 +146,7 @@ ORDERSET_CALL static inline int orderset_persist(void *image, size_t image_lengt
     orderset_word *b = orderset_store_line(image, second, value + ORDERSET_LINE_STORES);
     orderset_flush_line(a, flush);
     orderset_flush_line(b, flush);
-    orderset_fence();
+    orderset_fence(flush);
     return 0;
 }
 
@@ -180,7 +185,7 @@ ORDERSET_CALL static inline int orderset_persist_list(void *bytes, size_t bytes_
             orderset_flush_line((char *)bytes + (size_t)line * ORDERSET_LINE_BYTES, flush);
         last = line;
     }
-    orderset_fence();
+    orderset_fence(flush);
     return 0;
 }
 
@@ -194,7 +199,7 @@ ORDERSET_CALL static inline int orderset_persist_image(void *image, size_t image
     }
     for (size_t i = 0; i < image_length; i += ORDERSET_LINE_BYTES)
         orderset_flush_line((char *)image + i, flush);
-    orderset_fence();
+    orderset_fence(flush);
     return 0;
 }
 
