@@ -25,7 +25,7 @@
 #include "orderset_persist.h"
 
 enum { TRIES = 20, PAUSE = 10000000 /* nanoseconds */, STACK = 8 << 20 /* of recovery, in bytes */ };
-enum { LONG_NAME = 100 /* bytes */, EXTENTS = 32, XFS = 0x58465342 /* f_type of statfs */ };
+enum { LONG_NAME = 100, CHUNK = 1 << 16 /* bytes */, EXTENTS = 32, XFS = 0x58465342 /* f_type of statfs */ };
 
 /* The bytes of a file: the file itself, mapped, or a copy. */
 struct area {
@@ -189,10 +189,10 @@ static int write_at(int file, size_t from, const void *bytes, size_t length) {
     return 0;
 }
 
-static int read_all(int file, uint8_t *bytes, size_t length) {
+static int read_at(int file, size_t from, void *bytes, size_t length) {
     size_t done = 0;
     while (done < length) {
-        ssize_t got = pread(file, bytes + done, length - done, (off_t)done);
+        ssize_t got = pread(file, (uint8_t *)bytes + done, length - done, (off_t)(from + done));
         if (got < 0 && errno == EINTR)
             continue;
         if (got == 0)
@@ -204,10 +204,16 @@ static int read_all(int file, uint8_t *bytes, size_t length) {
     return 0;
 }
 
-/* A copy of the file: where a page cannot be read, that is an error and no signal. */
+/* A copy, after which the lock ends: where a page cannot be read, that is an error and no signal. */
 static uint32_t copy_file(struct area *a) {
-    return map(a, MAP_PRIVATE | MAP_ANONYMOUS, -1) || read_all(a->file, a->bytes, a->length) ? ORDERSET_FILE_SYSTEM
-                                                                                             : ORDERSET_FILE_OK;
+    if (map(a, MAP_PRIVATE | MAP_ANONYMOUS, -1) || read_at(a->file, 0, a->bytes, a->length))
+        return ORDERSET_FILE_SYSTEM;
+    unlock(a);
+    return ORDERSET_FILE_OK;
+}
+
+static size_t chunk_at(const struct area *a, size_t from) {
+    return a->length - from < CHUNK ? a->length - from : CHUNK;
 }
 
 static void close_area(struct area *a) {
@@ -241,11 +247,15 @@ static enum orderset_flush line_flush(const struct area *a) {
  * written once more, and synced. The last writer may have been killed, or its msync may have failed; then bytes are seen
  * that are not durable. A block that is missing, or that the file shares with another (reflink), would be taken at a
  * store to the mapped file: that ends the program on a full disk, and here it is an error. */
-static int rewrite(const struct area *a, const uint8_t *copy) {
-    return !is_within_limit(a->length) || ask_for_blocks(a->file, a->length) || write_at(a->file, 0, copy, a->length)
-                   || fsync(a->file)
-               ? -1
-               : 0;
+static int rewrite(const struct area *a, uint64_t *chunk) {
+    if (!is_within_limit(a->length) || ask_for_blocks(a->file, a->length))
+        return -1;
+    for (size_t from = 0; from < a->length; from += CHUNK) {
+        const size_t size = chunk_at(a, from);
+        if (read_at(a->file, from, chunk, size) || write_at(a->file, from, chunk, size))
+            return -1;
+    }
+    return fsync(a->file);
 }
 
 /* Whether the file shares a block with another: 1 or 0, or -1 where the file system does not tell. */
@@ -307,18 +317,15 @@ static uint32_t map_pages(struct area *a) {
     return map(a, MAP_SHARED, a->file) ? ORDERSET_FILE_SYSTEM : ORDERSET_FILE_OK;
 }
 
-/* The file itself in the place of its copy, before recovery; it and its name are durable. */
-static uint32_t map_file(struct area *a, const char *path) {
-    uint8_t *const copy = a->bytes;
+/* The file itself, before recovery; it and its name are durable. */
+static uint32_t map_file(struct area *a, const char *path, uint64_t *chunk) {
     int fits = 0;
-    a->bytes = NULL;
-    uint32_t number = rewrite(a, copy) ? ORDERSET_FILE_SYSTEM : map_lines(a, &fits);
+    uint32_t number = rewrite(a, chunk) ? ORDERSET_FILE_SYSTEM : map_lines(a, &fits);
     if (!number && !fits)
         number = map_pages(a);
-    if (!number && sync_name(path))
-        number = ORDERSET_FILE_SYSTEM;
-    munmap(copy, a->length);
-    return number;
+    if (number)
+        return number;
+    return sync_name(path) ? ORDERSET_FILE_SYSTEM : ORDERSET_FILE_OK;
 }
 
 /* Makes stores durable: each line is flushed once, and there is one fence. After a failure nothing is known of them,
@@ -356,11 +363,25 @@ static uint32_t persist_opening(struct area *a, const uint32_t *at, const uint64
 struct form {
     size_t part, least, most; /* the length is so many parts of so many bytes */
     uint32_t refusal;         /* of any other length */
-    uint32_t (*look)(const struct area *a);
+    uint32_t (*look)(const struct area *a, uint64_t *chunk);
 };
 
+/* Each of the words at the same distance is a mark; or the refusal of a file that has another. */
+static uint32_t look_at_marks(const struct area *a, uint64_t *chunk, size_t first, size_t step, uint32_t refusal) {
+    size_t word = first;
+    for (size_t from = 0; from < a->length; from += CHUNK) {
+        const size_t size = chunk_at(a, from);
+        if (read_at(a->file, from, chunk, size))
+            return ORDERSET_FILE_SYSTEM;
+        for (; word < (from + size) / sizeof *chunk; word += step)
+            if (chunk[word - from / sizeof *chunk] > 1)
+                return refusal;
+    }
+    return ORDERSET_FILE_OK;
+}
+
 /* The bytes, as they are to be before recovery. A file of another form is refused as it is, before anything is written
- * to it and before blocks are asked for. The lock of a reader ends here. */
+ * to it and before blocks are asked for. */
 static uint32_t open_area(struct area *a, const char *path, const struct form *f) {
     uint32_t number = open_locked(a, path);
     if (number)
@@ -369,15 +390,16 @@ static uint32_t open_area(struct area *a, const char *path, const struct form *f
         unlock(a);
         return f->refusal;
     }
-    number = copy_file(a);
+    uint64_t *chunk = calloc(1, CHUNK);
+    if (!chunk)
+        return ORDERSET_FILE_SYSTEM;
+    number = f->look(a, chunk);
     if (!number)
-        number = f->look(a);
-    if (number)
-        return number;
-    if (a->mode == ORDERSET_FILE_WRITE)
-        return map_file(a, path);
-    unlock(a);
-    return ORDERSET_FILE_OK;
+        number = a->mode == ORDERSET_FILE_WRITE ? map_file(a, path, chunk) : copy_file(a);
+    const int error = errno;
+    free(chunk);
+    errno = error;
+    return number;
 }
 
 static uint32_t may_change(const struct area *a) {
@@ -555,33 +577,21 @@ static uint32_t start(struct orderset_file *s) {
     return persist_opening(&s->area, s->open_at, s->open_value, s->voids[0]);
 }
 
-static uint64_t word_at(const struct area *a, size_t i) {
-    uint64_t word;
-    memcpy(&word, a->bytes + 8 * i, sizeof word);
-    return word;
-}
-
-/* Whether each of these words, which stand at the same distance, is a mark. */
-static int are_marks(const struct area *a, size_t first, size_t step) {
-    int same = 1;
-    for (size_t i = first; i < a->length / 8; i += step)
-        same &= word_at(a, i) <= 1;
-    return same;
-}
-
-/* Header and marks, as recovery tests them, before anything is written: of a file that is only read recovery says it. */
-static uint32_t look_at_set(const struct area *a) {
+/* Header and marks, as recovery tests them, before anything is written: of a copy recovery says it. */
+static uint32_t look_at_set(const struct area *a, uint64_t *chunk) {
     if (a->mode != ORDERSET_FILE_WRITE)
         return ORDERSET_FILE_OK;
-    if (word_at(a, 0) == 0)
+    if (read_at(a->file, 0, chunk, ORDERSET_LINE_BYTES))
+        return ORDERSET_FILE_SYSTEM;
+    if (chunk[0] == 0)
         return ORDERSET_NO_FORMAT;
-    int same = word_at(a, 0) == a->length / ORDERSET_SLOT_BYTES - 1;
-    same &= word_at(a, 1) == ORDERSET_LAYOUT || word_at(a, 1) == ORDERSET2_LAYOUT;
+    int same = chunk[0] == a->length / ORDERSET_SLOT_BYTES - 1;
+    same &= chunk[1] == ORDERSET_LAYOUT || chunk[1] == ORDERSET2_LAYOUT;
     for (size_t i = 2; i < ORDERSET_LINE_STORES; i++)
-        same &= word_at(a, i) == 0;
+        same &= chunk[i] == 0;
     if (!same)
         return ORDERSET_NO_HEADER;
-    return are_marks(a, ORDERSET_STORES, ORDERSET_LINE_STORES) ? ORDERSET_FILE_OK : ORDERSET_BAD_MARK;
+    return look_at_marks(a, chunk, ORDERSET_STORES, ORDERSET_LINE_STORES, ORDERSET_BAD_MARK);
 }
 
 static uint32_t open_set(const char *path, uint32_t mode, struct orderset_file **set) {
@@ -1000,8 +1010,8 @@ static size_t cells_of(const struct orderset_log_file *l) {
 }
 
 /* A log has no header. Its marks are 0 or 1, and word 0 of a set is neither. */
-static uint32_t look_at_log(const struct area *a) {
-    return are_marks(a, 0, ORDERSET_LOG_CELL_BYTES / 8) ? ORDERSET_FILE_OK : ORDERSET_FILE_NOT_A_LOG;
+static uint32_t look_at_log(const struct area *a, uint64_t *chunk) {
+    return look_at_marks(a, chunk, 0, ORDERSET_LOG_CELL_BYTES / sizeof *chunk, ORDERSET_FILE_NOT_A_LOG);
 }
 
 static void *recover_log(void *argument) {

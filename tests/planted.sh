@@ -887,7 +887,7 @@ opened='/^static uint32_t open_and_lock/,/^}/'
 fault file 'no lock' $handle 's/flock\(file, how \| LOCK_NB\)/(void)how, 0/' 'NOT SO: a second process that writes gives 1011'
 fault file 'a lock that writers share' $handle "${opened}s/LOCK_EX : LOCK_SH/LOCK_SH : LOCK_SH/" \
     'NOT SO: a second process that writes gives 1011'
-fault file 'a reader keeps its lock' $handle '/^static uint32_t open_area/,/^}/{/^    unlock\(a\);/d}' \
+fault file 'a reader keeps its lock' $handle '/^static uint32_t copy_file/,/^}/{/unlock\(a\);/d}' \
     'NOT SO: .* gives .*: 1011'
 fault file 'the name is not looked at under the lock' $handle \
     's/if \(named.st_dev == opened.st_dev .*/if (named.st_ino)/' \
@@ -897,22 +897,22 @@ fault file 'a stat that fails is taken as another name' $handle \
      s/if \(named.st_dev == /if (stat(path, \&named) == 0 \&\& named.st_dev == /' 'NOT SO: an open where stat fails gives 1010'
 fault file 'a signal ends a pause' $handle 's/while \(nanosleep\(\&left, \&left\) \&\& errno == EINTR\)/while (nanosleep(\&left, NULL) \&\& 0)/' \
     'NOT SO: signals do not shorten the wait for the lock'
-fault file 'a file is not written before it is mapped' $handle 's/ \|\| write_at\(a->file, 0, copy, a->length\)//' \
+fault file 'a file is not written before it is mapped' $handle 's/ \|\| write_at\(a->file, from, chunk, size\)//' \
     'NOT SO: an open where a write takes a new block, on a full disk gives 1010'
 fault file 'an open stores to the mapped file instead' $handle \
-    's/ \|\| write_at\(a->file, 0, copy, a->length\)//
+    's/ \|\| write_at\(a->file, from, chunk, size\)//
      s/return map\(a, MAP_SHARED, a->file\) \?/return map(a, MAP_SHARED, a->file) || orderset_persist_image_file(a->bytes, a->length) ?/' \
     'Segmentation fault|Error 139'
 fault file 'the limit of the length is not looked at' $handle 's/return limit.rlim_cur == RLIM_INFINITY .*/return 1;/' \
     'NOT SO: a limit of the length of a file gives 1010'
 fault file 'the other name of a long one is longer' $handle 's/strlen\(name\) > LONG_NAME \?/strlen(name) > 4096 ?/' \
     'NOT SO: create of a name of 245 bytes'
-fault file 'marks of a set are looked at by recovery alone' $handle 's/return are_marks\(a, ORDERSET_STORES, .*/return 0;/' \
+fault file 'marks of a set are looked at by recovery alone' $handle 's/return look_at_marks\(a, chunk, ORDERSET_STORES, .*/return 0;/' \
     'NOT SO: marks are looked at before a file is written'
 fault file 'a set is taken as a log' $handle \
-    's/are_marks\(a, 0, ORDERSET_LOG_CELL_BYTES \/ 8\)/are_marks(a, ORDERSET_LOG_CELL_BYTES \/ 8, ORDERSET_LOG_CELL_BYTES \/ 8)/' \
+    's/look_at_marks\(a, chunk, 0, /look_at_marks(a, chunk, ORDERSET_LOG_CELL_BYTES \/ 8, /' \
     'NOT SO: a set of six slots, as long as a log of two cells gives 1018'
-fault file 'the length in the header is looked at by recovery alone' $handle 's/int same = word_at\(a, 0\) == .*/int same = 1;/' \
+fault file 'the length in the header is looked at by recovery alone' $handle 's/int same = chunk\[0\] == .*/int same = 1;/' \
     'NOT SO: for a file that is no set no blocks are asked'
 fault file 'removes of layout 2 are counted as hidden' $handle \
     's/if \(\(kind_in\(s, slot\) \& 0xff\) == 2\)/if (s->layout == 1 \&\& (kind_in(s, slot) \& 0xff) == 2)/' \
@@ -926,7 +926,7 @@ fault file 'a reader changes its copy' $handle \
     'NOT SO: a change through a reader gives 1014'
 fault file 'a handle goes on after a failed sync' $handle 's/a->stopped = failed;/a->stopped = 0;/' \
     'NOT SO: a change after a failed sync gives 1017'
-fault file 'an open asks for no blocks' $handle 's/ \|\| ask_for_blocks\(a->file, a->length\)//' \
+fault file 'an open asks for no blocks' $handle 's/ \|\| ask_for_blocks\(a->file, a->length\)\)/)/' \
     'NOT SO: an open on a full disk gives 1010'
 fault file 'a create that fails leaves its file' $handle '/unlink\(fresh\);/d' 'NOT SO: a create that fails leaves nothing'
 fault file 'create takes the place of a file' $handle \
@@ -958,7 +958,7 @@ fault file 'a failed sync of the directory is not told' $handle \
 fault file 'a call uses 32 KB of stack' $handle \
     '/^uint32_t orderset_file_next\(/a\    volatile char deep[32768];\n    deep[0] = 0;' \
     'NOT SO: no call needs more than 16 KB of stack'
-fault file 'any bytes are a log' $handle 's/return are_marks\(a, 0, .*\) \?/return a->bytes ?/' \
+fault file 'any bytes are a log' $handle 's/return look_at_marks\(a, chunk, 0, .*/return (void)a, (void)chunk, 0;/' \
     'NOT SO: a log with a mark of 2 gives 1018'
 fault file 'an inspection opens void slots' $handle \
     '/^static uint32_t start\(/,/^}/s/s->area.mode == ORDERSET_FILE_INSPECT/s->area.mode > 2/' \
@@ -991,18 +991,18 @@ fault file 'the length of an output is not looked at' $handle \
     's/if \(answer\[ORDERSET_LOG_LENGTH\] > room\)/if (answer[ORDERSET_LOG_LENGTH] > 384 + room)/' \
     'NOT SO: a short output gives 13'
 
-not_synced='s/^( +)\|\| fsync\(a->file\)$/\1/; s/if \(orderset_persist_image_file\(a->bytes, a->length\)$/if (0/'
+not_synced='/^static int rewrite/,/^}/s/return fsync\(a->file\);/return 0;/; s/if \(orderset_persist_image_file\(a->bytes, a->length\)$/if (0/'
 fault file_storm 'an open does not make the file durable' $handle \
     "$not_synced"'; s/\|\| orderset_persist_image\(a->bytes, a->length, line_flush\(a\)\)\)/)/' 'LOST (orders|message|an open)'
 fault file_storm 'shared blocks are written and not synced' $handle "$not_synced" 'LOST (orders|message|an open)'
 fault file_storm 'shared blocks are not written' $handle \
-    's/ \|\| write_at\(a->file, 0, copy, a->length\)//; s/if \(orderset_persist_image_file\(a->bytes, a->length\)$/if (0/' 'LOST'
+    's/ \|\| write_at\(a->file, from, chunk, size\)//; s/if \(orderset_persist_image_file\(a->bytes, a->length\)$/if (0/' 'LOST'
 fault file_storm 'shared blocks are not asked for' $handle 's/return shares > 0 \|\| .*/return (void)system, (void)shares, 0;/' 'LOST'
 fault file_storm 'xfs that does not tell what is shared is trusted' $handle 's/ \|\| system.f_type == XFS/ || system.f_type == 0/' 'LOST'
 fault file_storm 'no file system that does not tell what is shared is trusted' $handle \
     's/ \|\| system.f_type == XFS/ || system.f_type != 0/' 'LOST flushes'
 fault file_storm 'an open writes other bytes' $handle \
-    '/^static uint32_t map_file/,/^}/s/a->bytes = NULL;/a->bytes = NULL, copy[a->length - 1] ^= 1;/' 'LOST bytes'
+    's/\|\| write_at\(a->file, from, chunk, size\)/|| (chunk[size \/ 8 - 1] ^= 1, write_at(a->file, from, chunk, size))/' 'LOST bytes'
 fault file_storm "recovery's stores are not made" $handle \
     '/^static uint32_t persist_opening/,/^}/s/if \(a->mode != ORDERSET_FILE_WRITE\)/if (a->mode == ORDERSET_FILE_WRITE) return 0; else/' \
     'LOST (orders|message|an open|a call)'
@@ -1024,13 +1024,13 @@ fault file_kills 'the directory of a new file is not synced' $handle \
     '/^static uint32_t make\(/,/^}/s/return sync_name\(path\) \?/return 0 ?/' \
     'NOT SO: the directory of a new file is synced'
 fault file_kills 'an open does not sync the directory' $handle \
-    '/^static uint32_t map_file/,/^}/s/!number \&\& sync_name\(path\)/0/' \
+    '/^static uint32_t map_file/,/^}/s/return sync_name\(path\) \?/return 0 ?/' \
     'NOT SO: an open syncs the file and its directory'
 fault file_kills 'an open does not make the file durable' $handle \
-    's/^( +)\|\| fsync\(a->file\)$/\1/' \
+    '/^static int rewrite/,/^}/s/return fsync\(a->file\);/return 0;/' \
     'NOT SO: (after [0-9]+ kills|an open syncs the file)'
 fault file_kills 'an open does not write the pages again' $handle \
-    's/ \|\| write_at\(a->file, 0, copy, a->length\)//' \
+    's/ \|\| write_at\(a->file, from, chunk, size\)//' \
     'NOT SO: an open after a failed sync writes every page again'
 fault file_kills 'a new file has its name before it is whole' $handle \
     's/number = format\(file, length, layout\);/number = give_name(fresh, path) ? 9 : (usleep(3000), format(file, length, layout));/
