@@ -120,20 +120,25 @@ run-log_kills: $(OUT)/log_kills $(OUT)/recorder
 	@$(OUT)/log_kills $(OUT)/recorder $(OUT)/log_kills.log $(SEED)
 
 # the handles of orderset_file.h, over the three archives; file_storm has their source in its own
-FILE_TESTS := file file_storm file_kills
+FILE_TESTS := file file_storm file_kills cancel
 $(OUT)/file: tests/file.c tests/file_model.c tests/child.c tests/chance.c
 $(OUT)/file_storm: tests/file_storm.c tests/file_model.c tests/cache.c tests/chance.c
 $(OUT)/file_kills: tests/file_kills.c tests/file_model.c tests/disk.c tests/child.c tests/chance.c
-$(OUT)/file: HANDLES := src/orderset_file.c -Wl,--wrap=posix_fallocate,--wrap=msync
-$(OUT)/file_kills: HANDLES := src/orderset_file.c -Wl,--wrap=mmap,--wrap=msync,--wrap=fsync,--wrap=renameat2
+$(OUT)/cancel: tests/cancel.c tests/file_model.c tests/child.c tests/chance.c
+$(OUT)/file: HANDLES := src/orderset_file.c -Wl,--wrap=posix_fallocate,--wrap=msync,--wrap=mmap,--wrap=pwrite,--wrap=stat
+$(OUT)/file_kills: HANDLES := src/orderset_file.c -Wl,--wrap=mmap,--wrap=msync,--wrap=fsync,--wrap=renameat2,--wrap=pwrite
+# every cancellation point, and what may be one
+POINTS := close posix_fallocate fallocate mkostemp pread pwrite pthread_join stat lstat fstat link unlink realpath renameat2 \
+	open fcntl nanosleep mmap msync fsync ioctl fstatfs
+$(OUT)/cancel: HANDLES := src/orderset_file.c $(POINTS:%=-Wl,--wrap=%)
 
 $(FILE_TESTS:%=$(OUT)/%): $(wildcard tests/*.h) $(HEADERS) include/orderset_file.h src/orderset_file.c \
 		$(ARCHIVE2) $(ARCHIVE) $(LOG_ARCHIVE) | $(OUT)
 	$(C) -Itests $(filter tests/%.c,$^) $(HANDLES) $(filter %.a,$^) -pthread -o $@
 
-.PHONY: run-file run-file_storm run-file_kills
-test: run-file run-file_storm run-file_kills
-run-file run-file_storm run-file_kills: run-%: $(OUT)/%
+.PHONY: run-file run-file_storm run-file_kills run-cancel
+test: run-file run-file_storm run-file_kills run-cancel
+run-file run-file_storm run-file_kills run-cancel: run-%: $(OUT)/%
 	@$(OUT)/$* $(OUT)/$*.img $(SEED)
 
 # every test fails where a fault is planted

@@ -12,10 +12,10 @@ static inline int durable(void) {
     orderset_word *b = orderset_store_line(set.image, stores.at[8], stores.value + 8);
     orderset_flush_line(a, flush);
     orderset_flush_line(b, flush);
-    orderset_fence();
+    orderset_fence(flush);
     orderset_store(a + 7, commit);
     orderset_flush_line(a, flush);
-    orderset_fence();
+    orderset_fence(flush);
     return 0;
 }
 

@@ -24,31 +24,43 @@
  * ORDERSET_FILE_WIDE_KEY, in each call that takes a key.
  *
  * Files: a new file is made whole and durable under another name, PATH.new- and six letters, before it gets its own,
- * so that a cut or a kill leaves no half of it; a name like that which is left over may be removed. An open that will
- * write asks for all blocks of the file, makes the whole of it and its name durable, recovers, and makes durable what
- * recovery hands out, all before it returns: so nothing that was answered is lost by a power cut, nor by a kill of the
- * process with the power on and a cut after it. For the name it syncs the directory, as create does: both need the
- * right to read the directory. On a file system on non-volatile memory (MAP_SYNC) a call is line flushes and one fence;
- * on any other it is msync, the fallback, as good as the device, which must not tear a 64-byte line.
+ * so that a cut or a kill leaves no half of it; a name like that which is left over may be removed. Of a name over 100
+ * bytes the last eleven give way to that ending. An open that will write first looks at the length, the header and the
+ * marks: a file that is something else keeps every byte, and no block is asked for it. Then it asks for all blocks of
+ * the file, writes the same bytes once more, makes the whole of it and its name durable, recovers, and makes durable
+ * what recovery hands out, all before it returns: so nothing that was answered is lost by a power cut, nor by a kill
+ * of the process with the power on and a cut after it. For the name it syncs the directory, as create does: both need
+ * the right to read the directory. A file over the process's limit of a file's length (RLIMIT_FSIZE) is refused by
+ * ORDERSET_FILE_SYSTEM with EFBIG. On a file system on non-volatile memory (MAP_SYNC) a call is line flushes and one
+ * fence; on any other it is msync, the fallback, as good as the device, which must not tear a 64-byte line. So it is,
+ * with MAP_SYNC, where the file shares a block with another (reflink) after it was written, and on xfs where that
+ * cannot be asked (FIEMAP). A copy with shared blocks that is made while the handle is open is not seen:
+ * docs/OPERATIONS.md.
  *
  * Locks: one handle writes at a time, alone, in all processes; another open is refused by ORDERSET_FILE_LOCKED. A
  * handle that only reads copies the file under a shared lock, which ends with the open; it shows the file as it was
  * then, writes nothing to it, and keeps no writer out for longer than that. After a kill or a failed sync it may show a
  * call that had no answer and is not durable yet. An open tries for a fifth of a second; where another file gets the
  * name meanwhile, that one is opened. The lock is flock: a program that does not ask for it is not held off. A file
- * that is cut short while it is open ends the process (SIGBUS), as does a mapped page that cannot be read, and a full
- * disk on btrfs, zfs or xfs with shared blocks (reflink). A file that is removed, or over which another is renamed,
- * while it is open is still written and answered; all of that is lost at close.
+ * that is cut short while it is open ends the process (SIGBUS), as does a mapped page that cannot be read, and in a
+ * change a full disk on btrfs, zfs or xfs with shared blocks (reflink); in an open or a create a full disk is
+ * ORDERSET_FILE_SYSTEM. A file that is removed, or over which another is renamed, while it is open is still written and
+ * answered; all of that is lost at close.
  *
  * After a failed sync the call returns ORDERSET_FILE_NOT_DURABLE: it is perhaps done and perhaps not. Every later call
- * is refused by ORDERSET_FILE_STOPPED. Close, open again, and ask whether it was done. new, insert: the key is held.
- * acknowledge: the state. fill: compare `filled` with what it was before (absent: filled in full). withdraw, remove:
- * absent. replace: compare the value. append: the last number and its bytes. Never just repeat a fill or an append.
+ * is refused by ORDERSET_FILE_STOPPED. So it is after a change whose thread was cancelled in it, which returns
+ * nothing. Close, open again, and ask whether it was done. new, insert: the key is held. acknowledge: the state. fill:
+ * compare `filled` with what it was before (absent: filled in full). withdraw, remove: absent. replace: compare the
+ * value. append: the last number and its bytes. Never just repeat a fill or an append.
  *
  * Threads: one thread at a time for each handle; two handles know nothing of each other. Recovery needs up to 3 MiB of
  * stack and has it in a thread of its own while an open lasts, with all signals blocked; no call here needs more than
- * 16 KB. A process made by fork does not use the handle of its parent, and as long as it lives and calls no exec it
- * keeps the lock, also after the parent closed the handle or ended.
+ * 16 KB. A thread may be cancelled (pthread_cancel, deferred): create, open and close hold the request back until they
+ * return, and leave nothing behind; the handle that an open then gives is to be closed by the caller's cleanup. A
+ * change can be left at its msync: the handle is stopped, as after a failed sync, with errno ECANCELED, and another
+ * thread closes it and opens the file again. With line flushes no change can be left, and no question ever. A process
+ * made by fork does not use the handle of its parent, and as long as it lives and calls no exec it keeps the lock,
+ * also after the parent closed the handle or ended.
  *
  * Pointers: none may be null, but for the bytes of a value or an output of length 0, for close, and where it is
  * said. */
@@ -84,7 +96,8 @@ enum orderset_file_number {
     ORDERSET_FILE_READ_ONLY = 1014,   /* the handle was not opened with ORDERSET_FILE_WRITE */
     ORDERSET_FILE_WIDE_KEY = 1015,    /* the high word of the key is not 0, and the file is of layout 1 */
     ORDERSET_FILE_NOT_DURABLE = 1016, /* the call could not be made durable: it is perhaps done (above); errno */
-    ORDERSET_FILE_STOPPED = 1017,     /* an earlier call could not be made durable: open the file again */
+    ORDERSET_FILE_STOPPED = 1017,     /* an earlier call could not be made durable, or its thread was cancelled in it:
+                                         open the file again */
     ORDERSET_FILE_NOT_A_LOG = 1018,   /* a cell has a mark that no log has: another file, or a damaged one */
     ORDERSET_FILE_NO_SLOT = 1019,     /* the slot is 0 or above N */
     ORDERSET_FILE_BAD_MODE = 1020     /* open: the mode is none of the three */
@@ -102,7 +115,7 @@ enum orderset_file_mode {
 /* How a call becomes durable. */
 enum orderset_file_flush {
     ORDERSET_FILE_NO_FLUSH = 0,  /* a copy: nothing does */
-    ORDERSET_FILE_MSYNC = 1,     /* the fallback */
+    ORDERSET_FILE_MSYNC = 1,     /* the fallback; also where blocks of the file are shared (above) */
     ORDERSET_FILE_CLFLUSH = 2,   /* this and those below: MAP_SYNC, a line flush of this kind and one fence */
     ORDERSET_FILE_CLFLUSHOPT = 3,
     ORDERSET_FILE_CLWB = 4
@@ -159,7 +172,7 @@ struct orderset_statistics {
     uint32_t compared;       /* as orderset_file_compared */
     uint32_t opened;         /* void slots that recovery found, and that the open opened unless in INSPECT */
     uint32_t refusal, fault_slot; /* of recovery, in INSPECT; fault_slot is 0 where it names none */
-    int32_t error;           /* errno of ORDERSET_FILE_NOT_DURABLE, 0 where there was none */
+    int32_t error;           /* errno of ORDERSET_FILE_NOT_DURABLE, ECANCELED of a change that was cancelled, else 0 */
     uint64_t next_version, bytes;
     uint64_t count[ORDERSET_COUNTS]; /* slots by orderset_slot_class, as they are now; of a refused file a whole record
                                         is in none of them */
@@ -250,7 +263,7 @@ ORDERSET_FILE_CALL uint32_t orderset_file_slot(struct orderset_file *set, uint32
 /* Also of a handle that is stopped. It looks at every slot. */
 void orderset_file_statistics(struct orderset_file *set, struct orderset_statistics *statistics);
 
-/* errno of the call that gave ORDERSET_FILE_NOT_DURABLE; 0 where there was none. */
+/* errno of the call that gave ORDERSET_FILE_NOT_DURABLE, ECANCELED of a change that was cancelled; else 0. */
 int orderset_file_errno(const struct orderset_file *set);
 
 /* ---- the message log: as orderset_log.h, with the modes, locks and promises above */

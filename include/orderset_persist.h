@@ -16,7 +16,10 @@
  *         ...answer the client
  *
  * A file is mapped with MAP_SHARED_VALIDATE | MAP_SYNC. Where that mmap fails, the calls with flush make nothing
- * durable although they return 0: use those that end in _file.
+ * durable although they return 0: use those that end in _file. So it is on xfs where the file shares a block with
+ * another (cp --reflink, or plain cp of coreutils 9): a store there takes a new block, whose place is not durable. A
+ * start writes and syncs the whole file once, and then asks whether a block is still shared (FIEMAP), as the handle of
+ * orderset_file.h does.
  *
  * The image is mapped from non-volatile memory and 64-byte aligned, so that the eight words of a line are one cache
  * line. What mmap gives is; of other memory orderset_aligned tells it, and orderset_persist_image tests it. at and
@@ -29,7 +32,8 @@
  * lets it reach the cache before the stores ahead of it. A cache line goes to memory whole. So whenever power fails,
  * each line holds some number of its stores, counted from the first. Between two lines there is no order and none is
  * needed. A flush begins to write its line back, and the fence is the one wait: every store after it, so also the
- * one that sends an answer, comes after the call is durable.
+ * one that sends an answer, comes after the call is durable. It is sfence after clwb and clflushopt, and mfence after
+ * clflush.
  *
  * Why a start makes the whole image durable. Recovery has to read what stands in the memory. After a power cut it does.
  * After a kill, or a call that failed, the caches or the kernel may still hold stores that every process sees and that
@@ -116,8 +120,13 @@ static inline void orderset_flush_line(void *line, enum orderset_flush flush) {
     ORDERSET_FLUSHED();
 }
 
-static inline void orderset_fence(void) {
-    __asm__ volatile("sfence" : : : "memory");
+/* The one wait. sfence orders clwb and clflushopt. clflush is ordered by mfence on every processor, and by sfence on
+ * some only. */
+static inline void orderset_fence(enum orderset_flush flush) {
+    if (flush == ORDERSET_CLFLUSH)
+        __asm__ volatile("mfence" : : : "memory");
+    else
+        __asm__ volatile("sfence" : : : "memory");
     ORDERSET_FENCED();
 }
 
@@ -141,7 +150,7 @@ ORDERSET_CALL static inline int orderset_persist(void *image, size_t image_lengt
     orderset_word *b = orderset_store_line(image, second, value + ORDERSET_LINE_STORES);
     orderset_flush_line(a, flush);
     orderset_flush_line(b, flush);
-    orderset_fence();
+    orderset_fence(flush);
     return 0;
 }
 
@@ -180,7 +189,7 @@ ORDERSET_CALL static inline int orderset_persist_list(void *bytes, size_t bytes_
             orderset_flush_line((char *)bytes + (size_t)line * ORDERSET_LINE_BYTES, flush);
         last = line;
     }
-    orderset_fence();
+    orderset_fence(flush);
     return 0;
 }
 
@@ -194,7 +203,7 @@ ORDERSET_CALL static inline int orderset_persist_image(void *image, size_t image
     }
     for (size_t i = 0; i < image_length; i += ORDERSET_LINE_BYTES)
         orderset_flush_line((char *)image + i, flush);
-    orderset_fence();
+    orderset_fence(flush);
     return 0;
 }
 

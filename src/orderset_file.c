@@ -6,20 +6,26 @@
 
 #include <errno.h>
 #include <fcntl.h>
+#include <linux/fiemap.h>
+#include <linux/fs.h>
 #include <pthread.h>
 #include <signal.h>
 #include <stdio.h>
 #include <stdlib.h>
 #include <string.h>
 #include <sys/file.h>
+#include <sys/ioctl.h>
 #include <sys/mman.h>
+#include <sys/resource.h>
 #include <sys/stat.h>
+#include <sys/vfs.h>
 #include <time.h>
 #include <unistd.h>
 
 #include "orderset_persist.h"
 
 enum { TRIES = 20, PAUSE = 10000000 /* nanoseconds */, STACK = 8 << 20 /* of recovery, in bytes */ };
+enum { LONG_NAME = 100, CHUNK = 1 << 16 /* bytes */, EXTENTS = 32, XFS = 0x58465342 /* f_type of statfs */ };
 
 /* The bytes of a file: the file itself, mapped, or a copy. */
 struct area {
@@ -27,7 +33,7 @@ struct area {
     size_t length;
     int file; /* open as long as the lock is kept, else -1 */
     uint32_t mode, flush;
-    int error, stopped;
+    int error, stopped; /* stopped also while a change is under way */
 };
 
 struct orderset_file {
@@ -51,6 +57,20 @@ struct orderset_log_file {
     uint64_t value[ORDERSET_LOG_CELLS_MAX], answer[ORDERSET_LOG_ANSWER];
 };
 
+/* ---- a thread that is cancelled */
+
+/* A request to cancel the thread waits: what an open, a create or a close has made so far would be left behind. */
+static int hold_cancel(void) {
+    int before;
+    pthread_setcancelstate(PTHREAD_CANCEL_DISABLE, &before);
+    return before;
+}
+
+static void release_cancel(int before) {
+    int held;
+    pthread_setcancelstate(before, &held);
+}
+
 /* ---- a file that is locked, and its bytes */
 
 /* A standard stream that is closed must not become the descriptor: what is printed would be written to the file. */
@@ -63,16 +83,22 @@ static int above_streams(int file) {
     return higher;
 }
 
+/* A signal does not shorten it. */
+static void pause_once(void) {
+    struct timespec left = {0, PAUSE};
+    while (nanosleep(&left, &left) && errno == EINTR)
+        ;
+}
+
 /* The lock goes with the descriptor. A reader has it for as long as it copies, so it is worth a few tries. */
 static uint32_t lock(int file, int how, int *tries) {
-    const struct timespec pause = {0, PAUSE};
     while (flock(file, how | LOCK_NB)) {
         if (errno != EWOULDBLOCK && errno != EINTR)
             return ORDERSET_FILE_SYSTEM;
         if (*tries == 0)
             return ORDERSET_FILE_LOCKED;
         --*tries;
-        nanosleep(&pause, NULL);
+        pause_once();
     }
     return ORDERSET_FILE_OK;
 }
@@ -104,9 +130,9 @@ static uint32_t open_locked(struct area *a, const char *path) {
         uint32_t number = open_and_lock(a, path, &tries);
         if (number)
             return number;
-        if (fstat(a->file, &opened))
+        if (fstat(a->file, &opened) || stat(path, &named))
             return ORDERSET_FILE_SYSTEM;
-        if (stat(path, &named) == 0 && named.st_dev == opened.st_dev && named.st_ino == opened.st_ino)
+        if (named.st_dev == opened.st_dev && named.st_ino == opened.st_ino)
             break;
         unlock(a);
         if (tries-- == 0)
@@ -130,48 +156,64 @@ static int extend(int file, size_t length) {
     return errno ? -1 : 0;
 }
 
-/* All blocks of a file, which keeps its length, where the file system can. */
+/* All blocks of a file, which keeps its length. A file system that cannot gives them when the file is written. */
 static int ask_for_blocks(int file, size_t length) {
     int failed;
     do
         failed = fallocate(file, FALLOC_FL_KEEP_SIZE, 0, (off_t)length);
     while (failed && errno == EINTR);
-    return failed && errno == EOPNOTSUPP ? extend(file, length) : failed;
+    return failed && errno != EOPNOTSUPP ? -1 : 0;
 }
 
-/* The file itself. A store to a hole of the file, on a full disk, would end the program: so all blocks are asked
- * for. */
-static uint32_t map_file(struct area *a) {
-    if (ask_for_blocks(a->file, a->length))
-        return ORDERSET_FILE_SYSTEM;
-    a->flush = ORDERSET_FILE_CLFLUSH + (uint32_t)orderset_best_flush();
-    if (map(a, MAP_SHARED_VALIDATE | MAP_SYNC, a->file) == 0)
-        return ORDERSET_FILE_OK;
-    a->flush = ORDERSET_FILE_MSYNC;
-    return map(a, MAP_SHARED, a->file) ? ORDERSET_FILE_SYSTEM : ORDERSET_FILE_OK;
+/* A write past the process's limit on the length of a file would end it by a signal. */
+static int is_within_limit(size_t length) {
+    struct rlimit limit;
+    if (getrlimit(RLIMIT_FSIZE, &limit))
+        return 0;
+    errno = EFBIG;
+    return limit.rlim_cur == RLIM_INFINITY || length <= limit.rlim_cur;
 }
 
-static uint32_t read_at(const struct area *a, size_t from, void *bytes, size_t size) {
+static int write_at(int file, size_t from, const void *bytes, size_t length) {
     size_t done = 0;
-    while (done < size) {
-        ssize_t got = pread(a->file, (uint8_t *)bytes + done, size - done, (off_t)(from + done));
+    while (done < length) {
+        ssize_t put = pwrite(file, (const uint8_t *)bytes + done, length - done, (off_t)(from + done));
+        if (put < 0 && errno == EINTR)
+            continue;
+        if (put == 0)
+            errno = ENOSPC;
+        if (put <= 0)
+            return -1;
+        done += (size_t)put;
+    }
+    return 0;
+}
+
+static int read_at(int file, size_t from, void *bytes, size_t length) {
+    size_t done = 0;
+    while (done < length) {
+        ssize_t got = pread(file, (uint8_t *)bytes + done, length - done, (off_t)(from + done));
         if (got < 0 && errno == EINTR)
             continue;
         if (got == 0)
             errno = EIO; /* the file became shorter */
         if (got <= 0)
-            return ORDERSET_FILE_SYSTEM;
+            return -1;
         done += (size_t)got;
     }
-    return ORDERSET_FILE_OK;
+    return 0;
 }
 
 /* A copy, after which the lock ends: where a page cannot be read, that is an error and no signal. */
 static uint32_t copy_file(struct area *a) {
-    if (map(a, MAP_PRIVATE | MAP_ANONYMOUS, -1) || read_at(a, 0, a->bytes, a->length))
+    if (map(a, MAP_PRIVATE | MAP_ANONYMOUS, -1) || read_at(a->file, 0, a->bytes, a->length))
         return ORDERSET_FILE_SYSTEM;
     unlock(a);
     return ORDERSET_FILE_OK;
+}
+
+static size_t chunk_at(const struct area *a, size_t from) {
+    return a->length - from < CHUNK ? a->length - from : CHUNK;
 }
 
 static void close_area(struct area *a) {
@@ -201,44 +243,145 @@ static enum orderset_flush line_flush(const struct area *a) {
     return (enum orderset_flush)(a->flush - ORDERSET_FILE_CLFLUSH);
 }
 
-/* Before recovery: what is seen of the file is made to be what stands. The last writer may have been killed, or its
- * msync may have failed; then stores are seen that are not durable. */
-static uint32_t make_durable(const struct area *a, const char *path) {
-    if (fsync(a->file) || (a->flush == ORDERSET_FILE_MSYNC
-                               ? orderset_persist_image_file(a->bytes, a->length)
-                               : orderset_persist_image(a->bytes, a->length, line_flush(a))))
+/* Every block of the file is its own and is there, and what is seen of the file is what stands: the same bytes are
+ * written once more, and synced. The last writer may have been killed, or its msync may have failed; then bytes are seen
+ * that are not durable. A block that is missing, or that the file shares with another (reflink), would be taken at a
+ * store to the mapped file: that ends the program on a full disk, and here it is an error. */
+static int rewrite(const struct area *a, uint64_t *chunk) {
+    if (!is_within_limit(a->length) || ask_for_blocks(a->file, a->length))
+        return -1;
+    for (size_t from = 0; from < a->length; from += CHUNK) {
+        const size_t size = chunk_at(a, from);
+        if (read_at(a->file, from, chunk, size) || write_at(a->file, from, chunk, size))
+            return -1;
+    }
+    return fsync(a->file);
+}
+
+/* Whether the file shares a block with another: 1 or 0, or -1 where the file system does not tell. */
+static int shares_block(const struct area *a) {
+    union {
+        struct fiemap map;
+        uint8_t room[sizeof(struct fiemap) + EXTENTS * sizeof(struct fiemap_extent)];
+    } found;
+    for (uint64_t from = 0; from < a->length;) {
+        memset(&found, 0, sizeof found);
+        found.map.fm_start = from;
+        found.map.fm_length = a->length - from;
+        found.map.fm_flags = FIEMAP_FLAG_SYNC;
+        found.map.fm_extent_count = EXTENTS;
+        if (ioctl(a->file, FS_IOC_FIEMAP, &found.map))
+            return -1;
+        const struct fiemap_extent *extent = found.map.fm_extents;
+        for (uint32_t i = 0; i < found.map.fm_mapped_extents; i++, extent++) {
+            if (extent->fe_flags & FIEMAP_EXTENT_SHARED)
+                return 1;
+            if (extent->fe_logical + extent->fe_length <= from)
+                return -1;
+            from = extent->fe_logical + extent->fe_length;
+        }
+        if (found.map.fm_mapped_extents < EXTENTS)
+            return 0;
+    }
+    return 0;
+}
+
+/* A store to a shared block takes a new one, and xfs does not make its place durable although the mapping has MAP_SYNC.
+ * So line flushes are not enough where a block is shared, nor where xfs does not tell. */
+static int is_unfit_for_flushes(const struct area *a) {
+    struct statfs system;
+    const int shares = shares_block(a);
+    return shares > 0 || (shares < 0 && (fstatfs(a->file, &system) || system.f_type == XFS));
+}
+
+/* Non-volatile memory: the file is mapped with MAP_SYNC, every page is stored to and synced once more through the
+ * mapping, and every line is flushed. *fits is 0 where calls are to go by msync all the same. */
+static uint32_t map_lines(struct area *a, int *fits) {
+    *fits = map(a, MAP_SHARED_VALIDATE | MAP_SYNC, a->file) == 0;
+    if (!*fits)
+        return ORDERSET_FILE_OK;
+    a->flush = ORDERSET_FILE_CLFLUSH + (uint32_t)orderset_best_flush();
+    if (orderset_persist_image_file(a->bytes, a->length)
+        || orderset_persist_image(a->bytes, a->length, line_flush(a)))
         return ORDERSET_FILE_SYSTEM;
+    *fits = !is_unfit_for_flushes(a);
+    if (!*fits) {
+        munmap(a->bytes, a->length);
+        a->bytes = NULL;
+    }
+    return ORDERSET_FILE_OK;
+}
+
+static uint32_t map_pages(struct area *a) {
+    a->flush = ORDERSET_FILE_MSYNC;
+    return map(a, MAP_SHARED, a->file) ? ORDERSET_FILE_SYSTEM : ORDERSET_FILE_OK;
+}
+
+/* The file itself, before recovery; it and its name are durable. */
+static uint32_t map_file(struct area *a, const char *path, uint64_t *chunk) {
+    int fits = 0;
+    uint32_t number = rewrite(a, chunk) ? ORDERSET_FILE_SYSTEM : map_lines(a, &fits);
+    if (!number && !fits)
+        number = map_pages(a);
+    if (number)
+        return number;
     return sync_name(path) ? ORDERSET_FILE_SYSTEM : ORDERSET_FILE_OK;
 }
 
-/* Makes stores durable: each line is flushed once, and there is one fence. After a failure nothing is known of them. */
+/* Makes stores durable: each line is flushed once, and there is one fence. After a failure nothing is known of them,
+ * nor where the thread is cancelled meanwhile: then the handle stays as it is here. */
 static uint32_t persist(struct area *a, const uint32_t *at, const uint64_t *value, size_t count) {
+    a->stopped = 1;
+    a->error = ECANCELED;
     const int failed = a->flush == ORDERSET_FILE_MSYNC
                            ? orderset_persist_list_file(a->bytes, a->length, at, value, count)
                            : orderset_persist_list(a->bytes, a->length, at, value, count, line_flush(a));
-    if (!failed)
-        return ORDERSET_FILE_OK;
-    a->error = errno;
-    a->stopped = 1;
-    return ORDERSET_FILE_NOT_DURABLE;
+    a->stopped = failed;
+    a->error = failed ? errno : 0;
+    return failed ? ORDERSET_FILE_NOT_DURABLE : ORDERSET_FILE_OK;
+}
+
+/* The same by writing to the file: a store to the mapped file may need a block and end the program on a full disk. Each
+ * store changes one bit. */
+static int write_stores(const struct area *a, const uint32_t *at, const uint64_t *value, size_t count) {
+    for (size_t i = 0; i < count; i++)
+        if (write_at(a->file, sizeof *value * at[i], &value[i], sizeof *value))
+            return -1;
+    return count ? fsync(a->file) : 0;
 }
 
 /* What recovery hands out, before any other call; a reader makes it in its copy. */
 static uint32_t persist_opening(struct area *a, const uint32_t *at, const uint64_t *value, size_t count) {
-    if (a->mode == ORDERSET_FILE_WRITE)
-        return persist(a, at, value, count) ? ORDERSET_FILE_SYSTEM : ORDERSET_FILE_OK;
-    return orderset_play_list(a->bytes, a->length, at, count, value, count);
+    if (a->mode != ORDERSET_FILE_WRITE)
+        return orderset_play_list(a->bytes, a->length, at, count, value, count);
+    const int failed = a->flush == ORDERSET_FILE_MSYNC ? write_stores(a, at, value, count) != 0
+                                                       : persist(a, at, value, count) != 0;
+    return failed ? ORDERSET_FILE_SYSTEM : ORDERSET_FILE_OK;
 }
 
 /* What a file of the set is, and one of the log. */
 struct form {
     size_t part, least, most; /* the length is so many parts of so many bytes */
     uint32_t refusal;         /* of any other length */
-    uint32_t (*look)(const struct area *a);
+    uint32_t (*look)(const struct area *a, uint64_t *chunk);
 };
 
+/* Each of the words at the same distance is a mark; or the refusal of a file that has another. */
+static uint32_t look_at_marks(const struct area *a, uint64_t *chunk, size_t first, size_t step, uint32_t refusal) {
+    size_t word = first;
+    for (size_t from = 0; from < a->length; from += CHUNK) {
+        const size_t size = chunk_at(a, from);
+        if (read_at(a->file, from, chunk, size))
+            return ORDERSET_FILE_SYSTEM;
+        for (; word < (from + size) / sizeof *chunk; word += step)
+            if (chunk[word - from / sizeof *chunk] > 1)
+                return refusal;
+    }
+    return ORDERSET_FILE_OK;
+}
+
 /* The bytes, as they are to be before recovery. A file of another form is refused as it is, before anything is written
- * to it. */
+ * to it and before blocks are asked for. */
 static uint32_t open_area(struct area *a, const char *path, const struct form *f) {
     uint32_t number = open_locked(a, path);
     if (number)
@@ -247,13 +390,16 @@ static uint32_t open_area(struct area *a, const char *path, const struct form *f
         unlock(a);
         return f->refusal;
     }
-    number = f->look(a);
-    if (number)
-        return number;
-    if (a->mode != ORDERSET_FILE_WRITE)
-        return copy_file(a);
-    number = map_file(a);
-    return number ? number : make_durable(a, path);
+    uint64_t *chunk = calloc(1, CHUNK);
+    if (!chunk)
+        return ORDERSET_FILE_SYSTEM;
+    number = f->look(a, chunk);
+    if (!number)
+        number = a->mode == ORDERSET_FILE_WRITE ? map_file(a, path, chunk) : copy_file(a);
+    const int error = errno;
+    free(chunk);
+    errno = error;
+    return number;
 }
 
 static uint32_t may_change(const struct area *a) {
@@ -295,20 +441,16 @@ static uint32_t on_own_stack(void *(*work)(void *), void *argument) {
 /* The bytes of a new file: an empty set, or in layout 0 the zeros of an empty log. */
 static uint32_t format(int file, size_t length, uint64_t layout) {
     uint64_t answer[ORDERSET_FORMAT_ANSWER];
-    if (extend(file, length))
+    uint8_t *image = calloc(1, length);
+    if (!image)
         return ORDERSET_FILE_SYSTEM;
-    if (layout) {
-        uint8_t *image = mmap(NULL, length, PROT_READ | PROT_WRITE, MAP_SHARED, file, 0);
-        if (image == MAP_FAILED)
-            return ORDERSET_FILE_SYSTEM;
-        const uint32_t number = orderset_format(image, length, layout, answer);
-        const int failed = msync(image, length, MS_SYNC), error = errno;
-        munmap(image, length);
-        errno = error;
-        if (failed || number)
-            return failed ? ORDERSET_FILE_SYSTEM : number;
-    }
-    return fsync(file) ? ORDERSET_FILE_SYSTEM : ORDERSET_FILE_OK;
+    uint32_t number = layout ? orderset_format(image, length, layout, answer) : ORDERSET_FILE_OK;
+    if (!number && (extend(file, length) || write_at(file, 0, image, length) || fsync(file)))
+        number = ORDERSET_FILE_SYSTEM;
+    const int error = errno;
+    free(image);
+    errno = error;
+    return number;
 }
 
 /* The file gets its own name, which no other has. Some file systems cannot rename so: there it has two names for a
@@ -338,13 +480,28 @@ static uint32_t make(int file, const char *fresh, const char *path, size_t lengt
     return sync_name(path) ? ORDERSET_FILE_SYSTEM : ORDERSET_FILE_OK;
 }
 
+/* The other name, in the same directory. It is no longer than the name where that is long. */
+static char *other_name(const char *path) {
+    static const char end[] = ".new-XXXXXX";
+    const char *slash = strrchr(path, '/'), *name = slash ? slash + 1 : path;
+    const size_t length = strlen(path), kept = strlen(name) > LONG_NAME ? length - strlen(end) : length;
+    char *other = malloc(kept + sizeof end);
+    if (other) {
+        memcpy(other, path, kept);
+        memcpy(other + kept, end, sizeof end);
+    }
+    return other;
+}
+
 /* The lock is kept until the name is durable, so that nobody writes orders to a file that a cut could still take. */
-static uint32_t create(const char *path, size_t length, uint64_t layout) {
+static uint32_t make_file(const char *path, size_t length, uint64_t layout) {
     struct stat found;
-    char *fresh;
     if (lstat(path, &found) == 0)
         return ORDERSET_FILE_EXISTS;
-    if (errno != ENOENT || asprintf(&fresh, "%s.new-XXXXXX", path) < 0)
+    if (errno != ENOENT || !is_within_limit(length))
+        return ORDERSET_FILE_SYSTEM;
+    char *fresh = other_name(path);
+    if (!fresh)
         return ORDERSET_FILE_SYSTEM;
     const int made = mkostemp(fresh, O_CLOEXEC), file = above_streams(made);
     uint32_t number = file < 0 ? ORDERSET_FILE_SYSTEM : make(file, fresh, path, length, layout);
@@ -355,6 +512,13 @@ static uint32_t create(const char *path, size_t length, uint64_t layout) {
         unlink(fresh);
     free(fresh);
     errno = error;
+    return number;
+}
+
+static uint32_t create(const char *path, size_t length, uint64_t layout) {
+    const int cancel = hold_cancel();
+    const uint32_t number = make_file(path, length, layout);
+    release_cancel(cancel);
     return number;
 }
 
@@ -413,28 +577,26 @@ static uint32_t start(struct orderset_file *s) {
     return persist_opening(&s->area, s->open_at, s->open_value, s->voids[0]);
 }
 
-/* The header, as recovery tests it: of a copy recovery says it. */
-static uint32_t look_at_header(const struct area *a) {
-    uint64_t word[ORDERSET_LINE_BYTES / 8];
+/* Header and marks, as recovery tests them, before anything is written: of a copy recovery says it. */
+static uint32_t look_at_set(const struct area *a, uint64_t *chunk) {
     if (a->mode != ORDERSET_FILE_WRITE)
         return ORDERSET_FILE_OK;
-    if (read_at(a, 0, word, sizeof word))
+    if (read_at(a->file, 0, chunk, ORDERSET_LINE_BYTES))
         return ORDERSET_FILE_SYSTEM;
-    if (word[0] == 0)
+    if (chunk[0] == 0)
         return ORDERSET_NO_FORMAT;
-    int same = word[0] == a->length / ORDERSET_SLOT_BYTES - 1;
-    same &= word[1] == ORDERSET_LAYOUT || word[1] == ORDERSET2_LAYOUT;
-    for (size_t i = 2; i < sizeof word / sizeof *word; i++)
-        same &= word[i] == 0;
-    return same ? ORDERSET_FILE_OK : ORDERSET_NO_HEADER;
+    int same = chunk[0] == a->length / ORDERSET_SLOT_BYTES - 1;
+    same &= chunk[1] == ORDERSET_LAYOUT || chunk[1] == ORDERSET2_LAYOUT;
+    for (size_t i = 2; i < ORDERSET_LINE_STORES; i++)
+        same &= chunk[i] == 0;
+    if (!same)
+        return ORDERSET_NO_HEADER;
+    return look_at_marks(a, chunk, ORDERSET_STORES, ORDERSET_LINE_STORES, ORDERSET_BAD_MARK);
 }
 
-uint32_t orderset_file_open(const char *path, uint32_t mode, struct orderset_file **set) {
+static uint32_t open_set(const char *path, uint32_t mode, struct orderset_file **set) {
     static const struct form form = {ORDERSET_SLOT_BYTES, ORDERSET_SLOTS_MIN + 1, ORDERSET_SLOTS_MAX + 1,
-                                     ORDERSET_NO_IMAGE_LENGTH, look_at_header};
-    *set = NULL;
-    if (mode > ORDERSET_FILE_INSPECT)
-        return ORDERSET_FILE_BAD_MODE;
+                                     ORDERSET_NO_IMAGE_LENGTH, look_at_set};
     struct orderset_file *s = calloc(1, sizeof *s);
     if (!s)
         return ORDERSET_FILE_SYSTEM;
@@ -453,16 +615,28 @@ uint32_t orderset_file_open(const char *path, uint32_t mode, struct orderset_fil
     return ORDERSET_FILE_OK;
 }
 
+uint32_t orderset_file_open(const char *path, uint32_t mode, struct orderset_file **set) {
+    *set = NULL;
+    if (mode > ORDERSET_FILE_INSPECT)
+        return ORDERSET_FILE_BAD_MODE;
+    const int cancel = hold_cancel();
+    const uint32_t number = open_set(path, mode, set);
+    release_cancel(cancel);
+    return number;
+}
+
 /* errno stays. */
 void orderset_file_close(struct orderset_file *set) {
     const int error = errno;
     if (!set)
         return;
+    const int cancel = hold_cancel();
     close_area(&set->area);
     free(set->heads);
     free(set->next);
     free(set);
     errno = error;
+    release_cancel(cancel);
 }
 
 /* ---- the set: calls */
@@ -836,15 +1010,8 @@ static size_t cells_of(const struct orderset_log_file *l) {
 }
 
 /* A log has no header. Its marks are 0 or 1, and word 0 of a set is neither. */
-static uint32_t look_at_marks(const struct area *a) {
-    for (size_t at = 0; at < a->length; at += ORDERSET_LOG_CELL_BYTES) {
-        uint64_t mark;
-        if (read_at(a, at, &mark, sizeof mark))
-            return ORDERSET_FILE_SYSTEM;
-        if (mark > 1)
-            return ORDERSET_FILE_NOT_A_LOG;
-    }
-    return ORDERSET_FILE_OK;
+static uint32_t look_at_log(const struct area *a, uint64_t *chunk) {
+    return look_at_marks(a, chunk, 0, ORDERSET_LOG_CELL_BYTES / sizeof *chunk, ORDERSET_FILE_NOT_A_LOG);
 }
 
 static void *recover_log(void *argument) {
@@ -862,12 +1029,9 @@ static uint32_t start_log(struct orderset_log_file *l) {
     return persist_opening(&l->area, l->at, l->value, l->answer[ORDERSET_LOG_COUNT]);
 }
 
-uint32_t orderset_log_file_open(const char *path, uint32_t mode, struct orderset_log_file **log) {
+static uint32_t open_log(const char *path, uint32_t mode, struct orderset_log_file **log) {
     static const struct form form = {ORDERSET_LOG_CELL_BYTES, ORDERSET_LOG_CELLS_MIN, ORDERSET_LOG_CELLS_MAX,
-                                     ORDERSET_LOG_NO_AREA, look_at_marks};
-    *log = NULL;
-    if (mode > ORDERSET_FILE_INSPECT)
-        return ORDERSET_FILE_BAD_MODE;
+                                     ORDERSET_LOG_NO_AREA, look_at_log};
     struct orderset_log_file *l = calloc(1, sizeof *l);
     if (!l)
         return ORDERSET_FILE_SYSTEM;
@@ -884,13 +1048,25 @@ uint32_t orderset_log_file_open(const char *path, uint32_t mode, struct orderset
     return ORDERSET_FILE_OK;
 }
 
+uint32_t orderset_log_file_open(const char *path, uint32_t mode, struct orderset_log_file **log) {
+    *log = NULL;
+    if (mode > ORDERSET_FILE_INSPECT)
+        return ORDERSET_FILE_BAD_MODE;
+    const int cancel = hold_cancel();
+    const uint32_t number = open_log(path, mode, log);
+    release_cancel(cancel);
+    return number;
+}
+
 void orderset_log_file_close(struct orderset_log_file *log) {
     const int error = errno;
     if (!log)
         return;
+    const int cancel = hold_cancel();
     close_area(&log->area);
     free(log);
     errno = error;
+    release_cancel(cancel);
 }
 
 uint32_t orderset_log_file_append(struct orderset_log_file *log, const void *message, size_t length,

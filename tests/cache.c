@@ -7,7 +7,7 @@
 enum { LINES = MEMORY / 64, WAITING = 32 };
 
 size_t length;
-_Alignas(64) uint8_t visible[MEMORY];
+_Alignas(4096) uint8_t visible[MEMORY];
 static uint8_t durable[MEMORY];
 
 /* the stores of a line that are not durable, the oldest first; the next fence makes the first `flushed` durable */
@@ -59,6 +59,7 @@ void point(void) {
 }
 
 int calling;
+void (*after_store)(size_t place);
 unsigned stores_made;
 int fenced;
 
@@ -72,6 +73,8 @@ void cache_store(volatile void *word, uint64_t value) {
     line->value[line->count++] = value;
     memcpy(visible + place, &value, sizeof value);
     stores_made++;
+    if (after_store)
+        after_store(place);
 }
 
 void cache_flush(const void *line) {
@@ -85,5 +88,13 @@ void cache_fence(void) {
     for (size_t i = 0; i < length / 64; i++)
         write_back(i, waiting[i].flushed);
     fenced |= calling;
+    point();
+}
+
+void cache_sync(const void *bytes, size_t size) {
+    const size_t first = (size_t)((const uint8_t *)bytes - visible) / 64;
+    point();
+    for (size_t i = first; i < first + (size + 63) / 64 && i < length / 64; i++)
+        write_back(i, waiting[i].count);
     point();
 }

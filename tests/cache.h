@@ -11,13 +11,15 @@
 enum { MEMORY = 448 * 1000 };
 
 extern size_t length;                               /* of the memory, in whole lines */
-extern _Alignas(64) uint8_t visible[MEMORY];        /* what a process sees */
+extern _Alignas(4096) uint8_t visible[MEMORY];        /* what a process sees */
 extern int calling;                                 /* set by the program: 1 in a call, 0 in a start */
 extern unsigned stores_made;                        /* since the program set it to 0 */
 extern int fenced;                                  /* a fence was passed in a call since then */
 
 /* What is visible becomes durable: the memory of a new program. */
 void all_durable(void);
+
+extern void (*after_store)(size_t place);           /* null, or told of each store */
 
 /* Something strikes: the program goes to `struck` at a point, which counts the fuse down. Every store, flush and fence
  * is a point. */
@@ -30,6 +32,9 @@ void power_cut(void);
 
 /* A kill: everything that is visible stays, and no flush is under way. */
 void process_kill(void);
+
+/* A sync: every store to these bytes becomes durable. */
+void cache_sync(const void *bytes, size_t size);
 
 /* line is orderset_flush_line's parameter. */
 void cache_store(volatile void *word, uint64_t value);

@@ -1,9 +1,9 @@
-/* A slow disk with a cache, for the gateway under test: linked into it with --wrap in the place of mmap, msync, fsync
- * and renameat2. The file that DISK_SHADOW names holds what is durable of the image: only a sync brings anything there,
- * a word at a time, so that a kill in the middle of one leaves each line some number of its stores. The file that
- * DISK_LOG names gets a line for each sync and each rename. After as many syncs as DISK_FAILS says, all fail. A sync
- * that fails leaves the pages clean: an fsync writes nothing, until an msync of the whole image went well. DISK_SHADOW
- * is not set when the gateway makes a file. */
+/* A slow disk with a cache, for the program under test: linked into it with --wrap in the place of mmap, msync, fsync,
+ * renameat2 and, where it writes to the file, pwrite. The file that DISK_SHADOW names holds what is durable of the
+ * image: only a sync brings anything there, a word at a time, so that a kill in the middle of one leaves each line some
+ * number of its stores. The file that DISK_LOG names gets a line for each sync and each rename. After as many syncs as
+ * DISK_FAILS says, all fail. A sync that fails leaves the pages clean: an fsync writes nothing, until an msync of the
+ * whole image went well or the whole file was written. DISK_SHADOW is not set when the program makes a file. */
 #define _GNU_SOURCE
 #include <errno.h>
 #include <fcntl.h>
@@ -13,6 +13,7 @@
 #include <string.h>
 #include <sys/mman.h>
 #include <sys/stat.h>
+#include <sys/syscall.h>
 #include <unistd.h>
 
 enum { SLOW = 100 }; /* microseconds before a sync and after it */
@@ -101,14 +102,39 @@ int __wrap_msync(void *address, size_t length, int flags) {
     return 0;
 }
 
+/* The whole file, whether it is mapped or not. */
+static void sync_file(int file, size_t length) {
+    uint64_t *const image_before = image, *const shadow_before = shadow;
+    const size_t length_before = image_length;
+    void *mapped = __wrap_mmap(NULL, length, PROT_READ, MAP_SHARED, file, 0);
+    if (mapped == MAP_FAILED)
+        abort();
+    sync_words(0, length / 8);
+    munmap(mapped, length);
+    if (shadow && shadow != shadow_before)
+        munmap(shadow, length);
+    image = image_before;
+    shadow = shadow_before;
+    image_length = length_before;
+}
+
 int __wrap_fsync(int file) {
     struct stat found;
     if (fstat(file, &found) || fails())
         return -1;
-    if (S_ISREG(found.st_mode) && image && !(mark() && access(mark(), F_OK) == 0))
-        sync_words(0, image_length / 8);
+    if (S_ISREG(found.st_mode) && getenv("DISK_SHADOW") && !(mark() && access(mark(), F_OK) == 0))
+        sync_file(file, (size_t)found.st_size);
+    else
+        usleep(SLOW);
     note(S_ISDIR(found.st_mode) ? "sync directory\n" : "sync file\n");
     return 0;
+}
+
+ssize_t __wrap_pwrite(int file, const void *bytes, size_t size, off_t offset) {
+    struct stat found;
+    if (mark() && fstat(file, &found) == 0 && offset == 0 && size == (size_t)found.st_size)
+        unlink(mark());
+    return syscall(SYS_pwrite64, file, bytes, size, offset);
 }
 
 int __wrap_renameat2(int from, const char *old, int to, const char *new, unsigned flags) {

@@ -1,7 +1,7 @@
 /* The handles of orderset_file.h on files of this machine: random changes of a set in both layouts and random messages
  * of a log, against a plain map and a plain list, with the file closed and opened again; and case by case what is to
  * be refused: two handles and two processes on one file, a full disk, failing syncs, a file that is read-only, cut
- * short, damaged or of something else, keys that are too wide. What is refused or only read leaves every byte of the
+ * short, damaged or of something else, a limit of the length, keys that are too wide. What is refused or only read leaves every byte of the
  * file.
  *
  *     file FILE [SEED]
@@ -10,6 +10,7 @@
 #include <errno.h>
 #include <fcntl.h>
 #include <inttypes.h>
+#include <limits.h>
 #include <pthread.h>
 #include <signal.h>
 #include <stdio.h>
@@ -21,7 +22,9 @@
 #include <sys/resource.h>
 #include <sys/stat.h>
 #include <sys/syscall.h>
+#include <sys/time.h>
 #include <sys/wait.h>
+#include <time.h>
 #include <unistd.h>
 
 #include "chance.h"
@@ -39,14 +42,22 @@ static uint64_t cases, changes, reopened, messages;
 
 static int disk_full, sync_fails;
 static int fails_alone;                           /* the sync that fails alone: 1 is the next one; 0: none */
-static int interrupted, no_fallocate, no_rename;  /* the next call is; the file system has not got it */
-static int asked, extended;                       /* calls for blocks, and those that may extend a file */
+static int interrupted, no_fallocate, no_rename;  /* the next call is; the file system has not got it, by this errno */
+static int asked, extended, written;              /* calls for blocks, those that may extend a file, and writes */
+static int no_new_block;                          /* blocks are given, and a write or a store takes another */
+static int stat_error;                            /* errno of stat; 0: it does not fail */
 static void (*before_lock)(void), (*before_rename)(void);
 
 int __real_posix_fallocate(int file, off_t offset, off_t size);
 int __real_msync(void *address, size_t size, int flags);
+void *__real_mmap(void *address, size_t size, int access, int flags, int file, off_t offset);
+ssize_t __real_pwrite(int file, const void *bytes, size_t size, off_t offset);
+int __real_stat(const char *name, struct stat *found);
 int __wrap_posix_fallocate(int file, off_t offset, off_t size);
 int __wrap_msync(void *address, size_t size, int flags);
+void *__wrap_mmap(void *address, size_t size, int access, int flags, int file, off_t offset);
+ssize_t __wrap_pwrite(int file, const void *bytes, size_t size, off_t offset);
+int __wrap_stat(const char *name, struct stat *found);
 
 static int blocks(void) {
     asked++;
@@ -65,6 +76,22 @@ int fallocate(int file, int mode, off_t offset, off_t size) {
     errno = no_fallocate ? EOPNOTSUPP : blocks();
     extended += !(mode & FALLOC_FL_KEEP_SIZE);
     return errno ? -1 : (int)syscall(SYS_fallocate, file, mode, offset, size);
+}
+
+/* A store to a page that gets no block ends the program, as on a full btrfs. */
+void *__wrap_mmap(void *address, size_t size, int access, int flags, int file, off_t offset) {
+    return __real_mmap(address, size, file >= 0 && no_new_block ? PROT_READ : access, flags, file, offset);
+}
+
+ssize_t __wrap_pwrite(int file, const void *bytes, size_t size, off_t offset) {
+    written++;
+    errno = ENOSPC;
+    return no_new_block ? -1 : __real_pwrite(file, bytes, size, offset);
+}
+
+int __wrap_stat(const char *name, struct stat *found) {
+    errno = stat_error;
+    return stat_error ? -1 : __real_stat(name, found);
 }
 
 static int this_fails(void) {
@@ -89,7 +116,7 @@ int flock(int file, int how) {
 int renameat2(int from, const char *old, int to, const char *new, unsigned flags) {
     if (before_rename)
         before_rename();
-    errno = EINVAL;
+    errno = no_rename;
     return no_rename ? -1 : (int)syscall(SYS_renameat2, from, old, to, new, flags);
 }
 
@@ -230,17 +257,15 @@ static void random_changes(uint32_t layout) {
 
 /* ---- new files */
 
-static int left_over(void) {
+/* Names that begin so. */
+static int are_names(const char *first, const char *rest) {
     char command[2 * NAME];
-    snprintf(command, sizeof command, "ls '%s'.new-* >/dev/null 2>&1", path);
+    snprintf(command, sizeof command, "ls '%s'%s >/dev/null 2>&1", first, rest);
     return system(command) == 0;
 }
 
-/* Whether a file whose name begins with that of the test's is mapped. */
-static int is_mapped(void) {
-    char command[2 * NAME];
-    snprintf(command, sizeof command, "grep -qF '%s' /proc/%d/maps", strrchr(path, '/') + 1, getpid());
-    return system(command) == 0;
+static int left_over(void) {
+    return are_names(path, ".new-*");
 }
 
 static void new_files(void) {
@@ -262,7 +287,7 @@ static void new_files(void) {
     disk_full = 0;
     sync_fails = 1;
     gives(orderset_file_create(path, 2, 1), ORDERSET_FILE_SYSTEM, "create that is not synced");
-    holds(errno == EIO && access(path, F_OK) && !left_over() && !is_mapped(), "a create that fails leaves nothing");
+    holds(errno == EIO && access(path, F_OK) && !left_over(), "a create that fails leaves nothing");
     sync_fails = 0;
     new_set(FEW_SLOTS, 2);
     struct contents before = contents_of_file();
@@ -273,6 +298,13 @@ static void new_files(void) {
     no_set(WRITE, ORDERSET_FILE_SYSTEM, "an open on a full disk");
     holds(errno == ENOSPC && is_unchanged(&before), "errno tells that the disk is full");
     disk_full = 0;
+    no_new_block = 1;
+    no_set(WRITE, ORDERSET_FILE_SYSTEM, "an open where a write takes a new block, on a full disk");
+    holds(errno == ENOSPC && is_unchanged(&before), "errno tells that the disk is full");
+    unlink(path);
+    gives(orderset_file_create(path, 2, 1), ORDERSET_FILE_SYSTEM, "create where a write takes a new block, on a full disk");
+    holds(errno == ENOSPC && access(path, F_OK) && !left_over(), "a create that fails leaves nothing");
+    no_new_block = 0;
     free(before.bytes);
 }
 
@@ -283,7 +315,9 @@ static void make_file_once(void) {
 
 /* Another program makes the file just before create gives it its name; a file system without that rename. */
 static void names(void) {
-    for (no_rename = 0; no_rename < 2; no_rename++) {
+    const int errors[] = {0, EINVAL, ENOSYS};
+    for (int i = 0; i < 3; i++) {
+        no_rename = errors[i];
         unlink(path);
         before_rename = make_file_once;
         gives(orderset_file_create(path, 2, 1), ORDERSET_FILE_EXISTS, "create beside another");
@@ -291,11 +325,54 @@ static void names(void) {
         holds(made.size == 3 && !memcmp(made.bytes, "abc", 3) && !left_over(), "create leaves the file of another");
         free(made.bytes);
     }
-    no_rename = 1;
-    new_set(FEW_SLOTS, 1);
+    for (int i = 1; i < 3; i++) {
+        no_rename = errors[i];
+        new_set(FEW_SLOTS, 1);
+        holds(!left_over(), "a link and no other name is left");
+        orderset_file_close(open_set(WRITE));
+    }
     no_rename = 0;
-    holds(!left_over(), "a link and no other name is left");
-    orderset_file_close(open_set(WRITE));
+}
+
+/* Names of any length that the file system takes. */
+static void long_names(void) {
+    const char *name = path;
+    char longer[NAME];
+    const size_t directory = (size_t)(strrchr(path, '/') + 1 - path);
+    for (size_t i = 100; i <= NAME_MAX; i += i < 110 || i >= 240 ? 1 : 10) {
+        memcpy(longer, name, directory);
+        memset(longer + directory, 'n', i);
+        longer[directory + i] = 0;
+        path = longer;
+        unlink(path);
+        expect(orderset_file_create(path, 2, 1) == 0, "create of a name of %zu bytes: %s", i, strerror(errno));
+        orderset_file_close(open_set(WRITE));
+        unlink(path);
+        longer[directory + 80] = 0;
+        holds(!are_names(longer, "*"), "create of a long name leaves no other name");
+        path = name;
+    }
+}
+
+/* In a process that may make no file longer than this. */
+static void length_limit(uint32_t slots) {
+    const struct rlimit little = {4096, 4096};
+    int status;
+    unlink(path);
+    if (slots)
+        new_set(slots, 1);
+    fflush(stdout);
+    const pid_t child = fork();
+    if (child == 0) {
+        struct orderset_file *set;
+        if (setrlimit(RLIMIT_FSIZE, &little))
+            _exit(2);
+        const uint32_t number = slots ? orderset_file_open(path, WRITE, &set) : orderset_file_create(path, 32, 1);
+        _exit(number != ORDERSET_FILE_SYSTEM || errno != EFBIG);
+    }
+    expect(waitpid(child, &status, 0) == child, "the other process ends");
+    holds(WIFEXITED(status) && WEXITSTATUS(status) == 0, "a limit of the length of a file gives 1010 with EFBIG");
+    holds(slots ? access(path, F_OK) == 0 : access(path, F_OK) && !left_over(), "and leaves no name");
 }
 
 /* Calls for blocks that are interrupted, and a file system without the one that keeps the length. */
@@ -307,9 +384,17 @@ static void calls_for_blocks(void) {
     orderset_file_close(open_set(WRITE));
     holds(asked == 2 && extended == 0, "an open asks for blocks and keeps the length");
     no_fallocate = 1;
+    new_set(100, 1);
+    struct contents c = contents_of_file();
+    struct stat found;
+    write_file(c.bytes, ORDERSET_LINE_BYTES);
+    expect(truncate(path, (off_t)c.size) == 0 && stat(path, &found) == 0 && found.st_blocks * 512 < (off_t)c.size,
+           "a file with a hole");
     orderset_file_close(open_set(WRITE));
     no_fallocate = 0;
-    holds(extended == 1, "an open asks for blocks in another way");
+    holds(stat(path, &found) == 0 && found.st_blocks * 512 >= (off_t)c.size, "an open fills the holes of a file");
+    holds(is_unchanged(&c), "an open leaves every byte of a file");
+    free(c.bytes);
 }
 
 /* In a process that has no descriptor above the standard streams. */
@@ -332,9 +417,9 @@ static void no_descriptor(void) {
 
 static void no_set_in(uint32_t wanted, const char *what) {
     struct contents before = contents_of_file();
-    asked = 0;
+    asked = written = 0;
     no_set(WRITE, wanted, what);
-    holds(asked == 0, "for a file that is no set no blocks are asked");
+    holds(asked == 0 && written == 0, "for a file that is no set no blocks are asked, and nothing is written to it");
     no_set(READ, wanted, what);
     struct orderset_file *set = open_set(INSPECT);
     holds(statistics_of(set).refusal == wanted, what);
@@ -469,6 +554,38 @@ static void renamed_files(void) {
     before_lock = remove_once;
     no_set(READ, ORDERSET_FILE_SYSTEM, "an open of a file that is removed meanwhile");
     holds(errno == ENOENT, "errno tells that no file is there");
+}
+
+/* The name cannot be looked at. */
+static void no_stat(void) {
+    new_set(FEW_SLOTS, 1);
+    stat_error = EIO;
+    no_set(WRITE, ORDERSET_FILE_SYSTEM, "an open where stat fails");
+    holds(errno == EIO, "errno tells why stat failed");
+    stat_error = 0;
+}
+
+static void do_nothing(int number) {
+    (void)number;
+}
+
+/* The lock is waited for a fifth of a second, also where a signal comes every two milliseconds. */
+static void signals(void) {
+    const struct itimerval often = {{0, 2000}, {0, 2000}}, never = {{0, 0}, {0, 0}};
+    struct sigaction action = {.sa_handler = do_nothing}, before;
+    struct timespec from, to;
+    new_set(FEW_SLOTS, 1);
+    struct orderset_file *set = open_set(WRITE);
+    sigaction(SIGALRM, &action, &before);
+    setitimer(ITIMER_REAL, &often, NULL);
+    clock_gettime(CLOCK_MONOTONIC, &from);
+    no_set(WRITE, ORDERSET_FILE_LOCKED, "a second handle that writes, among signals");
+    clock_gettime(CLOCK_MONOTONIC, &to);
+    setitimer(ITIMER_REAL, &never, NULL);
+    sigaction(SIGALRM, &before, NULL);
+    holds((to.tv_sec - from.tv_sec) * 1000 + (to.tv_nsec - from.tv_nsec) / 1000000 >= 190,
+          "signals do not shorten the wait for the lock");
+    orderset_file_close(set);
 }
 
 /* In a process without rights, and without standard input: the file does not take its place. */
@@ -662,8 +779,7 @@ static void openings_not_synced(uint32_t layout) {
         fails_alone = i;
         const uint32_t number = orderset_file_open(path, WRITE, &set);
         if (number == 0) {
-            const int least = statistics_of(set).flush == ORDERSET_FILE_MSYNC ? 5 : 3;
-            expect(i == least, "%d syncs of an open fail alone: %d", least - 1, i - 1);
+            expect(i == 4, "3 syncs of an open fail alone: %d", i - 1);
             break;
         }
         gives(number, ORDERSET_FILE_SYSTEM, "an open of which one sync fails");
@@ -689,7 +805,9 @@ static void damaged(uint32_t layout, size_t word, uint64_t flip, uint32_t wanted
     const uint64_t damage = word_at(&c, 16 * slot + word) ^ flip;
     memcpy(c.bytes + 128 * slot + 8 * word, &damage, sizeof damage);
     write_file(c.bytes, c.size);
+    asked = written = 0;
     no_set(WRITE, wanted, "an open of a damaged file");
+    holds(wanted != ORDERSET_BAD_MARK || (asked == 0 && written == 0), "marks are looked at before a file is written");
     set = open_set(INSPECT);
     const struct orderset_statistics s = statistics_of(set);
     holds(s.refusal == wanted && s.fault_slot == (wanted == 5 ? 0 : slot), "an inspection tells the refusal");
@@ -842,9 +960,9 @@ static void random_messages(void) {
 
 static void no_log_in(uint32_t wanted, const char *what) {
     struct contents before = contents_of_file();
-    asked = 0;
+    asked = written = 0;
     no_log(WRITE, wanted, what);
-    holds(asked == 0, "for a file that is no log no blocks are asked");
+    holds(asked == 0 && written == 0, "for a file that is no log no blocks are asked, and nothing is written to it");
     no_log(READ, wanted, what);
     holds(is_unchanged(&before), "a file that is no log stays as it is");
     free(before.bytes);
@@ -865,6 +983,34 @@ static void wrong_logs(void) {
     new_set(6, 1);
     no_log_in(ORDERSET_FILE_NOT_A_LOG, "a set of six slots, as long as a log of two cells");
     no_log(3, ORDERSET_FILE_BAD_MODE, "an open in mode 3");
+}
+
+/* A set of 7 m - 1 slots is as long as a log of 2 m cells, and neither is the other, whatever it holds. */
+static void two_forms(uint32_t m) {
+    struct orderset_log_file *log;
+    static uint8_t bytes[ORDERSET_VALUE_MAX];
+    for (uint32_t layout = 1; layout <= 2; layout++) {
+        new_set(7 * m - 1, layout);
+        struct orderset_file *set = open_set(WRITE);
+        for (uint64_t key = 0; key < 7 * m - 2 && key < 60; key++) {
+            fill(bytes, sizeof bytes);
+            gives(orderset_file_insert(set, (struct orderset_key){key, 0}, bytes, below(73)), 0, "insert");
+        }
+        orderset_file_close(set);
+        no_log_in(ORDERSET_FILE_NOT_A_LOG, "a set as long as a log");
+    }
+    unlink(path);
+    gives(orderset_log_file_create(path, 2 * m), 0, "create of a log");
+    gives(orderset_log_file_open(path, WRITE, &log), 0, "an open of a log");
+    for (uint32_t i = 1; i <= 4 * m && i <= 60; i++) {
+        gives(orderset_log_file_append(log, bytes, 1 + below(72), NULL), 0, "an append");
+        if (i % (2 * m) && i % 32)
+            continue;
+        orderset_log_file_close(log);
+        no_set_in(i / (2 * m) == 1 ? 3 : 2, "a log as long as a set"); /* by the mark of cell 0, 1 or 0 */
+        gives(orderset_log_file_open(path, WRITE, &log), 0, "an open of a log");
+    }
+    orderset_log_file_close(log);
 }
 
 static void failing_log(void) {
@@ -901,10 +1047,15 @@ int main(int count, char **word) {
     rmdir(path);
     new_files();
     names();
+    long_names();
+    length_limit(0);
+    length_limit(FEW_SLOTS + 32);
     calls_for_blocks();
     wrong_files();
     two_handles();
+    signals();
     renamed_files();
+    no_stat();
     rights();
     no_descriptor();
     reading_only();
@@ -920,6 +1071,9 @@ int main(int count, char **word) {
     words();
     small_stack();
     wrong_logs();
+    two_forms(1);
+    two_forms(1 + (uint32_t)below(8));
+    two_forms(143); /* 1,000 slots */
     failing_log();
     for (int i = 0; i < LOGS; i++)
         random_messages();

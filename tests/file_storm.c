@@ -1,8 +1,12 @@
 /* A storm of power cuts and kills over the handles of orderset_file.h. The source of the handles is compiled into this
  * test with orderset_persist.h over a simulated cache (cache.h), and what it maps is that cache's memory, as if the
- * file were on non-volatile memory: so every store, flush and fence of an open and of a call can be the last one.
- * After each strike the file is opened again, which may be struck too; then every answered change must be there, the
- * one that was struck wholly or not at all, and nothing else. The set in both layouts, and the log.
+ * file were on non-volatile memory: so every store, flush, fence, write and sync of an open and of a call can be the
+ * last one. After each strike the file is opened again, which may be struck too; then every answered change must be
+ * there, the one that was struck wholly or not at all, and nothing else. The set in both layouts, and the log.
+ *
+ * The file system is one whose files never share blocks, or xfs, where the file was copied with its blocks shared
+ * (reflink): before an open, or also while one is under way. A store to a shared page, or a write, takes a new block,
+ * and nothing of that page is durable before a sync, whatever is flushed.
  *
  *     file_storm FILE [SEED [STRIKES]]     FILE has only the length of what is mapped
  */
@@ -10,6 +14,9 @@
 #include <errno.h>
 #include <fcntl.h>
 #include <inttypes.h>
+#include <limits.h>
+#include <linux/fiemap.h>
+#include <linux/fs.h>
 #include <pthread.h>
 #include <signal.h>
 #include <stdarg.h>
@@ -17,21 +24,70 @@
 #include <stdlib.h>
 #include <string.h>
 #include <sys/file.h>
+#include <sys/ioctl.h>
 #include <sys/mman.h>
+#include <sys/resource.h>
 #include <sys/stat.h>
+#include <sys/vfs.h>
 #include <time.h>
 #include <unistd.h>
 
+static int storm_msync(void *bytes, size_t size, int flags);
+#define msync storm_msync
 #include "cache.h"
 #include "chance.h"
 #include "file_model.h"
 
-enum { STRIKES = 60000, BLOCKS = 8, MOST_CELLS = 9 };
+enum { STRIKES = 60000, BLOCKS = 8, MOST_CELLS = 9, PAGE = 4096, PAGES = MEMORY / PAGE + 1 };
+
+/* ---- the blocks of the file */
+
+static enum page { OWN, SHARED, TAKEN } page[PAGES]; /* TAKEN: a new block that a cut gives back */
+static uint8_t shared_bytes[MEMORY];                 /* of the shared blocks */
+static int is_xfs, tells, copied_meanwhile;          /* tells: which blocks are shared */
+
+static size_t pages(void) {
+    return (length + PAGE - 1) / PAGE;
+}
+
+static void takes_block(size_t at) {
+    if (page[at / PAGE] == SHARED)
+        page[at / PAGE] = TAKEN;
+}
+
+static void sync_pages(size_t from, size_t size) {
+    cache_sync(visible + from, size);
+    for (size_t i = from / PAGE; i < (from + size + PAGE - 1) / PAGE; i++)
+        if (page[i] == TAKEN)
+            page[i] = OWN;
+}
+
+static void copy_by_reflink(void) {
+    sync_pages(0, length);
+    memcpy(shared_bytes, visible, length);
+    for (size_t i = 0; i < pages(); i++)
+        page[i] = SHARED;
+}
+
+/* After a power cut: the pages without a durable place are those of the copy. */
+static void give_back_blocks(void) {
+    for (size_t i = 0; i < pages(); i++)
+        if (page[i] == TAKEN) {
+            const size_t size = length - i * PAGE < PAGE ? length - i * PAGE : PAGE;
+            memcpy(visible + i * PAGE, shared_bytes + i * PAGE, size);
+            page[i] = SHARED;
+        }
+    all_durable();
+}
 
 /* ---- what the handles get from the system: memory of the cache, and what a strike leaves behind is given back */
 
 static int locked = -1;      /* the file of the handle that is open */
 static void *block[BLOCKS];  /* what it allocated */
+static void *copy;           /* what it mapped beside the file */
+static size_t copy_size;
+
+static void __attribute__((noreturn, format(printf, 1, 2))) lost(const char *what, ...);
 
 static int storm_flock(int file, int how) {
     (void)how;
@@ -40,12 +96,15 @@ static int storm_flock(int file, int how) {
 }
 
 static void *storm_mmap(void *address, size_t size, int access, int flags, int file, off_t offset) {
-    if ((flags & MAP_SYNC) == MAP_SYNC)
+    if (file >= 0)
         return visible;
-    return mmap(address, size, access, flags, file, offset);
+    copy_size = size;
+    return copy = mmap(address, size, access, flags, file, offset);
 }
 
 static int storm_munmap(void *bytes, size_t size) {
+    if (bytes == copy)
+        copy = NULL;
     return bytes == visible ? 0 : munmap(bytes, size);
 }
 
@@ -56,6 +115,58 @@ static ssize_t storm_pread(int file, void *bytes, size_t size, off_t offset) {
         return -1;
     memcpy(bytes, (const uint8_t *)visible + offset, size);
     return (ssize_t)size;
+}
+
+/* An open writes the bytes that are there, but for the mark that a store of recovery turns; a page at a time. */
+static ssize_t storm_pwrite(int file, const void *bytes, size_t size, off_t offset) {
+    const size_t part = size < PAGE ? size : PAGE;
+    (void)file;
+    if (part == 8) {
+        uint64_t word;
+        memcpy(&word, bytes, sizeof word);
+        cache_store(visible + offset, word);
+    } else if (memcmp(visible + offset, bytes, part))
+        lost("bytes: an open writes others than are there");
+    takes_block((size_t)offset);
+    point();
+    return (ssize_t)part;
+}
+
+static int storm_fsync(int file) {
+    struct stat found;
+    if (fstat(file, &found) == 0 && S_ISREG(found.st_mode))
+        sync_pages(0, length);
+    return 0;
+}
+
+static int storm_msync(void *bytes, size_t size, int flags) {
+    (void)flags;
+    const size_t from = (size_t)((uint8_t *)bytes - visible);
+    sync_pages(from, from + size < length ? size : length - from);
+    return 0;
+}
+
+/* Each page is an extent. */
+static int storm_ioctl(int file, unsigned long request, struct fiemap *m) {
+    (void)file, (void)request;
+    if (copied_meanwhile)
+        copy_by_reflink();
+    errno = ENOTTY;
+    if (!tells)
+        return -1;
+    m->fm_mapped_extents = 0;
+    for (size_t i = m->fm_start / PAGE; i < pages() && m->fm_mapped_extents < m->fm_extent_count; i++) {
+        struct fiemap_extent *extent = &m->fm_extents[m->fm_mapped_extents++];
+        *extent = (struct fiemap_extent){.fe_logical = i * PAGE, .fe_length = PAGE};
+        extent->fe_flags = (page[i] == SHARED ? FIEMAP_EXTENT_SHARED : 0) | (i + 1 == pages() ? FIEMAP_EXTENT_LAST : 0);
+    }
+    return 0;
+}
+
+static int storm_fstatfs(int file, struct statfs *system) {
+    (void)file;
+    system->f_type = is_xfs ? 0x58465342 : 0xef53;
+    return 0;
 }
 
 static void *storm_calloc(size_t count, size_t size) {
@@ -77,6 +188,9 @@ static void give_back(void) {
         free(block[i]);
         block[i] = NULL;
     }
+    if (copy)
+        munmap(copy, copy_size);
+    copy = NULL;
     close(locked);
 }
 
@@ -95,15 +209,19 @@ static int storm_thread(pthread_t *thread, const pthread_attr_t *attributes, voi
 #define pread storm_pread
 #define calloc storm_calloc
 #define free storm_free
-#define fsync(file) ((void)(file), 0) /* nothing is in the file */
+#define pwrite storm_pwrite
+#define fsync storm_fsync
+#define ioctl storm_ioctl
+#define fstatfs storm_fstatfs
 #include "../src/orderset_file.c"
 #undef mmap
+#undef munmap
 #undef free
 
 /* ---- the plain map or list of what was answered, and what may have been struck */
 
 static const char *path;
-static uint64_t strikes, cuts, kills, in_open, in_call, baskets, answered, opened, messages_answered;
+static uint64_t strikes, cuts, kills, in_open, in_call, baskets, answered, opened, messages_answered, flushed, synced;
 static int under_way, log_storm;
 
 static struct plain now, after;
@@ -126,6 +244,14 @@ static void __attribute__((noreturn, format(printf, 1, 2))) lost(const char *wha
     exit(1);
 }
 
+/* By msync exactly where a block may be shared. */
+static void check_flush(uint32_t flush) {
+    const int by_msync = is_xfs && (!tells || copied_meanwhile);
+    if (by_msync != (flush == ORDERSET_FILE_MSYNC) || flush == ORDERSET_FILE_NO_FLUSH)
+        lost("flushes: %" PRIu32 " where blocks are %sshared", flush, by_msync ? "" : "not ");
+    (*(by_msync ? &synced : &flushed))++;
+}
+
 /* ---- the set */
 
 static void run_set(void) {
@@ -135,8 +261,7 @@ static void run_set(void) {
         lost("an open gives %" PRIu32 ": %s", number, orderset_file_text(number));
     calling = 1;
     opened += set->voids[0];
-    if (set->area.flush < ORDERSET_FILE_CLFLUSH)
-        lost("flushes: the file is taken as one on a disk");
+    check_flush(set->area.flush);
     if (under_way && shows(set, &after))
         now = after;
     else if (!shows(set, &now))
@@ -198,6 +323,7 @@ static void run_log(void) {
         lost("an open gives %" PRIu32 ": %s", number, orderset_file_text(number));
     calling = 1;
     opened += log->answer[ORDERSET_LOG_COUNT];
+    check_flush(log->area.flush);
     if (under_way && log->last == list.count + 1)
         add_message();
     under_way = 0;
@@ -235,6 +361,10 @@ static void make_memory(void) {
     if (file < 0 || ftruncate(file, (off_t)length) || close(file))
         lost("%s: %s", path, strerror(errno));
     all_durable();
+    memset(page, 0, sizeof page);
+    is_xfs = (int)below(2);
+    tells = below(4) > 0;
+    after_store = takes_block;
     under_way = 0;
 }
 
@@ -250,10 +380,12 @@ static void run_until_struck(void) {
 
 static void strike(void) {
     const int kill_it = (int)below(2);
-    if (kill_it)
+    if (kill_it) {
         process_kill();
-    else
+    } else {
         power_cut();
+        give_back_blocks();
+    }
     give_back();
     kills += (uint64_t)kill_it;
     cuts += (uint64_t)!kill_it;
@@ -271,14 +403,19 @@ int main(int count, char **word) {
     while (strikes < wanted) {
         make_memory();
         for (uint64_t k = 20 + below(500); k > 0 && strikes < wanted; k--) {
-            fuse = (unsigned)(below(3) ? length / 64 + 4 + below(below(4) ? 70 : 500) : below(length / 64 + 4));
+            const uint64_t in_an_open = length / 64 + 3 * pages() + 12;
+            fuse = UINT_MAX;
+            if (is_xfs && below(2))
+                copy_by_reflink();
+            copied_meanwhile = is_xfs && below(4) == 0;
+            fuse = (unsigned)(below(3) ? in_an_open + below(below(4) ? 70 : 500) : below(in_an_open));
             run_until_struck();
             strike();
         }
     }
     printf("%" PRIu64 " cuts and %" PRIu64 " kills, %" PRIu64 " of them in an open and %" PRIu64 " in a call, %" PRIu64
            " lines opened, %" PRIu64 " changes, %" PRIu64 " of them baskets, and %" PRIu64
-           " messages answered: nothing lost (%.0f s)\n",
-           cuts, kills, in_open, in_call, opened, answered, baskets, messages_answered, seconds());
-    return in_open == 0 || in_call == 0 || opened == 0 || baskets == 0 || messages_answered == 0;
+           " messages answered; %" PRIu64 " opens with flushes and %" PRIu64 " with msync: nothing lost (%.0f s)\n",
+           cuts, kills, in_open, in_call, opened, answered, baskets, messages_answered, flushed, synced, seconds());
+    return in_open == 0 || in_call == 0 || opened == 0 || baskets == 0 || messages_answered == 0 || synced == 0;
 }

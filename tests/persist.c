@@ -24,10 +24,11 @@
 /* What the header does, in order. A store, and a flush or a fence that is executed, only where it is watched; FLUSH and
  * FENCE are the hooks, which follow. */
 enum what { STORE, FLUSH, FENCE, SYNC, EXECUTED_FENCE, EXECUTED_FLUSH }; /* EXECUTED_FLUSH and the kind of flush */
+enum { MFENCE = 0xf0, SFENCE = 0xf8 };
 static struct event {
     unsigned what;
     const void *where;
-    uint64_t value; /* of a store; the length of a sync */
+    uint64_t value; /* of a store; the length of a sync; the last byte of an executed fence */
 } event[512];
 static unsigned events;
 
@@ -121,8 +122,8 @@ static void look(const greg_t *gregs) {
     if (p[0] != 0x0f || p[1] != 0xae)
         return;
     unsigned in_memory = p[2] < 0xc0, digit = p[2] >> 3 & 7;
-    if (!prefixed && p[2] == 0xf8)
-        happened(EXECUTED_FENCE, NULL, 0);
+    if (!prefixed && (p[2] == MFENCE || p[2] == SFENCE))
+        happened(EXECUTED_FENCE, NULL, p[2]);
     else if (in_memory && (digit == 7 || (prefixed && digit == 6)))
         happened(EXECUTED_FLUSH + (digit == 6 ? ORDERSET_CLWB : prefixed ? ORDERSET_CLFLUSHOPT : ORDERSET_CLFLUSH),
                  operand(p + 2, rex, gregs), 0);
@@ -185,8 +186,11 @@ static int is_flush(unsigned *i, const void *line, enum orderset_flush flush, in
     return is((*i)++, FLUSH, line) && executed;
 }
 
-static int is_last_fence(unsigned i, int watching) {
-    int executed = !watching || is(i++, EXECUTED_FENCE, NULL);
+/* The fence is the one that orders this kind of flush. */
+static int is_last_fence(unsigned i, enum orderset_flush flush, int watching) {
+    const uint64_t kind = flush == ORDERSET_CLFLUSH ? MFENCE : SFENCE;
+    int executed = !watching || (is(i, EXECUTED_FENCE, NULL) && event[i].value == kind);
+    i += (unsigned)watching;
     return is(i, FENCE, NULL) && executed && events == i + 1;
 }
 
@@ -204,7 +208,7 @@ static void persist(enum orderset_flush flush, int watching) {
     int both = is_flush(&i, (uint64_t *)image + at[0], flush, watching);
     both &= is_flush(&i, (uint64_t *)image + at[8], flush, watching);
     expect(both, "then both lines are flushed");
-    expect(is_last_fence(i, watching), "then there is one fence, and nothing more");
+    expect(is_last_fence(i, flush, watching), "then there is one fence, and nothing more");
 }
 
 enum kind { INSERT, REPLACE, REMOVE };
@@ -356,7 +360,7 @@ static unsigned persist_list(size_t count, enum orderset_flush flush, int watchi
             flushed++;
         }
     expect(each, "then each line of the list is flushed");
-    expect(is_last_fence(i, watching), "after a list there is one fence, and nothing more");
+    expect(is_last_fence(i, flush, watching), "after a list there is one fence, and nothing more");
     expect(memcmp(image, played, LENGTH) == 0, "the bytes are as play_list leaves them");
     lists++;
     return flushed;
@@ -487,7 +491,7 @@ static void whole_image(enum orderset_flush flush, int watching) {
     while (flushed < LINES && is_flush(&i, image + 64 * flushed, flush, watching))
         flushed++;
     expect(flushed == LINES, "persist_image flushes every line");
-    expect(is_last_fence(i, watching), "persist_image fences once, after every line");
+    expect(is_last_fence(i, flush, watching), "persist_image fences once, after every line");
     expect(memcmp(image, played, LENGTH) == 0, "persist_image does not change the image");
 }
 

@@ -86,8 +86,9 @@ fault persist 'a line is flushed before its last store' $header \
     's/orderset_store\(line \+ 7,/ORDERSET_FLUSHED(); &/' 'NOT SO: store i is the one'
 fault persist 'no fence' $header '/orderset_flush_line\(b, flush\);/,/orderset_fence/{/orderset_fence/d}' \
     'NOT SO: then there is one fence'
-fault persist 'the hook of the fence and no fence' $header 's/__asm__ volatile\("sfence"[^;]*;//' \
+fault persist 'the hook of the fence and no fence' $header 's/__asm__ volatile\("sfence"[^;]*;/;/' \
     'NOT SO: then there is one fence'
+fault persist 'sfence after clflush' $header 's/"mfence"/"sfence"/' 'NOT SO: then there is one fence'
 fault persist 'the hook of a flush and no flush' $header 's/__asm__ volatile\("clflush %0[^;]*;/;/' \
     'NOT SO: then both lines are flushed'
 fault persist 'any stores are taken' $header 's/return \(a \| b\) %.*/return (void)words, (void)a, (void)b, 1;/' \
@@ -949,10 +950,30 @@ fault file 'a lock that writers share' $handle "${opened}s/LOCK_EX : LOCK_SH/LOC
 fault file 'a reader keeps its lock' $handle '/^static uint32_t copy_file/,/^}/{/unlock\(a\);/d}' \
     'NOT SO: .* gives .*: 1011'
 fault file 'the name is not looked at under the lock' $handle \
-    's/if \(stat\(path, \&named\) == 0 .*/if (stat(path, \&named) == 0)/' \
+    's/if \(named.st_dev == opened.st_dev .*/if (named.st_ino)/' \
     'NOT SO: an open has the file that has the name when it is locked'
-fault file 'a create that fails leaves its mapping' $handle '/^static uint32_t format\(/,/^}/{/munmap\(/d}' \
-    'NOT SO: a create that fails leaves nothing'
+fault file 'a stat that fails is taken as another name' $handle \
+    's/if \(fstat\(a->file, \&opened\) \|\| stat\(path, \&named\)\)/if (fstat(a->file, \&opened))/
+     s/if \(named.st_dev == /if (stat(path, \&named) == 0 \&\& named.st_dev == /' 'NOT SO: an open where stat fails gives 1010'
+fault file 'a signal ends a pause' $handle 's/while \(nanosleep\(\&left, \&left\) \&\& errno == EINTR\)/while (nanosleep(\&left, NULL) \&\& 0)/' \
+    'NOT SO: signals do not shorten the wait for the lock'
+fault file 'a file is not written before it is mapped' $handle 's/ \|\| write_at\(a->file, from, chunk, size\)//' \
+    'NOT SO: an open where a write takes a new block, on a full disk gives 1010'
+fault file 'an open stores to the mapped file instead' $handle \
+    's/ \|\| write_at\(a->file, from, chunk, size\)//
+     s/return map\(a, MAP_SHARED, a->file\) \?/return map(a, MAP_SHARED, a->file) || orderset_persist_image_file(a->bytes, a->length) ?/' \
+    'Segmentation fault|Error 139'
+fault file 'the limit of the length is not looked at' $handle 's/return limit.rlim_cur == RLIM_INFINITY .*/return 1;/' \
+    'NOT SO: a limit of the length of a file gives 1010'
+fault file 'the other name of a long one is longer' $handle 's/strlen\(name\) > LONG_NAME \?/strlen(name) > 4096 ?/' \
+    'NOT SO: create of a name of 245 bytes'
+fault file 'marks of a set are looked at by recovery alone' $handle 's/return look_at_marks\(a, chunk, ORDERSET_STORES, .*/return 0;/' \
+    'NOT SO: marks are looked at before a file is written'
+fault file 'a set is taken as a log' $handle \
+    's/look_at_marks\(a, chunk, 0, /look_at_marks(a, chunk, ORDERSET_LOG_CELL_BYTES \/ 8, /' \
+    'NOT SO: a set of six slots, as long as a log of two cells gives 1018'
+fault file 'the length in the header is looked at by recovery alone' $handle 's/int same = chunk\[0\] == .*/int same = 1;/' \
+    'NOT SO: for a file that is no set no blocks are asked'
 fault file 'removes of layout 2 are counted as hidden' $handle \
     's/if \(\(kind_in\(s, slot\) \& 0xff\) == 2\)/if (s->layout == 1 \&\& (kind_in(s, slot) \& 0xff) == 2)/' \
     'NOT SO: the statistics count the slots'
@@ -963,19 +984,20 @@ fault file 'the high word of a key is not looked at' $handle 's/return key.high 
 fault file 'a reader changes its copy' $handle \
     '/^static uint32_t may_change/,/^}/s/a->mode != ORDERSET_FILE_WRITE/a->mode > 2/' \
     'NOT SO: a change through a reader gives 1014'
-fault file 'a handle goes on after a failed sync' $handle '/a->stopped = 1;/d' \
+fault file 'a handle goes on after a failed sync' $handle 's/a->stopped = failed;/a->stopped = 0;/' \
     'NOT SO: a change after a failed sync gives 1017'
-fault file 'an open asks for no blocks' $handle \
-    '/^static uint32_t map_file/,/^}/s/if \(ask_for_blocks\(.*\)\)/if (0 \&\& ask_for_blocks(0, 0))/' \
+fault file 'an open asks for no blocks' $handle 's/ \|\| ask_for_blocks\(a->file, a->length\)\)/)/' \
     'NOT SO: an open on a full disk gives 1010'
 fault file 'a create that fails leaves its file' $handle '/unlink\(fresh\);/d' 'NOT SO: a create that fails leaves nothing'
 fault file 'create takes the place of a file' $handle \
-    's/if \(lstat\(path, \&found\) == 0\)/if (lstat(path, \&found) == 1)/; s/if \(errno != ENOENT \|\| asp/if (asp/
+    's/if \(lstat\(path, \&found\) == 0\)/if (lstat(path, \&found) == 1)/; s/if \(errno != ENOENT \|\| /if (/
      s/RENAME_NOREPLACE/0/' 'NOT SO: create where a file is gives 1012'
 fault file 'a rename takes the place of a file' $handle 's/RENAME_NOREPLACE/0/' 'NOT SO: create beside another gives 1012'
 fault file 'a file made meanwhile is an error of the system' $handle 's/number = errno == EEXIST \?/number = errno == 0 ?/' \
     'NOT SO: create beside another gives 1012'
 fault file 'no link where the rename is not there' $handle 's/if \(errno != EINVAL \&\& errno != ENOSYS\)/if (errno)/' \
+    'NOT SO: create beside another gives 1012'
+fault file 'no link where the system has no such rename' $handle 's/errno != EINVAL \&\& errno != ENOSYS/errno != EINVAL/' \
     'NOT SO: create beside another gives 1012'
 fault file 'the other name is left beside the link' $handle 's/link\(fresh, path\) \|\| unlink\(fresh\)/link(fresh, path)/' \
     'NOT SO: a link and no other name is left'
@@ -987,23 +1009,22 @@ fault file 'an open is refused by a signal' $handle 's/while \(failed \&\& errno
 fault file 'an open extends a file' $handle 's/FALLOC_FL_KEEP_SIZE/0/' \
     'NOT SO: an open asks for blocks and keeps the length'
 fault file 'blocks are asked for before the header is read' $handle \
-    '/^static uint32_t look_at_header/,/^}/s/if \(a->mode != ORDERSET_FILE_WRITE\)/if (a)/' \
+    '/^static uint32_t look_at_set/,/^}/s/if \(a->mode != ORDERSET_FILE_WRITE\)/if (a)/' \
     'NOT SO: for a file that is no set no blocks are asked'
 fault file "a failed sync of recovery's stores is not told" $handle \
-    's/return persist\(a, at, value, count\) \? ORDERSET_FILE_SYSTEM : ORDERSET_FILE_OK;/return persist(a, at, value, count), 0;/' \
-    'NOT SO: 4 syncs of an open fail alone: 3'
+    '/^static uint32_t persist_opening/,/^}/s/return failed \?/return failed > 1 ?/' 'NOT SO: 3 syncs of an open fail alone: 2'
 fault file 'a failed sync of the directory is not told' $handle \
-    's/directory < 0 \|\| fsync\(directory\)/directory < 0 || (fsync(directory), 0)/' 'NOT SO: 4 syncs of an open fail alone: 2'
+    's/directory < 0 \|\| fsync\(directory\)/directory < 0 || (fsync(directory), 0)/' 'NOT SO: 3 syncs of an open fail alone: 1'
 fault file 'a call uses 32 KB of stack' $handle \
     '/^uint32_t orderset_file_next\(/a\    volatile char deep[32768];\n    deep[0] = 0;' \
     'NOT SO: no call needs more than 16 KB of stack'
-fault file 'any bytes are a log' $handle 's/if \(mark > 1\)/if (mark > UINT64_MAX - 1 \&\& mark < 1)/' \
+fault file 'any bytes are a log' $handle 's/return look_at_marks\(a, chunk, 0, .*/return (void)a, (void)chunk, 0;/' \
     'NOT SO: a log with a mark of 2 gives 1018'
 fault file 'an inspection opens void slots' $handle \
     '/^static uint32_t start\(/,/^}/s/s->area.mode == ORDERSET_FILE_INSPECT/s->area.mode > 2/' \
     'NOT SO: an inspection of half a basket has 2 void slots'
 fault file 'a writer does not open void slots' $handle \
-    's/return persist\(a, at, value, count\) \? ORDERSET_FILE_SYSTEM : ORDERSET_FILE_OK;/return 0;/' \
+    '/^static uint32_t persist_opening/,/^}/s/if \(a->mode != ORDERSET_FILE_WRITE\)/if (a->mode == ORDERSET_FILE_WRITE) return 0; else/' \
     'NOT SO: a writer of half a basket has 0 void slots'
 fault file 'the value of layout 2 is read as that of layout 1' $handle \
     's/begins = s->layout == ORDERSET2_LAYOUT \? 32 : 24/begins = 24/' 'NOT SO: an inspection of half a basket'
@@ -1030,10 +1051,20 @@ fault file 'the length of an output is not looked at' $handle \
     's/if \(answer\[ORDERSET_LOG_LENGTH\] > room\)/if (answer[ORDERSET_LOG_LENGTH] > 384 + room)/' \
     'NOT SO: a short output gives 13'
 
+not_synced='/^static int rewrite/,/^}/s/return fsync\(a->file\);/return 0;/; s/if \(orderset_persist_image_file\(a->bytes, a->length\)$/if (0/'
 fault file_storm 'an open does not make the file durable' $handle \
-    's/: orderset_persist_image\(a->bytes, a->length, line_flush\(a\)\)/: 0/' 'LOST (orders|message|an open)'
+    "$not_synced"'; s/\|\| orderset_persist_image\(a->bytes, a->length, line_flush\(a\)\)\)/)/' 'LOST (orders|message|an open)'
+fault file_storm 'shared blocks are written and not synced' $handle "$not_synced" 'LOST (orders|message|an open)'
+fault file_storm 'shared blocks are not written' $handle \
+    's/ \|\| write_at\(a->file, from, chunk, size\)//; s/if \(orderset_persist_image_file\(a->bytes, a->length\)$/if (0/' 'LOST'
+fault file_storm 'shared blocks are not asked for' $handle 's/return shares > 0 \|\| .*/return (void)system, (void)shares, 0;/' 'LOST'
+fault file_storm 'xfs that does not tell what is shared is trusted' $handle 's/ \|\| system.f_type == XFS/ || system.f_type == 0/' 'LOST'
+fault file_storm 'no file system that does not tell what is shared is trusted' $handle \
+    's/ \|\| system.f_type == XFS/ || system.f_type != 0/' 'LOST flushes'
+fault file_storm 'an open writes other bytes' $handle \
+    's/\|\| write_at\(a->file, from, chunk, size\)/|| (chunk[size \/ 8 - 1] ^= 1, write_at(a->file, from, chunk, size))/' 'LOST bytes'
 fault file_storm "recovery's stores are not made" $handle \
-    's/return persist\(a, at, value, count\) \? ORDERSET_FILE_SYSTEM : ORDERSET_FILE_OK;/return 0;/' \
+    '/^static uint32_t persist_opening/,/^}/s/if \(a->mode != ORDERSET_FILE_WRITE\)/if (a->mode == ORDERSET_FILE_WRITE) return 0; else/' \
     'LOST (orders|message|an open|a call)'
 fault file_storm 'stores are made and not flushed' $handle \
     's/: orderset_persist_list\(a->bytes, a->length, at, value, count, line_flush\(a\)\)/: (orderset_store_list(a->bytes, at, value, count), 0)/' \
@@ -1047,25 +1078,43 @@ fault file_storm 'a replace of layout 2 drops the high word' $handle \
     's/orderset2_##name\(lent, \(key\).low, \(key\).high,/orderset2_##name(lent, (key).low, (key).high \& 3,/' 'LOST'
 
 fault file_kills 'a new file is not synced' $handle \
-    '/^static uint32_t format\(/,/^}/{s/failed = msync\(image, length, MS_SYNC\)/failed = 0/; s/fsync\(file\) \? /0 ? /}' \
+    '/^static uint32_t format\(/,/^}/s/ \|\| fsync\(file\)//' \
     'NOT SO: a new file is synced'
 fault file_kills 'the directory of a new file is not synced' $handle \
     '/^static uint32_t make\(/,/^}/s/return sync_name\(path\) \?/return 0 ?/' \
     'NOT SO: the directory of a new file is synced'
 fault file_kills 'an open does not sync the directory' $handle \
-    '/^static uint32_t make_durable/,/^}/s/return sync_name\(path\) \?/return 0 ?/' \
+    '/^static uint32_t map_file/,/^}/s/return sync_name\(path\) \?/return 0 ?/' \
     'NOT SO: an open syncs the file and its directory'
 fault file_kills 'an open does not make the file durable' $handle \
-    's/if \(fsync\(a->file\) \|\| /if (/; s/\? orderset_persist_image_file\(a->bytes, a->length\)/? 0/' \
+    '/^static int rewrite/,/^}/s/return fsync\(a->file\);/return 0;/' \
     'NOT SO: (after [0-9]+ kills|an open syncs the file)'
 fault file_kills 'an open does not write the pages again' $handle \
-    's/\? orderset_persist_image_file\(a->bytes, a->length\)/? 0/' \
+    's/ \|\| write_at\(a->file, from, chunk, size\)//' \
     'NOT SO: an open after a failed sync writes every page again'
 fault file_kills 'a new file has its name before it is whole' $handle \
     's/number = format\(file, length, layout\);/number = give_name(fresh, path) ? 9 : (usleep(3000), format(file, length, layout));/
      s/if \(!number \&\& give_name\(fresh, path\)\)/if (0)/' 'NOT SO: a create that is killed leaves a whole new file or none'
-fault file_kills 'a failed sync is answered as done' $handle 's/^    if \(!failed\)/    if (failed < 2)/' 'NOT SO: '
-fault file_kills 'a handle goes on after a failed sync' $handle '/a->stopped = 1;/d' 'NOT SO: .* refuses every call'
+fault file_kills 'a failed sync is answered as done' $handle \
+    's/a->stopped = failed;/a->stopped = 0;/; s/return failed \? ORDERSET_FILE_NOT_DURABLE : ORDERSET_FILE_OK;/return 0;/' 'NOT SO: '
+fault file_kills 'a handle goes on after a failed sync' $handle 's/a->stopped = failed;/a->stopped = 0;/' \
+    'NOT SO: .* refuses every call'
+
+fault cancel 'a handle goes on after a change that was cancelled' $handle '/^    a->stopped = 1;$/d' \
+    'NOT SO: a handle with a change that was cancelled refuses every change'
+fault cancel 'a log goes on after an append that was cancelled' $handle \
+    's/^    a->stopped = 1;$/    a->stopped = a->length % (2 * ORDERSET_LOG_CELL_BYTES) != ORDERSET_LOG_CELL_BYTES;/' \
+    'NOT SO: a log with an append that was cancelled refuses every call'
+fault cancel 'why a handle is stopped is not told' $handle '/^    a->error = ECANCELED;$/d' \
+    'NOT SO: errno of a change that was cancelled is ECANCELED'
+for call in 'create create' 'orderset_file_open an open' 'orderset_file_close close' \
+    'orderset_log_file_open an open of a set as a log' 'orderset_log_file_close close of a log'; do
+    fault cancel "${call#* } can be cancelled" $handle "/^[a-z].* ${call%% *}\(.*\{\$/,/^}/s/hold_cancel\(\)/PTHREAD_CANCEL_ENABLE/" \
+        "NOT SO: ${call#* } is not left where its thread is cancelled, at point 1"
+done
+fault cancel 'a thread cannot be cancelled any more' $handle \
+    's/pthread_setcancelstate\(before, \&held\)/pthread_setcancelstate(PTHREAD_CANCEL_DISABLE | (before \& 0), \&held)/' \
+    'NOT SO: a thread that is cancelled in a call ends in it or after it'
 
 plus=include/orderset.hpp
 fault cxx 'replace inserts' $plus 's/orderset_file_replace\(handle/orderset_file_insert(handle/' 'NOT SO: replace gives'
@@ -1120,7 +1169,7 @@ fault rust 'more than eight items of a basket are cut off' $rust/set.rs 's/if it
 fault rust 'the stores of the last key of a basket are not made' $handle \
     's/ORDERSET_BASKET_STORES\(count\)/ORDERSET_BASKET_STORES(count - 1)/' 'NOT SO: '
 fault rust "recovery's stores are not made" $handle \
-    's/return persist\(a, at, value, count\) \? ORDERSET_FILE_SYSTEM : ORDERSET_FILE_OK;/return 0;/' \
+    '/^static uint32_t persist_opening/,/^}/s/if \(a->mode != ORDERSET_FILE_WRITE\)/if (a->mode == ORDERSET_FILE_WRITE) return 0; else/' \
     'NOT SO: recovery opens a line for each void slot'
 fault rust 'what is open of a made-up order wraps' $rust/values.rs 's/saturating_sub/wrapping_sub/' \
     'NOT SO: of 5 with 6 filled nothing is open'
