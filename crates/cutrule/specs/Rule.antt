@@ -17,8 +17,8 @@ CutRight l w m (done request) = Unit
 CutRight l w m (struck request cut) =
     RecoversAlong l (imageCut w (requestLeaves l w request) cut) (mapAfterRequest l w m (struck request cut)) (cut .restart .rounds)
 
--- "play makes the counted stores, if there are any": the image that the next request gets, and the one that recovery gets after a cut, are those that play makes of the
--- image before. A basket's stores are played as a list
+-- "play makes the counted stores, if there are any": the image that the next request gets, and the one that recovery gets after a cut, are those that play
+-- makes of the image before. A basket's stores are played as a list
 abbrev pub PlaysBy : (l : ℕ) → World → Request → Event Request → Type 0
 PlaysBy l w (a-call call) event = PlaysSingle l (requestLeaves l) w event
 PlaysBy l w (a-basket b) event = PlaysList l (requestLeaves l) w event

@@ -56,20 +56,19 @@ use Rattle.examples.specs.Trial.{small, oneHead, recovering}
 use Rattle.examples.specs.TornBasket.{answerTo, answersTo, item, eightyBytes, basketBytes, basketGiven, threeItems, twoItems, fourSlots, tearing, openingCut, twoCuts, emptyFour, afterTearing, tornHistory, tornAnswers, tornImage, voidCount}
 use Rattle.examples.proofs.Trial.{small-bytes}
 
--- recovery accepts the formatted image, which has four slots
-four-computed : (recoverFault 1 (formatted 1 640) (length oneHead) (length fourSlots) ≡ 0) × (slotsIn (formatted 1 640) ≡ 4)
+-- the answers; the void records after each of the two cuts; recovery accepts the formatted image, which has four slots
+torn-computed : (answersTo emptyFour tornHistory ≡ tornAnswers) × (voidCount tornImage ≡ 2) × (voidCount (afterRound 1 tornImage openingCut) ≡ 1)
+    × (recoverFault 1 (formatted 1 640) (length oneHead) (length fourSlots) ≡ 0) × (slotsIn (formatted 1 640) ≡ 4)
 unfolding word setBytes setWord filter slotNumbers anyOf tabulate greatest topmost lowest atLowest count say orElse unlessRefused made contentBy contentOf content top topOf markFault kindFault kindLimit bitsFault wordFault tailFault faultOf recordFault headerWord headerFault imageFault indexFault lentFault lineTop versionFault keyFrom keyOf valuePlace slotWord valueWord valueByte valueFront valueOf slotsOf paired slotTop verdictOf lineVerdict isValid insert sorted openingStore openingStores wordNumbers values zipped played less standing marked placedWord bodyA bodyB run lineStores recordStores said hasVersion sharers complete versionIfComplete highestComplete isVoid settled rankOf ordered chainOf reuseOf clashes sharersFault isRecord isBroken keyIn weight nextVersion decider decidingPut live spare liveCount brokenCount brokenLimit manyBroken allLive validVersion highestValid isRemove older mayTake firstOf lastOf after nextIn chained takeFirst linkNew append insertAt replaceAt removeAt keyFault isFound setNext setStart setLast link withTaken atEnd takeWalk takeFrom endsFault linkFault fewFault reuseFault roomFault walk search chainFault takingOf voidSlots openingsOf storesIn noState settledFault slotsFault slotsNamed recoverFault recoverSlot chainsOf placeOf recoveredIndex recoveredState recovered recoverResult unchanged storeFault changed writeLentFault insertsOf writeLaterFault writeFault writeDone writeBy writeResult formatted lengthFault getLaterFault getFault getDone getResult calledChange calledGet called worldAfter afterRound afterRounds openedWorld restarted imageCut stepBy takeableIf highIn itemKey itemAt itemValue changeAt changesFrom changesOf keyCountFault among anyTwice listsFault givenFault firstFault valueFault actionFault basketLentFault keysFault insertsBy removesBy sumOver basketFault kindBy valueBy recordsFor oldIn itemsFor indexAfter basketMade basketDone basketBy basketResult basketCalled takeSlot takeAll takenSlots slotBefore beforeIn linkBy linkItem linkAll basketIndex basketStores numberFor choiceOf mayTakeAfter anyIn answerTo answersTo item eightyBytes basketBytes basketGiven threeItems twoItems fourSlots tearing openingCut twoCuts emptyFour afterTearing tornHistory tornAnswers tornImage voidCount small oneHead recovering requestLeaves
-four-computed = (refl, refl)
+torn-computed = (refl, refl, refl, refl, refl)
 
 -- THE ANSWERS
 pub torn-answers : answersTo emptyFour tornHistory ≡ tornAnswers
-unfolding word setBytes setWord filter slotNumbers anyOf tabulate greatest topmost lowest atLowest count say orElse unlessRefused made contentBy contentOf content top topOf markFault kindFault kindLimit bitsFault wordFault tailFault faultOf recordFault headerWord headerFault imageFault indexFault lentFault lineTop versionFault keyFrom keyOf valuePlace slotWord valueWord valueByte valueFront valueOf slotsOf paired slotTop verdictOf lineVerdict isValid insert sorted openingStore openingStores wordNumbers values zipped played less standing marked placedWord bodyA bodyB run lineStores recordStores said hasVersion sharers complete versionIfComplete highestComplete isVoid settled rankOf ordered chainOf reuseOf clashes sharersFault isRecord isBroken keyIn weight nextVersion decider decidingPut live spare liveCount brokenCount brokenLimit manyBroken allLive validVersion highestValid isRemove older mayTake firstOf lastOf after nextIn chained takeFirst linkNew append insertAt replaceAt removeAt keyFault isFound setNext setStart setLast link withTaken atEnd takeWalk takeFrom endsFault linkFault fewFault reuseFault roomFault walk search chainFault takingOf voidSlots openingsOf storesIn noState settledFault slotsFault slotsNamed recoverFault recoverSlot chainsOf placeOf recoveredIndex recoveredState recovered recoverResult unchanged storeFault changed writeLentFault insertsOf writeLaterFault writeFault writeDone writeBy writeResult formatted lengthFault getLaterFault getFault getDone getResult calledChange calledGet called worldAfter afterRound afterRounds openedWorld restarted imageCut stepBy takeableIf highIn itemKey itemAt itemValue changeAt changesFrom changesOf keyCountFault among anyTwice listsFault givenFault firstFault valueFault actionFault basketLentFault keysFault insertsBy removesBy sumOver basketFault kindBy valueBy recordsFor oldIn itemsFor indexAfter basketMade basketDone basketBy basketResult basketCalled takeSlot takeAll takenSlots slotBefore beforeIn linkBy linkItem linkAll basketIndex basketStores numberFor choiceOf mayTakeAfter anyIn answerTo answersTo item eightyBytes basketBytes basketGiven threeItems twoItems fourSlots tearing openingCut twoCuts emptyFour afterTearing tornHistory tornAnswers tornImage voidCount small oneHead recovering requestLeaves
-torn-answers = refl
+torn-answers = torn-computed .0
 
 -- THE VOID RECORDS: two after the first cut, and one after the second
 pub torn-voids : (voidCount tornImage ≡ 2) × (voidCount (afterRound 1 tornImage openingCut) ≡ 1)
-unfolding word setBytes setWord filter slotNumbers anyOf tabulate greatest topmost lowest atLowest count say orElse unlessRefused made contentBy contentOf content top topOf markFault kindFault kindLimit bitsFault wordFault tailFault faultOf recordFault headerWord headerFault imageFault indexFault lentFault lineTop versionFault keyFrom keyOf valuePlace slotWord valueWord valueByte valueFront valueOf slotsOf paired slotTop verdictOf lineVerdict isValid insert sorted openingStore openingStores wordNumbers values zipped played less standing marked placedWord bodyA bodyB run lineStores recordStores said hasVersion sharers complete versionIfComplete highestComplete isVoid settled rankOf ordered chainOf reuseOf clashes sharersFault isRecord isBroken keyIn weight nextVersion decider decidingPut live spare liveCount brokenCount brokenLimit manyBroken allLive validVersion highestValid isRemove older mayTake firstOf lastOf after nextIn chained takeFirst linkNew append insertAt replaceAt removeAt keyFault isFound setNext setStart setLast link withTaken atEnd takeWalk takeFrom endsFault linkFault fewFault reuseFault roomFault walk search chainFault takingOf voidSlots openingsOf storesIn noState settledFault slotsFault slotsNamed recoverFault recoverSlot chainsOf placeOf recoveredIndex recoveredState recovered recoverResult unchanged storeFault changed writeLentFault insertsOf writeLaterFault writeFault writeDone writeBy writeResult formatted lengthFault getLaterFault getFault getDone getResult calledChange calledGet called worldAfter afterRound afterRounds openedWorld restarted imageCut stepBy takeableIf highIn itemKey itemAt itemValue changeAt changesFrom changesOf keyCountFault among anyTwice listsFault givenFault firstFault valueFault actionFault basketLentFault keysFault insertsBy removesBy sumOver basketFault kindBy valueBy recordsFor oldIn itemsFor indexAfter basketMade basketDone basketBy basketResult basketCalled takeSlot takeAll takenSlots slotBefore beforeIn linkBy linkItem linkAll basketIndex basketStores numberFor choiceOf mayTakeAfter anyIn answerTo answersTo item eightyBytes basketBytes basketGiven threeItems twoItems fourSlots tearing openingCut twoCuts emptyFour afterTearing tornHistory tornAnswers tornImage voidCount small oneHead recovering requestLeaves
-torn-voids = (refl, refl)
+torn-voids = (torn-computed .1, torn-computed .2)
 
 -- ---- the hypotheses of the cut rule
 
@@ -141,5 +140,5 @@ torn-fits =
 pub torn-holds : AllRight 1 emptyFour (slotsMap 1 (formatted 1 640)) tornHistory
 unfolding emptyFour recovering
 torn-holds =
-    cut-rule 1 layout-1 (formatted 1 640) (recovering fourSlots) (four-computed .0) (rw (four-computed .1) start-fits) tornHistory
-    (rw (four-computed .1) torn-fits) .1
+    cut-rule 1 layout-1 (formatted 1 640) (recovering fourSlots) (torn-computed .3) (rw (torn-computed .4) start-fits) tornHistory
+    (rw (torn-computed .4) torn-fits) .1

@@ -1,5 +1,5 @@
--- A history on four slots in which one power cut tears a basket and a second one strikes among recovery's opening stores, and what follows. Document 02, A.7: "with fewer valid
--- records than it says, all of them are void"; "these are played and fenced before any other call, and a cut among them is covered".
+-- A history on four slots: one power cut tears a basket, a second one strikes among recovery's opening stores, and other calls follow. Document 02, A.7: "with
+-- fewer valid records than it says, all of them are void"; "these are played and fenced before any other call, and a cut among them is covered".
 use mathlib.Core.Bool.{cond}
 use mathlib.Core.List.{List, [], _∷_, _++_}
 use Prim.Native.Nat.{ℕ}
@@ -92,7 +92,8 @@ afterTearing =
 unfoldable pub tornHistory : List (Event Request)
 tornHistory = struck (a-basket (basketGiven 3 threeItems)) twoCuts ∷ afterTearing
 
--- the torn basket answered version 1 and slots 1, 2 and 3, and nothing of it is there; the insert takes slot 1 and version 2; the basket takes slots 2 and 3 and version 3
+-- the torn basket answered version 1 and slots 1, 2 and 3, and nothing of it is there; the insert takes slot 1 and version 2; the basket takes slots 2 and 3
+-- and version 3
 unfoldable pub tornAnswers : List Answer
 tornAnswers = gives (1 ∷ 1 ∷ 2 ∷ 3 ∷ []) ∷ absent ∷ gives (1 ∷ 2 ∷ []) ∷ gives (3 ∷ 2 ∷ 3 ∷ []) ∷ gives (8 ∷ []) ∷ absent ∷ []
 

@@ -49,7 +49,8 @@ given-items : (kinds lows highs lengths : List ℕ) → ((i : ℕ) → getD lows
     → All TypedItem (givenItems kinds lows highs lengths)
 unfolding givenItems givenItem
 given-items kinds lows highs lengths low high =
-    one-more (one 0) (one-more (one 1) (one-more (one 2) (one-more (one 3) (one-more (one 4) (one-more (one 5) (one-more (one 6) (one-more (one 7) none-left)))))))
+    one-more (one 0) (one-more (one 1) (one-more (one 2) (one-more (one 3)
+    (one-more (one 4) (one-more (one 5) (one-more (one 6) (one-more (one 7) none-left)))))))
   where
     one : (i : ℕ) → TypedItem (givenItem kinds lows highs lengths i)
     one i = record { low-word = low i; high-word = high i }

@@ -102,7 +102,7 @@ module _ (l : ℕ) (lay : Layout l) where
       -- PLAY OF ALL ITS STORES, as a list and with 8 and 8, leaves the image that the next call gets
       the-whole : PlaysSingle l (λ v request. leaving (called l v request)) w (done call)
       unfolding stepBy finished played
-      the-whole = (all, record { some = λ ne. go ne (stored-one l lay w m g call typed); none = λ e. ap (λ (ss : List Store). played ss (w .image)) e })
+      the-whole = (all, record { made = λ ne. go ne (stored-one l lay w m g call typed); kept = λ e. ap (λ (ss : List Store). played ss (w .image)) e })
         where
           all : ListPlayLeaves (w .image) (called l w call .stores) (played (called l w call .stores) (w .image))
           all = agrees-list l lay w m g call typed
@@ -121,13 +121,13 @@ module _ (l : ℕ) (lay : Layout l) where
       unfolding imageCut playCount played standing
       the-struck cut =
           record {
-            some = λ ne. go ne (stored-one l lay w m g call typed);
-            none = λ e. ap (λ (ss : List Store). played (standing (cut .counts) ss) (w .image)) e;
+            made = λ ne. go ne (stored-one l lay w m g call typed);
+            kept = λ e. ap (λ (ss : List Store). played (standing (cut .counts) ss) (w .image)) e;
           }
         where
           go : (called l w call .stores ≡ [] → ⊥) → OneStored l w (called l w call .stores)
-              → playResult (w .image) (wordNumbers (called l w call .stores)) (values (called l w call .stores)) (playCount (cut .counts) (called l w call .stores) 0)
-              (playCount (cut .counts) (called l w call .stores) 8) ≡
+              → playResult (w .image) (wordNumbers (called l w call .stores)) (values (called l w call .stores))
+              (playCount (cut .counts) (called l w call .stores) 0) (playCount (cut .counts) (called l w call .stores) 8) ≡
               playEnd 0 (played (standing (cut .counts) (called l w call .stores)) (w .image))
           go ne (none-stored e) = absurd (ne e)
           go ne (one-stored key kind value e i) =

@@ -1,4 +1,5 @@
--- Play and the images of a list of events. Document 01, "The plain map and the cut rule": "A cut may strike any call: play makes the counted stores, if there are any".
+-- Play and the images of a list of events. Document 01, "The plain map and the cut rule": "A cut may strike any call: play makes the counted stores, if there
+-- are any".
 use mathlib.Core.Path.{_≡_}
 use mathlib.Core.List.{List, []}
 use Prim.Native.Nat.{ℕ, _/_, min}
@@ -14,17 +15,18 @@ ListPlayLeaves image ss after = playListResult image (wordNumbers ss) (values ss
 
 -- play of these stores with counts a and b answers 0 and leaves just this image; where there are no stores nothing is played
 pub record PlayLeaves (image : List ℕ) (ss : List Store) (a b : ℕ) (after : List ℕ) : Type 0 where
-  pub some : (ss ≡ [] → ⊥) → playResult image (wordNumbers ss) (values ss) a b ≡ playEnd 0 after
-  pub none : ss ≡ [] → after ≡ image
+  pub made : (ss ≡ [] → ⊥) → playResult image (wordNumbers ss) (values ss) a b ≡ playEnd 0 after
+  pub kept : ss ≡ [] → after ≡ image
 
--- how many stores play is told to make of the line of store k, where each line n holds its first `counts n`: a line has eight, and play gives "14 when a count exceeds 8"
+-- how many stores play is told to make of the line of store k, where each line n holds its first `counts n`: a line has eight, and play gives "14 when a count
+-- exceeds 8"
 unfoldable pub playCount : (counts : ℕ → ℕ) → List Store → (k : ℕ) → ℕ
 playCount counts ss k = min (counts (getD (wordNumbers ss) k 0 / 8)) 8
 
 -- an event in world w; `leaves` is what a request leaves
 module _ {A : Type 0} (l : ℕ) (leaves : World → A → Leaving) (w : World) where
-  -- of a single call, with its 16 stores: with all of them played, by play with 8 and 8 or as a list, the image is that which the next request gets; where a cut struck,
-  -- play with the counts of its two lines leaves the image that recovery gets
+  -- of a single call, with its 16 stores: with all of them played, by play with 8 and 8 or as a list, the image is that which the next request gets; where a
+  -- cut struck, play with the counts of its two lines leaves the image that recovery gets
   abbrev pub PlaysSingle : Event A → Type 0
   PlaysSingle (done request) =
       ListPlayLeaves (w .image) (leaves w request .stores) (stepBy l leaves w (done request) .image)

@@ -37,8 +37,8 @@ pub record Recovers (l : ℕ) (image : List ℕ) (m : PlainMap) : Type 0 where
       (heads next heads′ next′ : List ℕ) → RightSize image heads next → length heads ≡ length heads′ → length next ≡ length next′
       → recoverResult l image heads next ≡ recoverResult l image heads′ next′
 
--- so does recovery of each image that cuts among its opening stores leave, and the play of the list of those that stand leaves that image. Document 02, A.7: "a cut among
--- them is covered"
+-- so does recovery of each image that cuts among its opening stores leave, and the play of the list of those that stand leaves that image. Document 02, A.7:
+-- "a cut among them is covered"
 abbrev pub RecoversAlong : (l : ℕ) → (image : List ℕ) → PlainMap → List Round → Type 0
 RecoversAlong l image m [] = Recovers l image m
 RecoversAlong l image m (r ∷ rs) =

@@ -167,7 +167,8 @@ record-limited : (l : ℕ) (m : ℕ → ℕ) (s key kind number : ℕ) (value : 
     standing counts (recordStores l m s key kind number value version)
 unfolding recordStores
 record-limited l m s key kind number value version counts =
-    halves (λ n. min (counts n) 8) ∙ ap₂ (λ (x y : List Store). x ++ y) (line-limited (2 * s) _ (counts (2 * s))) (line-limited (2 * s + 1) _ (counts (2 * s + 1)))
+    halves (λ n. min (counts n) 8)
+    ∙ ap₂ (λ (x y : List Store). x ++ y) (line-limited (2 * s) _ (counts (2 * s))) (line-limited (2 * s + 1) _ (counts (2 * s + 1)))
     ∙ sym (halves counts)
   where
     lineA : List Store

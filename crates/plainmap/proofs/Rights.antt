@@ -32,7 +32,8 @@ module _
     kind ≡ 2 → slotsMap l (w .image) key ≡ none
     → absent ≡ dueAnswer l w (slotsMap l (w .image)) call)
     (no-out : [] ≡ plainOut (slotsMap l (w .image)) call) (none-lent : [] ≡ outOf call)
-    (few : FewCompared (slotsMap l (w .image)) (length (w .heads)) (callKey call) (callCompared l w call)) (place : CountsPlace l w call) (by-rule : called l w call ≡ ruled l w call) where
+    (few : FewCompared (slotsMap l (w .image)) (length (w .heads)) (callKey call) (callCompared l w call)) (place : CountsPlace l w call)
+    (by-rule : called l w call ≡ ruled l w call) where
   still : (answer : Answer) → called l w call ≡ calledChange (unchanged answer (w .state) (w .heads) (w .next))
       → Untouched w call (called l w call)
   unfolding calledChange unchanged

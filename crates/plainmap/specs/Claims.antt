@@ -73,8 +73,8 @@ pub record FewCompared (m : PlainMap) (b key compared : ℕ) : Type 0 where
   pub share : Keys (sharing (λ k. headOf k b) (headOf key b) m) sharers
   pub at-most : compared ≤ length sharers
 
--- document 02, A.4: "The count of slots compared equals the place of the key in its chain, or the chain's whole length when it is absent": `chain` is what the links of the
--- lent index give from the key's head on, and zero ends it. "A call refused before or by the chain check reports 0"
+-- document 02, A.4: "The count of slots compared equals the place of the key in its chain, or the chain's whole length when it is absent": `chain` is what the
+-- links of the lent index give from the key's head on, and zero ends it. "A call refused before or by the chain check reports 0"
 pub record CountsPlace (l : ℕ) (w : World) (call : Call) : Type 0 where
   pub chain : List ℕ
   pub linked : Linked (w .next) (getD (w .heads) (headOf (callKey call) (length (w .heads))) 0) chain
