@@ -14,6 +14,7 @@ use Rattle.prelude.proofs.Choice.{pick-true}
 use Rattle.prelude.proofs.Refusals.{orElse-zero, taken-leaves, refused-keeps, by-refusal}
 use Rattle.face.specs.Set.{World, Insert, Replace, Call, write, remove, locate, called, PlainMap, Update, updates, plainNext, plainStep, ruleFault, Typed, write-typed, remove-typed, locate-typed, dueFault, slotsIn}
 use Rattle.face.specs.Event.{Cut, Event, done, struck, Leaving, leaving, stepBy, imageCut, step, isWhole, plainEvent, mapAfterEvent, FitsBy, done-fits, struck-fits, Fits}
+use Rattle.face.specs.Plays.{PlaysSingle}
 use Rattle.face.specs.Recovers.{RecoversAlong}
 use Rattle.face.specs.Laws.{SetLaws}
 use Rattle.book.specs.Orders.{orderBytes, acknowledged, filledBy, openOf, sent}
@@ -132,6 +133,19 @@ module _ (l : ℕ) (Inv : World → PlainMap → Type 0) (laws : SetLaws l Inv) 
   pub step-event-slots : slotsIn (worldAfterStep l w event .image) ≡ slotsIn (w .image)
   step-event-slots =
       ap (λ (v : World). slotsIn (v .image)) step-event-world ∙ laws .keeps-slots w m i (callEvent l w m event) (step-event-fits l w m event fits)
+
+  -- play makes of its stores the image that the next request or recovery gets
+  pub step-event-plays : PlaysSingle l (stepLeaves l) w event
+  unfolding callEvent stepBy
+  step-event-plays = go event fits
+    where
+      go : (e : Event Step) → FitsBy (TypedStep l) (slotsIn (w .image)) e → PlaysSingle l (stepLeaves l) w e
+      go (done request) (done-fits t) =
+          subst (λ (r : Leaving). PlaysSingle l (λ v x. r) w (done request)) (sym (step-right l Inv laws w m i request t .leaves))
+          (laws .plays-event w m i (done (callFor l w m request)) (step-event-fits l w m (done request) (done-fits t)))
+      go (struck request cut) (struck-fits t f) =
+          subst (λ (r : Leaving). PlaysSingle l (λ v x. r) w (struck request cut)) (sym (step-right l Inv laws w m i request t .leaves))
+          (laws .plays-event w m i (struck (callFor l w m request) cut) (step-event-fits l w m (struck request cut) (struck-fits t f)))
 
 -- after a cut recovery gives the plain map's next map of each image on the way
 module _ (l : ℕ) (Inv : World → PlainMap → Type 0) (laws : SetLaws l Inv) (w : World) (m : PlainMap) (i : Inv w m) (request : Step) (cut : Cut)

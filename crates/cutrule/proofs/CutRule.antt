@@ -9,9 +9,9 @@ use Rattle.face.specs.Event.{Event, done, struck, requestOf, stepBy, isWhole, F
 use Rattle.face.specs.Laws.{CallLaws, SetLaws}
 use Rattle.face.proofs.SetLaws.{call-laws, set-laws}
 use Rattle.book.proofs.Steps.{step-right}
-use Rattle.book.proofs.StepEvents.{step-event-keeps, step-event-slots, step-along}
+use Rattle.book.proofs.StepEvents.{step-event-keeps, step-event-plays, step-event-slots, step-along}
 use Rattle.cutrule.specs.Request.{Request, a-call, a-basket, a-step, requestLeaves, requestFault, requestUpdates, RequestRight, TypedRequest, worldAfterRequest, mapAfterRequest}
-use Rattle.cutrule.specs.Rule.{CutRight, AllRight, CutRuleIn, CutRule}
+use Rattle.cutrule.specs.Rule.{CutRight, PlaysRight, AllRight, CutRuleIn, CutRule}
 
 typed-request : (l n : ℕ) (event : Event Request) → FitsBy (TypedRequest l) n event → TypedRequest l (requestOf event)
 typed-request l n (done request) (done-fits t) = t
@@ -42,6 +42,15 @@ module _ (l : ℕ) (Inv : World → PlainMap → Type 0) (laws : SetLaws l Inv) 
     cut-right (struck (a-call call) cut) (struck-fits t c) = laws .keeps-along w m i call cut (struck-fits t c)
     cut-right (struck (a-basket b) cut) (struck-fits t c) = laws .keeps-basket-along w m i b cut (struck-fits t c)
     cut-right (struck (a-step step) cut) (struck-fits t c) = step-along l Inv laws w m i step cut (struck-fits t c)
+
+    plays-right : (event : Event Request) → FitsBy (TypedRequest l) (slotsIn (w .image)) event → PlaysRight l w event
+    unfolding stepBy requestLeaves
+    plays-right (done (a-call call)) (done-fits t) = laws .plays-event w m i (done call) (done-fits t)
+    plays-right (done (a-basket b)) (done-fits t) = laws .plays-basket w m i (done b) (done-fits t)
+    plays-right (done (a-step step)) (done-fits t) = step-event-plays l Inv laws w m i (done step) (done-fits t)
+    plays-right (struck (a-call call) cut) (struck-fits t c) = laws .plays-event w m i (struck call cut) (struck-fits t c)
+    plays-right (struck (a-basket b) cut) (struck-fits t c) = laws .plays-basket w m i (struck b cut) (struck-fits t c)
+    plays-right (struck (a-step step) cut) (struck-fits t c) = step-event-plays l Inv laws w m i (struck step cut) (struck-fits t c)
 
     same-slots : (event : Event Request) → FitsBy (TypedRequest l) (slotsIn (w .image)) event
         → slotsIn (worldAfterRequest l w event .image) ≡ slotsIn (w .image)
@@ -77,7 +86,8 @@ module _ (l : ℕ) (Inv : World → PlainMap → Type 0) (laws : SetLaws l Inv) 
       throughout _ _ _ _ (InvOf (slotsIn (w .image))) (FitsBy (TypedRequest l) (slotsIn (w .image)))
       (λ v p j. laws .recovers v p (j .0))
       (λ v p j event f.
-      (right v p (j .0) (requestOf event) (typed-request l _ event f), cut-right v p (j .0) event (fits-here (slotsIn (w .image)) v p event j f)))
+      let here = fits-here (slotsIn (w .image)) v p event j f in
+      (right v p (j .0) (requestOf event) (typed-request l _ event f), plays-right v p (j .0) event here, cut-right v p (j .0) event here))
       (keeps-of (slotsIn (w .image)))
       w m events (i, refl) fit
 

@@ -7,8 +7,9 @@ use Rattle.prelude.specs.Members.{All}
 use Rattle.prelude.specs.History.{Throughout}
 use Rattle.face.specs.Set.{Layout, World, PlainMap, recoverFault, Restart, restarted, slotsIn, slotsMap}
 use Rattle.face.specs.Event.{Event, done, struck, imageCut, requestOf, RestartFits, FitsBy}
+use Rattle.face.specs.Plays.{PlaysSingle, PlaysList}
 use Rattle.face.specs.Recovers.{Recovers, RecoversAlong}
-use Rattle.cutrule.specs.Request.{Request, requestLeaves, RequestRight, TypedRequest, worldAfterRequest, mapAfterRequest}
+use Rattle.cutrule.specs.Request.{Request, a-call, a-basket, a-step, requestLeaves, RequestRight, TypedRequest, worldAfterRequest, mapAfterRequest}
 
 -- after a cut recovery gives the plain map's next map, and so does each recovery after a cut among its opening stores
 abbrev pub CutRight : (l : ℕ) → World → PlainMap → Event Request → Type 0
@@ -16,12 +17,22 @@ CutRight l w m (done request) = Unit
 CutRight l w m (struck request cut) =
     RecoversAlong l (imageCut w (requestLeaves l w request) cut) (mapAfterRequest l w m (struck request cut)) (cut .restart .rounds)
 
+-- "play makes the counted stores, if there are any": the image that the next request gets, and the one that recovery gets after a cut, are those that play
+-- makes of the image before. A basket's stores are played as a list
+abbrev pub PlaysBy : (l : ℕ) → World → Request → Event Request → Type 0
+PlaysBy l w (a-call call) event = PlaysSingle l (requestLeaves l) w event
+PlaysBy l w (a-basket b) event = PlaysList l (requestLeaves l) w event
+PlaysBy l w (a-step step) event = PlaysSingle l (requestLeaves l) w event
+
+abbrev pub PlaysRight : (l : ℕ) → World → Event Request → Type 0
+PlaysRight l w event = PlaysBy l w (requestOf event) event
+
 -- before each event and after the last: recovery gives the plain map m; each request is refused exactly where the rules refuse it, with their number, and answers as the
--- plain map does otherwise
+-- plain map does otherwise; and play takes its stores
 abbrev pub AllRight : (l : ℕ) → World → PlainMap → List (Event Request) → Type 0
 AllRight l =
     Throughout (worldAfterRequest l) (mapAfterRequest l) (λ w m. Recovers l (w .image) m)
-    (λ w m event. RequestRight l w m (requestOf event) × CutRight l w m event)
+    (λ w m event. RequestRight l w m (requestOf event) × PlaysRight l w event × CutRight l w m event)
 
 -- "The list starts from an accepted image, one that recovery does not refuse, with the index and state it leaves", and its opening stores played, with any cuts among
 -- them; the plain map "starts as the accepted image's slots give it"

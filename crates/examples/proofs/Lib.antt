@@ -1,3 +1,4 @@
 pub mod Hold
 pub mod Trial
 pub mod Book
+pub mod TornBasket

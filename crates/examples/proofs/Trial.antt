@@ -75,7 +75,7 @@ right-size : indexFault 2 (length oneHead) (length twoSlots) ≡ 0
 unfolding indexFault say oneHead twoSlots
 right-size = refl
 
-small-bytes : (n : ℕ) → n < 256 → AreBytes (small n)
+pub small-bytes : (n : ℕ) → n < 256 → AreBytes (small n)
 unfolding small
 small-bytes n h zero = h
 small-bytes n h (suc k) = omega (arith, zeros 7 k)

@@ -1,3 +1,4 @@
 pub mod Examples
 pub mod Trial
 pub mod Book
+pub mod TornBasket

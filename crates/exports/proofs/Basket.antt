@@ -2,18 +2,21 @@
 use mathlib.Core.Path.{_≡_, refl, sym, ap, ap₂, _∙_}
 use mathlib.Core.Bool.{Bool, true, false, cond, not}
 use mathlib.Core.List.{List, [], _∷_}
-use Prim.Native.Nat.{ℕ, _-_, _≤_, _<_}
+use Prim.Native.Nat.{ℕ, _-_, _^_, _≤_, _<_}
 use native.Mathlib.Omega.{arith}
 use lib.Dec.{ltb}
 use lib.ListN.{length, getD, take}
 use borrow.Author.Tests.{lt-ltb, le-ltb}
+use Rattle.words.specs.Word.{AreBytes}
 use Rattle.prelude.specs.Answer.{refusalIn}
+use Rattle.prelude.specs.Members.{All, none-left, one-more}
 use Rattle.prelude.specs.Range.{tabulate, anyOf}
 use Rattle.prelude.proofs.Choice.{pick-true, pick-false}
 use Rattle.prelude.proofs.Any.{any-whole}
 use Rattle.prelude.proofs.Tabulate.{tabulate-list}
-use Rattle.face.specs.Set.{State, BasketAnswer, BasketLeft, basketEnd, basketSays}
-use Rattle.exports.specs.Basket.{isKind, unknownKind, keysAsked, BasketCall, basketCallLeft, basketAnswered, basketCall}
+use Rattle.face.specs.Set.{Layout, State, BasketAnswer, BasketLeft, basketEnd, basketSays, changesOf, TypedItem, TypedChange}
+use Rattle.face.proofs.SetLaws.{call-laws}
+use Rattle.exports.specs.Basket.{isKind, unknownKind, keysAsked, givenItem, givenItems, BasketCall, basketCallLeft, basketAnswered, basketCall}
 
 -- ---- the number of keys
 
@@ -39,6 +42,24 @@ module _ (kinds : List ℕ) (count : ℕ) where
 
     pub kinds-known : b ≡ false → count ≡ keysAsked count kinds
     kinds-known q = sym (rest ∙ pick-false (unknownKind kinds count) _ _ (sym e ∙ q))
+
+-- ---- the items
+
+given-items : (kinds lows highs lengths : List ℕ) → ((i : ℕ) → getD lows i 0 < 2 ^ 64) → ((i : ℕ) → getD highs i 0 < 2 ^ 64)
+    → All TypedItem (givenItems kinds lows highs lengths)
+unfolding givenItems givenItem
+given-items kinds lows highs lengths low high =
+    one-more (one 0) (one-more (one 1) (one-more (one 2) (one-more (one 3)
+    (one-more (one 4) (one-more (one 5) (one-more (one 6) (one-more (one 7) none-left)))))))
+  where
+    one : (i : ℕ) → TypedItem (givenItem kinds lows highs lengths i)
+    one i = record { low-word = low i; high-word = high i }
+
+-- WHAT THE LENT NUMBERS ASK is typed: the cut rule speaks of every basket that C asks for
+pub given-typed : (l : ℕ) → Layout l → (kinds lows highs lengths bytes : List ℕ) → ((i : ℕ) → getD lows i 0 < 2 ^ 64) → ((i : ℕ) → getD highs i 0 < 2 ^ 64)
+    → AreBytes bytes → (count : ℕ) → All (TypedChange l) (changesOf l (keysAsked count kinds) (givenItems kinds lows highs lengths) bytes)
+given-typed l layout kinds lows highs lengths bytes low high b count =
+    call-laws l layout .changes-typed (givenItems kinds lows highs lengths) bytes (given-items kinds lows highs lengths low high) b (keysAsked count kinds)
 
 -- ---- the answer
 

@@ -8,9 +8,11 @@ use Rattle.prelude.specs.Members.{All, none-left, one-more}
 use Rattle.layout.specs.Header.{indexFault}
 use Rattle.layout.specs.Record.{Layout}
 use Rattle.layout.specs.Size.{slotsOf, slotsIn}
-use Rattle.stores.specs.Store.{Store, played, allStand}
-use Rattle.stores.specs.Play.{playEnd, playListResult, wordNumbers, values}
-use Rattle.stores.proofs.Bytes.{played-length}
+use Rattle.stores.specs.Store.{Store, played, standing, allStand}
+use Rattle.stores.proofs.Bytes.{played-length, standing-inside}
+use Rattle.stores.proofs.defs.Cut.{StoresInside}
+use Rattle.recovery.specs.Opening.{storesIn}
+use Rattle.recovery.specs.Recover.{recoverResult}
 use Rattle.prelude.specs.Answer.{refuses}
 use Rattle.prelude.proofs.defs.Answer.{isRefusal}
 use Rattle.plainmap.specs.World.{World, Call, Called, called, finished, worldAfter, Round, afterRound, afterRounds, openedWorld, Restart, restarted}
@@ -19,16 +21,28 @@ use Rattle.plainmap.specs.Accepted.{Accepted}
 use Rattle.plainmap.specs.Claims.{Typed, dueFault, slotsMap}
 use Rattle.plainmap.specs.Baskets.{Basket, basketCalled, basketUpdates, basketDue, BasketRight}
 use Rattle.plainmap.specs.Sound.{Agrees}
-use Rattle.plainmap.proofs.Afters.{After, after-call, after-list}
+use Rattle.plainmap.proofs.Afters.{After, after-call, after-list, after-standing}
 use Rattle.plainmap.proofs.CallSteps.{Stepped}
 use Rattle.plainmap.proofs.BasketRights.{basket-stepped, basket-right, basket-refuses}
 use Rattle.plainmap.proofs.CallLists.{agrees-right, agrees-with, agrees-stepped, agrees-after, agrees-next, after-round, restarted-agrees}
 use Rattle.plainmap.proofs.Rights.{right-refuses}
+use Rattle.plainmap.proofs.Playing.{list-played}
+use Rattle.plainmap.proofs.Opens.{handed-out, opening-stores-inside}
 use Rattle.face.specs.Event.{Cut, Event, done, struck, leaving, step, isWhole, plainEvent, mapAfterEvent, RestartFits, FitsBy, Fits, done-fits, struck-fits, stepBy, imageCut, TypedBasket, basketLeaves, basketStep, mapAfterBasket}
+use Rattle.face.specs.Plays.{ListPlayLeaves, PlaysList}
 use Rattle.face.specs.Recovers.{RecoversAlong}
 use Rattle.face.proofs.Images.{accepted-gives}
 
 -- ---- recovery and its opening stores
+
+-- the play of the list of the opening stores that stand after a cut among them
+round-plays : (l : ℕ) → Layout l → (image : List ℕ) → Accepted l image → (r : Round) → indexFault (slotsIn image) (length (r .heads)) (length (r .next)) ≡ 0
+    → ListPlayLeaves image (standing (r .counts) (storesIn (recoverResult l image (r .heads) (r .next) .openings))) (afterRound l image r)
+unfolding afterRound
+round-plays l lay image a r fits =
+    list-played image _
+    (standing-inside (r .counts)
+    (subst (StoresInside (length image)) (sym (handed-out l lay image a (r .heads) (r .next) fits)) (opening-stores-inside l lay image a)))
 
 -- RECOVERY GIVES THE MAP of each image on the way
 pub gives-along : (l : ℕ) → Layout l → (n : ℕ) (image : List ℕ) (m : PlainMap) → slotsIn image ≡ n → Accepted l image
@@ -38,6 +52,7 @@ gives-along l lay n image m e a h [] none-left = accepted-gives l lay image m a 
 gives-along l lay n image m e a h (r ∷ rs) (one-more f fs) =
     let t = after-round l lay image a r (rw e f) in (
       accepted-gives l lay image m a h,
+      round-plays l lay image a r (rw e f),
       gives-along l lay n (afterRound l image r) m (t .slots ∙ e) (t .accepted) (λ k. t .map k ∙ h k) rs fs,
     )
 
@@ -155,7 +170,8 @@ module _ (l : ℕ) (lay : Layout l) (w : World) (m : PlainMap) (g : Agrees l w m
   basket-keeps-slots (struck b cut) (struck-fits s c) =
       struck-slots l lay w m g (basketUpdates (b .changes)) (basketCalled l w b) _ (basket-denied b s) (basket-steps b s) cut c
 
-  pub basket-played : (b : Basket) → TypedBasket l b
-      → playListResult (w .image) (wordNumbers (basketCalled l w b .stores)) (values (basketCalled l w b .stores)) ≡
-      playEnd 0 (played (basketCalled l w b .stores) (w .image))
-  basket-played b s = after-list l w (basketUpdates (b .changes)) (basketCalled l w b) (g .accepted) (basket-steps b s)
+  pub basket-plays : (event : Event Basket) → FitsBy (TypedBasket l) (slotsIn (w .image)) event → PlaysList l (basketLeaves l) w event
+  unfolding stepBy imageCut
+  basket-plays (done b) (done-fits s) = after-list l w (basketUpdates (b .changes)) (basketCalled l w b) (g .accepted) (basket-steps b s)
+  basket-plays (struck b cut) (struck-fits s c) =
+      after-standing l w (basketUpdates (b .changes)) (basketCalled l w b) (g .accepted) (cut .counts) (basket-steps b s)

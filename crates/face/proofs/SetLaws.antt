@@ -13,24 +13,27 @@ use Rattle.layout.proofs.Size.{sized}
 use Rattle.layout.proofs.Lents.{index-sized}
 use Rattle.prelude.specs.Members.{Slot}
 use Rattle.stores.specs.Store.{Store, played, standing}
-use Rattle.stores.specs.Play.{wordNumbers, playFault, playing, halfCounts}
+use Rattle.stores.specs.Play.{wordNumbers, values, playEnd, playFault, playResult, playing, halfCounts}
 use Rattle.stores.proofs.Bytes.{played-length}
 use Rattle.recovery.specs.Recover.{recoverFault}
 use Rattle.calls.specs.Format.{formatted}
 use Rattle.calls.proofs.SingleRefusal.{write-refusal, remove-refusal}
 use Rattle.calls.proofs.BasketRefusal.{basket-refusal}
 use Rattle.calls.proofs.Formats.{formatted-length}
-use Rattle.plainmap.specs.World.{World, Call, called, openedWorld}
+use Rattle.plainmap.specs.World.{World, Call, called, finished, openedWorld}
 use Rattle.plainmap.specs.Plain.{PlainMap}
 use Rattle.plainmap.specs.Accepted.{Accepted, RightSize}
 use Rattle.plainmap.specs.Claims.{Typed, slotsMap}
 use Rattle.plainmap.specs.Sound.{Agrees}
 use Rattle.plainmap.proofs.AcceptedImages.{accepted-recovers, recovers-accepted, accepted-slots, accepted-long}
+use Rattle.plainmap.proofs.BasketItems.{changes-typed}
 use Rattle.plainmap.proofs.CallLists.{agrees-right, agrees-reads, agrees-with, agrees-list, opened-agrees, restarted-agrees, formatted-empty, formatted-fine}
-use Rattle.plainmap.proofs.Playing.{record-passes, record-cut, playing-none}
+use Rattle.plainmap.proofs.Playing.{record-passes, record-cut, record-counted, record-whole, playing-none}
+use Rattle.face.specs.Event.{Cut, Event, done, struck, leaving, imageCut, stepBy, Fits, done-fits, struck-fits}
+use Rattle.face.specs.Plays.{ListPlayLeaves, PlayLeaves, playCount, PlaysSingle}
 use Rattle.face.specs.Laws.{Lengths, CallLaws, SetLaws}
 use Rattle.face.proofs.Images.{accepted-gives, state-answered}
-use Rattle.face.proofs.Events.{gives-along, restarted-slots, event-agrees, event-along, event-slots, basket-answers, basket-agrees, basket-along, basket-keeps-slots, basket-played}
+use Rattle.face.proofs.Events.{gives-along, restarted-slots, event-agrees, event-along, event-slots, basket-answers, basket-agrees, basket-along, basket-keeps-slots, basket-plays}
 use Rattle.face.proofs.Stored.{few-given, hands-out, OneStored, none-stored, one-stored, stored-one, some-stores}
 use Rattle.face.proofs.Heads.{called-heads, recovered-heads}
 pub use Rattle.calls.proofs.Changes.{key-alone}
@@ -96,6 +99,45 @@ module _ (l : ℕ) (lay : Layout l) where
               record-cut l (w .image) (word (w .image)) (w .state .first) key kind 0 value (w .state .version) a b
               (accepted-slots l (w .image) (g .accepted)) (room (w .state .first) i) p q _ e
 
+      -- PLAY OF ALL ITS STORES, as a list and with 8 and 8, leaves the image that the next call gets
+      the-whole : PlaysSingle l (λ v request. leaving (called l v request)) w (done call)
+      unfolding stepBy finished played
+      the-whole = (all, record { made = λ ne. go ne (stored-one l lay w m g call typed); kept = λ e. ap (λ (ss : List Store). played ss (w .image)) e })
+        where
+          all : ListPlayLeaves (w .image) (called l w call .stores) (played (called l w call .stores) (w .image))
+          all = agrees-list l lay w m g call typed
+
+          go : (called l w call .stores ≡ [] → ⊥) → OneStored l w (called l w call .stores)
+              → playResult (w .image) (wordNumbers (called l w call .stores)) (values (called l w call .stores)) 8 8 ≡
+              playEnd 0 (played (called l w call .stores) (w .image))
+          go ne (none-stored e) = absurd (ne e)
+          go ne (one-stored key kind value e i) =
+              record-whole l (w .image) (word (w .image)) (w .state .first) key kind 0 value (w .state .version) (accepted-slots l (w .image) (g .accepted))
+              (room (w .state .first) i) (called l w call .stores) e
+              ∙ all
+
+      -- PLAY OF THE COUNTED ONES leaves the image that recovery gets
+      the-struck : (cut : Cut) → PlaysSingle l (λ v request. leaving (called l v request)) w (struck call cut)
+      unfolding imageCut playCount played standing
+      the-struck cut =
+          record {
+            made = λ ne. go ne (stored-one l lay w m g call typed);
+            kept = λ e. ap (λ (ss : List Store). played (standing (cut .counts) ss) (w .image)) e;
+          }
+        where
+          go : (called l w call .stores ≡ [] → ⊥) → OneStored l w (called l w call .stores)
+              → playResult (w .image) (wordNumbers (called l w call .stores)) (values (called l w call .stores))
+              (playCount (cut .counts) (called l w call .stores) 0) (playCount (cut .counts) (called l w call .stores) 8) ≡
+              playEnd 0 (played (standing (cut .counts) (called l w call .stores)) (w .image))
+          go ne (none-stored e) = absurd (ne e)
+          go ne (one-stored key kind value e i) =
+              record-counted l (w .image) (word (w .image)) (w .state .first) key kind 0 value (w .state .version) (cut .counts)
+              (accepted-slots l (w .image) (g .accepted)) (room (w .state .first) i) (called l w call .stores) e
+
+    event-plays : (event : Event Call) → Fits l (slotsIn (w .image)) event → PlaysSingle l (λ v call. leaving (called l v call)) w event
+    event-plays (done call) (done-fits t) = the-whole call t
+    event-plays (struck call cut) (struck-fits t c) = the-struck call t cut
+
   none-played : (image : List ℕ) → played [] image ≡ image
   unfolding played
   none-played image = refl
@@ -109,6 +151,7 @@ module _ (l : ℕ) (lay : Layout l) where
         write-refusal = write-refusal l;
         remove-refusal = remove-refusal l;
         basket-refusal = basket-refusal l;
+        changes-typed = changes-typed l lay;
         hands-out = λ w call writes given e lent. hands-out l w lent call writes given e;
         call-heads = called-heads l;
         recovery-heads = recovered-heads l;
@@ -136,14 +179,14 @@ module _ (l : ℕ) (lay : Layout l) where
         some-stores = some-stores l lay;
         plays = the-plays;
         plays-cut = the-cut;
-        plays-list = agrees-list l lay;
+        plays-event = event-plays;
         accepts = λ w m g heads next s. accepted-recovers l (w .image) (length heads) (length next) (g .accepted) s;
         keeps-slots = event-slots l lay;
         answers-basket = basket-answers l lay;
         keeps-basket = basket-agrees l lay;
         keeps-basket-along = basket-along l lay;
         keeps-basket-slots = basket-keeps-slots l lay;
-        plays-basket = basket-played l lay;
+        plays-basket = basket-plays l lay;
       }
 
 -- the layout of document 01

@@ -4,23 +4,27 @@ use mathlib.Core.Option.{none}
 use mathlib.Core.List.{List, []}
 use Prim.Native.Nat.{ℕ, _+_, _*_, _≤_}
 use lib.ListN.{length}
+use Rattle.words.specs.Word.{AreBytes}
 use Rattle.prelude.specs.Answer.{gives, refusalIn}
+use Rattle.prelude.specs.Members.{All}
 use Rattle.layout.specs.Size.{slotsOf, slotsIn}
 use Rattle.layout.specs.Header.{indexFault}
-use Rattle.stores.specs.Play.{playEnd, wordNumbers, values, playFault, playListResult, playing, halfCounts}
+use Rattle.stores.specs.Play.{wordNumbers, playFault, playing, halfCounts}
 use Rattle.recovery.specs.Recover.{stateValues, recoverFault, recoverResult}
 use Rattle.stores.specs.Store.{Store, played, standing}
 use Rattle.calls.specs.Change.{handedOut, writeFault, writeResult, removeFault, removeResult}
-use Rattle.calls.specs.Basket.{KeyChange, basketFault, basketResult}
+use Rattle.calls.specs.Basket.{KeyChange, changesOf, basketFault, basketResult}
+use Rattle.calls.specs.declared.BasketItem.{BasketItem}
 use Rattle.calls.specs.Format.{formatted}
-use Rattle.plainmap.specs.World.{World, Call, write, remove, called, finished, Restart, openedWorld, restarted, recoveredWorld}
+use Rattle.plainmap.specs.World.{World, Call, write, remove, called, Restart, openedWorld, restarted, recoveredWorld}
 use Rattle.index.specs.declared.Mode.{Mode}
 use Rattle.index.specs.declared.State.{State}
 use Rattle.plainmap.specs.Plain.{PlainMap}
 use Rattle.plainmap.specs.Accepted.{RightSize}
 use Rattle.plainmap.specs.Claims.{Typed, slotsMap, Right, Reads}
-use Rattle.plainmap.specs.Baskets.{Basket, basketCalled, BasketRight}
+use Rattle.plainmap.specs.Baskets.{Basket, BasketRight, TypedChange, TypedItem}
 use Rattle.face.specs.Event.{Cut, Event, struck, leaving, imageCut, step, mapAfterEvent, RestartFits, FitsBy, Fits, TypedBasket, basketLeaves, basketStep, mapAfterBasket}
+use Rattle.face.specs.Plays.{PlaysSingle, PlaysList}
 use Rattle.face.specs.Recovers.{Recovers, RecoversAlong}
 
 -- an insert, a replace or a remove
@@ -52,6 +56,9 @@ pub record CallLaws (l : ℕ) : Type 0 where
       → refusalIn (removeResult l image heads next s key .answer) ≡ removeFault l image heads next s key
   pub basket-refusal : (image heads next : List ℕ) (s : State) (changes : List KeyChange) (at words : ℕ)
       → refusalIn (basketResult l image heads next s changes at words .answer) ≡ basketFault l image heads next s changes at words
+  -- what the items and the values that a basket takes ask is typed: the cut rule speaks of every basket as its function takes it
+  pub changes-typed : (items : List BasketItem) (bytes : List ℕ) → All TypedItem items → AreBytes bytes
+      → (count : ℕ) → All (TypedChange l) (changesOf l count items bytes)
   -- a call and recovery leave as many heads as they were lent
   pub call-heads : (w : World) (call : Call) → length (called l w call .heads) ≡ length (w .heads)
   pub recovery-heads : (image heads next : List ℕ) → length (recoveredWorld l image heads next .heads) ≡ length heads
@@ -95,15 +102,16 @@ pub record SetLaws (l : ℕ) (Inv : World → PlainMap → Type 0) : Type 0 wher
   -- a call that writes and is neither refused nor absent has stores
   pub some-stores : (w : World) (m : PlainMap) → Inv w m → (call : Call) → Typed l call → Writes call → (given : List ℕ)
       → called l w call .answer ≡ gives given → called l w call .stores ≡ [] → ⊥
-  -- play takes the stores of a call, if it has any, with any counts up to 8, and all of them as a list
+  -- play takes the stores of a call, if it has any, with any counts up to 8
   pub plays : (w : World) (m : PlainMap) → Inv w m → (call : Call) → Typed l call → (called l w call .stores ≡ [] → ⊥)
       → (a b : ℕ) → a ≤ 8 → b ≤ 8 → playFault (length (w .image)) (wordNumbers (called l w call .stores)) a b ≡ 0
   -- and leaves what a cut with these counts leaves
   pub plays-cut : (w : World) (m : PlainMap) → Inv w m → (call : Call) → Typed l call → (a b : ℕ) → a ≤ 8 → b ≤ 8
       → playing (w .image) (called l w call .stores) a b ≡
       played (standing (halfCounts (called l w call .stores) a b) (called l w call .stores)) (w .image)
-  pub plays-list : (w : World) (m : PlainMap) → Inv w m → (call : Call) → Typed l call
-      → playListResult (w .image) (wordNumbers (called l w call .stores)) (values (called l w call .stores)) ≡ playEnd 0 (finished l w call .image)
+  -- play makes of an event's stores the image that the next request or recovery gets, whatever the counts
+  pub plays-event : (w : World) (m : PlainMap) → Inv w m → (event : Event Call) → Fits l (slotsIn (w .image)) event
+      → PlaysSingle l (λ v call. leaving (called l v call)) w event
   -- the image is accepted, with every index of the right size
   pub accepts : (w : World) (m : PlainMap) → Inv w m → (heads next : List ℕ) → RightSize (w .image) heads next
       → recoverFault l (w .image) (length heads) (length next) ≡ 0
@@ -121,7 +129,6 @@ pub record SetLaws (l : ℕ) (Inv : World → PlainMap → Type 0) : Type 0 wher
       → RecoversAlong l (imageCut w (basketLeaves l w b) cut) (mapAfterBasket l w m (struck b cut)) (cut .restart .rounds)
   pub keeps-basket-slots : (w : World) (m : PlainMap) → Inv w m → (event : Event Basket) → FitsBy (TypedBasket l) (slotsIn (w .image)) event
       → slotsIn (basketStep l w event .image) ≡ slotsIn (w .image)
-  -- the play of a list makes its stores
-  pub plays-basket : (w : World) (m : PlainMap) → Inv w m → (b : Basket) → TypedBasket l b
-      → playListResult (w .image) (wordNumbers (basketCalled l w b .stores)) (values (basketCalled l w b .stores)) ≡
-      playEnd 0 (played (basketCalled l w b .stores) (w .image))
+  -- the play of a list makes the stores of an event, all of them or those that stand
+  pub plays-basket : (w : World) (m : PlainMap) → Inv w m → (event : Event Basket) → FitsBy (TypedBasket l) (slotsIn (w .image)) event
+      → PlaysList l (basketLeaves l) w event

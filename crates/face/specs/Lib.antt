@@ -1,5 +1,6 @@
 pub mod Set
 pub mod Event
+pub mod Plays
 pub mod Recovers
 pub mod Laws
 pub mod Numbers

@@ -1,4 +1,5 @@
--- The numbers with which each call is refused, whatever image, index and state it is given. Demand 1: "a refusal carries a number from the papers".
+-- The numbers with which each call is refused, whatever image, index and state it is given. Document 02, A.1: "Demand 1's numbers now include those these
+-- requests give."
 use mathlib.Core.List.{List, [], _∷_, _++_}
 use Prim.Native.Nat.{ℕ}
 use mathlib.Core.Path.{_≡_}

@@ -8,13 +8,14 @@ use Rattle.layout.specs.Size.{slotsIn}
 use Rattle.table.specs.Complete.{tableOf}
 use Rattle.table.specs.Table.{brokenCount, brokenLimit, liveCount}
 use Rattle.table.specs.Keys.{Keys}
-use Rattle.stores.specs.Play.{playEnd, playListResult, wordNumbers, values}
+use Rattle.stores.specs.Store.{standing}
 use Rattle.recovery.specs.Opening.{storesIn}
 use Rattle.recovery.specs.Recover.{recoverResult}
 use Rattle.plainmap.specs.World.{recoveredWorld, openedWorld, Round, afterRound}
 use Rattle.plainmap.specs.Plain.{PlainMap}
 use Rattle.plainmap.specs.Accepted.{RightSize}
 use Rattle.plainmap.specs.Claims.{slotsMap, Reads}
+use Rattle.face.specs.Plays.{ListPlayLeaves}
 
 -- "recovery refuses nothing, and both the slots and get, with that recovery's index and 80 bytes of output, give the plain map's keys and bytes";
 -- "If power fails there, recovery runs again": it gives the same, whatever the index holds by then
@@ -30,14 +31,17 @@ pub record Recovers (l : ℕ) (image : List ℕ) (m : PlainMap) : Type 0 where
   pub count : (ks : List ℕ) → Keys m ks → liveCount (tableOf l image) (slotsIn image) ≡ length ks
   -- play takes its opening stores, of which there are at most eight
   pub opens : (heads next : List ℕ) → RightSize image heads next
-      → playListResult image (wordNumbers (storesIn (recoverResult l image heads next .openings))) (values (storesIn (recoverResult l image heads next .openings))) ≡
-      playEnd 0 (openedWorld l image heads next .image)
+      → ListPlayLeaves image (storesIn (recoverResult l image heads next .openings)) (openedWorld l image heads next .image)
   pub few-opened : (heads next : List ℕ) → RightSize image heads next → length (storesIn (recoverResult l image heads next .openings)) ≤ 8
   pub again :
       (heads next heads′ next′ : List ℕ) → RightSize image heads next → length heads ≡ length heads′ → length next ≡ length next′
       → recoverResult l image heads next ≡ recoverResult l image heads′ next′
 
--- so does recovery of each image that cuts among its opening stores leave. Document 02, A.7: "a cut among them is covered"
+-- so does recovery of each image that cuts among its opening stores leave, and the play of the list of those that stand leaves that image. Document 02, A.7:
+-- "a cut among them is covered"
 abbrev pub RecoversAlong : (l : ℕ) → (image : List ℕ) → PlainMap → List Round → Type 0
 RecoversAlong l image m [] = Recovers l image m
-RecoversAlong l image m (r ∷ rs) = Recovers l image m × RecoversAlong l (afterRound l image r) m rs
+RecoversAlong l image m (r ∷ rs) =
+    Recovers l image m
+    × ListPlayLeaves image (standing (r .counts) (storesIn (recoverResult l image (r .heads) (r .next) .openings))) (afterRound l image r)
+    × RecoversAlong l (afterRound l image r) m rs

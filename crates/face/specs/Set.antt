@@ -64,5 +64,5 @@ pub use Rattle.calls.specs.declared.BasketItem.{BasketItem}
 pub use Rattle.calls.specs.declared.BasketAnswer.{BasketAnswer}
 pub use Rattle.calls.specs.Basket.{KeyChange, BasketLeft, basketEnd, changesOf, basketResult}
 unfoldable pub use Rattle.calls.specs.Basket.{basketSays, leftInLists}
-pub use Rattle.plainmap.specs.Baskets.{Basket, BasketRight, TypedChange, basketDue}
+pub use Rattle.plainmap.specs.Baskets.{Basket, BasketRight, TypedItem, TypedChange, basketDue}
 unfoldable pub use Rattle.plainmap.specs.Baskets.{basketCalled, basketUpdates}

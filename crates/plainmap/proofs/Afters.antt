@@ -15,6 +15,7 @@ use Rattle.stores.specs.Basket.{BasketRecord, basketStores}
 use Rattle.stores.proofs.defs.Cut.{StoresInside, nil-in}
 use Rattle.table.specs.Complete.{numberFor, NoneVoid}
 use Rattle.stores.proofs.AllStand.{all-standing, many-stand}
+use Rattle.stores.proofs.Bytes.{standing-inside}
 use Rattle.index.specs.Index.{Index}
 use Rattle.prelude.proofs.defs.Answer.{isRefusal}
 use Rattle.plainmap.specs.World.{World, Called}
@@ -118,11 +119,17 @@ module _ (l : ℕ) (w : World) (us : List Update) (r : Called) (accepted : Accep
       (struck l w es i alive newest accepted wr all)
       (whole-finished l w es i alive newest accepted wr all (sym (ap (allStand all) stores) ∙ many-stand (r .stores)))))
 
+  after-inside : Stepped l w us r → StoresInside (length (w .image)) (r .stores)
+  after-inside (stored-none none sound same) = rw none nil-in
+  after-inside (stored-records es i alive newest stores world wr step) = rw stores (stores-inside l w es i alive newest accepted wr)
+
   -- THE PLAY OF A LIST of a call's stores makes them all
   pub after-list : Stepped l w us r
       → playListResult (w .image) (wordNumbers (r .stores)) (values (r .stores)) ≡ playEnd 0 (played (r .stores) (w .image))
-  after-list step = list-played (w .image) (r .stores) (go step)
-    where
-      go : Stepped l w us r → StoresInside (length (w .image)) (r .stores)
-      go (stored-none none sound same) = rw none nil-in
-      go (stored-records es i alive newest stores world wr step) = rw stores (stores-inside l w es i alive newest accepted wr)
+  after-list step = list-played (w .image) (r .stores) (after-inside step)
+
+  -- and of those that stand makes these
+  pub after-standing : (counts : ℕ → ℕ) → Stepped l w us r
+      → playListResult (w .image) (wordNumbers (standing counts (r .stores))) (values (standing counts (r .stores))) ≡
+      playEnd 0 (played (standing counts (r .stores)) (w .image))
+  after-standing counts step = list-played (w .image) (standing counts (r .stores)) (standing-inside counts (after-inside step))

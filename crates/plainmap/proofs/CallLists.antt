@@ -40,7 +40,7 @@ use Rattle.plainmap.proofs.Wrote.{SomeSound, some-sound}
 use Rattle.plainmap.proofs.Outcomes.{worldWith, write-runs, remove-runs}
 use Rattle.plainmap.proofs.SingleRules.{write-ruled, remove-ruled}
 use Rattle.plainmap.proofs.Opens.{sound-same, opened-same, opened-accepts, opened-image, none-void-after, round-same, same-map, size}
-use Rattle.plainmap.proofs.Compares.{few-compared}
+use Rattle.plainmap.proofs.Compares.{few-compared, counts-place}
 use Rattle.plainmap.proofs.Rights.{ran-right, right-refuses}
 use Rattle.plainmap.proofs.Refuses.{write-fault, remove-fault}
 use Rattle.plainmap.proofs.GetAnswers.{sound-reads, get-right}
@@ -64,11 +64,13 @@ module _ (l : ℕ) (lay : Layout l) (w : World) (chains : Chain → List ℕ) (a
   unfolding called ruled plainAnswer plainOut outOf
   call-right (write mode key value) (write-typed k b) =
       ran-right l w (write mode key value) key 1 value (g .next-version) (λ h. refl) (λ z m. absurd (omega arith)) refl refl (few-compared l w chains g (write mode key value))
+      (counts-place l w chains g (write mode key value))
       (ap calledChange (write-ruled l lay w chains a g none-void mode key value)) _ _ refl
       (write-runs l lay w chains a g none-void mode key value k b) (write-fault l w chains a g none-void mode key value)
   call-right (remove key) (remove-typed k) =
       ran-right l w (remove key) key 2 [] (g .next-version) (λ h. held-answer (slotsMap l (w .image) key) _ _ (h refl))
-      (λ z m. none-answer (slotsMap l (w .image) key) _ _ m) refl refl (few-compared l w chains g (remove key)) (ap calledChange (remove-ruled l lay w chains a g none-void key)) _ _ refl
+      (λ z m. none-answer (slotsMap l (w .image) key) _ _ m) refl refl (few-compared l w chains g (remove key))
+      (counts-place l w chains g (remove key)) (ap calledChange (remove-ruled l lay w chains a g none-void key)) _ _ refl
       (remove-runs l lay w chains a g none-void key k) (remove-fault l w chains a g none-void key)
   call-right (get key out) s = get-right l w chains a g key out
   call-right (locate key) s = locate-right l w chains a g key

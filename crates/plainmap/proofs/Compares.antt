@@ -1,29 +1,46 @@
 -- The count of slots compared, in a sound world. Assumes nothing.
-use mathlib.Core.Path.{_≡_, refl, sym}
+use mathlib.Core.Path.{_≡_, refl, sym, _∙_}
 use mathlib.Core.List.{List}
 use Prim.Native.Nat.{ℕ, zero, suc, _≤_}
 use native.Mathlib.Omega.{arith}
 use lib.ListN.{length}
-use Rattle.prelude.specs.Refusal.{unlessRefused}
+use Rattle.prelude.specs.Refusal.{orElse, unlessRefused}
+use Rattle.prelude.proofs.Refusals.{orElse-zero, taken-leaves}
 use Rattle.layout.specs.Size.{slotsIn}
 use Rattle.table.specs.Complete.{tableOf}
 use Rattle.table.proofs.defs.Keys.{keysOf}
 use Rattle.table.proofs.Sharing.{keys-length, chain-keys}
-use Rattle.index.specs.Index.{Chain, head, headOf}
-use Rattle.index.specs.Walk.{slotKey, search, comparedIn, Counted}
+use Rattle.index.specs.Index.{Chain, head, headOf, start, ahead}
+use Rattle.index.specs.Walk.{slotKey, search, comparedIn, Counted, chainFault}
 use Rattle.index.specs.declared.Found.{Found}
+use Rattle.index.specs.declared.Found.the-variants.{At, Missing, BadChain}
+use Rattle.index.proofs.ChainLengths.{formed-linked}
 use Rattle.index.proofs.Searches.{search-in-counted, counted-few}
 use Rattle.calls.specs.Compared.{comparedAfter, keyCompared}
 use Rattle.calls.specs.Change.{writeCompared}
-use Rattle.plainmap.specs.World.{World, Call, write, remove, get, locate, callKey, callCompared}
+use Rattle.calls.specs.Locate.{locateFault}
+use Rattle.plainmap.specs.World.{World, Call, write, remove, get, locate, callKey, callCompared, chainRefusal}
 use Rattle.plainmap.specs.Sound.{Sound}
-use Rattle.plainmap.specs.Claims.{slotsMap, FewCompared}
+use Rattle.plainmap.specs.Claims.{slotsMap, FewCompared, CountsPlace}
 use Rattle.plainmap.proofs.Sees.{sound-chains, sound-search}
 
 after-few : (lent : ℕ) (found : Found) (n : ℕ) → comparedIn found ≤ n → comparedAfter lent found ≤ n
 unfolding comparedAfter unlessRefused
 after-few zero found n h = h
 after-few (suc k) found n h = omega arith
+
+-- where neither what was lent nor the chain refuses a call it tells the search's count
+after-told : (lent : ℕ) (found : Found) → lent ≡ 0 → comparedAfter lent found ≡ comparedIn found
+unfolding comparedAfter
+after-told lent found z = taken-leaves _ _ lent z
+
+-- and 0 where one of them does
+after-none : (lent : ℕ) (found : Found) → (orElse lent (chainFault found) ≡ 0 → ⊥) → comparedAfter lent found ≡ 0
+unfolding comparedAfter comparedIn chainFault unlessRefused orElse
+after-none (suc k) found nz = refl
+after-none zero (At slot prev compared) nz = absurd (nz refl)
+after-none zero (Missing prev compared) nz = absurd (nz refl)
+after-none zero BadChain nz = refl
 
 module _ (l : ℕ) (w : World) (chains : Chain → List ℕ) (s : Sound l w chains) where
   -- THE COUNT is the place of the key in its chain, or the chain's whole length
@@ -54,3 +71,25 @@ module _ (l : ℕ) (w : World) (chains : Chain → List ℕ) (s : Sound l w chai
   few-compared (remove key) = few-by key _
   few-compared (get key out) = few-by key _
   few-compared (locate key) = few-by key _
+
+  -- ---- the count that a call reports
+
+  placed : (call : Call) (lent : ℕ) → chainRefusal l w call ≡ orElse lent (chainFault (search l (w .image) (w .heads) (w .next) (callKey call)))
+      → callCompared l w call ≡ comparedAfter lent (search l (w .image) (w .heads) (w .next) (callKey call)) → CountsPlace l w call
+  unfolding ahead start
+  placed call lent refusal count =
+      record {
+        chain = chains (head (headOf (callKey call) (length (w .heads))));
+        linked = formed-linked _ _ chains (head (headOf (callKey call) (length (w .heads)))) (s .index .formed .disjoint);
+        counted = sound-counted (callKey call);
+        reported = λ z. count ∙ after-told lent _ (orElse-zero lent _ (sym refusal ∙ z) .0);
+        none-reported = λ nz. count ∙ after-none lent _ (λ z. nz (refusal ∙ z));
+      }
+
+  -- THE COUNT that a call reports is the place of its key in its chain, or the chain's whole length
+  pub counts-place : (call : Call) → CountsPlace l w call
+  unfolding callKey callCompared chainRefusal writeCompared keyCompared locateFault
+  counts-place (write mode key value) = placed (write mode key value) _ refl refl
+  counts-place (remove key) = placed (remove key) _ refl refl
+  counts-place (get key out) = placed (get key out) _ refl refl
+  counts-place (locate key) = placed (locate key) _ refl refl

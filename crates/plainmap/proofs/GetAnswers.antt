@@ -27,7 +27,7 @@ use Rattle.plainmap.specs.Claims.{slotsMap, dueFault, Untouched, Right, 
 use Rattle.plainmap.proofs.AcceptedImages.{accepted-right}
 use Rattle.plainmap.proofs.Sees.{Sees, sees-held, sees-absent, sound-sees}
 use Rattle.plainmap.proofs.Values.{KeepsValue, live-keeps, accepted-fits}
-use Rattle.plainmap.proofs.Compares.{few-compared}
+use Rattle.plainmap.proofs.Compares.{few-compared, counts-place}
 use Rattle.plainmap.proofs.Refuses.{get-fault}
 use Rattle.plainmap.proofs.Rights.{gives-absent}
 
@@ -114,5 +114,6 @@ module _ (l : ℕ) (w : World) (chains : Chain → List ℕ) (a : Accepted l (w 
             ∙ kept-absent (dueFault l w (slotsMap l (w .image)) (get key out)) (slotsMap l (w .image) key) out
             (sym (ap (λ (r : GetResult). r .answer) (get-result key out)) ∙ e));
         few = few-compared l w chains s (get key out);
+        place = counts-place l w chains s (get key out);
         by-rule = refl;
       }

@@ -23,4 +23,5 @@ pub mod IsMap
 pub mod FormattedImages
 pub mod Compares
 pub mod BasketRights
+pub mod BasketItems
 pub mod Room

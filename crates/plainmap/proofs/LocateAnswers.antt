@@ -24,7 +24,7 @@ use Rattle.plainmap.specs.Accepted.{Accepted}
 use Rattle.plainmap.specs.Sound.{Sound}
 use Rattle.plainmap.specs.Claims.{slotsMap, Right}
 use Rattle.plainmap.proofs.Sees.{Sees, sees-held, sees-absent, sound-sees}
-use Rattle.plainmap.proofs.Compares.{few-compared}
+use Rattle.plainmap.proofs.Compares.{few-compared, counts-place}
 use Rattle.plainmap.proofs.Refuses.{sound-lent, sound-chain}
 
 -- the version of a live slot is that of its line A
@@ -72,5 +72,6 @@ module _ (l : ℕ) (w : World) (chains : Chain → List ℕ) (a : Accepted l (w 
         refused-still = λ ne. record { out = refl; stores = refl; heads = refl; next = refl; state = refl };
         absent-still = λ e. record { out = refl; stores = refl; heads = refl; next = refl; state = refl };
         few = few-compared l w chains s (locate key);
+        place = counts-place l w chains s (locate key);
         by-rule = refl;
       }

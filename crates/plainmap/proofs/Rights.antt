@@ -14,7 +14,7 @@ use Rattle.plainmap.specs.World.{World, Call, outOf, Called, calledChang
 use Rattle.layout.specs.Size.{slotsIn}
 use Rattle.table.specs.Complete.{tableOf}
 use Rattle.plainmap.specs.Plain.{plainAnswer, plainOut, PlainMap, lengthAnswer}
-use Rattle.plainmap.specs.Claims.{slotsMap, dueFault, dueAnswer, Untouched, FewCompared, Right}
+use Rattle.plainmap.specs.Claims.{slotsMap, dueFault, dueAnswer, Untouched, FewCompared, CountsPlace, Right}
 use Rattle.plainmap.proofs.Outcomes.{Ran, ran-refused, ran-absent, ran-wrote}
 use lib.Dec.{eqb}
 use borrow.Author.Tests.{eqb-true, eqb-false}
@@ -32,7 +32,8 @@ module _
     kind ≡ 2 → slotsMap l (w .image) key ≡ none
     → absent ≡ dueAnswer l w (slotsMap l (w .image)) call)
     (no-out : [] ≡ plainOut (slotsMap l (w .image)) call) (none-lent : [] ≡ outOf call)
-    (few : FewCompared (slotsMap l (w .image)) (length (w .heads)) (callKey call) (callCompared l w call)) (by-rule : called l w call ≡ ruled l w call) where
+    (few : FewCompared (slotsMap l (w .image)) (length (w .heads)) (callKey call) (callCompared l w call)) (place : CountsPlace l w call)
+    (by-rule : called l w call ≡ ruled l w call) where
   still : (answer : Answer) → called l w call ≡ calledChange (unchanged answer (w .state) (w .heads) (w .next))
       → Untouched w call (called l w call)
   unfolding calledChange unchanged
@@ -57,6 +58,7 @@ module _
         refused-still = λ x. still (refused fault) d;
         absent-still = λ x. still (refused fault) d;
         few = few;
+        place = place;
         by-rule = by-rule;
       }
   ran-right fault r e (ran-absent z kd q m) due =
@@ -68,6 +70,7 @@ module _
         refused-still = λ x. absurd (x (sym due ∙ z));
         absent-still = λ x. still absent d;
         few = few;
+        place = place;
         by-rule = by-rule;
       }
   ran-right fault r e (ran-wrote z i alive q wr held) due =
@@ -80,6 +83,7 @@ module _
         refused-still = λ x. absurd (x (sym due ∙ z));
         absent-still = λ x. absurd (gives-absent _ (sym (ap (λ (c : Called). c .answer) d) ∙ x));
         few = few;
+        place = place;
         by-rule = by-rule;
       }
 

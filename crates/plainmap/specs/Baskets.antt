@@ -14,6 +14,7 @@ use Rattle.index.specs.Basket.{takenSlots}
 use Rattle.index.specs.declared.Action.{Action}
 use Rattle.index.specs.declared.Action.the-variants.{Insert, Replace, Remove}
 use Rattle.taking.specs.Taking.{takingOf}
+use Rattle.calls.specs.declared.BasketItem.{BasketItem}
 use Rattle.calls.specs.Basket.{KeyChange, givenFault, firstFault, valueFault, actionFault, insertsBy, removesBy, sumOver, basketResult, basketByRule}
 use Rattle.plainmap.specs.World.{World, Called, calledChange}
 use Rattle.plainmap.specs.Plain.{PlainMap, Update, giving, dropping, Room, roomRule}
@@ -78,3 +79,8 @@ pub record BasketRight (l : ℕ) (w : World) (m : PlainMap) (b : Basket) : Type 
 pub record TypedChange (l : ℕ) (c : KeyChange) : Type 0 where
   pub key-fits : c .key < (2 ^ 64) ^ l
   pub bytes : AreBytes (c .value)
+
+-- the two words of an item's key are words, as its type has it
+pub record TypedItem (k : BasketItem) : Type 0 where
+  pub low-word : k .low < 2 ^ 64
+  pub high-word : k .high < 2 ^ 64

@@ -2,17 +2,19 @@
 use mathlib.Core.Path.{_≡_}
 use mathlib.Core.List.{List, []}
 use Prim.Native.Nat.{ℕ, _^_, _≤_, _<_}
-use lib.ListN.{length}
+use lib.ListN.{length, getD}
 use Rattle.words.specs.Word.{AreBytes}
 use Rattle.prelude.specs.Answer.{Answer, absent, refusalIn, refuses}
 use Rattle.layout.specs.Record.{limit}
 use Rattle.table.specs.Keys.{Keys, sharing}
 use Rattle.index.specs.Index.{headOf}
+use Rattle.index.specs.Linked.{Linked}
+use Rattle.index.specs.Walk.{slotKey, search, comparedIn, Counted}
 use Rattle.table.specs.Table.{mapOf, holder, liveCount, nextVersion}
 use Rattle.table.specs.Taking.{takeableCount}
 use Rattle.index.specs.declared.Mode.{Mode}
 use Rattle.calls.specs.Get.{getResult}
-use Rattle.plainmap.specs.World.{World, Call, write, remove, get, locate, outOf, Called, called, ruled, callKey, callCompared}
+use Rattle.plainmap.specs.World.{World, Call, write, remove, get, locate, outOf, Called, called, ruled, callKey, callCompared, chainRefusal}
 use Rattle.layout.specs.Size.{slotsIn}
 use Rattle.table.specs.Complete.{tableOf}
 use Rattle.plainmap.specs.Plain.{PlainMap, Room, updates, plainStep, ruleFault, lengthAnswer, filled, plainAnswer, plainOut}
@@ -71,6 +73,15 @@ pub record FewCompared (m : PlainMap) (b key compared : ℕ) : Type 0 where
   pub share : Keys (sharing (λ k. headOf k b) (headOf key b) m) sharers
   pub at-most : compared ≤ length sharers
 
+-- document 02, A.4: "The count of slots compared equals the place of the key in its chain, or the chain's whole length when it is absent": `chain` is what the
+-- links of the lent index give from the key's head on, and zero ends it. "A call refused before or by the chain check reports 0"
+pub record CountsPlace (l : ℕ) (w : World) (call : Call) : Type 0 where
+  pub chain : List ℕ
+  pub linked : Linked (w .next) (getD (w .heads) (headOf (callKey call) (length (w .heads))) 0) chain
+  pub counted : Counted (slotKey l (w .image)) (callKey call) chain (search l (w .image) (w .heads) (w .next) (callKey call))
+  pub reported : chainRefusal l w call ≡ 0 → callCompared l w call ≡ comparedIn (search l (w .image) (w .heads) (w .next) (callKey call))
+  pub none-reported : (chainRefusal l w call ≡ 0 → ⊥) → callCompared l w call ≡ 0
+
 -- the answer is right: refused exactly where the rules refuse it, and otherwise as the plain map m answers; and the whole call is that of the taking rule
 pub record Right (l : ℕ) (w : World) (m : PlainMap) (call : Call) : Type 0 where
   pub refusal : refusalIn (called l w call .answer) ≡ dueFault l w m call
@@ -80,6 +91,7 @@ pub record Right (l : ℕ) (w : World) (m : PlainMap) (call : Call) : Type 0 whe
   pub refused-still : (dueFault l w m call ≡ 0 → ⊥) → Untouched w call (called l w call)
   pub absent-still : called l w call .answer ≡ absent → Untouched w call (called l w call)
   pub few : FewCompared m (length (w .heads)) (callKey call) (callCompared l w call)
+  pub place : CountsPlace l w call
   -- "No call, single ones included, takes .. ; it takes the first others in the reuse chain": slot, stores and index are the rule's. "with an index not the image's own,
   -- only refusals are fixed, of single calls too"
   pub by-rule : called l w call ≡ ruled l w call

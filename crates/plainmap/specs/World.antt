@@ -3,15 +3,17 @@ use mathlib.Core.List.{List, [], _∷_}
 use Prim.Native.Nat.{ℕ}
 use lib.ListN.{length}
 use Rattle.prelude.specs.Answer.{Answer}
+use Rattle.prelude.specs.Refusal.{orElse}
 use Rattle.stores.specs.Store.{Store, played, standing}
 use Rattle.index.specs.declared.State.{State}
+use Rattle.index.specs.Walk.{search, chainFault}
 use Rattle.recovery.specs.Opening.{storesIn}
 use Rattle.recovery.specs.Recover.{Result, recoverResult}
 use Rattle.index.specs.declared.Mode.{Mode}
 use Rattle.calls.specs.Compared.{keyCompared}
-use Rattle.calls.specs.Change.{ChangeResult, writeResult, writeByRule, writeCompared, removeResult, removeByRule}
+use Rattle.calls.specs.Change.{ChangeResult, writeLentFault, writeResult, writeByRule, writeCompared, removeResult, removeByRule}
 use Rattle.calls.specs.Get.{GetResult, getResult}
-use Rattle.calls.specs.Locate.{locateResult}
+use Rattle.calls.specs.Locate.{locateFault, locateResult}
 
 -- "Each call gets the image with all stores played so far and the index and state the last one left"
 pub record World : Type 0 where
@@ -94,6 +96,14 @@ callCompared l w (write mode key value) = writeCompared l (w .image) (w .heads) 
 callCompared l w (remove key) = keyCompared l (w .image) (w .heads) (w .next) key
 callCompared l w (get key out) = keyCompared l (w .image) (w .heads) (w .next) key
 callCompared l w (locate key) = keyCompared l (w .image) (w .heads) (w .next) key
+
+-- its refusal before or by the chain check: 1, 2, 3 and 4, of an insert and a replace 10, and 11 by the chain
+unfoldable pub chainRefusal : (l : ℕ) → World → Call → ℕ
+chainRefusal l w (write mode key value) =
+    orElse (writeLentFault l (w .image) (length (w .heads)) (length (w .next)) (length value)) (chainFault (search l (w .image) (w .heads) (w .next) key))
+chainRefusal l w (remove key) = locateFault l (w .image) (w .heads) (w .next) key
+chainRefusal l w (get key out) = locateFault l (w .image) (w .heads) (w .next) key
+chainRefusal l w (locate key) = locateFault l (w .image) (w .heads) (w .next) key
 
 -- a call and then all its stores
 unfoldable pub finished : (l : ℕ) → World → Call → World

@@ -11,7 +11,7 @@ use Rattle.prelude.specs.Answer.{Answer, gives, absent, refused}
 use Rattle.prelude.proofs.Fills.{zeros}
 use Rattle.face.proofs.SetLaws.{layout-1, call-laws}
 use Rattle.face.specs.Set.{indexFault, RightSize, slotsOf, State, Store, Played, played, standing, halfCounts, ChangeResult, World, Mode, Insert, Replace, Call, write, remove, get, Called, writeResult, locateResult, isHeld, calledChange, calledGet, called, playing, finished, openedWorld, restarted, afterRounds, slotsIn, PlainMap, Typed, write-typed, remove-typed, Untouched}
-use Rattle.face.specs.Event.{Cut, done, struck, leaving, step, Fits, stepBy, imageCut}
+use Rattle.face.specs.Event.{Cut, done, struck, leaving, step, Fits, done-fits, stepBy, imageCut}
 use Rattle.face.proofs.Stored.{refusal-still}
 use Rattle.face.proofs.Located.{located}
 use Rattle.face.specs.Laws.{Writes, write-writes, remove-writes, SetLaws}
@@ -93,11 +93,11 @@ module _ (Inv : World → PlainMap → Type 0) (laws : SetLaws 1 Inv) where
     -- all stores are played
     all-played : leftBy (leaves (ok given) (record { n = n; state = state; waiting = Nothing }) (playedAll (w .image) stores) heads next) ≡
         finished 1 w call
-    unfolding playedAll finished
+    unfolding playedAll finished stepBy
     all-played =
         sym (ap (λ (c : Called). record { image = playedAll (w .image) (c .stores); heads = c .heads; next = c .next; state = c .state }) d)
         ∙ ap (λ (x : List ℕ). record { image = x; heads = called 1 w call .heads; next = called 1 w call .next; state = called 1 w call .state })
-        (ap (λ (x : Played). x .bytes) (laws .plays-list w m i call typed))
+        (ap (λ (x : Played). x .bytes) (laws .plays-event w m i (done call) (done-fits typed) .0))
 
     module _ (a b : ℕ) (p : a ≤ 8) (q : b ≤ 8) where
       struck-event : eventIn w (Counts a b) call ≡ struck call (cutBy a b)
