@@ -125,7 +125,7 @@ $(OUT)/file: tests/file.c tests/file_model.c tests/child.c tests/chance.c
 $(OUT)/file_storm: tests/file_storm.c tests/file_model.c tests/cache.c tests/chance.c
 $(OUT)/file_kills: tests/file_kills.c tests/file_model.c tests/disk.c tests/child.c tests/chance.c
 $(OUT)/cancel: tests/cancel.c tests/file_model.c tests/child.c tests/chance.c
-$(OUT)/file: HANDLES := src/orderset_file.c -Wl,--wrap=posix_fallocate,--wrap=msync,--wrap=mmap,--wrap=pwrite,--wrap=stat
+$(OUT)/file: HANDLES := src/orderset_file.c -Wl,--wrap=posix_fallocate,--wrap=msync,--wrap=mmap,--wrap=pwrite,--wrap=stat,--wrap=ioctl,--wrap=fstatfs
 $(OUT)/file_kills: HANDLES := src/orderset_file.c -Wl,--wrap=mmap,--wrap=msync,--wrap=fsync,--wrap=renameat2,--wrap=pwrite
 # every cancellation point, and what may be one
 POINTS := close posix_fallocate fallocate mkostemp pread pwrite pthread_join stat lstat fstat link unlink realpath renameat2 \

@@ -11,6 +11,8 @@
 #include <fcntl.h>
 #include <inttypes.h>
 #include <limits.h>
+#include <linux/fiemap.h>
+#include <linux/fs.h>
 #include <pthread.h>
 #include <signal.h>
 #include <stdio.h>
@@ -23,6 +25,7 @@
 #include <sys/stat.h>
 #include <sys/syscall.h>
 #include <sys/time.h>
+#include <sys/vfs.h>
 #include <sys/wait.h>
 #include <time.h>
 #include <unistd.h>
@@ -46,6 +49,11 @@ static int interrupted, no_fallocate, no_rename;  /* the next call is; the file 
 static int asked, extended, written;              /* calls for blocks, those that may extend a file, and writes */
 static int no_new_block;                          /* blocks are given, and a write or a store takes another */
 static int stat_error;                            /* errno of stat; 0: it does not fail */
+static int as_memory;                             /* the file can be mapped with MAP_SYNC */
+static long file_system;                          /* what fstatfs tells; 0: it fails */
+static uint64_t shared_from;                      /* the first byte of the page that is shared; UINT64_MAX: none */
+static int tells_shared, stands_still;            /* FIEMAP does not fail; it tells the first extents again and again */
+static int syncs, synced_before_asked;            /* syncs, and how many there were when FIEMAP was asked first */
 static void (*before_lock)(void), (*before_rename)(void);
 
 int __real_posix_fallocate(int file, off_t offset, off_t size);
@@ -58,6 +66,8 @@ int __wrap_msync(void *address, size_t size, int flags);
 void *__wrap_mmap(void *address, size_t size, int access, int flags, int file, off_t offset);
 ssize_t __wrap_pwrite(int file, const void *bytes, size_t size, off_t offset);
 int __wrap_stat(const char *name, struct stat *found);
+int __wrap_ioctl(int file, unsigned long request, struct fiemap *map);
+int __wrap_fstatfs(int file, struct statfs *system);
 
 static int blocks(void) {
     asked++;
@@ -80,7 +90,35 @@ int fallocate(int file, int mode, off_t offset, off_t size) {
 
 /* A store to a page that gets no block ends the program, as on a full btrfs. */
 void *__wrap_mmap(void *address, size_t size, int access, int flags, int file, off_t offset) {
+    if (file >= 0 && as_memory && (flags & MAP_SYNC) == MAP_SYNC)
+        flags = MAP_SHARED;
     return __real_mmap(address, size, file >= 0 && no_new_block ? PROT_READ : access, flags, file, offset);
+}
+
+/* Each page is an extent. */
+int __wrap_ioctl(int file, unsigned long request, struct fiemap *map) {
+    const uint64_t page = 4096, first = stands_still ? 0 : map->fm_start / page;
+    (void)file;
+    if (synced_before_asked < 0)
+        synced_before_asked = syncs;
+    errno = ENOTTY;
+    if (!tells_shared || request != FS_IOC_FIEMAP)
+        return -1;
+    for (map->fm_mapped_extents = 0; map->fm_mapped_extents < map->fm_extent_count; map->fm_mapped_extents++) {
+        const uint64_t at = (first + map->fm_mapped_extents) * page;
+        if (at >= map->fm_start + map->fm_length)
+            break;
+        map->fm_extents[map->fm_mapped_extents] = (struct fiemap_extent){
+            .fe_logical = at, .fe_length = page, .fe_flags = at == shared_from ? FIEMAP_EXTENT_SHARED : 0};
+    }
+    return 0;
+}
+
+int __wrap_fstatfs(int file, struct statfs *system) {
+    (void)file;
+    errno = EIO;
+    system->f_type = file_system;
+    return file_system ? 0 : -1;
 }
 
 ssize_t __wrap_pwrite(int file, const void *bytes, size_t size, off_t offset) {
@@ -95,6 +133,7 @@ int __wrap_stat(const char *name, struct stat *found) {
 }
 
 static int this_fails(void) {
+    syncs++;
     errno = EIO;
     return sync_fails || (fails_alone && --fails_alone == 0);
 }
@@ -711,6 +750,47 @@ static void overwritten(void) {
     orderset_file_close(set);
 }
 
+/* ---- shared blocks */
+
+static void check_flush(int by_msync, const char *what) {
+    struct contents before = contents_of_file();
+    synced_before_asked = -1;
+    syncs = 0;
+    struct orderset_file *set = open_set(WRITE);
+    const uint32_t flush = statistics_of(set).flush;
+    holds(by_msync == (flush == ORDERSET_FILE_MSYNC), what);
+    holds(synced_before_asked >= 2, "the file is written, stored to and synced before its blocks are asked for");
+    holds(is_unchanged(&before), "an open leaves every byte of a file");
+    gives(orderset_file_insert(set, one, "a", 1), 0, "insert");
+    gives(orderset_file_remove(set, one), 0, "remove");
+    orderset_file_close(set);
+    free(before.bytes);
+}
+
+/* A file that is mapped with MAP_SYNC goes by msync where a block is shared, or where xfs does not tell. */
+static void shared_blocks(void) {
+    enum { EXT4 = 0xef53, XFS = 0x58465342, SLOTS = 5000, LAST = 128 * (SLOTS + 1) / 4096 * 4096 };
+    new_set(SLOTS, 1);
+    as_memory = tells_shared = 1;
+    file_system = XFS;
+    shared_from = UINT64_MAX;
+    check_flush(0, "a file without shared blocks goes by line flushes");
+    for (shared_from = 0; shared_from <= LAST; shared_from += LAST / 4096 / 4 * 4096)
+        check_flush(1, "a file with a shared block goes by msync");
+    shared_from = LAST;
+    check_flush(1, "a file whose last block is shared goes by msync");
+    shared_from = UINT64_MAX;
+    stands_still = 1;
+    check_flush(1, "a file on xfs that tells the same extents again goes by msync");
+    stands_still = tells_shared = 0;
+    check_flush(1, "a file on xfs that does not tell goes by msync");
+    file_system = 0;
+    check_flush(1, "a file on an unknown file system that does not tell goes by msync");
+    file_system = EXT4;
+    check_flush(0, "a file on ext4 that does not tell goes by line flushes");
+    as_memory = 0;
+}
+
 /* ---- void slots and damaged ones */
 
 /* A basket of three that a cut struck: one of its lines is as before. */
@@ -1061,6 +1141,7 @@ int main(int count, char **word) {
     reading_only();
     failing_syncs();
     overwritten();
+    shared_blocks();
     for (uint32_t layout = 1; layout <= 2; layout++) {
         void_slots(layout);
         openings_not_synced(layout);

@@ -967,6 +967,12 @@ fault file 'the limit of the length is not looked at' $handle 's/return limit.rl
     'NOT SO: a limit of the length of a file gives 1010'
 fault file 'the other name of a long one is longer' $handle 's/strlen\(name\) > LONG_NAME \?/strlen(name) > 4096 ?/' \
     'NOT SO: create of a name of 245 bytes'
+fault file 'only the first extents are asked for' $handle 's/if \(found.map.fm_mapped_extents < EXTENTS\)/if (from)/' \
+    'NOT SO: a file with a shared block goes by msync'
+fault file 'blocks are asked for before they are written' $handle \
+    's/if \(orderset_persist_image_file\(a->bytes, a->length\)$/if (is_unfit_for_flushes(a)/' 'NOT SO: .* before its blocks are asked for'
+fault file 'a file system that tells no more is trusted' $handle \
+    '/fe_length <= from\)$/{n;s/return -1;/return 0;/}' 'NOT SO: .* tells the same extents again'
 fault file 'marks of a set are looked at by recovery alone' $handle 's/return look_at_marks\(a, chunk, ORDERSET_STORES, .*/return 0;/' \
     'NOT SO: marks are looked at before a file is written'
 fault file 'a set is taken as a log' $handle \
