@@ -12,7 +12,7 @@ use borrow.Author.Tests.{eq-eqb, ne-eqb}
 use Rattle.words.specs.Word.{word}
 use Rattle.prelude.specs.Range.{anyOf}
 use Rattle.layout.specs.Size.{slotsIn}
-use Rattle.layout.specs.Header.{headerWord, headerFault, imageFault, indexFault, lentFault}
+use Rattle.layout.specs.Header.{headerWord, HeaderOf, headerFault, imageFault, indexFault, lentFault}
 use Rattle.prelude.proofs.Choice.{pick-false}
 use Rattle.prelude.proofs.Any.{any-some, any-none}
 use Rattle.prelude.proofs.Bits.{or-nonzero}
@@ -100,3 +100,16 @@ module _ (l : ℕ) (image : List ℕ) (heads next fault : ℕ) (e : fault ≡ im
   pub by-index : fault ≡ 0 → (n r : ℕ) → n ≡ slotsIn image → r ≡ indexFault n heads next → r ≡ lentFault l image heads next
   unfolding lentFault
   by-index z n r f g = g ∙ ap (λ (x : ℕ). indexFault x heads next) f ∙ sym (orElse-later _ _ (sym e ∙ z))
+
+-- THE HEADER OF ANOTHER LAYOUT gives 3, and neither 1 nor 2 before it
+module _ (l other : ℕ) (image : List ℕ) (apart : other ≡ l → ⊥) (h : HeaderOf other image) where
+  pub other-image : imageFault l image ≡ 3
+  unfolding imageFault headerFault headerWord
+  other-image =
+      say-false _ 1 _ (ne-eqb (slotsIn image) 0 (h .some-slots))
+      ∙ say-false _ 2 _ (ne-eqb (word image 0) 0 (λ z. h .some-slots (sym (h .words 0 (omega arith)) ∙ z)))
+      ∙ say-true _ 3 0 (sym (second-other l (slotsIn image) (word image) other (sym (h .words 1 (omega arith))) apart))
+
+  pub other-lent : (heads next : ℕ) → lentFault l image heads next ≡ 3
+  unfolding lentFault
+  other-lent heads next = orElse-first _ _ (λ z. let e = other-image in omega arith) ∙ other-image
