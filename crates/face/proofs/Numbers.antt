@@ -12,10 +12,10 @@ use Rattle.words.specs.Word.{word}
 use Rattle.prelude.specs.Members.{In}
 use Rattle.prelude.specs.Range.{anyOf, lowest, atLowest}
 use Rattle.prelude.specs.Refusal.{say, orElse, unlessRefused}
-use Rattle.prelude.specs.Answer.{Answer, gives, absent, refused}
+use Rattle.prelude.specs.Answer.{Answer, gives, refused}
 use Rattle.prelude.proofs.defs.Among.{isOne, areAmong}
 use Rattle.prelude.specs.Numbers.{Numbered, ZeroOrOneOf}
-use Rattle.prelude.proofs.Among.{one-of, among}
+use Rattle.prelude.proofs.Among.{one-of}
 use Rattle.prelude.proofs.Numbers.{none-due, say-due, one-due, else-due, due-among, numbered}
 use Rattle.prelude.proofs.Lowest.{Lowest, nowhere, there, lowest-is}
 use Rattle.prelude.proofs.Refusals.{say-false, orElse-first}
@@ -151,6 +151,11 @@ record-due l m s = go (isValid (lineVerdict (lineA m s) (lineB m s)))
         (say-due ks _ 24 0 (one-of 24 ks refl) (none-due ks))
     go false = none-due ks
 
+zero-due : (ks : List ℕ) (t : Bool) (later : ℕ) → ZeroOrOneOf ks later → ZeroOrOneOf ks (say t 0 later)
+unfolding say
+zero-due ks true later d = none-due ks
+zero-due ks false later d = d
+
 module _ (l : ℕ) (m : ℕ → ℕ) (n : ℕ) where
   late : ℕ
   late = say (sharersFault (content l m) (numberIn l m) n) 7 (settledFault (settled (content l m) (numberIn l m) n) n)
@@ -183,16 +188,10 @@ module _ (l : ℕ) (m : ℕ → ℕ) (n : ℕ) where
   -- the same without the slot, in a list that has these numbers and may lack 1 to 4
   slots-due : (ks : List ℕ) → areAmong slotRefusals ks ≡ true → isOne 5 ks ≡ true → isOne 7 ks ≡ true → isOne 25 ks ≡ true → isOne 8 ks ≡ true
       → ZeroOrOneOf ks (slotsFault l m n)
-  unfolding slotsFault atLowest say late
+  unfolding slotsFault atLowest late
   slots-due ks records five seven many eight =
-      one-due ks _ 5 _ five (else-due ks _ _ (at (lowest (recordFault l m) n)) (late-due ks seven many eight))
-    where
-      by : (b : Bool) (s : ℕ) → ZeroOrOneOf ks (say b 0 (recordFault l m s))
-      by true s = none-due ks
-      by false s = due-among slotRefusals ks records (recordFault l m s) (record-due l m s)
-
-      at : (s : ℕ) → ZeroOrOneOf ks (say (eqb s 0) 0 (recordFault l m s))
-      at s = by (eqb s 0) s
+      one-due ks _ 5 _ five
+      (else-due ks _ _ (zero-due ks _ _ (due-among slotRefusals ks records _ (record-due l m (lowest (recordFault l m) n)))) (late-due ks seven many eight))
 
 module _ (l : ℕ) (image heads next : List ℕ) where
   fault-names : DueAt (slotsIn image) (recoverFault l image (length heads) (length next)) (recoverSlot l image (length heads) (length next))

@@ -3,5 +3,5 @@ pub mod Event
 pub mod Recovers
 pub mod Laws
 pub mod Numbers
-pub mod Room
 pub mod CutCount
+pub mod OtherLayout
