@@ -13,7 +13,7 @@ use Rattle.prelude.specs.Answer.{Answer, gives, absent, refused}
 use Rattle.prelude.proofs.defs.Among.{areAmong}
 use Rattle.prelude.proofs.Among.{one-of, among}
 use Rattle.book.proofs.OrderBytes.{order-length}
-use Rattle.face.specs.Set.{World, State, Mode, Insert, Replace, ChangeResult, writeResult, removeResult, getResult, locateResult, limit, Layout}
+use Rattle.face.specs.Set.{World, State, Insert, Replace, ChangeResult, writeResult, removeResult, getResult, locateResult, limit, Layout}
 use Rattle.prelude.specs.Numbers.{Numbered}
 use Rattle.face.specs.Numbers.{AnswersAsAsked, locateRefusals, storingRefusals, roomyGetRefusals}
 use Rattle.face.proofs.Numbers.{locate-asked, get-asked, remove-numbered, roomy-get-numbered, locate-numbered}

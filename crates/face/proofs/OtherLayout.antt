@@ -10,7 +10,6 @@ use Rattle.prelude.proofs.Refusals.{orElse-first, orElse-later, refused-keeps}
 use Rattle.layout.specs.Size.{slotsIn}
 use Rattle.layout.specs.Header.{HeaderOf, lentFault}
 use Rattle.layout.proofs.Headers.{other-lent}
-use Rattle.stores.specs.Store.{Store}
 use Rattle.index.specs.declared.Mode.{Mode}
 use Rattle.recovery.specs.Opening.{openingsOf}
 use Rattle.recovery.specs.Recover.{recoverFault, recoverSlot, refusedResult, recoverResult}
