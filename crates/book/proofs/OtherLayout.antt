@@ -4,11 +4,11 @@ use mathlib.Core.List.{List}
 use Prim.Native.Nat.{ℕ}
 use lib.ListN.{replicate}
 use Rattle.prelude.specs.Answer.{refused}
-use Rattle.face.specs.Set.{World, calledGet, calledLocate, called, get, locate, getResult, locateResult, limit}
+use Rattle.face.specs.Set.{World, HeaderOf, calledGet, calledLocate, called, get, locate, getResult, locateResult, limit}
 use Rattle.face.specs.OtherLayout.{CallsGive3}
-use Rattle.face.proofs.OtherLayout.{calls-give-3}
+use Rattle.face.proofs.OtherLayout.{calls-give-3, accepted-header}
 use Rattle.book.specs.Steps.{Step, new, acknowledge, fill, withdraw, declined, idle, none-there, soughtIn, soughtBy, seek, newAt, newResult, acknowledgeAt, acknowledgeResult, fillAt, fillResult, withdrawAt, withdrawResult, booked}
-use Rattle.book.specs.OtherLayout.{OtherLayout}
+use Rattle.book.specs.OtherLayout.{AllGive3, OtherLayout}
 
 module _ (l : ℕ) (w : World) (gives : CallsGive3 l w) where
   located : (key : ℕ) → locateResult l (w .image) (w .heads) (w .next) key ≡ refused 3
@@ -30,8 +30,15 @@ module _ (l : ℕ) (w : World) (gives : CallsGive3 l w) where
   step-3 (fill key quantity) = ap (fillAt l (w .image) (w .heads) (w .next) (w .state) key quantity) (sought key)
   step-3 (withdraw key) = ap (withdrawAt l (w .image) (w .heads) (w .next) (w .state) key) (sought key)
 
--- EVERY CALL of a layout gives 3 on an image of another
-pub other-layout : OtherLayout
-other-layout l other apart w h =
+all-3 : (l other : ℕ) → (other ≡ l → ⊥) → (w : World) → HeaderOf other (w .image) → AllGive3 l w
+all-3 l other apart w h =
     let gives = calls-give-3 l other apart w h in
     record { calls = gives; steps = step-3 l w gives }
+
+-- EVERY CALL of a layout gives 3 on an image of another
+pub other-layout : OtherLayout
+other-layout =
+    record {
+      by-header = all-3;
+      on-accepted = λ l other apart w heads next z. all-3 l other apart w (accepted-header other (w .image) heads next z);
+    }

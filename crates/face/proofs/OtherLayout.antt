@@ -6,10 +6,10 @@ use native.Mathlib.Omega.{arith}
 use lib.ListN.{length}
 use Rattle.prelude.specs.Answer.{Answer, refused}
 use Rattle.prelude.specs.Refusal.{orElse, unlessRefused}
-use Rattle.prelude.proofs.Refusals.{orElse-first, orElse-later, refused-keeps}
+use Rattle.prelude.proofs.Refusals.{orElse-first, orElse-later, orElse-zero, refused-keeps}
 use Rattle.layout.specs.Size.{slotsIn}
 use Rattle.layout.specs.Header.{HeaderOf, lentFault}
-use Rattle.layout.proofs.Headers.{other-lent}
+use Rattle.layout.proofs.Headers.{other-lent, image-header}
 use Rattle.index.specs.declared.Mode.{Mode}
 use Rattle.recovery.specs.Opening.{openingsOf}
 use Rattle.recovery.specs.Recover.{recoverFault, recoverSlot, refusedResult, recoverResult}
@@ -126,3 +126,8 @@ module _ (l other : ℕ) (apart : other ≡ l → ⊥) (w : World) (h : HeaderOf
           })
           (record { answer = refused 3; slot = 0; heads = w .heads; next = w .next })
       counted p q = rw (p, q) refl
+
+-- an image that recovery accepts has the header of its layout
+pub accepted-header : (l : ℕ) (image : List ℕ) (heads next : ℕ) → recoverFault l image heads next ≡ 0 → HeaderOf l image
+unfolding recoverFault lentFault
+accepted-header l image heads next z = image-header l image (orElse-zero _ _ (orElse-zero _ _ z .0) .0)

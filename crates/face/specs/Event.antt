@@ -11,7 +11,6 @@ use Rattle.plainmap.specs.Plain.{PlainMap, Update, updates, plainStep}
 use Rattle.prelude.specs.Answer.{refuses}
 use Rattle.plainmap.specs.Claims.{Typed, dueFault}
 use Rattle.plainmap.specs.Baskets.{Basket, basketCalled, basketUpdates, basketDue, TypedChange}
-
 pub use Rattle.plainmap.specs.Accepted.{RestartFits}
 
 -- a cut: line n holds its first `counts n` stores, and what comes after it

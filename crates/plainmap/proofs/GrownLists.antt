@@ -160,9 +160,10 @@ module _ (l : ℕ) (lay : Layout l) where
       (λ w m g. (g .0, agrees-reads l w m (g .0)))
       (λ w m g call t. answered-room w m (g .0) (g .1) call t)
       keeps
-      (restarted l (formatted l len) start) (λ k. none) calls
-      (agrees-with l _ _ (λ k. none) (restarted-agrees l lay (formatted l len) fine start (fits .rounds) (fits .size)) (formatted-empty l len some small),
-      restarted-room l lay (formatted l len) fine start (fits .rounds) (fits .size) (formatted-room l len some small)) typed
+      (restarted l (formatted l len) start) (λ k. none) calls (
+        agrees-with l _ _ (λ k. none) (restarted-agrees l lay (formatted l len) fine start (fits .rounds) (fits .size)) (formatted-empty l len some small),
+        restarted-room l lay (formatted l len) fine start (fits .rounds) (fits .size) (formatted-room l len some small),
+      ) typed
     where
       small : l < 2 ^ 64
       small = omega (arith, lay .high)
