@@ -80,13 +80,14 @@ openTotal m (key ∷ keys) = openHeld (m key) + openTotal m keys
 abbrev pub AllOrders : PlainMap → Type 0
 AllOrders m = (key : ℕ) (value : List ℕ) → m key ≡ some value → isOrder value ≡ true
 
--- before each event and after the last recovery gives the plain map m; each step is refused exactly where the rules refuse it, and otherwise answers as the plain map does
+-- before each event and after the last recovery gives the plain map m; each step is refused exactly where the rules refuse it, and otherwise answers as the
+-- plain map does
 abbrev pub StepsRight : (l : ℕ) → World → PlainMap → List (Event Step) → Type 0
 StepsRight l =
     Throughout (worldAfterStep l) (mapAfterStep l) (λ w m. Recovers l (w .image) m) (λ w m event. StepRight l w m (requestOf event))
 
--- from a world with the plain map m: every step answers right, and the totals, summed from the steps that answered so, balance with what is open in every list of the
--- keys that are held at the end
+-- from a world with the plain map m: every step answers right, and the totals, summed from the steps that answered so, balance with what is open in every
+-- list of the keys that are held at the end
 pub record Conserves (l : ℕ) (w : World) (m : PlainMap) (events : List (Event Step)) : Type 0 where
   pub steps : StepsRight l w m events
   -- the map is that of the set: what recovery and get then give, with a list of the held keys
@@ -95,7 +96,8 @@ pub record Conserves (l : ℕ) (w : World) (m : PlainMap) (events : List (Event 
   pub balance : (keys : List ℕ) → Keys (mapAtEnd l w m events) keys
       → totalOf orderedIn l w m events ≡ totalOf filledIn l w m events + totalOf withdrawnIn l w m events + openTotal (mapAtEnd l w m events) keys
 
--- "since an empty set": an accepted image whose map is empty, with the index and state that recovery leaves and its opening stores played, with any cuts among them
+-- "since an empty set": an accepted image whose map is empty, with the index and state that recovery leaves and its opening stores played, with any cuts
+-- among them
 abbrev pub Conservation : (l : ℕ) → Type 0
 Conservation l =
     (image : List ℕ) (start : Restart) → recoverFault l image (length (start .heads)) (length (start .next)) ≡ 0 → RestartFits (slotsIn image) start

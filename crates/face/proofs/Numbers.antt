@@ -328,7 +328,8 @@ module _ (l : ℕ) (image heads next : List ℕ) (key : ℕ) where
   get-done ks e out (Missing prev compared) = tt
   get-done ks e out BadChain = one-of 11 ks e
 
-  later-due : (ks : List ℕ) → isOne 11 ks ≡ true → (size : ℕ) → ((n : ℕ) → ZeroOrOneOf ks (lengthFault l n size)) → (found : Found) → ZeroOrOneOf ks (getLaterFault l image size found)
+  later-due : (ks : List ℕ) → isOne 11 ks ≡ true → (size : ℕ) → ((n : ℕ) → ZeroOrOneOf ks (lengthFault l n size)) → (found : Found)
+      → ZeroOrOneOf ks (getLaterFault l image size found)
   unfolding getLaterFault
   later-due ks e size h (At slot prev compared) = h _
   later-due ks e size h (Missing prev compared) = none-due ks
@@ -373,7 +374,8 @@ module _ (l : ℕ) (image heads next : List ℕ) (key : ℕ) where
 
 -- ---- a basket
 
-each-due : (ks : List ℕ) (fault : KeyChange → ℕ) → ((c : KeyChange) → ZeroOrOneOf ks (fault c)) → (changes : List KeyChange) → ZeroOrOneOf ks (firstFault fault changes)
+each-due : (ks : List ℕ) (fault : KeyChange → ℕ) → ((c : KeyChange) → ZeroOrOneOf ks (fault c)) → (changes : List KeyChange)
+    → ZeroOrOneOf ks (firstFault fault changes)
 unfolding firstFault
 each-due ks fault h [] = none-due ks
 each-due ks fault h (c ∷ cs) = else-due ks _ _ (h c) (each-due ks fault h cs)
@@ -439,7 +441,10 @@ halves-due ks fifteen len at = one-due ks _ 15 _ fifteen (one-due ks _ 15 _ fift
 -- an index of one head has the right size
 one-head : (n : ℕ) → indexFault n 1 (n + 1) ≡ 0
 unfolding indexFault
-one-head n = say-false _ 4 _ (le-ltb 1 1 (omega arith)) ∙ say-false _ 4 _ (le-ltb 65536 1 (omega arith)) ∙ say-false _ 4 0 (ap not (eq-eqb (n + 1) (n + 1) refl))
+one-head n =
+    say-false _ 4 _ (le-ltb 1 1 (omega arith))
+    ∙ say-false _ 4 _ (le-ltb 65536 1 (omega arith))
+    ∙ say-false _ 4 0 (ap not (eq-eqb (n + 1) (n + 1) refl))
 
 -- COUNT_CUTS: recovery's but 4, and 15
 pub cuts-numbered : (l : ℕ) (image at value copy later : List ℕ) → Numbered cutCountRefusals (cutCountResult l image at value copy later .answer)
@@ -451,7 +456,8 @@ cuts-numbered l image at value copy later =
     (slots-due l (word image) (slotsIn image) ks refl refl refl refl refl))
     (else-due ks _ _
     (one-due ks _ 1 _ refl
-    (subst (ZeroOrOneOf ks) (sym (say-false _ 14 _ (le-ltb 8 8 (omega arith)) ∙ say-false _ 14 _ (le-ltb 8 8 (omega arith)))) (halves-due ks refl (length image) at)))
+    (subst (ZeroOrOneOf ks) (sym (say-false _ 14 _ (le-ltb 8 8 (omega arith)) ∙ say-false _ 14 _ (le-ltb 8 8 (omega arith))))
+    (halves-due ks refl (length image) at)))
     (one-due ks _ 1 _ refl (one-due ks _ 1 0 refl (none-due ks))))) _ tt
   where
     ks : List ℕ

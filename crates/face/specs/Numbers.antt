@@ -1,5 +1,5 @@
--- THE NUMBERS with which each call is refused, whatever image, index and state it is given. Document 01, "What each operation may say no to"; document 02, A.1: "Demand 1's
--- numbers now include those these requests give."
+-- THE NUMBERS with which each call is refused, whatever image, index and state it is given. Document 01, "What each operation may say no to"; document 02,
+-- A.1: "Demand 1's numbers now include those these requests give."
 use mathlib.Core.Path.{_≡_}
 use mathlib.Core.List.{List, [], _∷_, _++_}
 use Prim.Native.Nat.{ℕ}

@@ -1,4 +1,5 @@
--- The set's calls on an image of the other layout. Document 02, A.11: "Each layout has its own calls, book and baskets included, which give 3 on the other's images".
+-- The set's calls on an image of the other layout. Document 02, A.11: "Each layout has its own calls, book and baskets included, which give 3 on the other's
+-- images".
 use mathlib.Core.Path.{_≡_}
 use mathlib.Core.List.{List, []}
 use Prim.Native.Nat.{ℕ}
@@ -14,7 +15,8 @@ use Rattle.plainmap.specs.World.{World, Call, called}
 use Rattle.plainmap.specs.Claims.{StaysAs, Untouched}
 use Rattle.plainmap.specs.Baskets.{Basket, basketCalled}
 
--- what the calls of layout l answer and leave on the set w: 3, and nothing changes. "1, 2" stand before it, and an image with a header of another layout meets neither
+-- what the calls of layout l answer and leave on the set w: 3, and nothing changes. "1, 2" stand before it, and an image with a header of another layout
+-- meets neither
 pub record CallsGive3 (l : ℕ) (w : World) : Type 0 where
   pub recover : recoverResult l (w .image) (w .heads) (w .next) ≡ refusedResult 3 0 (openingsOf []) (w .heads) (w .next)
   -- insert, replace, remove, get and locate

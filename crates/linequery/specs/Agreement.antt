@@ -48,8 +48,8 @@ pub record Framed (words : List ℕ) (first last : ℕ) : Type 0 where
   pub begins : getD words 0 0 ≡ first
   pub ends : getD words 7 0 ≡ last
 
--- of slot s: the answers on its two lines give the slot's verdict; the first and the last word are those of the stores that a call hands out for the line, whatever
--- record it writes
+-- of slot s: the answers on its two lines give the slot's verdict; the first and the last word are those of the stores that a call hands out for the line,
+-- whatever record it writes
 pub record SlotAgreement (image lent : List ℕ) (s : ℕ) : Type 0 where
   pub verdict :
       verdictBy (answerOf wholeQuery image lent (2 * s)) (answerOf versionQuery image lent (2 * s))

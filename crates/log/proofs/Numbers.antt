@@ -43,7 +43,8 @@ unfolding readFault
 read-due area number = else-due readRefusals _ _ (area-due readRefusals refl area) (one-due readRefusals _ 31 0 refl (none-due readRefusals))
 
 -- what is handed out with this fault
-handed : (ks : List ℕ) (fault : ℕ) → ZeroOrOneOf ks fault → (number : ℕ) (ss : List Store) (at value : List ℕ) → Numbered ks (handing fault number ss at value .answer)
+handed : (ks : List ℕ) (fault : ℕ) → ZeroOrOneOf ks fault → (number : ℕ) (ss : List Store) (at value : List ℕ)
+    → Numbered ks (handing fault number ss at value .answer)
 unfolding handing
 handed ks fault d number ss at value = numbered ks (λ (r : LogResult). r .answer) (λ k. logEnd (refused k) at value) (λ k. refl) fault d _ tt
 

@@ -28,8 +28,8 @@ use Rattle.stores.specs.Play.{playEnd, playListResult, wordNumbers, values}
 abbrev pub PlainRule : (l : ℕ) → World → PlainMap → List Call → Type 0
 PlainRule l = Throughout (finished l) (mapAfterCall l) (λ w m. Agrees l w m × Reads l w m) (Right l)
 
--- the same, and document 02, A.7: "A single insert on a set grown from a formatted image meets 28 only when one slot is left that holds no open key": a call is refused with
--- 28 exactly where it inserts a key, which neither 10 nor 20 refuses, and one slot is left
+-- the same, and document 02, A.7: "A single insert on a set grown from a formatted image meets 28 only when one slot is left that holds no open key": a call
+-- is refused with 28 exactly where it inserts a key, which neither 10 nor 20 refuses, and one slot is left
 abbrev pub GrownRule : (l : ℕ) → World → PlainMap → List Call → Type 0
 GrownRule l =
     Throughout (finished l) (mapAfterCall l) (λ w m. Agrees l w m × Reads l w m)
@@ -62,8 +62,8 @@ pub record IsMap (l : ℕ) : Type 0 where
   pub empty : (len : ℕ) → (slotsOf len ≡ 0 → ⊥) → (key : ℕ) → slotsMap l (formatted l len) key ≡ none
   -- every list of calls answers as the plain map does
   pub lists : (w : World) (m : PlainMap) (calls : List Call) → Agrees l w m → All (Typed l) calls → PlainRule l w m calls
-  -- and so does every list from an accepted image, with the index and state that recovery leaves and its opening stores played, with any cuts among them; the plain map
-  -- "starts as the accepted image's slots give it"
+  -- and so does every list from an accepted image, with the index and state that recovery leaves and its opening stores played, with any cuts among them; the
+  -- plain map "starts as the accepted image's slots give it"
   pub recovered-lists : (image : List ℕ) (start : Restart) → Accepted l image → RestartFits (slotsIn image) start
       → (calls : List Call) → All (Typed l) calls → PlainRule l (restarted l image start) (slotsMap l image) calls
   -- on a set grown from a formatted image, whose plain map starts empty, room is right too
