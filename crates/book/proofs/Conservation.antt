@@ -13,17 +13,20 @@ use Rattle.prelude.specs.Answer.{refuses}
 use Rattle.prelude.specs.Members.{All, none-left, one-more}
 use Rattle.prelude.specs.Refusal.{say}
 use Rattle.prelude.proofs.Choice.{pick-true, pick-false, true-false}
+use Rattle.prelude.proofs.Histories.{throughout}
 use Rattle.prelude.proofs.Refusals.{say-zero, orElse-zero, taken-leaves}
 use Rattle.face.proofs.SetLaws.{call-laws, set-laws}
-use Rattle.face.specs.Set.{Layout, World, Mode, Insert, Replace, Call, write, remove, PlainMap, giving, dropping, updates, updated, plainNext, plainStep, isHeld, Holds, holds, Keys, Restart, restarted, slotsIn, slotsMap}
+use Rattle.face.specs.Set.{Layout, World, Insert, Replace, Call, write, remove, PlainMap, giving, dropping, updates, updated, plainNext, plainStep, isHeld, Holds, holds, Keys, restarted, slotsIn, slotsMap}
+use Rattle.face.specs.Laws.{SetLaws}
 use Rattle.face.specs.Event.{Event, requestOf, isWhole, plainEvent, FitsBy, done-fits, struck-fits}
 use Rattle.book.specs.declared.Order.{Order}
 use Rattle.book.specs.Orders.{orderBytes, orderOf, isOrder, isState, openOf, sent, acknowledged, filledBy}
-use Rattle.book.specs.Steps.{Step, new, acknowledge, fill, withdraw, quantityFault}
-use Rattle.book.specs.Plain.{stepKey, orderIn, orderFault, bookFault, callBy, stepCall, stepFault, updatesBy, stepUpdates, TypedStep, new-typed, acknowledge-typed, fill-typed, withdraw-typed, stepLeaves, worldAfterStep, mapAfterStep}
-use Rattle.book.specs.Totals.{openHeld, ofHeld, orderedIn, filledIn, withdrawnIn, counts, totalOf, mapAtEnd, openTotal, Conservation}
+use Rattle.book.specs.Steps.{Step, new, acknowledge, fill, withdraw, BookAnswer, taken, already, declined, quantityFault, booked}
+use Rattle.book.specs.Plain.{stepKey, orderIn, orderFault, bookFault, callBy, stepCall, stepFault, answerFor, stepAnswer, updatesBy, stepUpdates, refusalNumber, StepRight, TypedStep, new-typed, acknowledge-typed, fill-typed, withdraw-typed, stepLeaves, worldAfterStep, mapAfterStep}
+use Rattle.book.specs.Totals.{openHeld, ofHeld, orderedIn, filledIn, withdrawnIn, isAccepted, counts, totalOf, mapAtEnd, openTotal, StepsRight, Conservation}
 use Rattle.book.proofs.OrderBytes.{BookOrder, BookRecord, order-back, order-record, record-order}
-use Rattle.book.proofs.StepEvents.{to-end}
+use Rattle.book.proofs.StepEvents.{step-event-keeps, step-event-slots, to-end}
+use Rattle.book.proofs.Steps.{step-right}
 use Rattle.book.proofs.Sums.{some-none, Listed, listed, open-same, open-but-one, next-listed}
 
 -- every value of the map is a book record
@@ -177,18 +180,49 @@ module _ (l : ℕ) (m : PlainMap) (r : Records m) where
     adds stand quantity = cond (stand && not (refuses fault)) quantity 0
 
     -- an event of the step, whose stores all stand or not
-    event-moves : (stand : Bool)
+    ruled-moves : (stand : Bool)
         → Moved (stepKey step) (adds stand (orderedIn m step)) (adds stand (filledIn m step)) (adds stand (withdrawnIn m step)) m
         (plainEvent stand (stepUpdates m step) (refuses fault) m)
     unfolding plainEvent plainStep refuses stepFault
-    event-moves false = stays m r (stepKey step)
-    event-moves true = go (eqb fault 0) refl
+    ruled-moves false = stays m r (stepKey step)
+    ruled-moves true = go (eqb fault 0) refl
       where
         go : (b : Bool) → eqb fault 0 ≡ b
             → Moved (stepKey step) (cond (not (not b)) (orderedIn m step) 0) (cond (not (not b)) (filledIn m step) 0)
             (cond (not (not b)) (withdrawnIn m step) 0) m (plainStep (stepUpdates m step) (not b) m)
         go true e = step-moves step typed (orElse-zero (bookFault m step) _ (eqb-true fault 0 e) .0)
         go false e = stays m r (stepKey step)
+
+    -- the same by whether the step was accepted
+    event-moves : (accepted : Bool) → accepted ≡ not (refuses fault) → (stand : Bool)
+        → Moved (stepKey step) (cond (stand && accepted) (orderedIn m step) 0) (cond (stand && accepted) (filledIn m step) 0)
+        (cond (stand && accepted) (withdrawnIn m step) 0) m (plainEvent stand (stepUpdates m step) (refuses fault) m)
+    event-moves accepted e stand =
+        subst
+        (λ (b : Bool). Moved (stepKey step) (cond (stand && b) (orderedIn m step) 0) (cond (stand && b) (filledIn m step) 0)
+        (cond (stand && b) (withdrawnIn m step) 0) m (plainEvent stand (stepUpdates m step) (refuses fault) m))
+        (sym e) (ruled-moves stand)
+
+-- ---- what a step answered
+
+-- an answer that is right is accepted exactly where the rules do not refuse it
+accepted-by : (a : BookAnswer) (fault : ℕ) → refusalNumber a ≡ fault → (fault ≡ 0 → isAccepted a ≡ true) → isAccepted a ≡ not (refuses fault)
+unfolding refusalNumber isAccepted refuses
+accepted-by (taken values) fault e z = ap (λ (k : ℕ). not (not (eqb k 0))) e
+accepted-by (already values) fault e z = ap (λ (k : ℕ). not (not (eqb k 0))) e
+accepted-by (declined number) fault e z =
+    by-cases (ℕ-discrete fault 0) (λ q. absurd (true-false (z q) refl)) (λ nz. sym (ap (λ (b : Bool). not (not b)) (ne-eqb fault 0 nz)))
+
+answer-accepted : (values present : List ℕ) (call : Option Call) → isAccepted (answerFor values present call) ≡ true
+unfolding answerFor isAccepted
+answer-accepted values present none = refl
+answer-accepted values present (some call) = refl
+
+step-accepted : (l : ℕ) (w : World) (m : PlainMap) (step : Step) → StepRight l w m step
+    → isAccepted (booked l w step .answer) ≡ not (refuses (stepFault l w m step))
+unfolding stepAnswer
+step-accepted l w m step right =
+    accepted-by _ _ (right .refusal) (λ z. ap isAccepted (right .answer z) ∙ answer-accepted _ _ (stepCall m step))
 
 typed-request : {l n : ℕ} {event : Event Step} → FitsBy (TypedStep l) n event → TypedStep l (requestOf event)
 typed-request (done-fits t) = t
@@ -218,7 +252,7 @@ module _ (l n : ℕ) where
   records-at-end w m r [] none-left = r
   records-at-end w m r (event ∷ events) (one-more f fs) =
       records-at-end (worldAfterStep l w event) (mapAfterStep l w m event)
-      (moved-records _ _ _ _ m _ r (event-moves l m r w (requestOf event) (typed-request f) (isWhole (stepLeaves l) w event))) events fs
+      (moved-records _ _ _ _ m _ r (event-moves l m r w (requestOf event) (typed-request f) _ refl (isWhole (stepLeaves l) w event))) events fs
 
   -- a key that no step names keeps its value
   pub others-stay : (w : World) (m : PlainMap) → Records m → (events : List (Event Step)) → All (FitsBy (TypedStep l) n) events → (key : ℕ)
@@ -226,20 +260,34 @@ module _ (l n : ℕ) where
   unfolding mapAtEnd
   others-stay w m r [] none-left key none-left = refl
   others-stay w m r (event ∷ events) (one-more f fs) key (one-more ne nes) =
-      let v = event-moves l m r w (requestOf event) (typed-request f) (isWhole (stepLeaves l) w event) in
+      let v = event-moves l m r w (requestOf event) (typed-request f) _ refl (isWhole (stepLeaves l) w event) in
       others-stay (worldAfterStep l w event) (mapAfterStep l w m event) (moved-records _ _ _ _ m _ r v) events fs key nes ∙ v .elsewhere key ne
 
-  -- THE BALANCE from any map of book records, with what is open at the start
-  pub balanced : (w : World) (m : PlainMap) → Records m → (events : List (Event Step)) → All (FitsBy (TypedStep l) n) events
+  -- THE BALANCE from any map of book records, with what is open at the start, of steps that answer right
+  pub balanced : (w : World) (m : PlainMap) → Records m → (events : List (Event Step)) → All (FitsBy (TypedStep l) n) events → StepsRight l w m events
       → (ks js : List ℕ) → Keys m ks → Keys (mapAtEnd l w m events) js
       → totalOf orderedIn l w m events + openTotal m ks
       ≡ totalOf filledIn l w m events + totalOf withdrawnIn l w m events + openTotal (mapAtEnd l w m events) js
   unfolding mapAtEnd totalOf counts
-  balanced w m r [] none-left ks js a b = omega (arith, open-same m ks js a b)
-  balanced w m r (event ∷ events) (one-more f fs) ks js a b =
-      let v = event-moves l m r w (requestOf event) (typed-request f) (isWhole (stepLeaves l) w event) in
+  balanced w m r [] none-left right ks js a b = omega (arith, open-same m ks js a b)
+  balanced w m r (event ∷ events) (one-more f fs) right ks js a b =
+      let v = event-moves l m r w (requestOf event) (typed-request f) _ (step-accepted l w m (requestOf event) (right .1)) (isWhole (stepLeaves l) w event) in
       moved-before _ _ _ _ m (mapAfterStep l w m event) v ks a _ _ _ _
-      (λ is c. balanced (worldAfterStep l w event) (mapAfterStep l w m event) (moved-records _ _ _ _ m _ r v) events fs is js c b)
+      (λ is c. balanced (worldAfterStep l w event) (mapAfterStep l w m event) (moved-records _ _ _ _ m _ r v) events fs (right .2) is js c b)
+
+-- ---- every step answers right
+
+module _ (l : ℕ) (Inv : World → PlainMap → Type 0) (laws : SetLaws l Inv) (n : ℕ) where
+  steps-right : (w : World) (m : PlainMap) (events : List (Event Step)) → Inv w m → slotsIn (w .image) ≡ n → All (FitsBy (TypedStep l) n) events
+      → StepsRight l w m events
+  steps-right w m events i e fits =
+      throughout _ _ _ _ (λ v p. Inv v p × (slotsIn (v .image) ≡ n)) (FitsBy (TypedStep l) n)
+      (λ v p j. laws .recovers v p (j .0))
+      (λ v p j event f. step-right l Inv laws v p (j .0) (requestOf event) (typed-request f))
+      (λ v p j event f.
+      let here = subst (λ (k : ℕ). FitsBy (TypedStep l) k event) (sym (j .1)) f in
+      (step-event-keeps l Inv laws v p (j .0) event here, step-event-slots l Inv laws v p (j .0) event here ∙ j .1))
+      w m events (i, e) fits
 
 -- ---- since an empty set
 
@@ -250,10 +298,11 @@ none-held m empty key value e = absurd (some-none e (empty key))
 pub conservation : (l : ℕ) → Layout l → Conservation l
 unfolding openTotal
 conservation l layout image start z restart empty events fits = record {
+  steps = right;
   recovers = set-laws l layout .recovers _ _ (to-end l _ (set-laws l layout) (slotsIn image) w (slotsMap l image) events
       (set-laws l layout .after-recovery image start z restart) same fits);
   orders = λ key value e. records-at-end l (slotsIn image) w (slotsMap l image) none-there events fits key value e .order;
-  balance = λ keys held. omega (arith, balanced l (slotsIn image) w (slotsMap l image) none-there events fits [] keys no-keys held);
+  balance = λ keys held. omega (arith, balanced l (slotsIn image) w (slotsMap l image) none-there events fits right [] keys no-keys held);
 }
   where
     w : World
@@ -261,6 +310,10 @@ conservation l layout image start z restart empty events fits = record {
 
     same : slotsIn (w .image) ≡ slotsIn image
     same = call-laws l layout .restart-slots image start
+
+    right : StepsRight l w (slotsMap l image) events
+    right =
+        steps-right l _ (set-laws l layout) (slotsIn image) w (slotsMap l image) events (set-laws l layout .after-recovery image start z restart) same fits
 
     none-there : Records (slotsMap l image)
     none-there = none-held (slotsMap l image) empty

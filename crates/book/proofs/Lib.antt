@@ -10,3 +10,4 @@ pub mod Numbers
 pub mod Sums
 pub mod Conservation
 pub mod StepRoom
+pub mod OtherLayout

@@ -13,8 +13,9 @@ use Rattle.prelude.specs.Answer.{Answer, gives, absent, refused}
 use Rattle.prelude.proofs.defs.Among.{areAmong}
 use Rattle.prelude.proofs.Among.{one-of, among}
 use Rattle.book.proofs.OrderBytes.{order-length}
-use Rattle.face.specs.Set.{World, State, Mode, Insert, Replace, ChangeResult, writeResult, removeResult, getResult, locateResult, limit, Layout}
-use Rattle.face.specs.Numbers.{Numbered, AnswersAsAsked, locateRefusals, storingRefusals, roomyGetRefusals}
+use Rattle.face.specs.Set.{World, State, Insert, Replace, ChangeResult, writeResult, removeResult, getResult, locateResult, limit, Layout}
+use Rattle.prelude.specs.Numbers.{Numbered}
+use Rattle.face.specs.Numbers.{AnswersAsAsked, locateRefusals, storingRefusals, roomyGetRefusals}
 use Rattle.face.proofs.Numbers.{locate-asked, get-asked, remove-numbered, roomy-get-numbered, locate-numbered}
 use Rattle.book.specs.Orders.{orderBytes, orderOf, isOrder, openOf, sent, acknowledged, filledBy}
 use Rattle.book.specs.Steps.{Step, new, acknowledge, fill, withdraw, declined, idle, changeAnswers, asChange, Sought, order, none-there, soughtIn, soughtBy, seek, newAt, newResult, alreadyAt, acknowledgeAt, acknowledgeResult, quantityFault, fillBy, fillAt, fillResult, withdrawAt, withdrawResult, booked}

@@ -10,10 +10,9 @@ use native.Mathlib.Decide.{ℕ-discrete}
 use lib.Dec.{eqb, ltb}
 use Rattle.prelude.specs.Refusal.{say}
 use Rattle.prelude.proofs.Refusals.{say-zero, orElse-first, orElse-later, taken-leaves}
-use Rattle.face.specs.Set.{World, Layout, Insert, Replace, Call, write, remove, PlainMap, isHeld, dueFault, slotsIn}
+use Rattle.face.specs.Set.{World, Layout, Insert, Replace, Call, write, remove, PlainMap, isHeld, dueFault, slotsIn, InsertsNew, RoomRight}
 use Rattle.face.specs.Event.{Event, FitsBy}
 use Rattle.face.specs.Laws.{SetLaws}
-use Rattle.face.specs.Room.{InsertsNew, RoomRight}
 use Rattle.face.proofs.defs.RoomLaws.{RoomLaws}
 use Rattle.book.specs.Orders.{orderBytes, sent, acknowledged, filledBy, openOf}
 use Rattle.book.specs.Steps.{Step, new, acknowledge, fill, withdraw, quantityFault}

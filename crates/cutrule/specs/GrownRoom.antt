@@ -5,9 +5,8 @@ use mathlib.Core.List.{List}
 use Prim.Native.Nat.{ℕ}
 use Rattle.prelude.specs.Members.{All}
 use Rattle.prelude.specs.History.{Throughout}
-use Rattle.face.specs.Set.{Layout, World, PlainMap, Restart, restarted, formatted, slotsOf, slotsMap, dueFault}
+use Rattle.face.specs.Set.{Layout, World, PlainMap, Restart, restarted, formatted, slotsOf, slotsMap, dueFault, SomeTakeable, InsertsNew, RoomRight}
 use Rattle.face.specs.Event.{Event, requestOf, RestartFits, FitsBy}
-use Rattle.face.specs.Room.{SomeTakeable, InsertsNew, RoomRight}
 use Rattle.book.specs.Plain.{stepFault, NewOrder}
 use Rattle.cutrule.specs.Request.{Request, a-call, a-basket, a-step, TypedRequest, worldAfterRequest, mapAfterRequest}
 

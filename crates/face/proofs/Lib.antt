@@ -8,3 +8,4 @@ pub mod Located
 pub mod Rooms
 pub mod defs
 pub mod CutCounts
+pub mod OtherLayout

@@ -3,18 +3,20 @@ use mathlib.Core.Path.{_≡_, refl, sym, ap, _∙_, subst}
 use mathlib.Core.Bool.{Bool, true, false, cond, not}
 use mathlib.Core.Logic.{_⊎_, inl, inr}
 use mathlib.Core.List.{List, [], _∷_}
-use Prim.Native.Nat.{ℕ, zero, suc, _≤_}
+use Prim.Native.Nat.{ℕ, zero, suc, _+_, _≤_}
 use native.Mathlib.Omega.{arith}
 use lib.Dec.{eqb, ltb}
 use lib.ListN.{length}
-use borrow.Author.Tests.{ne-eqb, le-ltb, ltb-false}
+use borrow.Author.Tests.{eq-eqb, ne-eqb, le-ltb, ltb-false}
 use Rattle.words.specs.Word.{word}
 use Rattle.prelude.specs.Members.{In}
 use Rattle.prelude.specs.Range.{anyOf, lowest, atLowest}
 use Rattle.prelude.specs.Refusal.{say, orElse, unlessRefused}
-use Rattle.prelude.specs.Answer.{Answer, gives, absent, refused}
-use Rattle.prelude.proofs.defs.Among.{isOne}
-use Rattle.prelude.proofs.Among.{one-of, among}
+use Rattle.prelude.specs.Answer.{Answer, gives, refused}
+use Rattle.prelude.proofs.defs.Among.{isOne, areAmong}
+use Rattle.prelude.specs.Numbers.{Numbered, ZeroOrOneOf}
+use Rattle.prelude.proofs.Among.{one-of}
+use Rattle.prelude.proofs.Numbers.{none-due, say-due, one-due, else-due, due-among, numbered}
 use Rattle.prelude.proofs.Lowest.{Lowest, nowhere, there, lowest-is}
 use Rattle.prelude.proofs.Refusals.{say-false, orElse-first}
 use Rattle.layout.specs.Size.{slotsIn}
@@ -23,6 +25,9 @@ use Rattle.layout.specs.Content.{content, numberIn}
 use Rattle.table.specs.Complete.{settled, tableOf}
 use Rattle.table.specs.Shared.{sharersFault}
 use Rattle.stores.specs.Opening.{openingStores}
+use Rattle.stores.specs.Play.{halvesFault, playFault, playResult, listFault, playListResult}
+use Rattle.counting.specs.Count.{countSays, countResult}
+use Rattle.cutcount.specs.CutCount.{acceptanceFault, argumentsFault, cutCountFault, CutCountResult, cutCountResult}
 use Rattle.recovery.specs.Opening.{voidSlots, openingsOf}
 use Rattle.layout.specs.Fault.{markFault, wordFault, faultOf, recordFault}
 use Rattle.layout.specs.Record.{limit}
@@ -45,52 +50,35 @@ use Rattle.calls.specs.Format.{FormatResult, layoutFault, formatFault, formatRe
 use Rattle.calls.specs.Change.{ChangeResult, unchanged, changed, writeLentFault, writeLaterFault, writeFault, writeDone, writeBy, writeResult, storeFault, removeLaterFault, removeFault, removeDone, removeBy, removeResult}
 use Rattle.calls.specs.Basket.{KeyChange, keyCountFault, listsFault, givenFault, firstFault, valueFault, actionFault, basketLentFault, keysFault, basketFault, basketMade, basketDone, basketBy, basketResult}
 use Rattle.calls.specs.Get.{GetResult, lengthFault, getLaterFault, getFault, getDone, getResult}
-use Rattle.face.specs.Numbers.{Numbered, AnswersAsAsked, formatRefusals, noSlotRefusals, slotRefusals, recoverRefusals, Names, a-slot, no-slot, writeRefusals, storingRefusals, basketRefusals, getRefusals, roomyGetRefusals, locateRefusals}
+use Rattle.face.specs.Numbers.{AnswersAsAsked, formatRefusals, noSlotRefusals, slotRefusals, recoverRefusals, Names, a-slot, no-slot, writeRefusals, storingRefusals, basketRefusals, getRefusals, roomyGetRefusals, locateRefusals, cutCountRefusals, playRefusals, playListRefusals, CallNumbers}
 use Rattle.calls.specs.Locate.{locateFault, locateDone, locateResult}
-
--- ---- rows of refusals
-
--- 0, or one of these numbers
-abbrev Due : List ℕ → ℕ → Type 0
-Due ks k = (k ≡ 0) ⊎ In k ks
-
-none-due : (ks : List ℕ) → Due ks 0
-none-due ks = inl refl
-
-say-due : (ks : List ℕ) (t : Bool) (k later : ℕ) → In k ks → Due ks later → Due ks (say t k later)
-unfolding say
-say-due ks true k later i d = inr i
-say-due ks false k later i d = d
-
-else-due : (ks : List ℕ) (k later : ℕ) → Due ks k → Due ks later → Due ks (orElse k later)
-unfolding orElse
-else-due ks zero later d e = e
-else-due ks (suc k) later d e = d
 
 -- ---- the refusals of document 01
 
-module _ (ks : List ℕ) (one : isOne 1 ks ≡ true) (two : isOne 2 ks ≡ true) (three : isOne 3 ks ≡ true) (four : isOne 4 ks ≡ true) where
-  lent-due : (l : ℕ) (image : List ℕ) (heads next : ℕ) → Due ks (lentFault l image heads next)
-  unfolding lentFault imageFault headerFault indexFault
-  lent-due l image heads next =
-      else-due ks _ _
-      (say-due ks _ 1 _ (one-of 1 ks one) (say-due ks _ 2 _ (one-of 2 ks two) (say-due ks _ 3 0 (one-of 3 ks three) (none-due ks))))
-      (say-due ks _ 4 _ (one-of 4 ks four) (say-due ks _ 4 _ (one-of 4 ks four) (say-due ks _ 4 0 (one-of 4 ks four) (none-due ks))))
+module _ (ks : List ℕ) (one : isOne 1 ks ≡ true) (two : isOne 2 ks ≡ true) (three : isOne 3 ks ≡ true) where
+  image-due : (l : ℕ) (image : List ℕ) → ZeroOrOneOf ks (imageFault l image)
+  unfolding imageFault headerFault
+  image-due l image = one-due ks _ 1 _ one (one-due ks _ 2 _ two (one-due ks _ 3 0 three (none-due ks)))
+
+  lent-due : isOne 4 ks ≡ true → (l : ℕ) (image : List ℕ) (heads next : ℕ) → ZeroOrOneOf ks (lentFault l image heads next)
+  unfolding lentFault indexFault
+  lent-due four l image heads next =
+      else-due ks _ _ (image-due l image) (one-due ks _ 4 _ four (one-due ks _ 4 _ four (one-due ks _ 4 0 four (none-due ks))))
 
 module _ (ks : List ℕ) (eleven : isOne 11 ks ≡ true) where
-  chain-due : (found : Found) → Due ks (chainFault found)
+  chain-due : (found : Found) → ZeroOrOneOf ks (chainFault found)
   unfolding chainFault
   chain-due (At slot prev compared) = none-due ks
   chain-due (Missing prev compared) = none-due ks
   chain-due BadChain = inr (one-of 11 ks eleven)
 
-version-due : (ks : List ℕ) → isOne 9 ks ≡ true → (version : ℕ) → Due ks (versionFault version)
+version-due : (ks : List ℕ) → isOne 9 ks ≡ true → (version : ℕ) → ZeroOrOneOf ks (versionFault version)
 unfolding versionFault
 version-due ks nine version = say-due ks _ 9 0 (one-of 9 ks nine) (none-due ks)
 
 -- 11 (reuse), 28 and 9
 store-due : (ks : List ℕ) → isOne 11 ks ≡ true → isOne 28 ks ≡ true → isOne 9 ks ≡ true → (taking : Taking) (n : ℕ) (s : State) (inserts removes : ℕ)
-    → Due ks (storeFault taking n s inserts removes)
+    → ZeroOrOneOf ks (storeFault taking n s inserts removes)
 unfolding storeFault reuseFault endsFault linkFault roomFault fewFault
 store-due ks eleven room nine taking n s inserts removes =
     else-due ks _ _ (else-due ks _ _ ends (else-due ks _ _ (say-due ks _ 11 0 i (none-due ks)) (links taking)))
@@ -99,15 +87,15 @@ store-due ks eleven room nine taking n s inserts removes =
     i : In 11 ks
     i = one-of 11 ks eleven
 
-    ends : Due ks (endsFault n (s .first) (s .last))
+    ends : ZeroOrOneOf ks (endsFault n (s .first) (s .last))
     ends = say-due ks _ 11 _ i (say-due ks _ 11 _ i (say-due ks _ 11 _ i (say-due ks _ 11 0 i (none-due ks))))
 
-    links : (t : Taking) → Due ks (linkFault t)
+    links : (t : Taking) → ZeroOrOneOf ks (linkFault t)
     links (taken ts) = none-due ks
     links tooFew = none-due ks
     links badLink = inr i
 
-    few : (t : Taking) → Due ks (fewFault t)
+    few : (t : Taking) → ZeroOrOneOf ks (fewFault t)
     few (taken ts) = none-due ks
     few tooFew = inr (one-of 28 ks room)
     few badLink = none-due ks
@@ -117,7 +105,7 @@ abbrev keyRefusal : Mode → ℕ
 keyRefusal Insert = 20
 keyRefusal Replace = 21
 
-key-due : (ks : List ℕ) (mode : Mode) → isOne (keyRefusal mode) ks ≡ true → (held : Bool) → Due ks (keyFault mode held)
+key-due : (ks : List ℕ) (mode : Mode) → isOne (keyRefusal mode) ks ≡ true → (held : Bool) → ZeroOrOneOf ks (keyFault mode held)
 unfolding keyFault
 key-due ks Insert a held = say-due ks held 20 0 (one-of 20 ks a) (none-due ks)
 key-due ks Replace a held = say-due ks (not held) 21 0 (one-of 21 ks a) (none-due ks)
@@ -129,14 +117,6 @@ gives-refused values k e = let z : _≡_ {A = ℕ} 0 1 = cc in omega arith
 
 same-number : (i k : ℕ) → refused i ≡ refused k → i ≡ k
 same-number i k e = cc
-
--- a call that is refused where its fault is not 0
-module _ {A : Type 0} (ks : List ℕ) (answer : A → Answer) (refusing : ℕ → A) (told : (k : ℕ) → answer (refusing k) ≡ refused k) where
-  numbered : (fault : ℕ) → Due ks fault → (new : A) → Numbered ks (answer new) → Numbered ks (answer (unlessRefused fault new (refusing fault)))
-  unfolding unlessRefused
-  numbered zero d new p = p
-  numbered (suc k) (inl e) new p = absurd (omega arith)
-  numbered (suc k) (inr i) new p = subst (Numbered ks) (sym (told (suc k))) i
 
 -- FORMAT: 1, 32
 pub format-numbered : (l : ℕ) (image : List ℕ) → Numbered formatRefusals (formatResult l image .answer)
@@ -152,45 +132,48 @@ format-numbered l image =
 abbrev DueAt : (n k slot : ℕ) → Type 0
 DueAt n k slot = (k ≡ 0) ⊎ Names n k slot
 
-no-slot-due : (n k : ℕ) → Due noSlotRefusals k → DueAt n k 0
+no-slot-due : (n k : ℕ) → ZeroOrOneOf noSlotRefusals k → DueAt n k 0
 no-slot-due n k (inl e) = inl e
 no-slot-due n k (inr i) = inr (no-slot i refl)
 
 -- the fault of a record: 6, 22, 23, 24
-record-due : (l : ℕ) (m : ℕ → ℕ) (s : ℕ) → Due slotRefusals (recordFault l m s)
+record-due : (l : ℕ) (m : ℕ → ℕ) (s : ℕ) → ZeroOrOneOf slotRefusals (recordFault l m s)
 unfolding recordFault faultOf wordFault
 record-due l m s = go (isValid (lineVerdict (lineA m s) (lineB m s)))
   where
     ks : List ℕ
     ks = slotRefusals
 
-    go : (b : Bool) → Due slotRefusals (cond b (faultOf l (lineA m s) (lineB m s)) 0)
+    go : (b : Bool) → ZeroOrOneOf slotRefusals (cond b (faultOf l (lineA m s) (lineB m s)) 0)
     go true =
         else-due ks _ _
         (say-due ks _ 6 _ (one-of 6 ks refl) (say-due ks _ 22 _ (one-of 22 ks refl) (say-due ks _ 23 0 (one-of 23 ks refl) (none-due ks))))
         (say-due ks _ 24 0 (one-of 24 ks refl) (none-due ks))
     go false = none-due ks
 
+zero-due : (ks : List ℕ) (t : Bool) (later : ℕ) → ZeroOrOneOf ks later → ZeroOrOneOf ks (say t 0 later)
+unfolding say
+zero-due ks true later d = none-due ks
+zero-due ks false later d = d
+
 module _ (l : ℕ) (m : ℕ → ℕ) (n : ℕ) where
   late : ℕ
   late = say (sharersFault (content l m) (numberIn l m) n) 7 (settledFault (settled (content l m) (numberIn l m) n) n)
 
-  late-due : Due noSlotRefusals late
+  late-due : (ks : List ℕ) → isOne 7 ks ≡ true → isOne 25 ks ≡ true → isOne 8 ks ≡ true → ZeroOrOneOf ks late
   unfolding late settledFault
-  late-due =
-      say-due noSlotRefusals _ 7 _ (one-of 7 noSlotRefusals refl)
-      (say-due noSlotRefusals _ 25 _ (one-of 25 noSlotRefusals refl) (say-due noSlotRefusals _ 8 0 (one-of 8 noSlotRefusals refl) (none-due noSlotRefusals)))
+  late-due ks seven many eight = one-due ks _ 7 _ seven (one-due ks _ 25 _ many (one-due ks _ 8 0 eight (none-due ks)))
 
   lowest-names : (s : ℕ) → Lowest (recordFault l m) n s → DueAt n (orElse (say (eqb s 0) 0 (recordFault l m s)) late) s
   unfolding say orElse
   lowest-names s (nowhere e z) =
-      subst (λ (t : ℕ). DueAt n (orElse (say (eqb t 0) 0 (recordFault l m t)) late) t) (sym e) (no-slot-due n late late-due)
+      subst (λ (t : ℕ). DueAt n (orElse (say (eqb t 0) 0 (recordFault l m t)) late) t) (sym e) (no-slot-due n late (late-due noSlotRefusals refl refl refl))
   lowest-names s (there i p b) =
       subst (λ (k : ℕ). DueAt n k s)
       (sym (ap (λ (k : ℕ). orElse k late) (say-false (eqb s 0) 0 _ (ne-eqb s 0 (λ e. omega arith))) ∙ orElse-first (recordFault l m s) late p))
       (at (record-due l m s))
     where
-      at : Due slotRefusals (recordFault l m s) → DueAt n (recordFault l m s) s
+      at : ZeroOrOneOf slotRefusals (recordFault l m s) → DueAt n (recordFault l m s) s
       at (inl e) = inl e
       at (inr j) = inr (a-slot j i)
 
@@ -202,15 +185,29 @@ module _ (l : ℕ) (m : ℕ → ℕ) (n : ℕ) where
       go true = inr (no-slot (one-of 5 noSlotRefusals refl) refl)
       go false = lowest-names (lowest (recordFault l m) n) (lowest-is (recordFault l m) n)
 
+  -- the same without the slot, in a list that has these numbers and may lack 1 to 4
+  slots-due : (ks : List ℕ) → areAmong slotRefusals ks ≡ true → isOne 5 ks ≡ true → isOne 7 ks ≡ true → isOne 25 ks ≡ true → isOne 8 ks ≡ true
+      → ZeroOrOneOf ks (slotsFault l m n)
+  unfolding slotsFault atLowest late
+  slots-due ks records five seven many eight =
+      one-due ks _ 5 _ five
+      (else-due ks _ _ (zero-due ks _ _ (due-among slotRefusals ks records _ (record-due l m (lowest (recordFault l m) n)))) (late-due ks seven many eight))
+
 module _ (l : ℕ) (image heads next : List ℕ) where
   fault-names : DueAt (slotsIn image) (recoverFault l image (length heads) (length next)) (recoverSlot l image (length heads) (length next))
   unfolding recoverFault recoverSlot orElse unlessRefused
   fault-names = go (lentFault l image (length heads) (length next)) (lent-due noSlotRefusals refl refl refl refl l image (length heads) (length next))
     where
-      go : (k : ℕ) → Due noSlotRefusals k
+      go : (k : ℕ) → ZeroOrOneOf noSlotRefusals k
           → DueAt (slotsIn image) (orElse k (slotsFault l (word image) (slotsIn image))) (unlessRefused k (slotsNamed l (word image) (slotsIn image)) 0)
       go zero d = slots-names l (word image) (slotsIn image)
       go (suc k) d = no-slot-due (slotsIn image) (suc k) d
+
+  fault-due : ZeroOrOneOf recoverRefusals (recoverFault l image (length heads) (length next))
+  unfolding recoverFault
+  fault-due =
+      else-due recoverRefusals _ _ (lent-due recoverRefusals refl refl refl refl l image (length heads) (length next))
+      (slots-due l (word image) (slotsIn image) recoverRefusals refl refl refl refl refl)
 
   -- RECOVER'S SLOT: 6, 22, 23 and 24 name a slot of the image, the other refusals none
   pub recover-names : (k : ℕ) → recoverResult l image heads next .answer ≡ refused k → Names (slotsIn image) k (recoverResult l image heads next .slot)
@@ -227,16 +224,10 @@ module _ (l : ℕ) (image heads next : List ℕ) where
 
   -- RECOVER: these numbers
   pub recover-numbered : Numbered recoverRefusals (recoverResult l image heads next .answer)
-  recover-numbered = go (recoverResult l image heads next .answer) refl
-    where
-      go : (a : Answer) → recoverResult l image heads next .answer ≡ a → Numbered recoverRefusals a
-      go (gives values) e = tt
-      go absent e = tt
-      go (refused k) e = by (recover-names k e)
-        where
-          by : Names (slotsIn image) k (recoverResult l image heads next .slot) → In k recoverRefusals
-          by (a-slot i s) = among slotRefusals recoverRefusals refl k i
-          by (no-slot i z) = among noSlotRefusals recoverRefusals refl k i
+  unfolding recoverResult recovered
+  recover-numbered =
+      numbered recoverRefusals (λ (r : Result). r .answer)
+      (λ fault. refusedResult fault (recoverSlot l image (length heads) (length next)) (openingsOf []) heads next) (λ k. refl) _ fault-due _ tt
 
 -- ---- what a locate or a get says of the key
 
@@ -266,14 +257,14 @@ module _ (l : ℕ) (image heads next : List ℕ) (s : State) (key : ℕ) where
   write-done ks e value t rest BadChain = one-of 11 ks e
 
   write-due : (ks : List ℕ) → isOne 1 ks ≡ true → isOne 2 ks ≡ true → isOne 3 ks ≡ true → isOne 4 ks ≡ true → isOne 11 ks ≡ true
-      → isOne 28 ks ≡ true → isOne 9 ks ≡ true → (mode : Mode) (size : ℕ) → Due ks (say (ltb (limit l) size) 10 0)
-      → Due ks (keyFault mode (isFound (search l image heads next key))) → Due ks (writeFault l image heads next s mode key size)
+      → isOne 28 ks ≡ true → isOne 9 ks ≡ true → (mode : Mode) (size : ℕ) → ZeroOrOneOf ks (say (ltb (limit l) size) 10 0)
+      → ZeroOrOneOf ks (keyFault mode (isFound (search l image heads next key))) → ZeroOrOneOf ks (writeFault l image heads next s mode key size)
   unfolding writeFault writeLentFault writeLaterFault
   write-due ks a b c d e r g mode size ten asked =
       else-due ks _ _ (else-due ks _ _ (lent-due ks a b c d l image (length heads) (length next)) ten)
       (else-due ks _ _ (chain-due ks e _) (else-due ks _ _ asked (store-due ks e r g _ _ s _ _)))
 
-  write-by : (ks : List ℕ) → isOne 11 ks ≡ true → (mode : Mode) (value : List ℕ) → Due ks (writeFault l image heads next s mode key (length value))
+  write-by : (ks : List ℕ) → isOne 11 ks ≡ true → (mode : Mode) (value : List ℕ) → ZeroOrOneOf ks (writeFault l image heads next s mode key (length value))
       → Numbered ks (writeResult l image heads next s mode key value .answer)
   unfolding writeResult writeBy unchanged
   write-by ks e mode value d =
@@ -317,7 +308,7 @@ module _ (l : ℕ) (image heads next : List ℕ) (s : State) (key : ℕ) where
   remove-done ks e t rest BadChain = one-of 11 ks e
 
   remove-due : (ks : List ℕ) → isOne 11 ks ≡ true → isOne 28 ks ≡ true → isOne 9 ks ≡ true → (found : Found) (taking : Taking) (n : ℕ)
-      → Due ks (removeLaterFault found taking n s)
+      → ZeroOrOneOf ks (removeLaterFault found taking n s)
   unfolding removeLaterFault
   remove-due ks e r g (At old prev compared) taking n = store-due ks e r g taking n s 0 1
   remove-due ks e r g (Missing prev compared) taking n = none-due ks
@@ -337,14 +328,15 @@ module _ (l : ℕ) (image heads next : List ℕ) (key : ℕ) where
   get-done ks e out (Missing prev compared) = tt
   get-done ks e out BadChain = one-of 11 ks e
 
-  later-due : (ks : List ℕ) → isOne 11 ks ≡ true → (size : ℕ) → ((n : ℕ) → Due ks (lengthFault l n size)) → (found : Found) → Due ks (getLaterFault l image size found)
+  later-due : (ks : List ℕ) → isOne 11 ks ≡ true → (size : ℕ) → ((n : ℕ) → ZeroOrOneOf ks (lengthFault l n size)) → (found : Found)
+      → ZeroOrOneOf ks (getLaterFault l image size found)
   unfolding getLaterFault
   later-due ks e size h (At slot prev compared) = h _
   later-due ks e size h (Missing prev compared) = none-due ks
   later-due ks e size h BadChain = inr (one-of 11 ks e)
 
   get-by : (ks : List ℕ) → isOne 1 ks ≡ true → isOne 2 ks ≡ true → isOne 3 ks ≡ true → isOne 4 ks ≡ true → isOne 11 ks ≡ true → (out : List ℕ)
-      → ((n : ℕ) → Due ks (lengthFault l n (length out))) → Numbered ks (getResult l image heads next key out .answer)
+      → ((n : ℕ) → ZeroOrOneOf ks (lengthFault l n (length out))) → Numbered ks (getResult l image heads next key out .answer)
   unfolding getResult getFault
   get-by ks a b c d e out h =
       numbered ks (λ (r : GetResult). r .answer) (λ fault. record { answer = refused fault; out = out }) (λ k. refl) _
@@ -356,11 +348,11 @@ module _ (l : ℕ) (image heads next : List ℕ) (key : ℕ) where
   get-numbered out =
       get-by getRefusals refl refl refl refl refl out (λ n. say-due getRefusals _ 23 _ (one-of 23 getRefusals refl) (say-due getRefusals _ 13 0 (one-of 13 getRefusals refl) (none-due getRefusals)))
 
-  roomy-due : (ks : List ℕ) → isOne 23 ks ≡ true → (n size : ℕ) → limit l ≤ size → Due ks (lengthFault l n size)
+  roomy-due : (ks : List ℕ) → isOne 23 ks ≡ true → (n size : ℕ) → limit l ≤ size → ZeroOrOneOf ks (lengthFault l n size)
   unfolding lengthFault say
   roomy-due ks long n size h = go (ltb (limit l) n) refl
     where
-      go : (b : Bool) → ltb (limit l) n ≡ b → Due ks (say b 23 (say (ltb size n) 13 0))
+      go : (b : Bool) → ltb (limit l) n ≡ b → ZeroOrOneOf ks (say b 23 (say (ltb size n) 13 0))
       go true t = inr (one-of 23 ks long)
       go false t = inl (say-false _ 13 0 (le-ltb size n (omega (arith, ltb-false (limit l) n t))))
 
@@ -382,12 +374,13 @@ module _ (l : ℕ) (image heads next : List ℕ) (key : ℕ) where
 
 -- ---- a basket
 
-each-due : (ks : List ℕ) (fault : KeyChange → ℕ) → ((c : KeyChange) → Due ks (fault c)) → (changes : List KeyChange) → Due ks (firstFault fault changes)
+each-due : (ks : List ℕ) (fault : KeyChange → ℕ) → ((c : KeyChange) → ZeroOrOneOf ks (fault c)) → (changes : List KeyChange)
+    → ZeroOrOneOf ks (firstFault fault changes)
 unfolding firstFault
 each-due ks fault h [] = none-due ks
 each-due ks fault h (c ∷ cs) = else-due ks _ _ (h c) (each-due ks fault h cs)
 
-given-due : (changes : List KeyChange) (at words : ℕ) → Due basketRefusals (givenFault changes at words)
+given-due : (changes : List KeyChange) (at words : ℕ) → ZeroOrOneOf basketRefusals (givenFault changes at words)
 unfolding givenFault keyCountFault listsFault
 given-due changes at words =
     else-due basketRefusals _ _
@@ -395,20 +388,20 @@ given-due changes at words =
     (say-due basketRefusals _ 27 _ (one-of 27 basketRefusals refl)
     (say-due basketRefusals _ 13 _ (one-of 13 basketRefusals refl) (say-due basketRefusals _ 13 0 (one-of 13 basketRefusals refl) (none-due basketRefusals))))
 
-value-due : (l : ℕ) (a : Action) (size : ℕ) → Due basketRefusals (valueFault l a size)
+value-due : (l : ℕ) (a : Action) (size : ℕ) → ZeroOrOneOf basketRefusals (valueFault l a size)
 unfolding valueFault
 value-due l Inserting size = say-due basketRefusals _ 10 0 (one-of 10 basketRefusals refl) (none-due basketRefusals)
 value-due l Replacing size = say-due basketRefusals _ 10 0 (one-of 10 basketRefusals refl) (none-due basketRefusals)
 value-due l Removing size = none-due basketRefusals
 
-action-due : (a : Action) (held : Bool) → Due basketRefusals (actionFault a held)
+action-due : (a : Action) (held : Bool) → ZeroOrOneOf basketRefusals (actionFault a held)
 unfolding actionFault
 action-due Inserting held = say-due basketRefusals _ 20 0 (one-of 20 basketRefusals refl) (none-due basketRefusals)
 action-due Replacing held = say-due basketRefusals _ 21 0 (one-of 21 basketRefusals refl) (none-due basketRefusals)
 action-due Removing held = say-due basketRefusals _ 21 0 (one-of 21 basketRefusals refl) (none-due basketRefusals)
 
 module _ (l : ℕ) (image heads next : List ℕ) (s : State) (changes : List KeyChange) (at words : ℕ) where
-  basket-due : Due basketRefusals (basketFault l image heads next s changes at words)
+  basket-due : ZeroOrOneOf basketRefusals (basketFault l image heads next s changes at words)
   unfolding basketFault basketLentFault keysFault
   basket-due =
       else-due basketRefusals _ _ (given-due changes at words)
@@ -431,3 +424,73 @@ module _ (l : ℕ) (image heads next : List ℕ) (s : State) (changes : List Key
       done (taken ts) = tt
       done tooFew = one-of 28 basketRefusals refl
       done badLink = one-of 11 basketRefusals refl
+
+-- ---- counting
+
+-- COUNT_SLOTS: recovery's
+pub count-numbered : (l : ℕ) (image heads next : List ℕ) → Numbered recoverRefusals (countResult l image heads next .answer)
+unfolding countResult countSays
+count-numbered l image heads next =
+    numbered recoverRefusals (λ (a : Answer). a) (λ fault. refused fault) (λ k. refl) _ (fault-due l image heads next) _ tt
+
+-- the stores of play
+halves-due : (ks : List ℕ) → isOne 15 ks ≡ true → (len : ℕ) (at : List ℕ) → ZeroOrOneOf ks (halvesFault len at)
+unfolding halvesFault
+halves-due ks fifteen len at = one-due ks _ 15 _ fifteen (one-due ks _ 15 _ fifteen (one-due ks _ 15 0 fifteen (none-due ks)))
+
+-- an index of one head has the right size
+one-head : (n : ℕ) → indexFault n 1 (n + 1) ≡ 0
+unfolding indexFault
+one-head n =
+    say-false _ 4 _ (le-ltb 1 1 (omega arith))
+    ∙ say-false _ 4 _ (le-ltb 65536 1 (omega arith))
+    ∙ say-false _ 4 0 (ap not (eq-eqb (n + 1) (n + 1) refl))
+
+-- COUNT_CUTS: recovery's but 4, and 15
+pub cuts-numbered : (l : ℕ) (image at value copy later : List ℕ) → Numbered cutCountRefusals (cutCountResult l image at value copy later .answer)
+unfolding cutCountResult cutCountFault acceptanceFault recoverFault lentFault argumentsFault playFault
+cuts-numbered l image at value copy later =
+    numbered ks (λ (r : CutCountResult). r .answer) (λ fault. record { answer = refused fault; copy = copy; later = later }) (λ k. refl) _
+    (else-due ks _ _
+    (else-due ks _ _ (else-due ks _ _ (image-due ks refl refl refl l image) (inl (one-head (slotsIn image))))
+    (slots-due l (word image) (slotsIn image) ks refl refl refl refl refl))
+    (else-due ks _ _
+    (one-due ks _ 1 _ refl
+    (subst (ZeroOrOneOf ks) (sym (say-false _ 14 _ (le-ltb 8 8 (omega arith)) ∙ say-false _ 14 _ (le-ltb 8 8 (omega arith))))
+    (halves-due ks refl (length image) at)))
+    (one-due ks _ 1 _ refl (one-due ks _ 1 0 refl (none-due ks))))) _ tt
+  where
+    ks : List ℕ
+    ks = cutCountRefusals
+
+-- ---- play
+
+-- PLAY: 1, 14, 15
+pub play-numbered : (image at value : List ℕ) (a b : ℕ) → ZeroOrOneOf playRefusals (playResult image at value a b .answer)
+unfolding playResult playFault
+play-numbered image at value a b =
+    one-due playRefusals _ 1 _ refl
+    (one-due playRefusals _ 14 _ refl (one-due playRefusals _ 14 _ refl (halves-due playRefusals refl (length image) at)))
+
+-- PLAY OF A LIST: 15
+pub play-list-numbered : (image at value : List ℕ) → ZeroOrOneOf playListRefusals (playListResult image at value .answer)
+unfolding playListResult listFault
+play-list-numbered image at value = one-due playListRefusals _ 15 _ refl (one-due playListRefusals _ 15 0 refl (none-due playListRefusals))
+
+-- THE NUMBERS of every call
+pub call-numbers : (l : ℕ) → CallNumbers l
+call-numbers l =
+    record {
+      format = format-numbered l;
+      recover = recover-numbered l;
+      recover-slot = recover-names l;
+      write = write-numbered l;
+      remove = remove-numbered l;
+      get = get-numbered l;
+      locate = locate-numbered l;
+      basket = basket-numbered l;
+      count-slots = count-numbered l;
+      count-cuts = cuts-numbered l;
+      play = play-numbered;
+      play-list = play-list-numbered;
+    }

@@ -1,11 +1,8 @@
 -- Calls that a power cut may strike. Document 01, "The plain map and the cut rule": "A cut may strike any call: play makes the counted stores, if there are any, and
 -- recovery comes next, whatever its index held."
-use mathlib.Core.Path.{_≡_}
 use mathlib.Core.Bool.{Bool, true, cond}
 use mathlib.Core.List.{List}
 use Prim.Native.Nat.{ℕ}
-use lib.ListN.{length}
-use Rattle.layout.specs.Header.{indexFault}
 use Rattle.prelude.specs.Members.{All}
 use Rattle.stores.specs.Store.{Store, played, standing, allStand}
 use Rattle.index.specs.declared.State.{State}
@@ -14,6 +11,7 @@ use Rattle.plainmap.specs.Plain.{PlainMap, Update, updates, plainStep}
 use Rattle.prelude.specs.Answer.{refuses}
 use Rattle.plainmap.specs.Claims.{Typed, dueFault}
 use Rattle.plainmap.specs.Baskets.{Basket, basketCalled, basketUpdates, basketDue, TypedChange}
+pub use Rattle.plainmap.specs.Accepted.{RestartFits}
 
 -- a cut: line n holds its first `counts n` stores, and what comes after it
 pub record Cut : Type 0 where
@@ -63,11 +61,6 @@ module _ {A : Type 0} where
 -- "A struck put or remove that was not refused takes its step, wholly done, if all its stores stand; else it is wholly absent and changes nothing"
 unfoldable pub plainEvent : (stand : Bool) → List Update → (isRefused : Bool) → PlainMap → PlainMap
 plainEvent stand us isRefused m = cond stand (plainStep us isRefused m) m
-
--- "That index has the right size when 4 is not due; B may be another": of every recovery after a cut in an image of n slots
-pub record RestartFits (n : ℕ) (r : Restart) : Type 0 where
-  pub rounds : All (λ round. indexFault n (length (round .heads)) (length (round .next)) ≡ 0) (r .rounds)
-  pub size : indexFault n (length (r .heads)) (length (r .next)) ≡ 0
 
 -- an event in an image of n slots: its request's fields are numbers of their size, and its cut fits
 pub data FitsBy {A : Type 0} (TypedRequest : A → Type 0) (n : ℕ) : Event A → Type 0 where

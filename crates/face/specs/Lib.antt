@@ -4,5 +4,5 @@ pub mod Plays
 pub mod Recovers
 pub mod Laws
 pub mod Numbers
-pub mod Room
 pub mod CutCount
+pub mod OtherLayout

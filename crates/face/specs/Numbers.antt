@@ -1,18 +1,24 @@
--- The numbers with which each call is refused, whatever image, index and state it is given. Document 02, A.1: "Demand 1's numbers now include those these
--- requests give."
+-- THE NUMBERS with which each call is refused, whatever image, index and state it is given. Document 01, "What each operation may say no to"; document 02,
+-- A.1: "Demand 1's numbers now include those these requests give."
+use mathlib.Core.Path.{_≡_}
 use mathlib.Core.List.{List, [], _∷_, _++_}
 use Prim.Native.Nat.{ℕ}
-use mathlib.Core.Path.{_≡_}
 use Rattle.prelude.specs.Members.{In, Slot}
+use Rattle.prelude.specs.Answer.{Answer, gives, absent, refused}
+use Rattle.prelude.specs.Numbers.{Numbered, ZeroOrOneOf}
+use Rattle.layout.specs.Size.{slotsIn}
+use Rattle.stores.specs.Play.{playResult, playListResult}
 use Rattle.index.specs.declared.Mode.{Mode}
 use Rattle.index.specs.declared.Mode.the-variants.{Insert, Replace}
-use Rattle.prelude.specs.Answer.{Answer, gives, absent, refused}
-
--- a refusal's number is one of these
-abbrev pub Numbered : List ℕ → Answer → Type 0
-Numbered ks (gives values) = Unit
-Numbered ks absent = Unit
-Numbered ks (refused number) = In number ks
+use Rattle.index.specs.declared.State.{State}
+use Rattle.recovery.specs.Recover.{recoverResult}
+use Rattle.counting.specs.Count.{countResult}
+use Rattle.cutcount.specs.CutCount.{cutCountResult}
+use Rattle.calls.specs.Format.{formatResult}
+use Rattle.calls.specs.Change.{writeResult, removeResult}
+use Rattle.calls.specs.Basket.{KeyChange, basketResult}
+use Rattle.calls.specs.Get.{getResult}
+use Rattle.calls.specs.Locate.{locateResult}
 
 -- the key is as a mode asks, by the answer of a locate or of a get: absent for an insert, held for a replace
 abbrev pub AnswersAsAsked : Mode → Answer → Type 0
@@ -35,6 +41,7 @@ noSlotRefusals = 1 ∷ 2 ∷ 3 ∷ 4 ∷ 5 ∷ 7 ∷ 25 ∷ 8 ∷ []
 abbrev pub slotRefusals : List ℕ
 slotRefusals = 6 ∷ 22 ∷ 23 ∷ 24 ∷ []
 
+-- recover and count_slots
 abbrev pub recoverRefusals : List ℕ
 recoverRefusals = noSlotRefusals ++ slotRefusals
 
@@ -67,3 +74,35 @@ roomyGetRefusals = 1 ∷ 2 ∷ 3 ∷ 4 ∷ 11 ∷ 23 ∷ []
 -- locate
 abbrev pub locateRefusals : List ℕ
 locateRefusals = 1 ∷ 2 ∷ 3 ∷ 4 ∷ 11 ∷ []
+
+-- count_cuts: those of recover but 4, since no index is lent; 15 of play; 1, of a lent slice too
+abbrev pub cutCountRefusals : List ℕ
+cutCountRefusals = 1 ∷ 2 ∷ 3 ∷ 5 ∷ 6 ∷ 22 ∷ 23 ∷ 24 ∷ 7 ∷ 25 ∷ 8 ∷ 15 ∷ []
+
+-- play with two counts
+abbrev pub playRefusals : List ℕ
+playRefusals = 1 ∷ 14 ∷ 15 ∷ []
+
+-- play of a list, lent as two lists of numbers or as one of stores: "it tests only 15"
+abbrev pub playListRefusals : List ℕ
+playListRefusals = 15 ∷ []
+
+-- the numbers of every call of layout l; format and the plays serve both
+pub record CallNumbers (l : ℕ) : Type 0 where
+  pub format : (image : List ℕ) → Numbered formatRefusals (formatResult l image .answer)
+  pub recover : (image heads next : List ℕ) → Numbered recoverRefusals (recoverResult l image heads next .answer)
+  -- document 02, A.5: "Recovery shall name the lowest slot at fault"
+  pub recover-slot : (image heads next : List ℕ) (k : ℕ) → recoverResult l image heads next .answer ≡ refused k
+      → Names (slotsIn image) k (recoverResult l image heads next .slot)
+  pub write : (image heads next : List ℕ) (s : State) (key : ℕ) (mode : Mode) (value : List ℕ)
+      → Numbered (writeRefusals mode) (writeResult l image heads next s mode key value .answer)
+  pub remove : (image heads next : List ℕ) (s : State) (key : ℕ) → Numbered storingRefusals (removeResult l image heads next s key .answer)
+  pub get : (image heads next : List ℕ) (key : ℕ) (out : List ℕ) → Numbered getRefusals (getResult l image heads next key out .answer)
+  pub locate : (image heads next : List ℕ) (key : ℕ) → Numbered locateRefusals (locateResult l image heads next key)
+  -- with the stores in two lists of numbers, of these lengths, or in one list of stores
+  pub basket : (image heads next : List ℕ) (s : State) (changes : List KeyChange) (at words : ℕ)
+      → Numbered basketRefusals (basketResult l image heads next s changes at words .answer)
+  pub count-slots : (image heads next : List ℕ) → Numbered recoverRefusals (countResult l image heads next .answer)
+  pub count-cuts : (image at value copy later : List ℕ) → Numbered cutCountRefusals (cutCountResult l image at value copy later .answer)
+  pub play : (image at value : List ℕ) (a b : ℕ) → ZeroOrOneOf playRefusals (playResult image at value a b .answer)
+  pub play-list : (image at value : List ℕ) → ZeroOrOneOf playListRefusals (playListResult image at value .answer)

@@ -4,6 +4,7 @@
 pub use Rattle.layout.specs.Size.{slotsIn}
 pub use Rattle.layout.specs.Size.{slotsOf}
 pub use Rattle.layout.specs.Record.{Layout, keyWith, limit}
+pub use Rattle.layout.specs.Header.{HeaderOf}
 unfoldable pub use Rattle.layout.specs.Header.{indexFault}
 pub use Rattle.table.specs.Complete.{tableOf}
 pub use Rattle.table.specs.Table.{holder, liveCount, nextVersion}
@@ -57,6 +58,7 @@ pub use Rattle.plainmap.specs.Plain.{sizeOf, plainOut}
 unfoldable pub use Rattle.plainmap.specs.Plain.{updates, updated, plainNext, plainStep, ruleFault, lengthAnswer, filled, plainAnswer}
 pub use Rattle.plainmap.specs.Accepted.{RightSize}
 pub use Rattle.plainmap.specs.Claims.{Typed, write-typed, remove-typed, get-typed, locate-typed, slotsMap, dueFault, dueAnswer, Untouched, Right, Reads}
+pub use Rattle.plainmap.specs.Room.{SomeTakeable, InsertsNew, RoomRight}
 -- baskets
 pub use Rattle.index.specs.declared.Action.{Action}
 pub use Rattle.index.specs.declared.Action.the-variants.{Insert as Inserting, Replace as Replacing, Remove as Removing}

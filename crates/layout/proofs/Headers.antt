@@ -1,22 +1,22 @@
 -- The refusals 1, 2, 3 and 4, by what the tests on the image and the index gave. Assumes nothing.
-use mathlib.Core.Path.{_≡_, refl, sym, ap, _∙_}
+use mathlib.Core.Path.{_≡_, refl, sym, ap, _∙_, subst}
 use mathlib.Core.Bool.{Bool, true, false, not, cond, true≢false}
 use mathlib.Core.List.{List}
 use mathlib.Core.Logic.{_≢_, by-cases}
-use Prim.Native.Nat.{ℕ, _-_, _≤_}
+use Prim.Native.Nat.{ℕ, _+_, _≤_}
 use native.Mathlib.Decide.{ℕ-discrete}
 use native.Mathlib.Omega.{arith}
 use lib.Bits.{bitOr}
 use lib.Dec.{eqb}
-use borrow.Author.Tests.{eq-eqb, ne-eqb}
+use borrow.Author.Tests.{eq-eqb, ne-eqb, eqb-true, eqb-false, not-false}
 use Rattle.words.specs.Word.{word}
 use Rattle.prelude.specs.Range.{anyOf}
 use Rattle.layout.specs.Size.{slotsIn}
-use Rattle.layout.specs.Header.{headerWord, headerFault, imageFault, indexFault, lentFault}
+use Rattle.layout.specs.Header.{headerWord, HeaderOf, headerFault, imageFault, indexFault, lentFault}
 use Rattle.prelude.proofs.Choice.{pick-false}
 use Rattle.prelude.proofs.Any.{any-some, any-none}
 use Rattle.prelude.proofs.Bits.{or-nonzero}
-use Rattle.prelude.proofs.Refusals.{say-true, say-false, orElse-first, orElse-later}
+use Rattle.prelude.proofs.Refusals.{say-true, say-false, say-zero, orElse-first, orElse-later}
 
 -- a word that is not zero
 abbrev nonzero : (ℕ → ℕ) → ℕ → Bool
@@ -100,3 +100,32 @@ module _ (l : ℕ) (image : List ℕ) (heads next fault : ℕ) (e : fault ≡ im
   pub by-index : fault ≡ 0 → (n r : ℕ) → n ≡ slotsIn image → r ≡ indexFault n heads next → r ≡ lentFault l image heads next
   unfolding lentFault
   by-index z n r f g = g ∙ ap (λ (x : ℕ). indexFault x heads next) f ∙ sym (orElse-later _ _ (sym e ∙ z))
+
+-- THE HEADER OF ANOTHER LAYOUT gives 3, and neither 1 nor 2 before it
+module _ (l other : ℕ) (image : List ℕ) (apart : other ≡ l → ⊥) (h : HeaderOf other image) where
+  pub other-image : imageFault l image ≡ 3
+  unfolding imageFault headerFault headerWord
+  other-image =
+      say-false _ 1 _ (ne-eqb (slotsIn image) 0 (h .some-slots))
+      ∙ say-false _ 2 _ (ne-eqb (word image 0) 0 (λ z. h .some-slots (sym (h .words 0 (omega arith)) ∙ z)))
+      ∙ say-true _ 3 0 (sym (second-other l (slotsIn image) (word image) other (sym (h .words 1 (omega arith))) apart))
+
+  pub other-lent : (heads next : ℕ) → lentFault l image heads next ≡ 3
+  unfolding lentFault
+  other-lent heads next = orElse-first _ _ (λ z. let e = other-image in omega arith) ∙ other-image
+
+-- AN IMAGE THAT PASSES 1, 2 and 3 has the header of the layout
+pub image-header : (l : ℕ) (image : List ℕ) → imageFault l image ≡ 0 → HeaderOf l image
+unfolding imageFault headerFault
+image-header l image z =
+    let a = say-zero _ 1 _ z (omega arith) in
+    let b = say-zero _ 2 _ (a .1) (omega arith) in
+    let c = say-zero _ 3 _ (b .1) (omega arith) in
+    record {
+      some-slots = eqb-false (slotsIn image) 0 (a .0);
+      words = λ i h.
+          let e : 0 + i ≡ i = omega arith in
+          subst (λ (k : ℕ). word image k ≡ headerWord l (slotsIn image) k) e
+          (eqb-true (word image (0 + i)) (headerWord l (slotsIn image) (0 + i))
+          (not-false _ (any-none (λ k. not (eqb (word image k) (headerWord l (slotsIn image) k))) 0 8 (c .0) i h)));
+    }

@@ -1,7 +1,8 @@
 -- The header, and the refusals 1, 2, 3 and 4, which every call on a set gives first. Document 01, "Lines, slots and words" and "What each operation may say no to".
+use mathlib.Core.Path.{_≡_}
 use mathlib.Core.Bool.{cond, not}
 use mathlib.Core.List.{List}
-use Prim.Native.Nat.{ℕ, _+_}
+use Prim.Native.Nat.{ℕ, _+_, _<_}
 use lib.Dec.{ltb, eqb}
 use Rattle.words.specs.Word.{word}
 use Rattle.prelude.specs.Refusal.{say, orElse}
@@ -11,6 +12,11 @@ use Rattle.layout.specs.Size.{slotsIn}
 -- "Slot 0, line A is the header: word 0 is N, word 1 is 1 (the layout), words 2 to 7 are zero"
 unfoldable pub headerWord : (l n i : ℕ) → ℕ
 headerWord l n i = cond (eqb i 0) n (cond (eqb i 1) l 0)
+
+-- an image with the header of layout l: it has the length of an image, and its header's words are as laid down
+pub record HeaderOf (l : ℕ) (image : List ℕ) : Type 0 where
+  pub some-slots : slotsIn image ≡ 0 → ⊥
+  pub words : (i : ℕ) → i < 8 → word image i ≡ headerWord l (slotsIn image) i
 
 -- "2 when header word 0 is zero; 3 when the header is otherwise not as laid down for this length"
 unfoldable pub headerFault : (l n : ℕ) → (ℕ → ℕ) → ℕ

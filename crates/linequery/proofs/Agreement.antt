@@ -1,4 +1,4 @@
--- The answers on the lines of a slot are the set's own rules. Assumes nothing.
+-- The answers on every line are the set's own rules. Assumes nothing.
 use mathlib.Core.Path.{_≡_, refl, sym, ap, ap₂, _∙_}
 use mathlib.Core.Bool.{Bool, true, false, cond}
 use mathlib.Core.Logic.{by-cases}
@@ -22,7 +22,7 @@ use Rattle.stores.specs.Written.{marked, bodyA, bodyB, run, lineStores, recordS
 use Rattle.stores.proofs.defs.Cut.{Carries}
 use Rattle.stores.proofs.Table.{record-carries}
 use Rattle.linequery.specs.Query.{sliceFault, nextFault, queried, wholeQuery, versionQuery, firstQuery, lastQuery}
-use Rattle.linequery.specs.Agreement.{lineBytes, answerOf, pairedBy, verdictBy, Framed, SlotAgreement}
+use Rattle.linequery.specs.Agreement.{lineBytes, answerOf, pairedBy, verdictBy, Framed, LineAgreement, SlotAgreement, QueriesAgree}
 
 -- ---- the answers on line n
 
@@ -78,6 +78,17 @@ module _ (image lent : List ℕ) (n : ℕ) (inside : 64 * (n + 1) ≤ length ima
     unfolding lastQuery
     last-answer =
         word-put _ _ (next-fine version small) (omega arith) ∙ ap (λ (x : ℕ). lastWord x version) (line-word 7 (omega arith))
+
+-- ONE LINE
+line-agreement : (image lent : List ℕ) (n : ℕ) → AreBytes image → 64 * (n + 1) ≤ length image → length lent ≡ 8 → LineAgreement image lent n
+line-agreement image lent n bytes inside room =
+    record {
+      sized = line-sized image lent n inside room;
+      is-whole = whole-answer image lent n inside room;
+      has-version = version-answer image lent n inside room bytes;
+      first-word = first-answer image lent n inside room;
+      last-word = last-answer image lent n inside room;
+    }
 
 -- ---- the verdict, by whether each line is whole
 
@@ -148,13 +159,21 @@ module _ (image lent : List ℕ) (s : ℕ) (bytes : AreBytes image) (inside : 12
   in-line : (n : ℕ) → n / 2 ≡ s → 64 * (n + 1) ≤ length image
   in-line n h = omega arith
 
-  pub slot-agreement : SlotAgreement image lent s
+  -- ONE SLOT
+  slot-agreement : SlotAgreement image lent s
   slot-agreement =
       record {
-        sized = λ n h. line-sized image lent n (in-line n h) room;
         verdict = the-verdict;
         stores =
             λ l n key kind number value version h small.
             record-framed l (word image) s key kind number value version n _ _ h (first-answer image lent n (in-line n h) room version small)
             (last-answer image lent n (in-line n h) room version small);
       }
+
+-- EVERY LINE
+pub queries-agree : QueriesAgree
+queries-agree image lent bytes room =
+    record {
+      on-line = λ n inside. line-agreement image lent n bytes inside room;
+      on-slot = λ s inside. slot-agreement image lent s bytes inside room;
+    }

@@ -17,3 +17,4 @@ pub mod Plans
 pub mod Recoveries
 pub mod Readings
 pub mod Lists
+pub mod Numbers

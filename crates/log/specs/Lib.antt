@@ -8,4 +8,5 @@ pub mod Read
 pub mod Event
 pub mod Rule
 pub mod Laws
+pub mod Numbers
 pub mod inner

@@ -225,12 +225,3 @@ formatted-fine l len ne b =
       header = formatted-fault l len ne b;
       records = ap (λ (x : ℕ). slotsFault l (word (formatted l len)) (slotsOf x)) (formatted-length l len) ∙ formatted-slots l len ne b;
     }
-
--- EVERY LIST OF CALLS from a formatted image answers as a plain map does that starts empty
-pub formatted-rule : (l : ℕ) → Layout l → (len : ℕ) (heads next : List ℕ) → (slotsOf len ≡ 0 → ⊥)
-    → RightSize (formatted l len) heads next → (calls : List Call) → All (Typed l) calls
-    → PlainRule l (openedWorld l (formatted l len) heads next) (λ k. none) calls
-formatted-rule l lay len heads next ne s calls sized =
-    let b : l < 2 ^ 64 = omega (arith, lay .high) in
-    plain-rule l lay (openedWorld l (formatted l len) heads next) (λ k. none) calls
-    (agrees-with l _ _ (λ k. none) (opened-agrees l lay (formatted l len) heads next (formatted-fine l len ne b) s) (formatted-empty l len ne b)) sized

@@ -11,7 +11,8 @@ use Rattle.plainmap.proofs.Sounds.{recovered-sound}
 use Rattle.plainmap.proofs.Compares.{sound-counted}
 use Rattle.plainmap.proofs.Outcomes.{slot-taken}
 use Rattle.plainmap.proofs.Refuses.{taking-few}
-use Rattle.plainmap.proofs.CallLists.{agrees-right, agrees-next, agrees-list, plain-rule, recovered-reads, formatted-empty, formatted-rule}
+use Rattle.plainmap.proofs.CallLists.{agrees-right, agrees-next, agrees-list, plain-rule, recovered-reads, formatted-empty}
+use Rattle.plainmap.proofs.GrownLists.{accepted-rule, grown-rule}
 
 pub is-map : (l : ℕ) → Layout l → IsMap l
 is-map l lay =
@@ -28,5 +29,6 @@ is-map l lay =
       reads = recovered-reads l;
       empty = λ len ne. formatted-empty l len ne (omega (arith, lay .high));
       lists = plain-rule l lay;
-      fresh = formatted-rule l lay;
+      recovered-lists = accepted-rule l lay;
+      grown-lists = grown-rule l lay;
     }

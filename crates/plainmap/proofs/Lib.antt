@@ -19,6 +19,7 @@ pub mod BasketRuns
 pub mod CallSteps
 pub mod AcceptedImages
 pub mod CallLists
+pub mod GrownLists
 pub mod IsMap
 pub mod FormattedImages
 pub mod Compares

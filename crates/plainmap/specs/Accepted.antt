@@ -7,6 +7,8 @@ use Rattle.words.specs.Word.{word}
 use Rattle.layout.specs.Header.{imageFault, indexFault}
 use Rattle.recovery.specs.Recover.{slotsFault}
 use Rattle.layout.specs.Size.{slotsIn}
+use Rattle.prelude.specs.Members.{All}
+use Rattle.plainmap.specs.World.{Restart}
 
 -- "an accepted image, one that recovery does not refuse": neither 1, 2, 3 nor a refusal of the slots is due. 4 is about the lent index
 pub record Accepted (l : ℕ) (image : List ℕ) : Type 0 where
@@ -16,3 +18,8 @@ pub record Accepted (l : ℕ) (image : List ℕ) : Type 0 where
 -- "That index has the right size when 4 is not due"
 abbrev pub RightSize : (image heads next : List ℕ) → Type 0
 RightSize image heads next = indexFault (slotsIn image) (length heads) (length next) ≡ 0
+
+-- "That index has the right size when 4 is not due; B may be another": of every recovery of a restart in an image of n slots
+pub record RestartFits (n : ℕ) (r : Restart) : Type 0 where
+  pub rounds : All (λ round. indexFault n (length (round .heads)) (length (round .next)) ≡ 0) (r .rounds)
+  pub size : indexFault n (length (r .heads)) (length (r .next)) ≡ 0

@@ -11,13 +11,15 @@ use Rattle.index.specs.Walk.{slotKey, search, Counted}
 use Rattle.recovery.specs.Recover.{chainsOf}
 use Rattle.recovery.specs.Represents.{Answers}
 use Rattle.calls.specs.Format.{formatted}
-use Rattle.plainmap.specs.World.{World, Call, finished, recoveredWorld, openedWorld, called}
+use Rattle.plainmap.specs.World.{World, Call, finished, recoveredWorld, called, Restart, restarted}
 use Rattle.layout.specs.Content.{contentsOf}
 use Rattle.table.specs.Complete.{tableOf}
 use Rattle.plainmap.specs.Plain.{PlainMap}
-use Rattle.plainmap.specs.Accepted.{Accepted, RightSize}
+use Rattle.plainmap.specs.Accepted.{Accepted, RightSize, RestartFits}
 use Rattle.plainmap.specs.Sound.{Sound, Agrees}
 use Rattle.plainmap.specs.Claims.{Typed, slotsMap, Right, Reads, mapAfterCall}
+use Rattle.plainmap.specs.Room.{InsertsNew, RoomRight}
+use Rattle.prelude.specs.Answer.{refusalIn}
 use Rattle.prelude.specs.Members.{All}
 use Rattle.prelude.specs.History.{Throughout}
 use Rattle.stores.specs.Play.{playEnd, playListResult, wordNumbers, values}
@@ -25,6 +27,13 @@ use Rattle.stores.specs.Play.{playEnd, playListResult, wordNumbers, values}
 -- at each call the set is the plain map, by its slots and by get, and the call answers right; so it is at the end
 abbrev pub PlainRule : (l : ℕ) → World → PlainMap → List Call → Type 0
 PlainRule l = Throughout (finished l) (mapAfterCall l) (λ w m. Agrees l w m × Reads l w m) (Right l)
+
+-- the same, and document 02, A.7: "A single insert on a set grown from a formatted image meets 28 only when one slot is left that holds no open key": a call
+-- is refused with 28 exactly where it inserts a key, which neither 10 nor 20 refuses, and one slot is left
+abbrev pub GrownRule : (l : ℕ) → World → PlainMap → List Call → Type 0
+GrownRule l =
+    Throughout (finished l) (mapAfterCall l) (λ w m. Agrees l w m × Reads l w m)
+    (λ w m call. Right l w m call × RoomRight l w (InsertsNew l m call) (refusalIn (called l w call .answer)))
 
 -- together the calls are a plain map, for layout l
 pub record IsMap (l : ℕ) : Type 0 where
@@ -51,7 +60,12 @@ pub record IsMap (l : ℕ) : Type 0 where
   pub reads : (image heads next : List ℕ) → Accepted l image → RightSize image heads next → Reads l (recoveredWorld l image heads next) (slotsMap l image)
   -- a formatted image's map is empty
   pub empty : (len : ℕ) → (slotsOf len ≡ 0 → ⊥) → (key : ℕ) → slotsMap l (formatted l len) key ≡ none
-  -- every list of calls answers as the plain map does, and so does every list from a formatted image
+  -- every list of calls answers as the plain map does
   pub lists : (w : World) (m : PlainMap) (calls : List Call) → Agrees l w m → All (Typed l) calls → PlainRule l w m calls
-  pub fresh : (len : ℕ) (heads next : List ℕ) → (slotsOf len ≡ 0 → ⊥) → RightSize (formatted l len) heads next
-      → (calls : List Call) → All (Typed l) calls → PlainRule l (openedWorld l (formatted l len) heads next) (λ k. none) calls
+  -- and so does every list from an accepted image, with the index and state that recovery leaves and its opening stores played, with any cuts among them; the
+  -- plain map "starts as the accepted image's slots give it"
+  pub recovered-lists : (image : List ℕ) (start : Restart) → Accepted l image → RestartFits (slotsIn image) start
+      → (calls : List Call) → All (Typed l) calls → PlainRule l (restarted l image start) (slotsMap l image) calls
+  -- on a set grown from a formatted image, whose plain map starts empty, room is right too
+  pub grown-lists : (len : ℕ) (start : Restart) → (slotsOf len ≡ 0 → ⊥) → RestartFits (slotsOf len) start
+      → (calls : List Call) → All (Typed l) calls → GrownRule l (restarted l (formatted l len) start) (λ k. none) calls

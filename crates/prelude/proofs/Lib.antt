@@ -13,3 +13,4 @@ pub mod Sums
 pub mod defs
 pub mod Histories
 pub mod Among
+pub mod Numbers

@@ -4,4 +4,5 @@ pub mod Range
 pub mod Members
 pub mod Filter
 pub mod History
+pub mod Numbers
 pub mod inner

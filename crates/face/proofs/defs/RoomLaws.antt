@@ -11,7 +11,7 @@ use Rattle.plainmap.specs.Plain.{PlainMap}
 use Rattle.plainmap.specs.Claims.{dueFault}
 use Rattle.plainmap.specs.Baskets.{Basket}
 use Rattle.face.specs.Event.{Event, step, RestartFits, FitsBy, Fits, TypedBasket, basketStep}
-use Rattle.face.specs.Room.{SomeTakeable, InsertsNew, RoomRight}
+use Rattle.plainmap.specs.Room.{SomeTakeable, InsertsNew, RoomRight}
 
 -- of a set in layout l with the invariant Inv: `Room` is kept from a formatted image on, and nothing else is known of it
 pub record RoomLaws (l : ℕ) (Inv : World → PlainMap → Type 0) (Room : List ℕ → Type 0) : Type 0 where
