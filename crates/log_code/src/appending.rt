@@ -5,6 +5,7 @@ ghost use lib.ListN.{length};
 ghost use Rattle.log.specs.Handed.{handedSays, logEnd};
 ghost use Rattle.log.specs.Append.{messageFault, appendResult};
 ghost use Rattle.log.specs.inner.Needs.{PayloadPlanned, AppendPlanned};
+use crate::bit::differing_word;
 use crate::bit::line_pair;
 use crate::bit::store_count;
 use crate::cells::cell_count;
@@ -40,9 +41,9 @@ fn payload_plan(area: &[u8], c: usize, message: &[u8]) -> Payload
     while 0 < left {
         let i = left - 1;
         let n = 7 * c + 1 + i;
-        let words = store_count(area, n, message, i);
-        pairs = line_pair(area, n, message, i, words) + 1024 * pairs;
-        count += words;
+        let place = differing_word(area, n, message, i);
+        pairs = line_pair(area, n, message, i, place) + 1024 * pairs;
+        count += store_count(place);
         left = i;
     }
     Payload { pairs, count }

@@ -7,6 +7,7 @@ ghost use Rattle.stores.specs.Written.{marked, run};
 ghost use Rattle.log.specs.Handed.{shortFault};
 ghost use Rattle.log.specs.Append.{messageLine, markedBody, payloadsFrom, messageStores};
 ghost use Rattle.log.specs.inner.Needs.{Filled, MarkedRoom, LineRoom, PayloadRoom, MessageRoom};
+use crate::bit::differing_word;
 use crate::bit::store_count;
 use layout_code::line::first_word;
 use layout_code::line::last_word;
@@ -98,7 +99,7 @@ fn fill_payload(area: &[u8], message: &[u8], at: &mut [u32], value: &mut [u64], 
     let mut i = 0;
     while i < 6 {
         let n = 7 * c + 1 + i;
-        let count = store_count(area, n, message, i);
+        let count = store_count(differing_word(area, n, message, i));
         fill_line(at, value, k, n, message, i, count);
         k += count;
         i += 1;

@@ -1,9 +1,11 @@
 -- `log_code::appending::payload_plan` meets its contract. Assumes nothing.
-use mathlib.Core.Path.{refl}
+use mathlib.Core.Path.{refl, ap, _∙_}
 use native.Mathlib.Omega.{arith}
 use borrow.Author.Needs.{needs}
 use Rattle.words.proofs.Laws.{word-range}
 use Rattle.words.specs.Word.{word}
+use Rattle.log.specs.Bit.{storeCount}
+use Rattle.log.proofs.Pairs.{pair-within}
 use Rattle.log.proofs.Plans.{Planning, plan-start, plan-next, plan-room, count-room, plan-end}
 use Rattle.log_code.proofs.appending.payload_plan.Statement.{statement}
 use Rattle.log_code.proofs.appending.payload_plan.Tie as tie
@@ -26,10 +28,15 @@ payload-plan-spec =
     (λ c. search needs)
     (λ c. search needs)
     (λ c κs. record { room = omega (arith, c .before .loop .inv .left); payload = omega (arith, c .before .loop .inv .left) })
-    (λ c κs. record { inside = record { room = omega (arith, c .before .before .loop .inv .left); payload = omega (arith, c .before .before .loop .inv .left) }; stored = c .store-count .ensures })
+    (λ c κs.
+    record {
+      inside = record { room = omega (arith, c .before .before .loop .inv .left); payload = omega (arith, c .before .before .loop .inv .left) };
+      found = c .differing-word .ensures;
+    })
     (λ c. omega (arith, (plan-room (word (c .before .before .before .before .before .before .args .area .now)) (c .before .before .before .before .before .before .args .c) (c .before .before .before .before .before .before .args .message .now) _ _ _ _ (λ j. word-range (c .before .before .before .before .before .before .args .area .now) j (λ x. c .before .before .before .before .before .shared-slice-known .given x .fits)) (λ x. c .before .before .before .before .shared-slice-known2 .given x .fits) (c .before .before .before .loop .inv) (search needs) _ _ (c .line-pair .ensures))))
     (λ c. omega (arith, (plan-room (word (c .before .before .before .before .before .before .args .area .now)) (c .before .before .before .before .before .before .args .c) (c .before .before .before .before .before .before .args .message .now) _ _ _ _ (λ j. word-range (c .before .before .before .before .before .before .args .area .now) j (λ x. c .before .before .before .before .before .shared-slice-known .given x .fits)) (λ x. c .before .before .before .before .shared-slice-known2 .given x .fits) (c .before .before .before .loop .inv) (search needs) _ _ (c .line-pair .ensures))))
-    (λ c. omega (arith, count-room (word (c .before .before .before .before .before .before .args .area .now)) (c .before .before .before .before .before .before .args .c) (c .before .before .before .before .before .before .args .message .now) _ _ _ _ _ _ (c .before .before .before .loop .inv) (search needs) (c .before .store-count .ensures)))
+    (λ c κs. pair-within _ _ _ _ _ (c .before .differing-word .ensures))
+    (λ c. omega (arith, count-room (word (c .before .before .before .before .before .before .before .args .area .now)) (c .before .before .before .before .before .before .before .args .c) (c .before .before .before .before .before .before .before .args .message .now) _ _ _ _ _ _ (c .before .before .before .before .loop .inv) (search needs) (c .store-count .ensures ∙ ap storeCount (c .before .before .differing-word .ensures))))
     (λ c. search needs)
-    (λ c. plan-next _ _ _ _ _ _ _ _ _ _ (c .before .before .before .loop .inv) (search needs) refl refl (c .before .store-count .ensures) (c .line-pair .ensures))
+    (λ c. plan-next _ _ _ _ _ _ _ _ _ _ (c .before .before .before .before .loop .inv) (search needs) refl refl (c .store-count .ensures ∙ ap storeCount (c .before .before .differing-word .ensures)) (c .before .line-pair .ensures))
     (λ c. plan-end _ _ _ _ _ _ (c .before .loop .inv) (c .loop-test .left)))
