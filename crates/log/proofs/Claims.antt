@@ -116,12 +116,14 @@ module _ (cells : ℕ) (low : 2 ≤ cells) (area : List ℕ) (log : Messages) (s
   accepts : (at value : List ℕ) → cells ≤ length at → cells ≤ length value → refusalIn (logRecoverResult area at value .answer) ≡ 0
   unfolding logRecoverResult handing refusalIn
   accepts at value p q =
-      ap (λ (r : LogResult). refusalIn (r .answer)) (taken-leaves _ _ (logRecoverFault area (length at) (length value)) (recovery-accepted (length at) (length value) p q))
+      ap (λ (r : LogResult). refusalIn (r .answer))
+      (taken-leaves _ _ (logRecoverFault area (length at) (length value)) (recovery-accepted (length at) (length value) p q))
 
   accepts-list : (list : List Store) → cells ≤ length list → refusalIn (logRecoverListResult area list .answer) ≡ 0
   unfolding logRecoverListResult handingList refusalIn
   accepts-list list p =
-      ap (λ (r : LogListResult). refusalIn (r .answer)) (taken-leaves _ _ (logRecoverFault area (length list) (length list)) (recovery-accepted (length list) (length list) p p))
+      ap (λ (r : LogListResult). refusalIn (r .answer))
+      (taken-leaves _ _ (logRecoverFault area (length list) (length list)) (recovery-accepted (length list) (length list) p p))
 
   pub shows-by : highest cells (word area) ≡ length log → ((s : ℕ) → shown cells (word area) s ≡ inWindow cells (length log) s)
       → ((s : ℕ) → inWindow cells (length log) s ≡ true → readPart area s ≡ getD log (s - 1) []) → Shows cells area log

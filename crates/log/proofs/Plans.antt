@@ -65,7 +65,8 @@ module _ (m : ℕ → ℕ) (c : ℕ) (message : List ℕ) where
   plan-start = record { left = omega arith; packs = refl; size = refl; few = omega arith }
 
   pub plan-next : (pairs count i k n r words : ℕ) → Planning pairs count i → 0 < i → k ≡ i - 1 → n ≡ 7 * c + 1 + k
-      → words ≡ storeCount (differingPlace 8 (line m n) (messageLine message k)) → r ≡ bitPair (line m n) (messageLine message k) → Planning (r + 1024 * pairs) (count + words) k
+      → words ≡ storeCount (differingPlace 8 (line m n) (messageLine message k)) → r ≡ bitPair (line m n) (messageLine message k)
+      → Planning (r + 1024 * pairs) (count + words) k
   unfolding packed payloadsFrom
   plan-next pairs count i k n r words g p q o e f =
       record {
@@ -118,7 +119,8 @@ module _ (m : ℕ → ℕ) (c : ℕ) (message : List ℕ) where
       low (suc (suc (suc (suc (suc zero))))) p q = omega arith
       low (suc (suc (suc (suc (suc (suc n)))))) p q = absurd (omega arith)
 
-  pub count-room : (pairs count i n k words : ℕ) → Planning pairs count i → 0 < i → words ≡ storeCount (differingPlace 8 (line m n) (messageLine message k)) → count + words ≤ 48
+  pub count-room : (pairs count i n k words : ℕ) → Planning pairs count i → 0 < i
+      → words ≡ storeCount (differingPlace 8 (line m n) (messageLine message k)) → count + words ≤ 48
   count-room pairs count i n k words g h e = omega (arith, g .few, e, count-within (line m n) (messageLine message k))
 
 pub plan-end : (area : List ℕ) (c : ℕ) (message : List ℕ) (pairs count i : ℕ) → Planning (word area) c message pairs count i → i ≤ 0
@@ -147,7 +149,8 @@ module _ (m : ℕ → ℕ) (c : ℕ) (message at₀ value₀ : List ℕ) where
   pub pay-start : Paying at₀ value₀ 8 0
   pay-start = record { done = omega arith; left = leave-start at₀ value₀ 8 (payloadsFrom m c message 0 6) _ refl }
 
-  module _ (at value : List ℕ) (k i n count : ℕ) (g : Paying at value k i) (h : i < 6) (o : n ≡ 7 * c + 1 + i) (e : count ≡ storeCount (differingPlace 8 (line m n) (messageLine message i))) where
+  module _ (at value : List ℕ) (k i n count : ℕ) (g : Paying at value k i) (h : i < 6) (o : n ≡ 7 * c + 1 + i)
+      (e : count ≡ storeCount (differingPlace 8 (line m n) (messageLine message i))) where
     count-is : count ≡ lineCount m c message i
     count-is = e ∙ ap (λ (x : ℕ). storeCount (differingPlace 8 (line m x) (messageLine message i))) o
 

@@ -13,8 +13,8 @@ bitAt x i = x / 2 ^ i % 2
 abbrev pub lineBit : (L : ℕ → ℕ) → (position : ℕ) → ℕ
 lineBit L position = bitAt (L (position / 64)) (position % 64)
 
--- "old and new words are compared from word 7 down to word 0, and the search ends at the first that differs": the place of the highest of the first n words that differs,
--- or 8, the place of none, where they are equal
+-- "old and new words are compared from word 7 down to word 0, and the search ends at the first that differs": the place of the highest of the first n words
+-- that differs, or 8, the place of none, where they are equal
 unfoldable pub differingPlace : (n : ℕ) → (old new : ℕ → ℕ) → ℕ
 differingPlace zero old new = 8
 differingPlace (suc j) old new = cond (eqb (old j) (new j)) (differingPlace j old new) j

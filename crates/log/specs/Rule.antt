@@ -32,8 +32,8 @@ shownMessages cells area = shownUpTo cells area (highest cells (word area))
 unfoldable pub lastMessages : (n : ℕ) → Messages → Messages
 lastMessages n log = drop (length log - n) log
 
--- "A read answers the message as the part of the lent area that holds it", told by numbers, as C's read is answered: where the part starts and how many bytes it has.
--- Just so many stand there, and they are the message's
+-- "A read answers the message as the part of the lent area that holds it", told by numbers, as C's read is answered: where the part starts and how many
+-- bytes it has. Just so many stand there, and they are the message's
 pub record PartHolds (area message : List ℕ) (answer : Answer) : Type 0 where
   pub start : ℕ
   pub told : answer ≡ gives (start ∷ length message ∷ [])
@@ -74,13 +74,13 @@ pub record HandsOut (area : List ℕ) (call : LogCall) (fault number : ℕ) (r :
 unfoldable pub asNumbers : LogListResult → LogResult
 asNumbers r = logEnd (r .answer) (wordNumbers (r .list)) (values (r .list))
 
--- "The stores are lent as a list of records, each a word number and a value" (A.7): lent the records that have these word numbers and values, a call answers and leaves
--- what it does with the two lists
+-- "The stores are lent as a list of records, each a word number and a value" (A.7): lent the records that have these word numbers and values, a call
+-- answers and leaves what it does with the two lists
 abbrev pub ListAgrees : (at value : List ℕ) → (List Store → LogListResult) → LogResult → Type 0
 ListAgrees at value call r = (list : List Store) → wordNumbers list ≡ at → values list ≡ value → asNumbers (call list) ≡ r
 
--- each call answers as the plain machine does: an append gives the next number and a recovery how many messages there are, both with two lent lists and with one; a read
--- gives the message's bytes, or an empty part; and each is refused exactly where the rules refuse it
+-- each call answers as the plain machine does: an append gives the next number and a recovery how many messages there are, both with two lent lists and
+-- with one; a read gives the message's bytes, or an empty part; and each is refused exactly where the rules refuse it
 unfoldable pub CallRight : (area : List ℕ) → Messages → LogCall → Type 0
 CallRight area log (an-append message at value) =
     HandsOut area (an-append message at value) (logDueFault area log (an-append message at value)) (suc (length log))
