@@ -18,7 +18,7 @@ use Rattle.log.specs.Rule.{RestartRight, EventRight, LogHolds, LogRule}
 use Rattle.log.specs.Laws.{Closed}
 use Rattle.log.proofs.Cells.{held, highest-by, window}
 use Rattle.log.proofs.Parts.{cells-sized}
-use Rattle.log.proofs.Claims.{Keeping, list-shown, call-right}
+use Rattle.log.proofs.Claims.{Keeping, shows-by, call-right}
 use Rattle.log.proofs.Events.{done-keeps, done-closed-after, cut-keeps, again-keeps, cut-recovery-keeps, recovery-done-keeps, restart-closed}
 
 -- between events: the list is shown, and no whole marked line is above the highest complete number
@@ -135,13 +135,7 @@ module _ (cells : ℕ) (low : 2 ≤ cells) (high : cells ≤ 1000) where
         keep = record {
           size = length-replicate (448 * cells) 0;
           bytes = λ k. omega (arith, zeros (448 * cells) k);
-          shows = record {
-            size = sized;
-            messages = list-shown cells low blank [] none-shown (λ s e. absurd (no-window s e)) none-highest;
-            top = none-highest;
-            numbers = none-shown;
-            bytes = λ s e. absurd (no-window s e);
-          };
+          shows = shows-by cells low blank [] sized none-highest none-shown (λ s e. absurd (no-window s e));
         };
         closed = λ c l w. omega (arith, none-highest, zero-word (448 * cells) (8 * (7 * c) + 7 % 8));
       }
