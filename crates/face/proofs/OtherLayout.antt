@@ -11,15 +11,17 @@ use Rattle.layout.specs.Size.{slotsIn}
 use Rattle.layout.specs.Header.{HeaderOf, lentFault}
 use Rattle.layout.proofs.Headers.{other-lent, image-header}
 use Rattle.index.specs.declared.Mode.{Mode}
+use Rattle.index.specs.declared.Found.{Found}
 use Rattle.recovery.specs.Opening.{openingsOf}
 use Rattle.recovery.specs.Recover.{recoverFault, recoverSlot, refusedResult, recoverResult}
 use Rattle.counting.specs.Count.{CountResult, countSays, countResult}
 use Rattle.cutcount.specs.CutCount.{acceptanceFault, cutCountFault, cutCountResult}
-use Rattle.calls.specs.Change.{ChangeResult, unchanged, writeLentFault, writeFault, writeBy, writeResult, removeFault, removeBy, removeResult}
+use Rattle.calls.specs.Compared.{comparedAfter, keyCompared}
+use Rattle.calls.specs.Change.{ChangeResult, unchanged, writeLentFault, writeFault, writeBy, writeResult, writeCompared, removeFault, removeBy, removeResult}
 use Rattle.calls.specs.Basket.{KeyChange, givenFault, basketLentFault, basketFault, basketBy, basketResult, eightSlots, atFront, leftWith, leftInList}
 use Rattle.calls.specs.Get.{getFault, getResult}
 use Rattle.calls.specs.Locate.{locateFault, locateResult}
-use Rattle.plainmap.specs.World.{World, Call, write, remove, get, locate, outOf, Called, calledChange, calledGet, calledLocate, called}
+use Rattle.plainmap.specs.World.{World, Call, write, remove, get, locate, outOf, Called, calledChange, calledGet, calledLocate, called, callCompared}
 use Rattle.plainmap.specs.Claims.{StaysAs, Untouched}
 use Rattle.plainmap.specs.Baskets.{Basket, basketCalled}
 use Rattle.face.specs.OtherLayout.{CallsGive3}
@@ -88,6 +90,17 @@ module _ (l other : ℕ) (apart : other ≡ l → ⊥) (w : World) (h : HeaderOf
   still : (c : Call) → Untouched w c (called l w c)
   still c = subst (Untouched w c) (sym (the-call c)) (record { out = refl; stores = refl; heads = refl; next = refl; state = refl })
 
+  compared-0 : (lent : ℕ) → lent ≡ 3 → (found : Found) → comparedAfter lent found ≡ 0
+  unfolding comparedAfter
+  compared-0 lent e found = refused-keeps _ 0 lent (λ z. omega arith)
+
+  compares : (c : Call) → callCompared l w c ≡ 0
+  unfolding callCompared writeCompared writeLentFault keyCompared
+  compares (write mode key value) = compared-0 _ (first-3 _ _ (lent-3 _ _)) _
+  compares (remove key) = compared-0 _ (lent-3 _ _) _
+  compares (get key out) = compared-0 _ (lent-3 _ _) _
+  compares (locate key) = compared-0 _ (lent-3 _ _) _
+
   -- ---- baskets
 
   basket-3 : (changes : List KeyChange) (at words : ℕ) → givenFault changes at words ≡ 0
@@ -108,6 +121,7 @@ module _ (l other : ℕ) (apart : other ≡ l → ⊥) (w : World) (h : HeaderOf
         recover = recovery;
         call = λ c. ap (λ (r : Called). r .answer) (the-call c);
         call-still = still;
+        call-compares = compares;
         basket = λ b z. ap (λ (r : Called). r .answer) (the-basket b z);
         basket-still = λ b z. subst (StaysAs w) (sym (the-basket b z)) (record { stores = refl; heads = refl; next = refl; state = refl });
         basket-list = λ changes list z. ap (leftInList list) (basket-3 changes (length list) (length list) z);

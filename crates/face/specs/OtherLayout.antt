@@ -11,7 +11,7 @@ use Rattle.recovery.specs.Recover.{refusedResult, recoverResult}
 use Rattle.counting.specs.Count.{countResult}
 use Rattle.cutcount.specs.CutCount.{cutCountResult}
 use Rattle.calls.specs.Basket.{KeyChange, givenFault, basketResult, leftInList}
-use Rattle.plainmap.specs.World.{World, Call, called}
+use Rattle.plainmap.specs.World.{World, Call, called, callCompared}
 use Rattle.plainmap.specs.Claims.{StaysAs, Untouched}
 use Rattle.plainmap.specs.Baskets.{Basket, basketCalled}
 
@@ -22,6 +22,8 @@ pub record CallsGive3 (l : ℕ) (w : World) : Type 0 where
   -- insert, replace, remove, get and locate
   pub call : (c : Call) → called l w c .answer ≡ refused 3
   pub call-still : (c : Call) → Untouched w c (called l w c)
+  -- A.4: "A call refused before or by the chain check reports 0"
+  pub call-compares : (c : Call) → callCompared l w c ≡ 0
   -- a basket, where 26, 27 and 13, which stand before "1, 2, 3", are not due
   pub basket : (b : Basket) → givenFault (b .changes) (b .at) (b .words) ≡ 0 → basketCalled l w b .answer ≡ refused 3
   pub basket-still : (b : Basket) → givenFault (b .changes) (b .at) (b .words) ≡ 0 → StaysAs w (basketCalled l w b)
