@@ -1,8 +1,8 @@
-// What each step is to do, by what it reads. Nothing is written here. `l` is the layout; a key is two words, the high one 0 in layout 1.
+// What each step is to do, by what it reads. Nothing is written here. A key is two words, the high one 0 in layout 1.
 ghost use mathlib.Core.Path.{_≡_};
 ghost use Prim.Native.Nat.{_<_};
 ghost use lib.ListN.{replicate};
-ghost use Rattle.face.specs.Set.{Layout, keyWith, limit, locateSays, locateResult};
+ghost use Rattle.face.specs.Set.{layoutNumber, keyWith, limit, locateSays, locateResult};
 ghost use Rattle.book.specs.Steps.{seek};
 ghost use Rattle.book.specs.inner.Courses.{seekSays, soughtNumber, planSays, newCourse, alreadyCourse, acknowledgeCourse, fillOrder, fillCourse, withdrawCourse};
 use crate::orders::order_in;
@@ -12,8 +12,10 @@ use book::Seek;
 use orderset::Got;
 use orderset::Located;
 use orderset::Mode;
-use orderset::layouts::get_in;
-use orderset::layouts::locate_in;
+use orderset::layouts::LayoutId;
+use orderset::layouts::get_in_layout;
+use orderset::layouts::layout_number;
+use orderset::layouts::locate_in_layout;
 
 // The number of a get's refusal, as a step says it.
 fn sought_number(number: u32) -> u32
@@ -28,17 +30,18 @@ fn sought_number(number: u32) -> u32
 // The order of the key, or a refusal: by a get with this output, of zeros and as long as a value may be.
 fn seek_with(
     image: &[u8],
-    l: usize,
+    layout: LayoutId,
     heads: &[u32],
     next: &[u32],
     low: u64,
     high: u64,
     out: &mut [u8],
 ) -> Seek
-    requires { ⌜ Layout l × (now out ≡ replicate (limit l) 0) ⌝ }
-    ensures { λ r. ⌜ seekSays r ≡ seek l (now (image .entry)) (now (heads .entry)) (now (next .entry)) (keyWith low high) ⌝ }
+    requires { ⌜ now out ≡ replicate (limit (layoutNumber layout)) 0 ⌝ }
+    ensures order { λ r. ⌜ seekSays r
+        ≡ seek (layoutNumber layout) (now (image .entry)) (now (heads .entry)) (now (next .entry)) (keyWith low high) ⌝ }
 {
-    let answer = get_in(image, l, heads, next, low, high, out);
+    let answer = get_in_layout(image, layout, heads, next, low, high, out);
     let got = answer.got;
     match got {
         Got::Length(n) => order_in(out, n),
@@ -48,12 +51,20 @@ fn seek_with(
 }
 
 // The order of the key, or a refusal.
-fn seek_order(image: &[u8], l: usize, heads: &[u32], next: &[u32], low: u64, high: u64) -> Seek
-    requires { ⌜ Layout l ⌝ }
-    ensures { λ r. ⌜ seekSays r ≡ seek l (now (image .entry)) (now (heads .entry)) (now (next .entry)) (keyWith low high) ⌝ }
+fn seek_order(
+    image: &[u8],
+    layout: LayoutId,
+    heads: &[u32],
+    next: &[u32],
+    low: u64,
+    high: u64,
+) -> Seek
+    ensures order { λ r. ⌜ seekSays r
+        ≡ seek (layoutNumber layout) (now (image .entry)) (now (heads .entry)) (now (next .entry)) (keyWith low high) ⌝ }
 {
     let mut out = [0u8; 80];
-    seek_with(image, l, heads, next, low, high, &mut out[..88 - 8 * l])
+    let size = 88 - 8 * layout_number(layout);
+    seek_with(image, layout, heads, next, low, high, &mut out[..size])
 }
 
 // A new order, by what locate answers for its key.
@@ -85,17 +96,17 @@ fn new_located(located: Located, quantity: u64) -> Plan
 // A new order.
 pub fn new_plan(
     image: &[u8],
-    l: usize,
+    layout: LayoutId,
     heads: &[u32],
     next: &[u32],
     low: u64,
     high: u64,
     quantity: u64,
 ) -> Plan
-    requires { ⌜ Layout l ⌝ }
-    ensures { λ r. ⌜ planSays r ≡ newCourse quantity (locateResult l (now (image .entry)) (now (heads .entry)) (now (next .entry)) (keyWith low high)) ⌝ }
+    ensures plan { λ r. ⌜ planSays r
+        ≡ newCourse quantity (locateResult (layoutNumber layout) (now (image .entry)) (now (heads .entry)) (now (next .entry)) (keyWith low high)) ⌝ }
 {
-    let answer = locate_in(image, l, heads, next, low, high);
+    let answer = locate_in_layout(image, layout, heads, next, low, high);
     let located = answer.located;
     new_located(located, quantity)
 }
@@ -114,20 +125,22 @@ fn already_located(located: Located) -> Plan
 // An acknowledge.
 pub fn acknowledge_plan(
     image: &[u8],
-    l: usize,
+    layout: LayoutId,
     heads: &[u32],
     next: &[u32],
     low: u64,
     high: u64,
 ) -> Plan
-    requires { ⌜ Layout l ⌝ }
-    ensures { λ r. ⌜ planSays r ≡ acknowledgeCourse (locateResult l (now (image .entry)) (now (heads .entry)) (now (next .entry)) (keyWith low high)) (seek l (now (image .entry)) (now (heads .entry)) (now (next .entry)) (keyWith low high)) ⌝ }
+    ensures plan { λ r. ⌜ planSays r
+        ≡ acknowledgeCourse
+        (locateResult (layoutNumber layout) (now (image .entry)) (now (heads .entry)) (now (next .entry)) (keyWith low high))
+        (seek (layoutNumber layout) (now (image .entry)) (now (heads .entry)) (now (next .entry)) (keyWith low high)) ⌝ }
 {
-    let sought = seek_order(image, l, heads, next, low, high);
+    let sought = seek_order(image, layout, heads, next, low, high);
     match sought {
         Seek::Found(order) => {
             if order.state == 2 {
-                let answer = locate_in(image, l, heads, next, low, high);
+                let answer = locate_in_layout(image, layout, heads, next, low, high);
                 let located = answer.located;
                 return already_located(located);
             }
@@ -172,17 +185,17 @@ fn fill_order(order: Order, quantity: u64) -> Plan
 // A fill.
 pub fn fill_plan(
     image: &[u8],
-    l: usize,
+    layout: LayoutId,
     heads: &[u32],
     next: &[u32],
     low: u64,
     high: u64,
     quantity: u64,
 ) -> Plan
-    requires { ⌜ Layout l ⌝ }
-    ensures { λ r. ⌜ planSays r ≡ fillCourse quantity (seek l (now (image .entry)) (now (heads .entry)) (now (next .entry)) (keyWith low high)) ⌝ }
+    ensures plan { λ r. ⌜ planSays r
+        ≡ fillCourse quantity (seek (layoutNumber layout) (now (image .entry)) (now (heads .entry)) (now (next .entry)) (keyWith low high)) ⌝ }
 {
-    let sought = seek_order(image, l, heads, next, low, high);
+    let sought = seek_order(image, layout, heads, next, low, high);
     match sought {
         Seek::Found(order) => fill_order(order, quantity),
         Seek::Missing(number) => Plan::Refused(number),
@@ -192,16 +205,16 @@ pub fn fill_plan(
 // A withdraw.
 pub fn withdraw_plan(
     image: &[u8],
-    l: usize,
+    layout: LayoutId,
     heads: &[u32],
     next: &[u32],
     low: u64,
     high: u64,
 ) -> Plan
-    requires { ⌜ Layout l ⌝ }
-    ensures { λ r. ⌜ planSays r ≡ withdrawCourse (seek l (now (image .entry)) (now (heads .entry)) (now (next .entry)) (keyWith low high)) ⌝ }
+    ensures plan { λ r. ⌜ planSays r
+        ≡ withdrawCourse (seek (layoutNumber layout) (now (image .entry)) (now (heads .entry)) (now (next .entry)) (keyWith low high)) ⌝ }
 {
-    let sought = seek_order(image, l, heads, next, low, high);
+    let sought = seek_order(image, layout, heads, next, low, high);
     match sought {
         Seek::Found(_) => Plan::Remove,
         Seek::Missing(number) => Plan::Refused(number),

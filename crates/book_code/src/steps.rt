@@ -2,7 +2,7 @@
 ghost use mathlib.Core.Path.{_≡_};
 ghost use mathlib.Core.List.{List};
 ghost use Prim.Native.Nat.{ℕ};
-ghost use Rattle.face.specs.Set.{Layout, keyWith, zipped, changeSays, changeEnd};
+ghost use Rattle.face.specs.Set.{layoutNumber, keyWith, zipped, changeSays, changeEnd};
 ghost use Rattle.book.specs.Steps.{bookSays, bookEnd, bookLeftIn, changeAnswers, asChange, newResult, acknowledgeResult, fillResult, withdrawResult};
 ghost use Rattle.book.specs.inner.Courses.{planSays, courseResult};
 use crate::orders::order_bytes;
@@ -16,8 +16,9 @@ use book::Plan;
 use orderset::Change;
 use orderset::Outcome;
 use orderset::State;
-use orderset::layouts::remove_in;
-use orderset::layouts::write_in;
+use orderset::layouts::LayoutId;
+use orderset::layouts::remove_in_layout;
+use orderset::layouts::write_in_layout;
 
 // A step's answer by the answer of its call; no step makes the call of a key that is not held.
 fn outcome_of(outcome: Outcome) -> BookOutcome
@@ -42,10 +43,10 @@ fn by_change(change: Change) -> BookChange
     }
 }
 
-// Carries a plan out, in layout l.
+// Carries a plan out, in either layout.
 fn carry_out(
     image: &[u8],
-    l: usize,
+    layout: LayoutId,
     heads: &mut [u32],
     next: &mut [u32],
     state: State,
@@ -55,15 +56,16 @@ fn carry_out(
     at: &mut [u32; 16],
     words: &mut [u64; 16],
 ) -> BookChange
-    requires { ⌜ Layout l ⌝ }
-    ensures { λ r. ⌜ bookEnd r (now (at .exit)) (now (words .exit)) (now (heads .exit)) (now (next .exit)) ≡ bookLeftIn (zipped (now (at .entry)) (now (words .entry))) (courseResult l (now (image .entry)) (now (heads .entry)) (now (next .entry)) state (keyWith low high) (planSays plan)) ⌝ }
+    ensures result { λ r. ⌜ bookEnd r (now (at .exit)) (now (words .exit)) (now (heads .exit)) (now (next .exit))
+        ≡ bookLeftIn (zipped (now (at .entry)) (now (words .entry)))
+        (courseResult (layoutNumber layout) (now (image .entry)) (now (heads .entry)) (now (next .entry)) state (keyWith low high) (planSays plan)) ⌝ }
 {
     match plan {
         Plan::Write { mode, order } => {
             let bytes = order_bytes(order);
-            by_change(write_in(
+            by_change(write_in_layout(
                 image,
-                l,
+                layout,
                 heads,
                 next,
                 state,
@@ -75,7 +77,17 @@ fn carry_out(
                 words,
             ))
         }
-        Plan::Remove => by_change(remove_in(image, l, heads, next, state, low, high, at, words)),
+        Plan::Remove => by_change(remove_in_layout(
+            image,
+            layout,
+            heads,
+            next,
+            state,
+            low,
+            high,
+            at,
+            words,
+        )),
         Plan::Already { slot, version } => BookChange {
             outcome: BookOutcome::Already { slot, version },
             state,
@@ -100,8 +112,19 @@ pub fn new(
 ) -> BookChange
     ensures { λ r. ⌜ bookEnd r (now (at .exit)) (now (words .exit)) (now (heads .exit)) (now (next .exit)) ≡ bookLeftIn (zipped (now (at .entry)) (now (words .entry))) (newResult 1 (now (image .entry)) (now (heads .entry)) (now (next .entry)) state key quantity) ⌝ }
 {
-    let plan = new_plan(image, 1, heads, next, key, 0, quantity);
-    carry_out(image, 1, heads, next, state, key, 0, plan, at, words)
+    let plan = new_plan(image, LayoutId::One, heads, next, key, 0, quantity);
+    carry_out(
+        image,
+        LayoutId::One,
+        heads,
+        next,
+        state,
+        key,
+        0,
+        plan,
+        at,
+        words,
+    )
 }
 
 // The order is acknowledged: as above; or, of an order that was acknowledged before, its slot and version, which changes nothing.
@@ -116,8 +139,19 @@ pub fn acknowledge(
 ) -> BookChange
     ensures { λ r. ⌜ bookEnd r (now (at .exit)) (now (words .exit)) (now (heads .exit)) (now (next .exit)) ≡ bookLeftIn (zipped (now (at .entry)) (now (words .entry))) (acknowledgeResult 1 (now (image .entry)) (now (heads .entry)) (now (next .entry)) state key) ⌝ }
 {
-    let plan = acknowledge_plan(image, 1, heads, next, key, 0);
-    carry_out(image, 1, heads, next, state, key, 0, plan, at, words)
+    let plan = acknowledge_plan(image, LayoutId::One, heads, next, key, 0);
+    carry_out(
+        image,
+        LayoutId::One,
+        heads,
+        next,
+        state,
+        key,
+        0,
+        plan,
+        at,
+        words,
+    )
 }
 
 // This quantity of the order is filled: an order that is filled fully is removed.
@@ -133,8 +167,19 @@ pub fn fill(
 ) -> BookChange
     ensures { λ r. ⌜ bookEnd r (now (at .exit)) (now (words .exit)) (now (heads .exit)) (now (next .exit)) ≡ bookLeftIn (zipped (now (at .entry)) (now (words .entry))) (fillResult 1 (now (image .entry)) (now (heads .entry)) (now (next .entry)) state key quantity) ⌝ }
 {
-    let plan = fill_plan(image, 1, heads, next, key, 0, quantity);
-    carry_out(image, 1, heads, next, state, key, 0, plan, at, words)
+    let plan = fill_plan(image, LayoutId::One, heads, next, key, 0, quantity);
+    carry_out(
+        image,
+        LayoutId::One,
+        heads,
+        next,
+        state,
+        key,
+        0,
+        plan,
+        at,
+        words,
+    )
 }
 
 // The order is removed, with all that is open.
@@ -149,8 +194,19 @@ pub fn withdraw(
 ) -> BookChange
     ensures { λ r. ⌜ bookEnd r (now (at .exit)) (now (words .exit)) (now (heads .exit)) (now (next .exit)) ≡ bookLeftIn (zipped (now (at .entry)) (now (words .entry))) (withdrawResult 1 (now (image .entry)) (now (heads .entry)) (now (next .entry)) state key) ⌝ }
 {
-    let plan = withdraw_plan(image, 1, heads, next, key, 0);
-    carry_out(image, 1, heads, next, state, key, 0, plan, at, words)
+    let plan = withdraw_plan(image, LayoutId::One, heads, next, key, 0);
+    carry_out(
+        image,
+        LayoutId::One,
+        heads,
+        next,
+        state,
+        key,
+        0,
+        plan,
+        at,
+        words,
+    )
 }
 
 // A new order in layout 2: a key of two words.
@@ -167,8 +223,19 @@ pub fn new2(
 ) -> BookChange
     ensures { λ r. ⌜ bookEnd r (now (at .exit)) (now (words .exit)) (now (heads .exit)) (now (next .exit)) ≡ bookLeftIn (zipped (now (at .entry)) (now (words .entry))) (newResult 2 (now (image .entry)) (now (heads .entry)) (now (next .entry)) state (keyWith low high) quantity) ⌝ }
 {
-    let plan = new_plan(image, 2, heads, next, low, high, quantity);
-    carry_out(image, 2, heads, next, state, low, high, plan, at, words)
+    let plan = new_plan(image, LayoutId::Two, heads, next, low, high, quantity);
+    carry_out(
+        image,
+        LayoutId::Two,
+        heads,
+        next,
+        state,
+        low,
+        high,
+        plan,
+        at,
+        words,
+    )
 }
 
 // An acknowledge in layout 2.
@@ -184,8 +251,19 @@ pub fn acknowledge2(
 ) -> BookChange
     ensures { λ r. ⌜ bookEnd r (now (at .exit)) (now (words .exit)) (now (heads .exit)) (now (next .exit)) ≡ bookLeftIn (zipped (now (at .entry)) (now (words .entry))) (acknowledgeResult 2 (now (image .entry)) (now (heads .entry)) (now (next .entry)) state (keyWith low high)) ⌝ }
 {
-    let plan = acknowledge_plan(image, 2, heads, next, low, high);
-    carry_out(image, 2, heads, next, state, low, high, plan, at, words)
+    let plan = acknowledge_plan(image, LayoutId::Two, heads, next, low, high);
+    carry_out(
+        image,
+        LayoutId::Two,
+        heads,
+        next,
+        state,
+        low,
+        high,
+        plan,
+        at,
+        words,
+    )
 }
 
 // A fill in layout 2.
@@ -202,8 +280,19 @@ pub fn fill2(
 ) -> BookChange
     ensures { λ r. ⌜ bookEnd r (now (at .exit)) (now (words .exit)) (now (heads .exit)) (now (next .exit)) ≡ bookLeftIn (zipped (now (at .entry)) (now (words .entry))) (fillResult 2 (now (image .entry)) (now (heads .entry)) (now (next .entry)) state (keyWith low high) quantity) ⌝ }
 {
-    let plan = fill_plan(image, 2, heads, next, low, high, quantity);
-    carry_out(image, 2, heads, next, state, low, high, plan, at, words)
+    let plan = fill_plan(image, LayoutId::Two, heads, next, low, high, quantity);
+    carry_out(
+        image,
+        LayoutId::Two,
+        heads,
+        next,
+        state,
+        low,
+        high,
+        plan,
+        at,
+        words,
+    )
 }
 
 // A withdraw in layout 2.
@@ -219,6 +308,17 @@ pub fn withdraw2(
 ) -> BookChange
     ensures { λ r. ⌜ bookEnd r (now (at .exit)) (now (words .exit)) (now (heads .exit)) (now (next .exit)) ≡ bookLeftIn (zipped (now (at .entry)) (now (words .entry))) (withdrawResult 2 (now (image .entry)) (now (heads .entry)) (now (next .entry)) state (keyWith low high)) ⌝ }
 {
-    let plan = withdraw_plan(image, 2, heads, next, low, high);
-    carry_out(image, 2, heads, next, state, low, high, plan, at, words)
+    let plan = withdraw_plan(image, LayoutId::Two, heads, next, low, high);
+    carry_out(
+        image,
+        LayoutId::Two,
+        heads,
+        next,
+        state,
+        low,
+        high,
+        plan,
+        at,
+        words,
+    )
 }

@@ -1,4 +1,5 @@
 pub mod Compared
+pub mod Moved
 pub mod Change
 pub mod Basket
 pub mod Get

@@ -9,11 +9,13 @@ pub enum Outcome {
     Refused(u32),
 }
 
-// What insert, replace and remove give back: the answer, the new state and the count of slots compared. The stores to be played are lent.
+// What insert, replace and remove give back: the answer, the new state, the count of slots compared and the count of words moved. The stores to be
+// played are lent.
 pub struct Change {
     pub outcome: Outcome,
     pub state: State,
     pub compared: u32,
+    pub moved: usize,
 }
 
 // Get's answer: the length of the value, absent, or a refusal.
@@ -23,10 +25,11 @@ pub enum Got {
     Refused(u32),
 }
 
-// What get gives back: the answer and the count of slots compared.
+// What get gives back: the answer, the count of slots compared and the count of words moved.
 pub struct GetAnswer {
     pub got: Got,
     pub compared: u32,
+    pub moved: usize,
 }
 
 // Locate's answer: the slot that holds the key and the version on its line A, absent, or a refusal.

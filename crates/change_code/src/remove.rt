@@ -1,6 +1,7 @@
 // Remove: a key is no longer held. `l` is the layout; a key is two words, the high one 0 in layout 1.
 ghost use mathlib.Core.Path.{_≡_};
 ghost use Rattle.layout.specs.Record.{Layout, keyWith};
+ghost use Rattle.layout.specs.Layouts.{layoutNumber};
 ghost use Rattle.stores.specs.Store.{zipped};
 ghost use Rattle.calls.specs.Compared.{reported, keyCompared};
 ghost use Rattle.calls.specs.Change.{changeEnd, leftIn, removeResult};
@@ -13,6 +14,8 @@ use index::Lookup;
 use index::Place;
 use index::State;
 use index_code::change::remove_held;
+use layout::LayoutId;
+use layout_code::fields::layout_number;
 use layout_code::header::lent_fault;
 use layout_code::header::slot_count;
 use search_code::head::head_of;
@@ -75,7 +78,12 @@ pub fn remove_in(
     words: &mut [u64; 16],
 ) -> Change
     requires { ⌜ Layout l ⌝ }
-    ensures { λ r. ⌜ changeEnd r (now (at .exit)) (now (words .exit)) (now (heads .exit)) (now (next .exit)) ≡ reported (leftIn (zipped (now (at .entry)) (now (words .entry))) (removeResult l (now (image .entry)) (now (heads .entry)) (now (next .entry)) state (keyWith low high))) (keyCompared l (now (image .entry)) (now (heads .entry)) (now (next .entry)) (keyWith low high)) ⌝ }
+    ensures result { λ r. ⌜ changeEnd r (now (at .exit)) (now (words .exit)) (now (heads .exit)) (now (next .exit))
+        ≡ reported
+        (leftIn (zipped (now (at .entry)) (now (words .entry)))
+        (removeResult l (now (image .entry)) (now (heads .entry)) (now (next .entry)) state (keyWith low high)))
+        (keyCompared l (now (image .entry)) (now (heads .entry)) (now (next .entry)) (keyWith low high)) ⌝ }
+    ensures moved { λ r. ⌜ r .moved ≡ 0 ⌝ }
 {
     let lookup = remove_lookup(image, l, heads, next, state, low, high);
     match lookup {
@@ -83,12 +91,14 @@ pub fn remove_in(
             outcome: Outcome::Refused(number),
             state,
             compared,
+            moved: 0,
         },
         Lookup::Allowed { place, compared } => match place {
             Place::NotHeld { prev: _ } => Change {
                 outcome: Outcome::Absent,
                 state,
                 compared,
+                moved: 0,
             },
             Place::Held { slot, prev } => {
                 let h = head_of(low, heads.len());
@@ -111,13 +121,47 @@ pub fn remove_in(
                     },
                     state: after,
                     compared,
+                    moved: 0,
                 }
             }
         },
     }
 }
 
-// The key is dropped: the slot taken and the version, the new state and, lent, the stores to be played; absent where it is not held; or a refusal. Neither of the last two changes anything. Each has the slots compared.
+// Remove, in either layout.
+pub fn remove_in_layout(
+    image: &[u8],
+    layout: LayoutId,
+    heads: &mut [u32],
+    next: &mut [u32],
+    state: State,
+    low: u64,
+    high: u64,
+    at: &mut [u32; 16],
+    words: &mut [u64; 16],
+) -> Change
+    ensures result { λ r. ⌜ changeEnd r (now (at .exit)) (now (words .exit)) (now (heads .exit)) (now (next .exit))
+        ≡ reported
+        (leftIn (zipped (now (at .entry)) (now (words .entry)))
+        (removeResult (layoutNumber layout) (now (image .entry)) (now (heads .entry)) (now (next .entry)) state (keyWith low high)))
+        (keyCompared (layoutNumber layout) (now (image .entry)) (now (heads .entry)) (now (next .entry)) (keyWith low high)) ⌝ }
+    ensures moved { λ r. ⌜ r .moved ≡ 0 ⌝ }
+{
+    remove_in(
+        image,
+        layout_number(layout),
+        heads,
+        next,
+        state,
+        low,
+        high,
+        at,
+        words,
+    )
+}
+
+// The key is dropped: the slot taken and the version, the new state and, lent, the stores to be played; absent where it is not held; or a refusal. Neither
+// of the last two changes anything. Each has the slots compared; no word is moved.
 pub fn remove(
     image: &[u8],
     heads: &mut [u32],
@@ -127,7 +171,12 @@ pub fn remove(
     at: &mut [u32; 16],
     words: &mut [u64; 16],
 ) -> Change
-    ensures { λ r. ⌜ changeEnd r (now (at .exit)) (now (words .exit)) (now (heads .exit)) (now (next .exit)) ≡ reported (leftIn (zipped (now (at .entry)) (now (words .entry))) (removeResult 1 (now (image .entry)) (now (heads .entry)) (now (next .entry)) state key)) (keyCompared 1 (now (image .entry)) (now (heads .entry)) (now (next .entry)) key) ⌝ }
+    ensures result { λ r. ⌜ changeEnd r (now (at .exit)) (now (words .exit)) (now (heads .exit)) (now (next .exit))
+        ≡ reported
+        (leftIn (zipped (now (at .entry)) (now (words .entry)))
+        (removeResult 1 (now (image .entry)) (now (heads .entry)) (now (next .entry)) state key))
+        (keyCompared 1 (now (image .entry)) (now (heads .entry)) (now (next .entry)) key) ⌝ }
+    ensures moved { λ r. ⌜ r .moved ≡ 0 ⌝ }
 {
     remove_in(image, 1, heads, next, state, key, 0, at, words)
 }
@@ -143,7 +192,12 @@ pub fn remove2(
     at: &mut [u32; 16],
     words: &mut [u64; 16],
 ) -> Change
-    ensures { λ r. ⌜ changeEnd r (now (at .exit)) (now (words .exit)) (now (heads .exit)) (now (next .exit)) ≡ reported (leftIn (zipped (now (at .entry)) (now (words .entry))) (removeResult 2 (now (image .entry)) (now (heads .entry)) (now (next .entry)) state (keyWith low high))) (keyCompared 2 (now (image .entry)) (now (heads .entry)) (now (next .entry)) (keyWith low high)) ⌝ }
+    ensures result { λ r. ⌜ changeEnd r (now (at .exit)) (now (words .exit)) (now (heads .exit)) (now (next .exit))
+        ≡ reported
+        (leftIn (zipped (now (at .entry)) (now (words .entry)))
+        (removeResult 2 (now (image .entry)) (now (heads .entry)) (now (next .entry)) state (keyWith low high)))
+        (keyCompared 2 (now (image .entry)) (now (heads .entry)) (now (next .entry)) (keyWith low high)) ⌝ }
+    ensures moved { λ r. ⌜ r .moved ≡ 0 ⌝ }
 {
     remove_in(image, 2, heads, next, state, low, high, at, words)
 }

@@ -2,6 +2,7 @@
 ghost use mathlib.Core.Path.{_≡_};
 ghost use lib.ListN.{length};
 ghost use Rattle.layout.specs.Record.{Layout, keyWith};
+ghost use Rattle.layout.specs.Layouts.{layoutNumber};
 ghost use Rattle.stores.specs.Store.{zipped};
 ghost use Rattle.prelude.specs.Refusal.{orElse};
 ghost use Rattle.index.specs.Change.{keyFault};
@@ -9,6 +10,7 @@ ghost use Rattle.index.specs.declared.Mode.the-variants.{Insert, Replace};
 ghost use Rattle.taking.specs.Taking.{takingOf};
 ghost use Rattle.taking.specs.inner.Takeable.{Walkable};
 ghost use Rattle.calls.specs.Compared.{reported};
+ghost use Rattle.calls.specs.Moved.{writeMoved};
 ghost use Rattle.calls.specs.Change.{changeEnd, leftIn, writeLentFault, insertsOf, storeFault, writeResult, writeCompared};
 ghost use Rattle.calls.specs.inner.Lookup.{WriteLookup};
 use crate::store::store_fault;
@@ -20,6 +22,8 @@ use index::Mode;
 use index::Place;
 use index::State;
 use index_code::change::write_place;
+use layout::LayoutId;
+use layout_code::fields::layout_number;
 use layout_code::fields::value_limit;
 use layout_code::header::lent_fault;
 use layout_code::header::slot_count;
@@ -133,7 +137,12 @@ pub fn write_in(
     words: &mut [u64; 16],
 ) -> Change
     requires { ⌜ Layout l ⌝ }
-    ensures { λ r. ⌜ changeEnd r (now (at .exit)) (now (words .exit)) (now (heads .exit)) (now (next .exit)) ≡ reported (leftIn (zipped (now (at .entry)) (now (words .entry))) (writeResult l (now (image .entry)) (now (heads .entry)) (now (next .entry)) state mode (keyWith low high) (now (value .entry)))) (writeCompared l (now (image .entry)) (now (heads .entry)) (now (next .entry)) (keyWith low high) (length (now (value .entry)))) ⌝ }
+    ensures result { λ r. ⌜ changeEnd r (now (at .exit)) (now (words .exit)) (now (heads .exit)) (now (next .exit))
+        ≡ reported
+        (leftIn (zipped (now (at .entry)) (now (words .entry)))
+        (writeResult l (now (image .entry)) (now (heads .entry)) (now (next .entry)) state mode (keyWith low high) (now (value .entry))))
+        (writeCompared l (now (image .entry)) (now (heads .entry)) (now (next .entry)) (keyWith low high) (length (now (value .entry)))) ⌝ }
+    ensures moved { λ r. ⌜ r .moved ≡ writeMoved (r .outcome) (length (now (value .entry))) ⌝ }
 {
     let lookup = write_lookup(image, l, heads, next, state, mode, low, high, value.len());
     match lookup {
@@ -141,11 +150,12 @@ pub fn write_in(
             outcome: Outcome::Refused(number),
             state,
             compared,
+            moved: 0,
         },
         Lookup::Allowed { place, compared } => {
             let h = head_of(low, heads.len());
             let after = write_place(heads, next, state, h, place);
-            record_stores(
+            let moved = record_stores(
                 image,
                 l,
                 state.first,
@@ -165,13 +175,50 @@ pub fn write_in(
                 },
                 state: after,
                 compared,
+                moved,
             }
         }
     }
 }
 
-// A key that is not held gets the value: the slot taken and the version, the new state, the slots compared and, lent, the stores to be played; or a
-// refusal, which changes nothing, with the slots compared.
+// Insert or replace, in either layout.
+pub fn write_in_layout(
+    image: &[u8],
+    layout: LayoutId,
+    heads: &mut [u32],
+    next: &mut [u32],
+    state: State,
+    mode: Mode,
+    low: u64,
+    high: u64,
+    value: &[u8],
+    at: &mut [u32; 16],
+    words: &mut [u64; 16],
+) -> Change
+    ensures result { λ r. ⌜ changeEnd r (now (at .exit)) (now (words .exit)) (now (heads .exit)) (now (next .exit))
+        ≡ reported
+        (leftIn (zipped (now (at .entry)) (now (words .entry)))
+        (writeResult (layoutNumber layout) (now (image .entry)) (now (heads .entry)) (now (next .entry)) state mode (keyWith low high) (now (value .entry))))
+        (writeCompared (layoutNumber layout) (now (image .entry)) (now (heads .entry)) (now (next .entry)) (keyWith low high) (length (now (value .entry)))) ⌝ }
+    ensures moved { λ r. ⌜ r .moved ≡ writeMoved (r .outcome) (length (now (value .entry))) ⌝ }
+{
+    write_in(
+        image,
+        layout_number(layout),
+        heads,
+        next,
+        state,
+        mode,
+        low,
+        high,
+        value,
+        at,
+        words,
+    )
+}
+
+// A key that is not held gets the value: the slot taken and the version, the new state, the slots compared, the words moved and, lent, the stores to be
+// played; or a refusal, which changes nothing, with the slots compared.
 pub fn insert(
     image: &[u8],
     heads: &mut [u32],
@@ -182,7 +229,12 @@ pub fn insert(
     at: &mut [u32; 16],
     words: &mut [u64; 16],
 ) -> Change
-    ensures { λ r. ⌜ changeEnd r (now (at .exit)) (now (words .exit)) (now (heads .exit)) (now (next .exit)) ≡ reported (leftIn (zipped (now (at .entry)) (now (words .entry))) (writeResult 1 (now (image .entry)) (now (heads .entry)) (now (next .entry)) state Insert key (now (value .entry)))) (writeCompared 1 (now (image .entry)) (now (heads .entry)) (now (next .entry)) key (length (now (value .entry)))) ⌝ }
+    ensures result { λ r. ⌜ changeEnd r (now (at .exit)) (now (words .exit)) (now (heads .exit)) (now (next .exit))
+        ≡ reported
+        (leftIn (zipped (now (at .entry)) (now (words .entry)))
+        (writeResult 1 (now (image .entry)) (now (heads .entry)) (now (next .entry)) state Insert key (now (value .entry))))
+        (writeCompared 1 (now (image .entry)) (now (heads .entry)) (now (next .entry)) key (length (now (value .entry)))) ⌝ }
+    ensures moved { λ r. ⌜ r .moved ≡ writeMoved (r .outcome) (length (now (value .entry))) ⌝ }
 {
     write_in(
         image,
@@ -210,7 +262,12 @@ pub fn replace(
     at: &mut [u32; 16],
     words: &mut [u64; 16],
 ) -> Change
-    ensures { λ r. ⌜ changeEnd r (now (at .exit)) (now (words .exit)) (now (heads .exit)) (now (next .exit)) ≡ reported (leftIn (zipped (now (at .entry)) (now (words .entry))) (writeResult 1 (now (image .entry)) (now (heads .entry)) (now (next .entry)) state Replace key (now (value .entry)))) (writeCompared 1 (now (image .entry)) (now (heads .entry)) (now (next .entry)) key (length (now (value .entry)))) ⌝ }
+    ensures result { λ r. ⌜ changeEnd r (now (at .exit)) (now (words .exit)) (now (heads .exit)) (now (next .exit))
+        ≡ reported
+        (leftIn (zipped (now (at .entry)) (now (words .entry)))
+        (writeResult 1 (now (image .entry)) (now (heads .entry)) (now (next .entry)) state Replace key (now (value .entry))))
+        (writeCompared 1 (now (image .entry)) (now (heads .entry)) (now (next .entry)) key (length (now (value .entry)))) ⌝ }
+    ensures moved { λ r. ⌜ r .moved ≡ writeMoved (r .outcome) (length (now (value .entry))) ⌝ }
 {
     write_in(
         image,
@@ -239,7 +296,12 @@ pub fn insert2(
     at: &mut [u32; 16],
     words: &mut [u64; 16],
 ) -> Change
-    ensures { λ r. ⌜ changeEnd r (now (at .exit)) (now (words .exit)) (now (heads .exit)) (now (next .exit)) ≡ reported (leftIn (zipped (now (at .entry)) (now (words .entry))) (writeResult 2 (now (image .entry)) (now (heads .entry)) (now (next .entry)) state Insert (keyWith low high) (now (value .entry)))) (writeCompared 2 (now (image .entry)) (now (heads .entry)) (now (next .entry)) (keyWith low high) (length (now (value .entry)))) ⌝ }
+    ensures result { λ r. ⌜ changeEnd r (now (at .exit)) (now (words .exit)) (now (heads .exit)) (now (next .exit))
+        ≡ reported
+        (leftIn (zipped (now (at .entry)) (now (words .entry)))
+        (writeResult 2 (now (image .entry)) (now (heads .entry)) (now (next .entry)) state Insert (keyWith low high) (now (value .entry))))
+        (writeCompared 2 (now (image .entry)) (now (heads .entry)) (now (next .entry)) (keyWith low high) (length (now (value .entry)))) ⌝ }
+    ensures moved { λ r. ⌜ r .moved ≡ writeMoved (r .outcome) (length (now (value .entry))) ⌝ }
 {
     write_in(
         image,
@@ -268,7 +330,12 @@ pub fn replace2(
     at: &mut [u32; 16],
     words: &mut [u64; 16],
 ) -> Change
-    ensures { λ r. ⌜ changeEnd r (now (at .exit)) (now (words .exit)) (now (heads .exit)) (now (next .exit)) ≡ reported (leftIn (zipped (now (at .entry)) (now (words .entry))) (writeResult 2 (now (image .entry)) (now (heads .entry)) (now (next .entry)) state Replace (keyWith low high) (now (value .entry)))) (writeCompared 2 (now (image .entry)) (now (heads .entry)) (now (next .entry)) (keyWith low high) (length (now (value .entry)))) ⌝ }
+    ensures result { λ r. ⌜ changeEnd r (now (at .exit)) (now (words .exit)) (now (heads .exit)) (now (next .exit))
+        ≡ reported
+        (leftIn (zipped (now (at .entry)) (now (words .entry)))
+        (writeResult 2 (now (image .entry)) (now (heads .entry)) (now (next .entry)) state Replace (keyWith low high) (now (value .entry))))
+        (writeCompared 2 (now (image .entry)) (now (heads .entry)) (now (next .entry)) (keyWith low high) (length (now (value .entry)))) ⌝ }
+    ensures moved { λ r. ⌜ r .moved ≡ writeMoved (r .outcome) (length (now (value .entry))) ⌝ }
 {
     write_in(
         image,

@@ -39,3 +39,11 @@ pub fn count_cuts(image: &[u8], stores: Stores, copy: &mut [u8], later: &mut [u8
 {
     count_cuts_in(image, 1, stores, copy, later)
 }
+
+// The same in layout 2.
+pub fn count_cuts2(image: &[u8], stores: Stores, copy: &mut [u8], later: &mut [u8]) -> CutCounts
+    ensures result { λ r. ⌜ cutCountEnd r (now (copy .exit)) (now (later .exit))
+        ≡ cutCountResult 2 (now (image .entry)) (stores .at) (stores .value) (now (copy .entry)) (now (later .entry)) ⌝ }
+{
+    count_cuts_in(image, 2, stores, copy, later)
+}

@@ -33,6 +33,7 @@ use Rattle.face.proofs.Images.{accepted-gives, state-answered}
 use Rattle.face.proofs.Events.{gives-along, restarted-slots, event-agrees, event-along, event-slots, basket-answers, basket-agrees, basket-along, basket-keeps-slots, basket-played}
 use Rattle.face.proofs.Stored.{few-given, hands-out, OneStored, none-stored, one-stored, stored-one, some-stores}
 use Rattle.face.proofs.Heads.{called-heads, recovered-heads}
+pub use Rattle.layout.proofs.Layouts.{layout-numbered}
 pub use Rattle.calls.proofs.Changes.{key-alone}
 
 module _ (l : ℕ) (lay : Layout l) where

@@ -4,6 +4,8 @@
 pub use Rattle.layout.specs.Size.{slotsIn}
 pub use Rattle.layout.specs.Size.{slotsOf}
 pub use Rattle.layout.specs.Record.{Layout, keyWith, limit}
+pub use Rattle.layout.specs.declared.LayoutId.{LayoutId}
+pub use Rattle.layout.specs.Layouts.{layoutNumber}
 unfoldable pub use Rattle.layout.specs.Header.{indexFault}
 pub use Rattle.table.specs.Complete.{tableOf}
 pub use Rattle.table.specs.Table.{holder, liveCount, nextVersion}

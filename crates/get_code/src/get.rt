@@ -1,7 +1,9 @@
 // Get: the value of a key. `l` is the layout; a key is two words, the high one 0 in layout 1.
 ghost use mathlib.Core.Path.{_≡_};
 ghost use Rattle.layout.specs.Record.{Layout, keyWith};
+ghost use Rattle.layout.specs.Layouts.{layoutNumber};
 ghost use Rattle.calls.specs.Compared.{reported, keyCompared};
+ghost use Rattle.calls.specs.Moved.{getMoved};
 ghost use Rattle.calls.specs.Get.{getEnd, lengthFault, getLaterFault, getResult};
 ghost use Rattle.calls.specs.inner.Lookup.{FoundInside, GetLookup};
 use calls::GetAnswer;
@@ -9,6 +11,8 @@ use calls::Got;
 use index::Found;
 use index::Lookup;
 use index::Place;
+use layout::LayoutId;
+use layout_code::fields::layout_number;
 use layout_code::fields::slot_length;
 use layout_code::fields::value_limit;
 use layout_code::header::lent_fault;
@@ -86,34 +90,65 @@ pub fn get_in(
     out: &mut [u8],
 ) -> GetAnswer
     requires { ⌜ Layout l ⌝ }
-    ensures { λ r. ⌜ getEnd r (now (out .exit)) ≡ reported (getResult l (now (image .entry)) (now (heads .entry)) (now (next .entry)) (keyWith low high) (now (out .entry))) (keyCompared l (now (image .entry)) (now (heads .entry)) (now (next .entry)) (keyWith low high)) ⌝ }
+    ensures result { λ r. ⌜ getEnd r (now (out .exit))
+        ≡ reported
+        (getResult l (now (image .entry)) (now (heads .entry)) (now (next .entry)) (keyWith low high) (now (out .entry)))
+        (keyCompared l (now (image .entry)) (now (heads .entry)) (now (next .entry)) (keyWith low high)) ⌝ }
+    ensures moved { λ r. ⌜ r .moved ≡ getMoved (r .got) ⌝ }
 {
     let lookup = get_lookup(image, l, heads, next, low, high, out.len());
     match lookup {
         Lookup::Refused { number, compared } => GetAnswer {
             got: Got::Refused(number),
             compared,
+            moved: 0,
         },
         Lookup::Allowed { place, compared } => match place {
             Place::NotHeld { prev: _ } => GetAnswer {
                 got: Got::Absent,
                 compared,
+                moved: 0,
             },
             Place::Held { slot, prev: _ } => {
                 let n = slot_length(image, l, slot as usize);
-                copy_value(image, l, slot as usize, out, n);
+                let moved = copy_value(image, l, slot as usize, out, n);
                 GetAnswer {
                     got: Got::Length(n),
                     compared,
+                    moved,
                 }
             }
         },
     }
 }
 
-// The value of the key fills the front of out: its length, absent, or a refusal. Neither of the last two changes out. Each has the slots compared.
+// Get, in either layout.
+pub fn get_in_layout(
+    image: &[u8],
+    layout: LayoutId,
+    heads: &[u32],
+    next: &[u32],
+    low: u64,
+    high: u64,
+    out: &mut [u8],
+) -> GetAnswer
+    ensures result { λ r. ⌜ getEnd r (now (out .exit))
+        ≡ reported
+        (getResult (layoutNumber layout) (now (image .entry)) (now (heads .entry)) (now (next .entry)) (keyWith low high) (now (out .entry)))
+        (keyCompared (layoutNumber layout) (now (image .entry)) (now (heads .entry)) (now (next .entry)) (keyWith low high)) ⌝ }
+    ensures moved { λ r. ⌜ r .moved ≡ getMoved (r .got) ⌝ }
+{
+    get_in(image, layout_number(layout), heads, next, low, high, out)
+}
+
+// The value of the key fills the front of out: its length, absent, or a refusal. Neither of the last two changes out. Each has the slots compared and
+// the words moved.
 pub fn get(image: &[u8], heads: &[u32], next: &[u32], key: u64, out: &mut [u8]) -> GetAnswer
-    ensures { λ r. ⌜ getEnd r (now (out .exit)) ≡ reported (getResult 1 (now (image .entry)) (now (heads .entry)) (now (next .entry)) key (now (out .entry))) (keyCompared 1 (now (image .entry)) (now (heads .entry)) (now (next .entry)) key) ⌝ }
+    ensures result { λ r. ⌜ getEnd r (now (out .exit))
+        ≡ reported
+        (getResult 1 (now (image .entry)) (now (heads .entry)) (now (next .entry)) key (now (out .entry)))
+        (keyCompared 1 (now (image .entry)) (now (heads .entry)) (now (next .entry)) key) ⌝ }
+    ensures moved { λ r. ⌜ r .moved ≡ getMoved (r .got) ⌝ }
 {
     get_in(image, 1, heads, next, key, 0, out)
 }
@@ -127,7 +162,11 @@ pub fn get2(
     high: u64,
     out: &mut [u8],
 ) -> GetAnswer
-    ensures { λ r. ⌜ getEnd r (now (out .exit)) ≡ reported (getResult 2 (now (image .entry)) (now (heads .entry)) (now (next .entry)) (keyWith low high) (now (out .entry))) (keyCompared 2 (now (image .entry)) (now (heads .entry)) (now (next .entry)) (keyWith low high)) ⌝ }
+    ensures result { λ r. ⌜ getEnd r (now (out .exit))
+        ≡ reported
+        (getResult 2 (now (image .entry)) (now (heads .entry)) (now (next .entry)) (keyWith low high) (now (out .entry)))
+        (keyCompared 2 (now (image .entry)) (now (heads .entry)) (now (next .entry)) (keyWith low high)) ⌝ }
+    ensures moved { λ r. ⌜ r .moved ≡ getMoved (r .got) ⌝ }
 {
     get_in(image, 2, heads, next, low, high, out)
 }

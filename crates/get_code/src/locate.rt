@@ -1,11 +1,14 @@
 // Locate: the slot and the version of a key. `l` is the layout; a key is two words, the high one 0 in layout 1.
 ghost use mathlib.Core.Path.{_≡_};
 ghost use Rattle.layout.specs.Record.{Layout, keyWith};
+ghost use Rattle.layout.specs.Layouts.{layoutNumber};
 ghost use Rattle.calls.specs.Compared.{reported, keyCompared};
 ghost use Rattle.calls.specs.Locate.{locateEnd, locateResult};
 use calls::LocateAnswer;
 use calls::Located;
 use index::Found;
+use layout::LayoutId;
+use layout_code::fields::layout_number;
 use layout_code::header::lent_fault;
 use layout_code::header::slot_count;
 use search_code::search::find;
@@ -52,6 +55,23 @@ pub fn locate_in(
             compared: 0,
         },
     }
+}
+
+// Locate, in either layout.
+pub fn locate_in_layout(
+    image: &[u8],
+    layout: LayoutId,
+    heads: &[u32],
+    next: &[u32],
+    low: u64,
+    high: u64,
+) -> LocateAnswer
+    ensures result { λ r. ⌜ locateEnd r
+        ≡ reported
+        (locateResult (layoutNumber layout) (now (image .entry)) (now (heads .entry)) (now (next .entry)) (keyWith low high))
+        (keyCompared (layoutNumber layout) (now (image .entry)) (now (heads .entry)) (now (next .entry)) (keyWith low high)) ⌝ }
+{
+    locate_in(image, layout_number(layout), heads, next, low, high)
 }
 
 // The slot that holds the key and the version on its line A; absent; or a refusal. Each has the slots compared.

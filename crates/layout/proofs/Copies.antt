@@ -8,7 +8,7 @@ use lib.ListN.{length, drop, set}
 use Rattle.words.specs.Word.{setBytes}
 use Rattle.prelude.specs.Range.{tabulate}
 use Rattle.layout.specs.Record.{valueWord, valueByte}
-use Rattle.layout.specs.inner.Steps.{steps}
+use Rattle.layout.specs.Moved.{wordsMoved}
 use Rattle.prelude.proofs.Tabulate.{tabulate-set}
 
 -- the front of a list is the values so far
@@ -67,5 +67,5 @@ copied-next l A B old n i out room h c next after e q =
           (filled-at (valueByte l A B) old (min n (8 * i)) (8 * i) out (omega arith) (c .filled)));
     }
 
-pub copied-all : (f : ℕ → ℕ) (old : List ℕ) (n i : ℕ) (out : List ℕ) → n ≤ 8 * i → Copied f old n i out → (i ≡ steps n) × Filled f old n out
+pub copied-all : (f : ℕ → ℕ) (old : List ℕ) (n i : ℕ) (out : List ℕ) → n ≤ 8 * i → Copied f old n i out → (i ≡ wordsMoved n) × Filled f old n out
 copied-all f old n i out h c = (omega arith, filled-at f old (min n (8 * i)) n out (omega arith) (c .filled))

@@ -6,5 +6,6 @@ pub mod Tails
 pub mod Copies
 pub mod Lents
 pub mod KeyWords
+pub mod Layouts
 pub mod Places
 pub mod RecordFields

@@ -2,6 +2,8 @@ pub mod Size
 pub mod Line
 pub mod Slot
 pub mod Record
+pub mod Layouts
+pub mod Moved
 pub mod Content
 pub mod Header
 pub mod Fault

@@ -1,4 +1,3 @@
 pub mod Sized
 pub mod Inside
 pub mod Key
-pub mod Steps

@@ -6,10 +6,12 @@ ghost use lib.ListN.{length};
 ghost use Rattle.words.specs.Word.{word};
 ghost use Rattle.layout.specs.Line.{lineA, lineB};
 ghost use Rattle.layout.specs.Record.{keyOf, keyWith, kindOf, lengthOf, recordNumber, limit};
+ghost use Rattle.layout.specs.Layouts.{layoutNumber};
 ghost use Rattle.layout.specs.Fault.{bitsFault, kindFault, kindLimit, wordFault, tailFault, faultOf};
 ghost use Rattle.layout.specs.inner.Inside.{SlotInside};
 ghost use Rattle.layout.specs.inner.Key.{highWord};
 use crate::value::value_word;
+use layout::LayoutId;
 use words_code::read_word;
 
 // The low word of the key in slot s.
@@ -62,6 +64,16 @@ fn length_of(w: u64) -> usize
     ensures { λ r. ⌜ r ≡ lengthOf w ⌝ }
 {
     (w / 256 % 256) as usize
+}
+
+// The number of a layout.
+pub fn layout_number(layout: LayoutId) -> usize
+    ensures { λ r. ⌜ r ≡ layoutNumber layout ⌝ }
+{
+    match layout {
+        LayoutId::One => 1,
+        LayoutId::Two => 2,
+    }
 }
 
 // The greatest length of a value.

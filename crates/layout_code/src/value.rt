@@ -7,7 +7,7 @@ ghost use Rattle.words.specs.Word.{word, setBytes};
 ghost use Rattle.layout.specs.Line.{lineA, lineB};
 ghost use Rattle.layout.specs.Record.{Layout, limit, valuePlace, valueWord, valueFront};
 ghost use Rattle.layout.specs.inner.Inside.{SlotInside};
-ghost use Rattle.layout.specs.inner.Steps.{steps};
+ghost use Rattle.layout.specs.Moved.{wordsMoved};
 use words_code::read_word;
 use words_code::write_part;
 
@@ -42,7 +42,7 @@ fn copy_step(image: &[u8], l: usize, s: usize, out: &mut [u8], n: usize, i: usiz
 // The first n bytes of the value in slot s fill the front of out, a word a step. The count of steps.
 pub fn copy_value(image: &[u8], l: usize, s: usize, out: &mut [u8], n: usize) -> usize
     requires { ⌜ SlotInside (now image) l s × (n ≤ limit l) × (n ≤ length (now out)) ⌝ }
-    ensures { λ r. ⌜ (r ≡ steps n) × (now (out .exit) ≡ valueFront l (lineA (word (now (image .entry))) s) (lineB (word (now (image .entry))) s) n ++ drop n (now (out .entry))) ⌝ }
+    ensures { λ r. ⌜ (r ≡ wordsMoved n) × (now (out .exit) ≡ valueFront l (lineA (word (now (image .entry))) s) (lineB (word (now (image .entry))) s) n ++ drop n (now (out .entry))) ⌝ }
 {
     let mut i = 0;
     while 8 * i < n {

@@ -1,5 +1,6 @@
-// The public calls of the set, with the types that they take and answer. None but those of `layouts` has a `requires`; each contract is one equation. A call whose name ends in 2 is layout 2's and
-// the one of that name without it layout 1's; format and the plays serve both.
+// The public calls of the set, with the types that they take and answer. None has a `requires`. Each contract is one equation; insert, replace, remove
+// and get have one more, on the words moved. A call whose name ends in 2 is layout 2's and the one of that name without it layout 1's; format and the
+// plays serve both.
 pub mod layouts;
 
 pub use basket_code::basket::basket;
@@ -28,6 +29,7 @@ pub use counting_code::count_slots;
 pub use counting_code::count_slots2;
 pub use cutcount::CutCounts;
 pub use cutcount_code::count_cuts;
+pub use cutcount_code::count_cuts2;
 pub use get_code::get::get;
 pub use get_code::get::get2;
 pub use get_code::locate::locate;

@@ -12,7 +12,7 @@ use Rattle.prelude.specs.Range.{tabulate}
 use Rattle.prelude.proofs.Tabulate.{tabulate-get, tabulate-length}
 use Rattle.layout.specs.Line.{firstWord, lastWord}
 use Rattle.layout.specs.Record.{Layout, keyWith, kindWord, limit, valuePlace}
-use Rattle.layout.specs.inner.Steps.{steps}
+use Rattle.layout.specs.Moved.{wordsMoved}
 use Rattle.layout.proofs.Places.{place-in-body}
 use Rattle.stores.specs.Store.{Store, zipped}
 use Rattle.stores.specs.Play.{wordNumbers, values}
@@ -229,11 +229,11 @@ module _ (l : ℕ) (m : ℕ → ℕ) (s key kind number : ℕ) (value : List ℕ
   -- the values of a record without a value, whose kind word is w, and then the value is moved in
   pub values-pasted : Layout l → length value ≤ limit l → (old frame words : List ℕ) (from w : ℕ) → from + 16 ≤ length old
       → w ≡ kindWord kind (length value) number → frame ≡ pasted old from (recordWords l a b key w 0 [] version) 16
-      → words ≡ withValue l value from (steps (length value)) frame
+      → words ≡ withValue l value from (wordsMoved (length value)) frame
       → words ≡ pasted old from (values (recordStores l m s key kind number value version)) 16
   values-pasted lay fits old frame words from w room e f g =
-      g ∙ ap (withValue l value from (steps (length value))) f
-      ∙ value-pasted l lay value old _ from (steps (length value)) (omega arith) (words-length l a b key w 0 [] version) (omega (arith, lay .high))
+      g ∙ ap (withValue l value from (wordsMoved (length value))) f
+      ∙ value-pasted l lay value old _ from (wordsMoved (length value)) (omega arith) (words-length l a b key w 0 [] version) (omega (arith, lay .high))
       ∙ ap (λ (t : List ℕ). pasted old from t 16)
       (value-moved l a b key version lay kind number w value _ _ fits e refl refl ∙ sym (values-zipped _ _ long) ∙ ap values the-stores)
 

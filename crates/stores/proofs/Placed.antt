@@ -16,7 +16,7 @@ use Rattle.prelude.specs.Range.{tabulate}
 use Rattle.prelude.proofs.Tabulate.{set-tabulate}
 use Rattle.layout.specs.Line.{firstWord, lastWord}
 use Rattle.layout.specs.Record.{Layout, keyWord, kindWord, limit, valuePlace}
-use Rattle.layout.specs.inner.Steps.{steps}
+use Rattle.layout.specs.Moved.{wordsMoved}
 use Rattle.layout.proofs.Places.{InBody, place-rises, place-in-body}
 use Rattle.stores.specs.Written.{marked, placedWord, bodyA, bodyB}
 use Rattle.stores.specs.inner.Written.{recordWords, withValue}
@@ -107,10 +107,10 @@ filling-next l value start words after from i next g h q p =
         ∙ ap (λ (n : ℕ). withValue l value from n start) step
 
 pub filling-end : (l : ℕ) (value start words : List ℕ) (from i : ℕ) → Filling l value start words from i → length value ≤ 8 * i
-    → (i ≡ steps (length value)) × (words ≡ withValue l value from (steps (length value)) start)
+    → (i ≡ wordsMoved (length value)) × (words ≡ withValue l value from (wordsMoved (length value)) start)
 filling-end l value start words from i g high = (count, g .so-far ∙ ap (λ (n : ℕ). withValue l value from n start) count)
   where
-    count : i ≡ steps (length value)
+    count : i ≡ wordsMoved (length value)
     count = omega (arith, g .low)
 
 -- ---- the stores of a record: word p by its kind word w and by what stands at a value's place
@@ -175,19 +175,19 @@ module _ (l a b key version : ℕ) where
 
   -- the steps of moving the value into a record without one, whose kind word is the record's, make the record
   pub value-moved : Layout l → (kind number w : ℕ) (value frame words : List ℕ) → length value ≤ limit l → w ≡ kindWord kind (length value) number
-      → frame ≡ recordWords l a b key w 0 [] version → words ≡ withValue l value 0 (steps (length value)) frame
+      → frame ≡ recordWords l a b key w 0 [] version → words ≡ withValue l value 0 (wordsMoved (length value)) frame
       → words ≡ recordWords l a b key kind number value version
   value-moved lay kind number w value frame words fits e f moved =
-      moved ∙ ap (withValue l value 0 (steps (length value))) (f ∙ without-value w)
-      ∙ some-words lay w value (steps (length value)) (omega (arith, lay .high))
+      moved ∙ ap (withValue l value 0 (wordsMoved (length value))) (f ∙ without-value w)
+      ∙ some-words lay w value (wordsMoved (length value)) (omega (arith, lay .high))
       ∙ ap (λ (g : ℕ → ℕ). tabulate g 0 16) (fun-ext (λ p. ap₂ (λ (x v : ℕ). wordAt x v p) e (all-placed p)))
       ∙ sym (words-by-place kind number value)
     where
-      all : limit l / 8 ≡ limit l / 8 - steps (length value) + steps (length value)
+      all : limit l / 8 ≡ limit l / 8 - wordsMoved (length value) + wordsMoved (length value)
       all = omega (arith, lay .high)
 
-      all-placed : (p : ℕ) → placedWord l value (steps (length value)) p ≡ placedWord l value (limit l / 8) p
+      all-placed : (p : ℕ) → placedWord l value (wordsMoved (length value)) p ≡ placedWord l value (limit l / 8) p
       all-placed p =
           sym
           (ap (λ (n : ℕ). placedWord l value n p) all
-          ∙ placed-past l value (steps (length value)) (limit l / 8 - steps (length value)) p (omega arith))
+          ∙ placed-past l value (wordsMoved (length value)) (limit l / 8 - wordsMoved (length value)) p (omega arith))

@@ -5,6 +5,7 @@ ghost use Prim.Native.Nat.{_+_, _*_, _^_, _≤_, _<_};
 ghost use lib.ListN.{length};
 ghost use Rattle.words.specs.Word.{word};
 ghost use Rattle.layout.specs.Record.{Layout, keyWith, keyWord, kindWord};
+ghost use Rattle.layout.specs.Moved.{wordsMoved};
 ghost use Rattle.stores.specs.Store.{zipped};
 ghost use Rattle.stores.specs.Written.{bodyA, recordStores};
 ghost use Rattle.stores.specs.Play.{wordNumbers, values};
@@ -116,7 +117,7 @@ fn fill_frame(
 }
 
 // The stores of a record for slot s of the image, as entries from to from + 15 of two lists: those without a value, and then the value is moved in. number is
-// that of the records which share the version, 0 for one alone.
+// that of the records which share the version, 0 for one alone. The count of words moved.
 pub fn record_stores_at(
     image: &[u8],
     l: usize,
@@ -130,9 +131,15 @@ pub fn record_stores_at(
     at: &mut [u32],
     words: &mut [u64],
     from: usize,
-)
+) -> usize
     requires { ⌜ Recordable l kind number (now value) version × (s < 65536) × (128 * (s + 1) ≤ length (now image)) × (from + 16 ≤ length (now at)) × (from + 16 ≤ length (now words)) ⌝ }
-    ensures { λ _. ⌜ (now (at .exit) ≡ pasted (now (at .entry)) from (wordNumbers (recordStores l (word (now (image .entry))) s (keyWith low high) kind number (now (value .entry)) version)) 16) × (now (words .exit) ≡ pasted (now (words .entry)) from (values (recordStores l (word (now (image .entry))) s (keyWith low high) kind number (now (value .entry)) version)) 16) ⌝ }
+    ensures stores { λ r. ⌜ (now (at .exit)
+        ≡ pasted (now (at .entry)) from
+        (wordNumbers (recordStores l (word (now (image .entry))) s (keyWith low high) kind number (now (value .entry)) version)) 16)
+        × (now (words .exit)
+        ≡ pasted (now (words .entry)) from
+        (values (recordStores l (word (now (image .entry))) s (keyWith low high) kind number (now (value .entry)) version)) 16) ⌝ }
+    ensures moved { λ r. ⌜ r ≡ wordsMoved (length (now (value .entry))) ⌝ }
 {
     let slot = s as usize;
     let a = read_word(image, 16 * slot + 7);
@@ -140,10 +147,10 @@ pub fn record_stores_at(
     fill_numbers(s, at, from);
     let w = kind_word(kind, value.len(), number);
     fill_frame(l, a, b, low, high, w, version, words, from);
-    fill_value(l, value, words, from);
+    fill_value(l, value, words, from)
 }
 
-// The stores of one record for slot s of the image.
+// The stores of one record for slot s of the image. The count of words moved.
 pub fn record_stores(
     image: &[u8],
     l: usize,
@@ -156,9 +163,11 @@ pub fn record_stores(
     version: u64,
     at: &mut [u32; 16],
     words: &mut [u64; 16],
-)
+) -> usize
     requires { ⌜ Recordable l kind number (now value) version × (s < 65536) × (128 * (s + 1) ≤ length (now image)) ⌝ }
-    ensures { λ _. ⌜ zipped (now (at .exit)) (now (words .exit)) ≡ recordStores l (word (now (image .entry))) s (keyWith low high) kind number (now (value .entry)) version ⌝ }
+    ensures stores { λ r. ⌜ zipped (now (at .exit)) (now (words .exit))
+        ≡ recordStores l (word (now (image .entry))) s (keyWith low high) kind number (now (value .entry)) version ⌝ }
+    ensures moved { λ r. ⌜ r ≡ wordsMoved (length (now (value .entry))) ⌝ }
 {
     record_stores_at(
         image,
@@ -173,7 +182,7 @@ pub fn record_stores(
         at,
         words,
         0,
-    );
+    )
 }
 
 // The stores of a remove for slot s of the image: no value is moved.

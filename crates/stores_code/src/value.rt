@@ -4,7 +4,7 @@ ghost use Prim.Native.Nat.{_+_, _*_, _<_, _≤_};
 ghost use lib.ListN.{length, set};
 ghost use Rattle.words.specs.Word.{word};
 ghost use Rattle.layout.specs.Record.{Layout, limit, valuePlace};
-ghost use Rattle.layout.specs.inner.Steps.{steps};
+ghost use Rattle.layout.specs.Moved.{wordsMoved};
 ghost use Rattle.stores.specs.inner.Written.{withValue};
 use layout_code::value::value_place;
 use words_code::padded_word;
@@ -22,7 +22,7 @@ fn fill_step(l: usize, value: &[u8], words: &mut [u64], from: usize, i: usize) -
 // The words of the value go to their places among the sixteen from position from on. The count of steps.
 pub fn fill_value(l: usize, value: &[u8], words: &mut [u64], from: usize) -> usize
     requires { ⌜ Layout l × (length (now value) ≤ limit l) × (from + 16 ≤ length (now words)) ⌝ }
-    ensures { λ r. ⌜ (r ≡ steps (length (now (value .entry)))) × (now (words .exit) ≡ withValue l (now (value .entry)) from (steps (length (now (value .entry)))) (now (words .entry))) ⌝ }
+    ensures { λ r. ⌜ (r ≡ wordsMoved (length (now (value .entry)))) × (now (words .exit) ≡ withValue l (now (value .entry)) from (wordsMoved (length (now (value .entry)))) (now (words .entry))) ⌝ }
 {
     let mut i = 0;
     while 8 * i < value.len() {

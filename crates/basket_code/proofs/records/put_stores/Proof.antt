@@ -76,7 +76,7 @@ loop-again c = (
   storing-on _ _ _ _ _ _ _ _ _ _ _ _ (c .before .before .before .before .before .before .before .before .before .before .before .before .before .before .loop .inv .1) (c .before .before .before .before .before .before .before .before .before .before .before .before .before .before .before .before .before .before .before .pre) (c .before .before .before .before .before .before .before .before .before .before .before .before .before .loop-test .taken) _ _ (c .before .before .before .before .record-stores-at .kept .1 .1 .1 .1 .1 .1 .1 .1 .1 .0)
       (c .before .before .before .before .record-stores-at .kept .1 .1 .1 .1 .1 .1 .1 .1 .1 .1 .0) _ _ _ _ (c .before .before .before .before .before .before .before .before .before .before .before .high-in .ensures) (c .before .before .before .before .before .before .before .before .before .before .kind-by .ensures) (c .before .before .before .before .before .before .before .before .before .before .before .before .before .before .loop .inv .0)
       (value-of _ _ _ _ (c .before .before .before .before .before .before .before .before .before .size-by .ensures) (search (needs, size-within _ _ _ _ _ _ _ _ (c .before .before .before .before .before .before .before .before .before .before .before .before .before .before .before .before .before .before .before .pre) _ (c .before .before .before .before .before .before .before .before .before .before .before .before .before .loop-test .taken) _ (c .before .before .before .before .before .before .before .before .before .size-by .ensures))))
-      (c .before .before .before .before .record-stores-at .ensures .0) (c .before .before .before .before .record-stores-at .ensures .1),
+      (c .before .before .before .before .record-stores-at .ensures .0 .0) (c .before .before .before .before .record-stores-at .ensures .0 .1),
 )
 
 same-length : tie.Need-same-length Inv-loop μ-loop

@@ -13,7 +13,7 @@ returns : tie.Need-returns
 unfolding seekSays
 returns c =
     (c .already-located .ensures)
-    ∙ acknowledge-again _ _ _ (sym (ap seekSays (c .before .before .before .before .before .sought .given .1)) ∙ (c .before .before .before .before .before .before .before .seek-order .ensures)) (c .before .before .if1 .taken) _ (ap (λ (x : Reported Answer). x .left) (c .before .locate-in .ensures))
+    ∙ acknowledge-again _ _ _ (sym (ap seekSays (c .before .before .before .before .before .sought .given .1)) ∙ (c .before .before .before .before .before .before .before .seek-order .ensures)) (c .before .before .if1 .taken) _ (ap (λ (x : Reported Answer). x .left) (c .before .locate-in-layout .ensures))
 
 returns-2 : tie.Need-returns-2
 unfolding seekSays planSays acknowledged

@@ -8,7 +8,7 @@ use Rattle.book_code.proofs.plans.new_plan.Statement.{statement}
 use Rattle.book_code.proofs.plans.new_plan.Tie as tie
 
 returns : tie.Need-returns
-returns c = (c .new-located .ensures) ∙ ap (newCourse _) (ap (λ (x : Reported Answer). x .left) (c .before .locate-in .ensures))
+returns c = (c .new-located .ensures) ∙ ap (newCourse _) (ap (λ (x : Reported Answer). x .left) (c .before .locate-in-layout .ensures))
 
 pub new-plan-spec : {M : Type 1} → statement M
 new-plan-spec = tie.close (tie.spec (λ c κs. search needs) (λ c κs. search needs) returns)

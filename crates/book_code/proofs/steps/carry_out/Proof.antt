@@ -9,25 +9,25 @@ use Rattle.book_code.proofs.steps.carry_out.Statement.{statement}
 use Rattle.book_code.proofs.steps.carry_out.Tie as tie
 
 same-length : tie.Need-same-length
-same-length c = c .before .before .before .before .before .write-in .kept .1 .1 .0
+same-length c = c .before .before .before .before .before .write-in-layout .kept .1 .1 .0
 
 same-length-2 : tie.Need-same-length-2
-same-length-2 c = c .before .before .before .before .before .write-in .kept .1 .1 .1 .0
+same-length-2 c = c .before .before .before .before .before .write-in-layout .kept .1 .1 .1 .0
 
 returns : tie.Need-returns
 unfolding planSays
 returns c =
-    course-write _ _ _ _ _ _ _ _ _ _ _ (ap planSays (c .before .before .before .before .before .before .before .before .before .before .before .before .before .plan .given .1)) _ (c .before .before .before .before .before .before .before .before .before .before .before .order-bytes .ensures) _ (ap (λ (x : Reported ChangeResult). x .left) (c .before .before .before .before .before .write-in .ensures)) (c .by-change .ensures _ _ _ _)
+    course-write _ _ _ _ _ _ _ _ _ _ _ (ap planSays (c .before .before .before .before .before .before .before .before .before .before .before .before .before .plan .given .1)) _ (c .before .before .before .before .before .before .before .before .before .before .before .order-bytes .ensures) _ (ap (λ (x : Reported ChangeResult). x .left) (c .before .before .before .before .before .write-in-layout .ensures .0)) (c .by-change .ensures _ _ _ _)
 
 same-length-3 : tie.Need-same-length-3
-same-length-3 c = c .before .before .before .before .before .remove-in .kept .1 .1 .0
+same-length-3 c = c .before .before .before .before .before .remove-in-layout .kept .1 .1 .0
 
 same-length-4 : tie.Need-same-length-4
-same-length-4 c = c .before .before .before .before .before .remove-in .kept .1 .1 .1 .0
+same-length-4 c = c .before .before .before .before .before .remove-in-layout .kept .1 .1 .1 .0
 
 returns-2 : tie.Need-returns-2
 unfolding planSays
-returns-2 c = course-remove _ _ _ _ _ _ _ _ _ (ap planSays (c .before .before .before .before .before .before .before .before .before .before .enum-told .given .1)) _ (ap (λ (x : Reported ChangeResult). x .left) (c .before .before .before .before .before .remove-in .ensures)) (c .by-change2 .ensures _ _ _ _)
+returns-2 c = course-remove _ _ _ _ _ _ _ _ _ (ap planSays (c .before .before .before .before .before .before .before .before .before .before .enum-told .given .1)) _ (ap (λ (x : Reported ChangeResult). x .left) (c .before .before .before .before .before .remove-in-layout .ensures .0)) (c .by-change2 .ensures _ _ _ _)
 
 returns-3 : tie.Need-returns-3
 unfolding planSays bookSays bookLeftIn idle handedOut

@@ -28,17 +28,21 @@ remove-stores-requires c κs =
 
 returns : tie.Need-returns
 unfolding changeSays handedOut leftIn unchanged keyCompared
-returns c =
-    ap₂ (λ (x : ChangeResult) (k : ℕ). reported x k)
-    (ap (leftIn _) (remove-refused _ _ _ _ _ _ _ (c .before .before .before .remove-lookup .ensures) _ _ (c .before .lookup .given .1)))
-    (refused-count (c .before .before .before .remove-lookup .ensures) _ _ (c .before .lookup .given .1))
+returns c = (
+  ap₂ (λ (x : ChangeResult) (k : ℕ). reported x k)
+      (ap (leftIn _) (remove-refused _ _ _ _ _ _ _ (c .before .before .before .remove-lookup .ensures) _ _ (c .before .lookup .given .1)))
+      (refused-count (c .before .before .before .remove-lookup .ensures) _ _ (c .before .lookup .given .1)),
+  refl,
+)
 
 returns-2 : tie.Need-returns-2
 unfolding changeSays handedOut leftIn unchanged keyCompared
-returns-2 c =
-    ap₂ (λ (x : ChangeResult) (k : ℕ). reported x k)
-    (ap (leftIn _) (remove-not-held _ _ _ _ _ _ _ (c .before .before .before .before .before .remove-lookup .ensures) _ _ (allowed-at (c .before .before .before .lookup2 .given .1) (c .enum-told .given .1))))
-    (allowed-count (c .before .before .before .before .before .remove-lookup .ensures) _ _ (c .before .before .before .lookup2 .given .1))
+returns-2 c = (
+  ap₂ (λ (x : ChangeResult) (k : ℕ). reported x k)
+      (ap (leftIn _) (remove-not-held _ _ _ _ _ _ _ (c .before .before .before .before .before .remove-lookup .ensures) _ _ (allowed-at (c .before .before .before .lookup2 .given .1) (c .enum-told .given .1))))
+      (allowed-count (c .before .before .before .before .before .remove-lookup .ensures) _ _ (c .before .before .before .lookup2 .given .1)),
+  refl,
+)
 
 same-length-5 : tie.Need-same-length-5
 same-length-5 c = c .before .before .before .before .before .before .before .remove-held .kept .0
@@ -48,12 +52,14 @@ same-length-6 c = c .before .before .before .before .before .before .before .rem
 
 returns-3 : tie.Need-returns-3
 unfolding changeSays keyCompared
-returns-3 c =
-    ap₂ (λ (x : ChangeResult) (k : ℕ). reported x k)
-    (changed-end _ _ _ _ _ _ _ _ _ _ (c .remove-stores .ensures) _ _ _ _ (c .before .before .before .before .before .before .before .remove-held .ensures)
-    ∙ ap (leftIn _)
-    (remove-held _ _ _ _ _ _ _ (c .before .before .before .before .before .before .before .before .before .before .before .before .before .before .before .before .before .remove-lookup .ensures) _ _ _ _ (allowed-at (c .before .before .before .before .before .before .before .before .before .before .before .before .before .before .before .lookup2 .given .1) (c .before .before .before .before .before .before .before .before .before .before .before .before .place .given .1)) (c .before .before .before .before .before .before .before .before .before .before .head-of .ensures .1 (c .before .before .before .before .before .before .before .before .before .before .before .before .before .before .before .before .before .before .before .before .before .before .before .args .high))))
-    (allowed-count (c .before .before .before .before .before .before .before .before .before .before .before .before .before .before .before .before .before .remove-lookup .ensures) _ _ (c .before .before .before .before .before .before .before .before .before .before .before .before .before .before .before .lookup2 .given .1))
+returns-3 c = (
+  ap₂ (λ (x : ChangeResult) (k : ℕ). reported x k)
+      (changed-end _ _ _ _ _ _ _ _ _ _ (c .remove-stores .ensures) _ _ _ _ (c .before .before .before .before .before .before .before .remove-held .ensures)
+      ∙ ap (leftIn _)
+      (remove-held _ _ _ _ _ _ _ (c .before .before .before .before .before .before .before .before .before .before .before .before .before .before .before .before .before .remove-lookup .ensures) _ _ _ _ (allowed-at (c .before .before .before .before .before .before .before .before .before .before .before .before .before .before .before .lookup2 .given .1) (c .before .before .before .before .before .before .before .before .before .before .before .before .place .given .1)) (c .before .before .before .before .before .before .before .before .before .before .head-of .ensures .1 (c .before .before .before .before .before .before .before .before .before .before .before .before .before .before .before .before .before .before .before .before .before .before .before .args .high))))
+      (allowed-count (c .before .before .before .before .before .before .before .before .before .before .before .before .before .before .before .before .before .remove-lookup .ensures) _ _ (c .before .before .before .before .before .before .before .before .before .before .before .before .before .before .before .lookup2 .given .1)),
+  refl,
+)
 
 pub remove-in-spec : {M : Type 1} → statement M
 remove-in-spec =

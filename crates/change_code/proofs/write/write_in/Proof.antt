@@ -4,6 +4,7 @@ use Prim.Native.Nat.{ℕ}
 use native.Mathlib.Omega.{arith}
 use borrow.Author.Needs.{needs}
 use Rattle.calls.specs.Compared.{reported}
+use Rattle.calls.specs.Moved.{writeMoved}
 use Rattle.calls.specs.Change.{ChangeResult, changeSays, handedOut, leftIn, unchanged, writeCompared}
 use Rattle.calls.proofs.Changes.{allowed, allowed-inside, changed-end}
 use Rattle.calls.proofs.Results.{refused-count, allowed-count, write-refused, write-allowed}
@@ -23,20 +24,24 @@ record-stores-requires c κs =
     (record { layout = c .before .before .before .before .before .before .before .before .before .before .before .before .before .before .before .before .before .before .before .before .pre; kind-fits = omega arith; number-fits = omega arith; size = ready .0; version-fits = ready .1 }, ready .2, ready .3)
 
 returns : tie.Need-returns
-unfolding changeSays handedOut leftIn unchanged writeCompared
-returns c =
-    ap₂ (λ (x : ChangeResult) (k : ℕ). reported x k)
-    (ap (leftIn _) (write-refused _ _ _ _ _ _ _ _ _ (c .before .before .before .write-lookup .ensures) _ _ (c .before .lookup .given .1)))
-    (refused-count (c .before .before .before .write-lookup .ensures) _ _ (c .before .lookup .given .1))
+unfolding changeSays handedOut leftIn unchanged writeCompared writeMoved
+returns c = (
+  ap₂ (λ (x : ChangeResult) (k : ℕ). reported x k)
+      (ap (leftIn _) (write-refused _ _ _ _ _ _ _ _ _ (c .before .before .before .write-lookup .ensures) _ _ (c .before .lookup .given .1)))
+      (refused-count (c .before .before .before .write-lookup .ensures) _ _ (c .before .lookup .given .1)),
+  refl,
+)
 
 returns-2 : tie.Need-returns-2
-unfolding changeSays writeCompared
-returns-2 c =
-    ap₂ (λ (x : ChangeResult) (k : ℕ). reported x k)
-    (changed-end _ _ _ _ _ _ _ _ _ _ (c .record-stores .ensures) _ _ _ _ (c .before .before .before .before .before .before .before .write-place .ensures)
-    ∙ ap (leftIn _)
-    (write-allowed _ _ _ _ _ _ _ _ _ (c .before .before .before .before .before .before .before .before .before .before .before .before .before .before .write-lookup .ensures) _ _ _ (c .before .before .before .before .before .before .before .before .before .before .before .before .lookup2 .given .1) (c .before .before .before .before .before .before .before .before .before .before .head-of .ensures .1 (c .before .before .before .before .before .before .before .before .before .before .before .before .before .before .before .before .before .before .before .before .before .args .high))))
-    (allowed-count (c .before .before .before .before .before .before .before .before .before .before .before .before .before .before .write-lookup .ensures) _ _ (c .before .before .before .before .before .before .before .before .before .before .before .before .lookup2 .given .1))
+unfolding changeSays writeCompared writeMoved
+returns-2 c = (
+  ap₂ (λ (x : ChangeResult) (k : ℕ). reported x k)
+      (changed-end _ _ _ _ _ _ _ _ _ _ (c .record-stores .ensures .0) _ _ _ _ (c .before .before .before .before .before .before .before .write-place .ensures)
+      ∙ ap (leftIn _)
+      (write-allowed _ _ _ _ _ _ _ _ _ (c .before .before .before .before .before .before .before .before .before .before .before .before .before .before .write-lookup .ensures) _ _ _ (c .before .before .before .before .before .before .before .before .before .before .before .before .lookup2 .given .1) (c .before .before .before .before .before .before .before .before .before .before .head-of .ensures .1 (c .before .before .before .before .before .before .before .before .before .before .before .before .before .before .before .before .before .before .before .before .before .args .high))))
+      (allowed-count (c .before .before .before .before .before .before .before .before .before .before .before .before .before .before .write-lookup .ensures) _ _ (c .before .before .before .before .before .before .before .before .before .before .before .before .lookup2 .given .1)),
+  c .record-stores .ensures .1,
+)
 
 same-length-3 : tie.Need-same-length-3
 same-length-3 c = c .before .before .before .before .before .before .before .write-place .kept .0

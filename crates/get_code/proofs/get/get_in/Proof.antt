@@ -1,10 +1,11 @@
 -- `get_code::get::get_in` meets its contract. Assumes nothing.
-use mathlib.Core.Path.{ap₂}
+use mathlib.Core.Path.{refl, ap₂}
 use Prim.Native.Nat.{ℕ}
 use native.Mathlib.Omega.{arith}
 use borrow.Author.Needs.{needs}
 use Rattle.index.proofs.LookedUp.{allowed-at}
 use Rattle.calls.specs.Compared.{reported, keyCompared}
+use Rattle.calls.specs.Moved.{getMoved}
 use Rattle.calls.specs.Get.{GetResult, getSays}
 use Rattle.calls.proofs.Results.{refused-count, allowed-count, get-refused, get-held, get-not-held}
 use Rattle.get_code.proofs.get.get_in.Statement.{statement}
@@ -19,25 +20,31 @@ copy-value-requires c κs =
     (ready .0, omega (arith, c .before .slot-length .ensures, ready .1), omega (arith, c .before .slot-length .ensures, ready .2))
 
 returns : tie.Need-returns
-unfolding getSays keyCompared
-returns c =
-    ap₂ (λ (x : GetResult) (k : ℕ). reported x k) (get-refused _ _ _ _ _ _ _ (c .before .before .before .get-lookup .ensures) _ _ (c .before .lookup .given .1))
-    (refused-count (c .before .before .before .get-lookup .ensures) _ _ (c .before .lookup .given .1))
+unfolding getSays keyCompared getMoved
+returns c = (
+  ap₂ (λ (x : GetResult) (k : ℕ). reported x k) (get-refused _ _ _ _ _ _ _ (c .before .before .before .get-lookup .ensures) _ _ (c .before .lookup .given .1))
+      (refused-count (c .before .before .before .get-lookup .ensures) _ _ (c .before .lookup .given .1)),
+  refl,
+)
 
 returns-2 : tie.Need-returns-2
-unfolding getSays keyCompared
-returns-2 c =
-    ap₂ (λ (x : GetResult) (k : ℕ). reported x k)
-    (get-not-held _ _ _ _ _ _ _ (c .before .before .before .before .before .get-lookup .ensures) _ _ (allowed-at (c .before .before .before .lookup2 .given .1) (c .enum-told .given .1)))
-    (allowed-count (c .before .before .before .before .before .get-lookup .ensures) _ _ (c .before .before .before .lookup2 .given .1))
+unfolding getSays keyCompared getMoved
+returns-2 c = (
+  ap₂ (λ (x : GetResult) (k : ℕ). reported x k)
+      (get-not-held _ _ _ _ _ _ _ (c .before .before .before .before .before .get-lookup .ensures) _ _ (allowed-at (c .before .before .before .lookup2 .given .1) (c .enum-told .given .1)))
+      (allowed-count (c .before .before .before .before .before .get-lookup .ensures) _ _ (c .before .before .before .lookup2 .given .1)),
+  refl,
+)
 
 returns-3 : tie.Need-returns-3
-unfolding getSays keyCompared
-returns-3 c =
-    ap₂ (λ (x : GetResult) (k : ℕ). reported x k)
-    (get-held _ _ _ _ _ _ _ (c .before .before .before .before .before .before .before .before .before .before .before .get-lookup .ensures) _ _ _ (allowed-at (c .before .before .before .before .before .before .before .before .before .lookup2 .given .1) (c .before .before .before .before .before .before .place .given .1)) _ (c .before .before .before .before .slot-length .ensures) _
-    (c .before .before .copy-value .ensures .1))
-    (allowed-count (c .before .before .before .before .before .before .before .before .before .before .before .get-lookup .ensures) _ _ (c .before .before .before .before .before .before .before .before .before .lookup2 .given .1))
+unfolding getSays keyCompared getMoved
+returns-3 c = (
+  ap₂ (λ (x : GetResult) (k : ℕ). reported x k)
+      (get-held _ _ _ _ _ _ _ (c .before .before .before .before .before .before .before .before .before .before .before .get-lookup .ensures) _ _ _ (allowed-at (c .before .before .before .before .before .before .before .before .before .lookup2 .given .1) (c .before .before .before .before .before .before .place .given .1)) _ (c .before .before .before .before .slot-length .ensures) _
+      (c .before .before .copy-value .ensures .1))
+      (allowed-count (c .before .before .before .before .before .before .before .before .before .before .before .get-lookup .ensures) _ _ (c .before .before .before .before .before .before .before .before .before .lookup2 .given .1)),
+  c .before .before .copy-value .ensures .0,
+)
 
 pub get-in-spec : {M : Type 1} → statement M
 get-in-spec =
