@@ -19,7 +19,7 @@ enum { TRACES = 1000, LONG = 60, CALLS = 50, LINES = LONG * (CALLS + 1) + 80, BU
 
 static const char *plug, *file;
 static uint64_t lines, changed, unchanged; /* lines read; calls whose later map is another, and the same */
-static uint64_t streamed;                  /* traces of which more is due than plug holds back */
+static uint64_t streamed;                  /* traces of which more is due than plug's buffer holds */
 
 /* ---- a trace */
 

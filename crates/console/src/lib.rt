@@ -1,4 +1,11 @@
 // A session from standard input to standard output, of any size; and the output of one that is read byte by byte.
+ghost use mathlib.Core.Path.{_≡_};
+ghost use mathlib.Core.Bool.{true, false, not, cond};
+ghost use Prim.Native.Nat.{_≤_};
+ghost use lib.Dec.{eqb};
+ghost use lib.ListN.{length};
+ghost use Rattle.session.specs.Step.{stepResult};
+ghost use Rattle.session.specs.Stream.{streamEnd, lacksRoom, emptied, afterRead};
 use libc::STDIN_FILENO;
 use libc::STDOUT_FILENO;
 use session::Progress;
@@ -13,13 +20,12 @@ pub struct Status {
     pub written: bool,
 }
 
-// The stored output is written; where that fails, nothing more is read or written.
-pub fn flush(p: Progress, out: &[u8]) -> Status {
-    let at = p.at;
-    let mut written = false;
-    if at <= out.len() {
-        written = io::write_all(STDOUT_FILENO, &out[..at]);
-    }
+// After a write: the next line is stored at the front; where the write failed, nothing more is read or written.
+fn after_write(p: Progress, written: bool) -> Status
+    ensures progress { λ r. ⌜ r .progress ≡ emptied p ⌝ }
+    ensures reading { λ r. ⌜ r .reading ≡ written ⌝ }
+    ensures written { λ r. ⌜ r .written ≡ written ⌝ }
+{
     let parse = p.parse;
     let session = p.session;
     Status {
@@ -34,19 +40,40 @@ pub fn flush(p: Progress, out: &[u8]) -> Status {
     }
 }
 
-// After a byte: the output is written before a further line might lack room.
-pub fn after_byte(p: Progress, out: &[u8]) -> Status {
-    if p.at < out.len() && 64 <= out.len() - p.at {
-        return Status {
-            progress: p,
-            reading: true,
-            written: true,
-        };
+// The stored output is written; whether it can be is the system's, and nothing more is read or written where it cannot.
+pub fn flush(p: Progress, out: &[u8]) -> Status
+    ensures progress { λ r. ⌜ r .progress ≡ emptied p ⌝ }
+    ensures reading { λ r. ⌜ r .reading ≡ r .written ⌝ }
+    ensures inside { λ r. ⌜ (r .written ≡ true → p .at ≤ length (now (out .entry))) ⌝ }
+{
+    let at = p.at;
+    if out.len() < at {
+        return after_write(p, false);
     }
-    flush(p, out)
+    after_write(p, io::write_all(STDOUT_FILENO, &out[..at]))
 }
 
-// The bytes of one read, up to a write that fails; where there are none, the input has ended.
+// After a byte: the output is written before a further line might lack room, and only then.
+pub fn after_byte(p: Progress, out: &[u8]) -> Status
+    ensures progress { λ r. ⌜ r .progress ≡ cond (lacksRoom p (length (now (out .entry)))) (emptied p) p ⌝ }
+    ensures reading { λ r. ⌜ r .reading ≡ r .written ⌝ }
+    ensures room { λ r. ⌜ (lacksRoom p (length (now (out .entry))) ≡ false → r .written ≡ true) ⌝ }
+{
+    let at = p.at;
+    if out.len() < at {
+        return flush(p, out);
+    }
+    if out.len() - at < 64 {
+        return flush(p, out);
+    }
+    Status {
+        progress: p,
+        reading: true,
+        written: true,
+    }
+}
+
+// The bytes of one read, up to a write that fails, and the output of all of them is written; where there are no bytes, the input has ended.
 fn take_bytes(
     t: Status,
     input: &[u8],
@@ -54,18 +81,33 @@ fn take_bytes(
     heads: &mut [u32],
     next: &mut [u32],
     out: &mut [u8],
-) -> Status {
+) -> Status
+    ensures stream { λ r. ⌜ (r .written ≡ true →
+        streamEnd (r .progress) (now (image .exit)) (now (heads .exit)) (now (next .exit)) (now (out .exit)) ≡
+        afterRead stepResult
+        (streamEnd (t .progress) (now (image .entry)) (now (heads .entry)) (now (next .entry)) (now (out .entry))) (now (input .entry))) ⌝ }
+    ensures reading { λ r. ⌜ (r .written ≡ true → r .reading ≡ not (eqb (length (now (input .entry))) 0)) ⌝ }
+{
     let mut u = t;
-    u.reading = input.len() != 0;
     let mut i = 0;
-    while i < input.len() && u.written {
+    while i < input.len() {
         let byte = input[i];
         i += 1;
         let p = u.progress;
         let q = take_byte(p, byte, image, heads, next, out);
         u = after_byte(q, out);
+        if !u.written {
+            return u;
+        }
     }
-    u
+    let p = u.progress;
+    let done = flush(p, out);
+    let after = done.progress;
+    Status {
+        progress: after,
+        reading: input.len() != 0,
+        written: done.written,
+    }
 }
 
 // The session of the whole input: a line of output for each line. The reads are counted, since nothing says that the input ends.
@@ -81,7 +123,7 @@ pub fn run_session() {
         written: true,
     };
     let mut reads = u64::MAX;
-    while reads > 0 && t.reading {
+    while reads > 0 && t.reading && t.written {
         let got = libc::read(STDIN_FILENO, &mut input);
         let n = io::count(got, &input);
         t = take_bytes(t, &input[..n], &mut image, &mut heads, &mut next, &mut out);

@@ -30,6 +30,9 @@ pub use Rattle.counting.specs.declared.CountAnswer.{CountAnswer}
 pub use Rattle.counting.specs.declared.CountAnswer.the-variants.{Counted, Refused as NotCounted}
 pub use Rattle.counting.specs.Count.{CountResult}
 unfoldable pub use Rattle.counting.specs.Count.{countValues, countEnd, countSays, countResult}
+pub use Rattle.cutcount.specs.declared.CutCounts.{CutCounts}
+pub use Rattle.cutcount.specs.CutCount.{earlierCount, laterCount, cutCountFault, CutCountResult, cutCountEnd}
+unfoldable pub use Rattle.cutcount.specs.CutCount.{cutCountSays, cutCountResult}
 pub use Rattle.calls.specs.Format.{FormatResult}
 pub use Rattle.calls.specs.Format.{formatted, formatEnd}
 unfoldable pub use Rattle.calls.specs.Format.{formatSays, layoutFault, formatFault, formatResult}

@@ -1,9 +1,11 @@
 // The release trace: calls in the lines of the trial session on standard input, and for each call that stores one line on standard output, with how many
 // of its 81 cuts leave the earlier map and how many the later. Each second a line on standard error says how far it is.
-mod step;
-
-use crate::step::take_byte;
-use crate::step::take_end;
+ghost use mathlib.Core.Path.{_≡_};
+ghost use mathlib.Core.Bool.{true, not};
+ghost use lib.Dec.{eqb};
+ghost use lib.ListN.{length};
+ghost use Rattle.session.specs.Stream.{streamEnd, afterRead};
+ghost use Rattle.trace.specs.Step.{traceResult};
 use console::Status;
 use console::after_byte;
 use console::flush;
@@ -12,6 +14,8 @@ use show::progress::counted;
 use show::progress::seconds;
 use std::num::wrapping_add_u64;
 use stream_code::stream::open_stream;
+use trace_code::stream::trace_byte;
+use trace_code::stream::trace_end;
 
 // How many lines were read and how many calls tried, and the second of the last line on standard error.
 struct Tried {
@@ -66,9 +70,9 @@ fn start() -> Run {
     Run { status, tried }
 }
 
-// The bytes of one read, up to a write that fails; where there are none, the input has ended.
+// The bytes of one read, up to a write that fails, and the output of all of them is written; where there are no bytes, the input has ended.
 fn take_bytes(
-    r: Run,
+    t: Run,
     input: &[u8],
     image: &mut [u8],
     heads: &mut [u32],
@@ -76,20 +80,36 @@ fn take_bytes(
     copy: &mut [u8],
     later: &mut [u8],
     out: &mut [u8],
-) -> Run {
-    let mut u = r.status;
-    let mut tried = r.tried;
-    u.reading = input.len() != 0;
+) -> Run
+    ensures stream { λ r. ⌜ (r .status .written ≡ true →
+        streamEnd (r .status .progress) (now (image .exit)) (now (heads .exit)) (now (next .exit)) (now (out .exit)) ≡
+        afterRead (traceResult (length (now (copy .entry))) (length (now (later .entry))))
+        (streamEnd (t .status .progress) (now (image .entry)) (now (heads .entry)) (now (next .entry)) (now (out .entry))) (now (input .entry))) ⌝ }
+    ensures reading { λ r. ⌜ (r .status .written ≡ true → r .status .reading ≡ not (eqb (length (now (input .entry))) 0)) ⌝ }
+{
+    let mut u = t.status;
+    let mut tried = t.tried;
     let mut i = 0;
-    while i < input.len() && u.written {
+    while i < input.len() {
         let byte = input[i];
         i += 1;
         let p = u.progress;
-        let q = take_byte(p, byte, image, heads, next, copy, later, out);
+        let q = trace_byte(p, byte, image, heads, next, copy, later, out);
         tried = count_byte(tried, byte, p.at < q.at);
         u = after_byte(q, out);
+        if !u.written {
+            return Run { status: u, tried };
+        }
     }
-    Run { status: u, tried }
+    let p = u.progress;
+    let done = flush(p, out);
+    let after = done.progress;
+    let status = Status {
+        progress: after,
+        reading: input.len() != 0,
+        written: done.written,
+    };
+    Run { status, tried }
 }
 
 // The reads are counted, since nothing says that the input ends.
@@ -103,7 +123,7 @@ fn main() {
     let mut next = [0u32; 512];
     let mut r = start();
     let mut reads = u64::MAX;
-    while reads > 0 && r.status.reading {
+    while reads > 0 && r.status.reading && r.status.written {
         let got = libc::read(STDIN_FILENO, &mut input);
         let n = io::count(got, &input);
         r = take_bytes(
@@ -121,7 +141,7 @@ fn main() {
     let status = r.status;
     if status.written {
         let p = status.progress;
-        let last = take_end(
+        let last = trace_end(
             p,
             &mut image,
             &mut heads,

@@ -16,7 +16,7 @@ use Rattle.face.proofs.Stored.{refusal-still}
 use Rattle.face.proofs.Located.{located}
 use Rattle.face.specs.Laws.{Writes, write-writes, remove-writes, SetLaws}
 use Rattle.text.specs.Output.{Printed, ok}
-use Rattle.session.specs.Step.{StepResult, leaves, playedAll, recoverStep, storedWith, changedAs, changeStep, wordBytes, modeBy, writeStep, gotBy, wordFound, lineStep}
+use Rattle.session.specs.Step.{StepResult, leaves, playedAll, recoverStep, storedWith, changedAs, changeStep, wordBytes, modeBy, wordChange, writeStep, gotBy, wordFound, lineStep}
 use Rattle.text.specs.declared.Line.the-variants.{Write, Remove, Get}
 use Rattle.session.specs.declared.Waiting.{Waiting}
 use Rattle.session.specs.declared.Waiting.the-variants.{Nothing, Counts}
@@ -156,6 +156,12 @@ word-bytes x = setWord-bytes (replicate 8 0) 0 x (λ k. omega (arith, zeros 8 k)
 abbrev pub within : Session → (image heads next : List ℕ) → World
 within s image heads next = record { image = image; heads = heads; next = next; state = s .state }
 
+-- p inserts where the plain map has no value for the key, and replaces where it has one
+mode-held : (held : Bool) (values : List ℕ) → modeFor held ≡ modeBy (cond held (gives values) absent)
+unfolding modeFor modeBy
+mode-held true values = refl
+mode-held false values = refl
+
 module _ (Inv : World → PlainMap → Type 0) (laws : SetLaws 1 Inv) (s : Session) (image heads next : List ℕ) (m : PlainMap)
     (i : Inv (within s image heads next) m) (few : FewWait (s .waiting)) where
   abbrev w : World
@@ -203,19 +209,20 @@ module _ (Inv : World → PlainMap → Type 0) (laws : SetLaws 1 Inv) (s : Sessi
             kept (refused number) (c .heads) (c .next) (ap (λ (r : Called). r .answer) e) (ap (λ (r : Called). r .heads) e)
             (ap (λ (r : Called). r .next) e) (refusal-still 1 w m call (laws .answers w m i call typed) number (ap (λ (r : Called). r .answer) e))
 
-  -- p inserts where the plain map has no value for the key, and replaces where it has one
-  mode-held : (held : Bool) (values : List ℕ) → modeFor held ≡ modeBy (cond held (gives values) absent)
-  unfolding modeFor modeBy
-  mode-held true values = refl
-  mode-held false values = refl
+  -- the call of a p is the session's change
+  pub write-called : (key x : ℕ)
+      → called 1 w (write (modeFor (isHeld (m key))) key (wordBytes x)) ≡ calledChange (wordChange key x (s .state) image heads next)
+  unfolding called
+  write-called key x =
+      ap (λ (mode : Mode). calledChange (writeResult 1 image heads next (s .state) mode key (wordBytes x)))
+      (mode-held (isHeld (m key)) _ ∙ ap modeBy (sym (located 1 Inv laws w m i key)))
 
   pub write-carried : (key x : ℕ) → key < 2 ^ 64
       → Carried (s .n) (s .waiting) w (write (modeFor (isHeld (m key))) key (wordBytes x)) (lineStep (Write key x) s image heads next)
-  unfolding lineStep writeStep printedFor called
+  unfolding lineStep writeStep printedFor
   write-carried key x k =
       changed-carried (write (modeFor (isHeld (m key))) key (wordBytes x)) (write-typed k (word-bytes x)) write-writes (λ answer out. refl) _
-      (ap (λ (mode : Mode). calledChange (writeResult 1 image heads next (s .state) mode key (wordBytes x)))
-      (mode-held (isHeld (m key)) _ ∙ ap modeBy (sym (located 1 Inv laws w m i key))))
+      (write-called key x)
 
   pub remove-carried : (key : ℕ) → key < 2 ^ 64
       → Carried (s .n) (s .waiting) w (remove key) (lineStep (Remove key) s image heads next)

@@ -16,3 +16,4 @@ pub mod CallEvents
 pub mod defs
 pub mod FewNumbers
 pub mod StreamResults
+pub mod Readings

@@ -1,6 +1,6 @@
 -- The output of a session, for every input, is what the plain map gives. Assumes nothing.
 use mathlib.Core.Path.{_≡_, refl, sym, ap, ap₂, _∙_}
-use mathlib.Core.Bool.{Bool, false}
+use mathlib.Core.Bool.{false}
 use mathlib.Core.Option.{some, none}
 use mathlib.Core.List.{List, [], _∷_, _++_}
 use Prim.Native.Nat.{ℕ, _≤_}
@@ -10,14 +10,15 @@ use Rattle.prelude.proofs.Refusals.{taken-leaves, refused-keeps}
 use Rattle.face.specs.Set.{World, Call, PlainMap}
 use Rattle.text.specs.Forms.{lineOf}
 use Rattle.text.specs.Output.{Printed, text}
-use Rattle.session.specs.Step.{StepResult, leaves, noSet}
-use Rattle.session.specs.Stream.{linesOf, stepAfter, StreamResult, streamEnd, atStart, resultOutput, FlushesFull}
+use Rattle.session.specs.Step.{StepResult, leaves, noSet, stepResult}
+use Rattle.session.specs.Stream.{linesOf, stepAfter, streamEnd, atStart, readsWritten, joinedReads}
 use Rattle.session.proofs.defs.Stream.{outputOf, byteOutput}
 use Rattle.text.specs.declared.Line.{Line}
 use Rattle.text.specs.declared.Line.the-variants.{New, Write, Remove, Get, Cut, Bad}
 use Rattle.text.specs.declared.Parse.the-variants.{Start}
 use Rattle.session.proofs.Streams.{output-of-lines}
-use Rattle.session.proofs.StreamResults.{output-of-results}
+use Rattle.session.proofs.StreamResults.{output-of-reads}
+use Rattle.session.proofs.FewNumbers.{step-few}
 use Rattle.session.specs.Lines.{worldOf, callIn}
 use Rattle.session.specs.Rule.{SizedLine, SessionHolds, faultAt, plainPrints, mapAfter, LineRight, refused-line, new-line, cut-line, call-line}
 use Rattle.session.specs.Printed.{callPrints, linePrints, duePrints, dueOutput}
@@ -62,23 +63,28 @@ all-sized : (lines : List (List ℕ)) → All SizedLine (linesRead lines)
 all-sized [] = none-left
 all-sized (line ∷ lines) = one-more (sized-line line) (all-sized lines)
 
-output-due : (r : StepResult) (m : PlainMap) (lines : List (List ℕ)) → SessionHolds r m (linesRead lines) → outputOf r lines ≡ dueOutput r m lines
-unfolding outputOf dueOutput
+output-due : (r : StepResult) (m : PlainMap) (lines : List (List ℕ)) → SessionHolds r m (linesRead lines)
+    → outputOf stepResult r lines ≡ dueOutput r m lines
+unfolding outputOf dueOutput stepAfter
 output-due r m [] h = refl
 output-due r m (line ∷ lines) h =
     ap₂ (λ (p : Printed) (rest : List ℕ). text p ++ rest) (right-due r m (lineOf line) (h .1))
     (output-due (stepAfter r (lineOf line)) (mapAfter r m (lineOf line)) lines (h .2))
 
-module _ (p : Printed) (image heads next : List ℕ) (m : PlainMap) (bytes : List ℕ) where
+module _ (p : Printed) (image heads next : List ℕ) (m : PlainMap) where
   -- before the first line: no set, whatever the lent image and index hold
   abbrev beforeLines : StepResult
   beforeLines = leaves p noSet image heads next
 
   -- THE OUTPUT of any input, byte by byte, is what the plain map gives
-  pub input-output : byteOutput (leaves p noSet image heads next) Start false bytes ≡ dueOutput (leaves p noSet image heads next) m (linesOf bytes)
-  input-output = output-of-lines beforeLines bytes ∙ output-due beforeLines m (linesOf bytes) (session-rule p image heads next m (linesRead (linesOf bytes)) (all-sized (linesOf bytes)))
+  pub input-output : (bytes : List ℕ)
+      → byteOutput stepResult (leaves p noSet image heads next) Start false bytes ≡ dueOutput (leaves p noSet image heads next) m (linesOf bytes)
+  input-output bytes =
+      output-of-lines stepResult beforeLines bytes
+      ∙ output-due beforeLines m (linesOf bytes) (session-rule p image heads next m (linesRead (linesOf bytes)) (all-sized (linesOf bytes)))
 
-  -- THE OUTPUT of any input by what the contracts of take_byte and end_input promise, written out at least where the lent output is full
-  pub results-output : (flushes : List ℕ → StreamResult → Bool) → FlushesFull flushes → (output : List ℕ) → 64 ≤ length output
-      → resultOutput flushes (streamEnd atStart image heads next output) bytes ≡ dueOutput (leaves p noSet image heads next) m (linesOf bytes)
-  results-output flushes full output room = output-of-results flushes full p image heads next output bytes room ∙ input-output
+  -- THE OUTPUT of any input by what the contracts of take_byte and end_input promise, written where the lent output is full and at the end of every read
+  pub results-output : (output : List ℕ) → 64 ≤ length output → (reads : List (List ℕ))
+      → readsWritten stepResult (streamEnd atStart image heads next output) reads ≡
+      dueOutput (leaves p noSet image heads next) m (linesOf (joinedReads reads))
+  results-output output room reads = output-of-reads stepResult step-few p image heads next output reads room ∙ input-output (joinedReads reads)

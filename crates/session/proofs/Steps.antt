@@ -19,7 +19,7 @@ use Rattle.session.specs.declared.Session.{Session}
 
 -- ---- the stores of a call
 
-parts-zipped : (at value : List ℕ) → length at ≡ length value
+pub parts-zipped : (at value : List ℕ) → length at ≡ length value
     → (wordNumbers (zipped at value) ≡ at) × (values (zipped at value) ≡ value)
 unfolding wordNumbers values zipped
 parts-zipped [] [] e = (refl, refl)

@@ -9,8 +9,10 @@ use Rattle.text.specs.Parsing.{fed, lineRead}
 use Rattle.text.proofs.defs.Parsing.{fedAll}
 use Rattle.text.specs.Output.{text}
 use Rattle.session.specs.Step.{StepResult}
-use Rattle.session.specs.Stream.{inFront, linesOf, stepAfter}
-use Rattle.session.proofs.defs.Stream.{outputOf, byteOutput}
+use Rattle.session.specs.Stream.{inFront, linesOf}
+use Rattle.session.specs.declared.Session.{Session}
+use Rattle.session.proofs.defs.Stream.{lineAfter, outputOf, byteOutput}
+use Rattle.text.specs.declared.Line.{Line}
 use Rattle.text.specs.declared.Parse.{Parse}
 use Rattle.text.specs.declared.Parse.the-variants.{Start}
 use Rattle.text.proofs.Parsed.{parsed}
@@ -50,42 +52,43 @@ some-more : (bytes : List ℕ) (byte : ℕ) → some (bytes ++ (byte ∷ [])) �
 some-more [] byte = refl
 some-more (b ∷ bytes) byte = refl
 
--- the step at the end of a line that was read byte by byte
-step-line : (r : StepResult) (line : List ℕ) → stepAfter r (lineRead (fedAll Start line)) ≡ stepAfter r (lineOf line)
-step-line r line = ap (stepAfter r) (parsed line)
+module _ (step : Line → Session → (image heads next : List ℕ) → StepResult) where
+  -- the step at the end of a line that was read byte by byte
+  step-line : (r : StepResult) (line : List ℕ) → lineAfter step r (lineRead (fedAll Start line)) ≡ lineAfter step r (lineOf line)
+  step-line r line = ap (lineAfter step r) (parsed line)
 
--- one byte, the rest being known
-one-byte : (byte : ℕ) (bytes read : List ℕ) (r : StepResult) (t : Bool)
-    → byteOutput (stepAfter r (lineOf read)) Start false bytes ≡ outputOf (stepAfter r (lineOf read)) (linesOf bytes)
-    → byteOutput r (fedAll Start (read ++ (byte ∷ []))) (some (read ++ (byte ∷ []))) bytes ≡
-    outputOf r (allInFront (read ++ (byte ∷ [])) (linesOf bytes))
-    → cond t
-    (text (stepAfter r (lineRead (fedAll Start read)) .answer)
-    ++ byteOutput (stepAfter r (lineRead (fedAll Start read))) Start false bytes)
-    (byteOutput r (fed (fedAll Start read) byte) true bytes) ≡
-    outputOf r (allInFront read (cond t ([] ∷ linesOf bytes) (inFront byte (linesOf bytes))))
-unfolding outputOf
-one-byte byte bytes read r true h g =
-    ap (λ (q : StepResult). text (q .answer) ++ byteOutput q Start false bytes) (step-line r read)
-    ∙ ap (λ (t : List ℕ). text (stepAfter r (lineOf read) .answer) ++ t) h
-    ∙ sym (ap (outputOf r) (front-line read [] (linesOf bytes) ∙ ap (λ (l : List ℕ). l ∷ linesOf bytes) (append-nil read)))
-one-byte byte bytes read r false h g =
-    ap₂ (λ (p : Parse) (b : Bool). byteOutput r p b bytes) (sym (fed-more Start read byte)) (sym (some-more read byte))
-    ∙ g ∙ sym (ap (outputOf r) (front-more read byte (linesOf bytes)))
+  -- one byte, the rest being known
+  one-byte : (byte : ℕ) (bytes read : List ℕ) (r : StepResult) (t : Bool)
+      → byteOutput step (lineAfter step r (lineOf read)) Start false bytes ≡ outputOf step (lineAfter step r (lineOf read)) (linesOf bytes)
+      → byteOutput step r (fedAll Start (read ++ (byte ∷ []))) (some (read ++ (byte ∷ []))) bytes ≡
+      outputOf step r (allInFront (read ++ (byte ∷ [])) (linesOf bytes))
+      → cond t
+      (text (lineAfter step r (lineRead (fedAll Start read)) .answer)
+      ++ byteOutput step (lineAfter step r (lineRead (fedAll Start read))) Start false bytes)
+      (byteOutput step r (fed (fedAll Start read) byte) true bytes) ≡
+      outputOf step r (allInFront read (cond t ([] ∷ linesOf bytes) (inFront byte (linesOf bytes))))
+  unfolding outputOf
+  one-byte byte bytes read r true h g =
+      ap (λ (q : StepResult). text (q .answer) ++ byteOutput step q Start false bytes) (step-line r read)
+      ∙ ap (λ (t : List ℕ). text (lineAfter step r (lineOf read) .answer) ++ t) h
+      ∙ sym (ap (outputOf step r) (front-line read [] (linesOf bytes) ∙ ap (λ (l : List ℕ). l ∷ linesOf bytes) (append-nil read)))
+  one-byte byte bytes read r false h g =
+      ap₂ (λ (p : Parse) (b : Bool). byteOutput step r p b bytes) (sym (fed-more Start read byte)) (sym (some-more read byte))
+      ∙ g ∙ sym (ap (outputOf step r) (front-more read byte (linesOf bytes)))
 
--- `read` is the part of a line before the bytes
-from-within : (bytes read : List ℕ) (r : StepResult)
-    → byteOutput r (fedAll Start read) (some read) bytes ≡ outputOf r (allInFront read (linesOf bytes))
-unfolding byteOutput outputOf linesOf fedAll
-from-within [] [] r = refl
-from-within [] (b ∷ read) r =
-    ap (λ (t : StepResult). text (t .answer)) (step-line r (b ∷ read))
-    ∙ sym (append-nil _) ∙ sym (ap (outputOf r) (front-none b read))
-from-within (byte ∷ bytes) read r =
-    one-byte byte bytes read r (eqb byte 10) (from-within bytes [] (stepAfter r (lineOf read)))
-    (from-within bytes (read ++ (byte ∷ [])) r)
+  -- `read` is the part of a line before the bytes
+  from-within : (bytes read : List ℕ) (r : StepResult)
+      → byteOutput step r (fedAll Start read) (some read) bytes ≡ outputOf step r (allInFront read (linesOf bytes))
+  unfolding byteOutput outputOf linesOf fedAll
+  from-within [] [] r = refl
+  from-within [] (b ∷ read) r =
+      ap (λ (t : StepResult). text (t .answer)) (step-line r (b ∷ read))
+      ∙ sym (append-nil _) ∙ sym (ap (outputOf step r) (front-none b read))
+  from-within (byte ∷ bytes) read r =
+      one-byte byte bytes read r (eqb byte 10) (from-within bytes [] (lineAfter step r (lineOf read)))
+      (from-within bytes (read ++ (byte ∷ [])) r)
 
--- a line of output for each line of input
-pub output-of-lines : (r : StepResult) (bytes : List ℕ) → byteOutput r Start false bytes ≡ outputOf r (linesOf bytes)
-unfolding fedAll
-output-of-lines r bytes = from-within bytes [] r
+  -- a line of output for each line of input
+  pub output-of-lines : (r : StepResult) (bytes : List ℕ) → byteOutput step r Start false bytes ≡ outputOf step r (linesOf bytes)
+  unfolding fedAll
+  output-of-lines r bytes = from-within bytes [] r

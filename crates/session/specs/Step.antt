@@ -144,10 +144,12 @@ modeBy (gives values) = Replace
 modeBy absent = Insert
 modeBy (refused number) = Insert
 
+abbrev pub wordChange : (key w : ℕ) → State → (image heads next : List ℕ) → ChangeResult
+wordChange key w state image heads next =
+    writeResult 1 image heads next state (modeBy (locateResult 1 image heads next key)) key (wordBytes w)
+
 unfoldable pub writeStep : (key w : ℕ) → Session → (image heads next : List ℕ) → StepResult
-writeStep key w s image heads next =
-    changeStep s image
-    (writeResult 1 image heads next (s .state) (modeBy (locateResult 1 image heads next key)) key (wordBytes w))
+writeStep key w s image heads next = changeStep s image (wordChange key w (s .state) image heads next)
 
 -- ---- `g K`: "`found W`, or `absent`"
 

@@ -2,10 +2,10 @@
 ghost use mathlib.Core.Path.{_≡_};
 ghost use mathlib.Core.List.{[], _∷_};
 ghost use Prim.Native.Nat.{_≤_};
-ghost use Rattle.face.specs.Set.{zipped, storesIn, leftIn, changeEnd, writeResult, removeResult, getResult, locateResult};
+ghost use Rattle.face.specs.Set.{zipped, storesIn, leftIn, changeEnd, removeResult, getResult};
 ghost use Rattle.text.specs.inner.Output.{replySays};
 ghost use Rattle.session.specs.inner.Step.{stepEnd};
-ghost use Rattle.session.specs.Step.{playedAll, recoverStep, makeStep, storedWith, changeStep, wordBytes, modeBy, writeStep, gotBy, wordFound};
+ghost use Rattle.session.specs.Step.{playedAll, recoverStep, makeStep, storedWith, changeStep, wordChange, writeStep, gotBy, wordFound};
 use crate::start::start;
 use orderset::Change;
 use orderset::Formatted;
@@ -167,7 +167,7 @@ pub fn write_key(
     at: &mut [u32; 16],
     words: &mut [u64; 16],
 ) -> Change
-    ensures { λ r. ⌜ changeEnd r (now (at .exit)) (now (words .exit)) (now (heads .exit)) (now (next .exit)) .left ≡ leftIn (zipped (now (at .entry)) (now (words .entry))) (writeResult 1 (now (image .entry)) (now (heads .entry)) (now (next .entry)) state (modeBy (locateResult 1 (now (image .entry)) (now (heads .entry)) (now (next .entry)) key)) key (wordBytes word)) ⌝ }
+    ensures { λ r. ⌜ changeEnd r (now (at .exit)) (now (words .exit)) (now (heads .exit)) (now (next .exit)) .left ≡ leftIn (zipped (now (at .entry)) (now (words .entry))) (wordChange key word state (now (image .entry)) (now (heads .entry)) (now (next .entry))) ⌝ }
 {
     let mut value = [0u8; 8];
     write_word(&mut value, 0, word);

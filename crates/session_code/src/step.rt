@@ -30,7 +30,7 @@ fn wait(session: Session, a: u64, b: u64) -> Session
 }
 
 // A line is carried out on an image and an index of the set's size.
-fn carry_line(
+pub fn carry_line(
     line: Line,
     session: Session,
     image: &mut [u8],

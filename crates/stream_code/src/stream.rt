@@ -1,6 +1,7 @@
 // The input byte by byte, and the output in a lent slice.
 ghost use mathlib.Core.Path.{_≡_};
-ghost use Rattle.session.specs.Stream.{streamEnd, atStart, answerResult, byteResult, endResult};
+ghost use Rattle.session.specs.Stream.{streamEnd, atStart, withByte, answerResult, byteResult, endResult};
+ghost use Rattle.session.specs.Step.{stepResult};
 use session::Progress;
 use session_code::start::start;
 use session_code::step::step;
@@ -11,7 +12,7 @@ use text_code::output::render;
 
 // Before the first byte.
 pub fn open_stream() -> Progress
-    ensures { λ r. ⌜ r ≡ atStart ⌝ }
+    ensures stream { λ r. ⌜ r ≡ atStart ⌝ }
 {
     Progress {
         parse: Parse::Start,
@@ -29,7 +30,8 @@ fn answer(
     next: &mut [u32],
     out: &mut [u8],
 ) -> Progress
-    ensures { λ r. ⌜ streamEnd r (now (image .exit)) (now (heads .exit)) (now (next .exit)) (now (out .exit)) ≡ answerResult s (now (image .entry)) (now (heads .entry)) (now (next .entry)) (now (out .entry)) ⌝ }
+    ensures stream { λ r. ⌜ streamEnd r (now (image .exit)) (now (heads .exit)) (now (next .exit)) (now (out .exit)) ≡
+        answerResult stepResult s (now (image .entry)) (now (heads .entry)) (now (next .entry)) (now (out .entry)) ⌝ }
 {
     let parse = s.parse;
     let session = s.session;
@@ -45,20 +47,10 @@ fn answer(
     }
 }
 
-// One more byte of the input. An answer is stored where at least 64 bytes of out are left.
-pub fn take_byte(
-    s: Progress,
-    byte: u8,
-    image: &mut [u8],
-    heads: &mut [u32],
-    next: &mut [u32],
-    out: &mut [u8],
-) -> Progress
-    ensures { λ r. ⌜ streamEnd r (now (image .exit)) (now (heads .exit)) (now (next .exit)) (now (out .exit)) ≡ byteResult s byte (now (image .entry)) (now (heads .entry)) (now (next .entry)) (now (out .entry)) ⌝ }
+// One more byte of a line.
+pub fn add_byte(s: Progress, byte: u8) -> Progress
+    ensures stream { λ r. ⌜ r ≡ withByte s byte ⌝ }
 {
-    if byte == 10 {
-        return answer(s, image, heads, next, out);
-    }
     let parse = s.parse;
     let session = s.session;
     Progress {
@@ -69,6 +61,24 @@ pub fn take_byte(
     }
 }
 
+// One more byte of the input. An answer is stored where at least 64 bytes of out are left.
+pub fn take_byte(
+    s: Progress,
+    byte: u8,
+    image: &mut [u8],
+    heads: &mut [u32],
+    next: &mut [u32],
+    out: &mut [u8],
+) -> Progress
+    ensures stream { λ r. ⌜ streamEnd r (now (image .exit)) (now (heads .exit)) (now (next .exit)) (now (out .exit)) ≡
+        byteResult stepResult s byte (now (image .entry)) (now (heads .entry)) (now (next .entry)) (now (out .entry)) ⌝ }
+{
+    if byte == 10 {
+        return answer(s, image, heads, next, out);
+    }
+    add_byte(s, byte)
+}
+
 // The end of the input: a last line may lack its end.
 pub fn end_input(
     s: Progress,
@@ -77,7 +87,8 @@ pub fn end_input(
     next: &mut [u32],
     out: &mut [u8],
 ) -> Progress
-    ensures { λ r. ⌜ streamEnd r (now (image .exit)) (now (heads .exit)) (now (next .exit)) (now (out .exit)) ≡ endResult s (now (image .entry)) (now (heads .entry)) (now (next .entry)) (now (out .entry)) ⌝ }
+    ensures stream { λ r. ⌜ streamEnd r (now (image .exit)) (now (heads .exit)) (now (next .exit)) (now (out .exit)) ≡
+        endResult stepResult s (now (image .entry)) (now (heads .entry)) (now (next .entry)) (now (out .entry)) ⌝ }
 {
     if s.begun {
         return answer(s, image, heads, next, out);

@@ -11,7 +11,7 @@ use lib.ListN.{length, getD, set, take, drop, length-set, length-drop, length-ap
 use lib.Seq.{take-all, take-suc-set, drop-cons, drop-set-lt, getD-set-same}
 use borrow.Author.Tests.{lt-ltb, le-ltb}
 use Rattle.prelude.proofs.Choice.{pick-true, pick-false}
-use Rattle.text.specs.Output.{digitsOnto, decimal, numbersText, lineText, written, Rendered, renderEnd, renderResult, Printed, ok, found, notHeld, cut, no, text}
+use Rattle.text.specs.Output.{digitsOnto, decimal, numbersText, lineText, written, Rendered, renderEnd, renderResult, Printed, ok, found, notHeld, cut, no, counted, nothing, text}
 use Rattle.text.specs.inner.Output.{Wrote}
 
 written-append : (out : List ℕ) (at : ℕ) (xs ys : List ℕ)
@@ -226,14 +226,24 @@ FewNumbers (found word) = Unit
 FewNumbers notHeld = Unit
 FewNumbers (cut a b) = Unit
 FewNumbers (no number) = Unit
+FewNumbers (counted earlier later) = Unit
+FewNumbers nothing = Unit
 
 text-length : (p : Printed) → FewNumbers p → length (text p) ≤ 64
-unfolding text
+unfolding text lineText
 text-length (ok numbers) few = omega (arith, numbers-length numbers)
 text-length (found word) few = omega (arith, numbers-length (word ∷ []))
 text-length notHeld few = omega (arith, numbers-length [])
 text-length (cut a b) few = omega (arith, numbers-length (a ∷ b ∷ []))
 text-length (no number) few = omega (arith, numbers-length (number ∷ []))
+text-length (counted earlier later) few =
+    omega (arith, length-append (decimal earlier) (numbersText (later ∷ [])), decimal-length earlier, numbers-length (later ∷ []))
+text-length nothing few = omega arith
+
+-- nothing is stored
+pub wrote-nothing : (out : List ℕ) (at : ℕ) → Wrote out out at at []
+unfolding written
+wrote-nothing out at = record { output = refl; end = omega arith }
 
 pub written-length : (out : List ℕ) (at : ℕ) (bytes : List ℕ) → length (written out at bytes) ≡ length out
 unfolding written

@@ -1,17 +1,20 @@
--- A line of output. Document 01, "The trial session": `ok N`, `ok slot version`, `found W`, `absent`, `cut A B`, and `no` with a refusal's number.
+-- A line of output. Document 01, "The trial session": `ok N`, `ok slot version`, `found W`, `absent`, `cut A B`, and `no` with a refusal's number. Document
+-- 02, A.9: "A line must read `80 1`, or `81 81` ..; all else prints nothing".
 use mathlib.Core.Bool.{cond}
 use mathlib.Core.List.{List, [], _∷_, _++_}
 use Prim.Native.Nat.{ℕ, zero, suc, _+_, _/_, _%_}
 use lib.Dec.{ltb}
 use lib.ListN.{length, set}
 
--- what a line of output says
+-- what a line of output says; `nothing` is no line
 pub data Printed : Type 0 where
   ok : (numbers : List ℕ) → Printed
   found : (word : ℕ) → Printed
   notHeld : Printed
   cut : (a b : ℕ) → Printed
   no : (number : ℕ) → Printed
+  counted : (earlier later : ℕ) → Printed
+  nothing : Printed
 
 -- ---- as bytes
 
@@ -34,13 +37,15 @@ unfoldable pub lineText : List ℕ → List ℕ
 lineText [] = 10 ∷ []
 lineText (n ∷ numbers) = decimal n ++ numbersText numbers
 
--- the word in ASCII and the numbers after it
+-- the word in ASCII and the numbers after it; two counts stand alone
 unfoldable pub text : Printed → List ℕ
 text (ok numbers) = (111 ∷ 107 ∷ []) ++ numbersText numbers
 text (found word) = (102 ∷ 111 ∷ 117 ∷ 110 ∷ 100 ∷ []) ++ numbersText (word ∷ [])
 text notHeld = (97 ∷ 98 ∷ 115 ∷ 101 ∷ 110 ∷ 116 ∷ []) ++ numbersText []
 text (cut a b) = (99 ∷ 117 ∷ 116 ∷ []) ++ numbersText (a ∷ b ∷ [])
 text (no number) = (110 ∷ 111 ∷ []) ++ numbersText (number ∷ [])
+text (counted earlier later) = lineText (earlier ∷ later ∷ [])
+text nothing = []
 
 -- ---- in the lent output
 

@@ -33,7 +33,8 @@ pub enum Parse {
     NotLine,
 }
 
-// A step's answer: an accepted n, the slot taken and the version, the word found, absent, the cut that now waits, or a refusal.
+// A step's answer: an accepted n, the slot taken and the version, the word found, absent, the cut that now waits, or a refusal; in a trace the counts of a
+// call's cuts, or nothing.
 pub enum Reply {
     Made(u64),
     Stored { slot: u32, version: u64 },
@@ -41,4 +42,6 @@ pub enum Reply {
     Absent,
     Cut { a: u64, b: u64 },
     Refused(u32),
+    Counted { earlier: u32, later: u32 },
+    Nothing,
 }

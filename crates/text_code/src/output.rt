@@ -102,6 +102,10 @@ fn store_reply(reply: Reply, out: &mut [u8], at: usize) -> usize
         Reply::Absent => store_line(out, at, b"absent", &[]),
         Reply::Cut { a, b } => store_two(out, at, b"cut", a, b),
         Reply::Refused(number) => store_one(out, at, b"no", number as u64),
+        Reply::Counted { earlier, later } => {
+            store_numbers(out, at, earlier as u64, &[later as u64])
+        }
+        Reply::Nothing => at,
     }
 }
 

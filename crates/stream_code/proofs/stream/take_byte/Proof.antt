@@ -12,4 +12,4 @@ take-byte-spec =
     (tie.spec
     (λ c κs. search needs) (λ c. search needs) (λ c. search needs) (λ c. search needs) (λ c. search needs)
     (λ c. search tests) (λ c κs. search needs)
-    (λ c. search (tests, c .feed .ensures)))
+    (λ c. search (tests, c .add-byte .ensures)))
