@@ -14,8 +14,8 @@ use Rattle.text.specs.Output.{no, text}
 use Rattle.text.specs.inner.Output.{Wrote}
 use Rattle.text.proofs.Storing.{written-front}
 use Rattle.reporting.specs.Report.{imageSize, wholeSize, imageAnswer, answerText, totalsWith, totalsText, unreadText, reportFrom, reportOf}
-use Rattle.reporting.specs.Blocks.{TotalsBounded, readable, BlockLent, BlockReported, endsReading, Prints, block, last, ended, PrintsReport}
-use Rattle.reporting.specs.inner.Images.{progressWith, Reportable, ImageReported, Buffers}
+use Rattle.reporting.specs.Blocks.{TotalsBounded, readable, BlockReported, endsReading, Prints, block, last, ended, PrintsReport}
+use Rattle.reporting.specs.inner.Images.{progressWith, Reportable, ImageReported, BlockLent}
 use Rattle.reporting.specs.declared.SlotTotals.{SlotTotals}
 use Rattle.reporting.specs.declared.ReportProgress.{ReportProgress}
 use Rattle.reporting.specs.declared.ImageReport.{ImageReport}
@@ -75,14 +75,14 @@ pub record Blocking (input next : List ℕ) (p : ReportProgress) (room : ℕ) (p
 pub entries-few : (image next : List ℕ) (p : ReportProgress) (out : List ℕ) (at : ℕ) → Reportable image next p out at → length image / 128 ≤ length next
 entries-few image next p out at g = omega (arith, g .size, g .high, g .next-size)
 
-pub block-start : (input next : List ℕ) (p : ReportProgress) (out : List ℕ) (size : ℕ) → BlockLent input next p out → size ≡ readable (p .left) input
-    → Blocking input next p (length out) p 0 0 size out
-block-start input next p out size g e =
+pub block-start : (input next : List ℕ) (p : ReportProgress) (out : List ℕ) (size : ℕ) → length next ≡ 512 → BlockLent input p out
+    → size ≡ readable (p .left) input → Blocking input next p (length out) p 0 0 size out
+block-start input next p out size entries g e =
     record {
       inside = omega arith;
       thirds = omega arith;
       out-size = refl;
-      next-size = g .next-size;
+      next-size = entries;
       held = g .held;
       size-is = e;
       goes-on = λ more. refl;
@@ -222,39 +222,6 @@ last-reported input p out₁ out₂ out₃ b end r g u w fits same same₃ = (pr
         ∙ append-assoc (take (b .end) out₁) unread (totalsText (b .progress .totals))
         ∙ ap (λ (x : List ℕ). take (b .end) out₁ ++ x) (sym rest)
         ∙ sym whole
-
--- ---- what the program keeps: the first `have` bytes of the input, and after a read n more
-
--- at the end of the input
-pub kept-readable : (p : ReportProgress) (have : ℕ) (input next out : List ℕ) → Buffers p have input next out → BlockLent (take have input) next p out
-kept-readable p have input next out g =
-    record { next-size = g .next-size; held = g .held; room = omega (arith, length-take-le have input (g .inside), g .inside, g .room) }
-
-module _ (p : ReportProgress) (have n : ℕ) (input next out : List ℕ) (g : Buffers p have input next out) (come : have + n ≤ length input)
-    (input′ : List ℕ) (same : length input′ ≡ length input) where
-  pub front-size : have + n ≡ length (take (have + n) input′)
-  front-size = sym (length-take-le (have + n) input′ (omega arith))
-
-  pub front-readable : BlockLent (take (have + n) input′) next p out
-  front-readable = record { next-size = g .next-size; held = g .held; room = omega (arith, front-size, g .room) }
-
-  module _ (b : Block) (next′ out′ : List ℕ) (r : BlockReported (take (have + n) input′) p out′ b) (same-out : length out′ ≡ length out) where
-    pub used-inside : b .used ≤ have + n
-    used-inside = omega (arith, r .inside, front-size)
-
-    pub end-inside : b .end ≤ length out′
-    end-inside = omega (arith, r .thirds, used-inside, g .room)
-
-    -- what is not used stays
-    pub buffers-next : length next′ ≡ length next → (input″ : List ℕ) → length input″ ≡ length input′
-        → Buffers (b .progress) (have + n - b .used) input″ next′ out′
-    buffers-next same-next input″ kept =
-        record {
-          held = r .held;
-          inside = omega (arith, used-inside);
-          next-size = same-next ∙ g .next-size;
-          room = omega (arith, g .room);
-        }
 
 -- ---- the whole input
 

@@ -1,4 +1,5 @@
 pub mod Sizes
 pub mod Texts
 pub mod Blocks
+pub mod Fronts
 pub mod Moved

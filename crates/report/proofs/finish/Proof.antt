@@ -1,25 +1,20 @@
 -- `report::finish` meets its contract. Assumes nothing.
 use borrow.Author.Needs.{needs}
 use Rattle.prelude.proofs.Lists.{front-length}
-use Rattle.reporting.proofs.Blocks.{kept-readable}
 use Rattle.report.proofs.finish.Statement.{statement}
 use Rattle.report.proofs.finish.Tie as tie
 
 slice-aggregate-report-last : tie.Need-slice-aggregate-report-last
-slice-aggregate-report-last c = front-length _ _ (c .before .before .before .before .before .pre .inside)
-
-report-last-requires : tie.Need-report-last-requires
-report-last-requires c κs = kept-readable _ _ _ _ _ (c .before .before .before .before .before .before .before .pre)
+slice-aggregate-report-last c = front-length _ _ (c .before .before .before .before .pre)
 
 slice-aggregate-write-all : tie.Need-slice-aggregate-write-all
-slice-aggregate-write-all c = front-length _ _ (c .before .before .before .before .before .report-last .ensures .1)
+slice-aggregate-write-all c = front-length _ _ (c .before .before .before .report-last .ensures .1)
 
 pub finish-spec : {M : Type 1} → statement M
 finish-spec =
     tie.close
     (tie.spec
     slice-aggregate-report-last
-    report-last-requires
-    (λ c. search needs)
+    (λ c κs. search needs) (λ c. search needs)
     slice-aggregate-write-all
-    (λ c κs. search needs) (λ c. search needs) (λ c. search needs) (λ c. search needs))
+    (λ c κs. search needs) (λ c. search needs) (λ c. search needs))

@@ -9,21 +9,19 @@ use Rattle.report.proofs.main.Statement.{statement}
 use Rattle.report.proofs.main.Tie as tie
 
 abbrev Inv-loop : tie.InvT-loop
-Inv-loop input₀ out₀ next₀ s₀ reads₀ input out next s reads =
-    (length input ≡ 262144) × (length out ≡ 98304) × Buffers (s .progress) (s .have) input next out
+Inv-loop input₀ out₀ s₀ reads₀ input out s reads = (length input ≡ 98304) × (length out ≡ 33280) × Buffers (s .progress) (s .have) input out
 
 abbrev μ-loop : tie.MeasureT-loop
-μ-loop input₀ out₀ next₀ s₀ reads₀ input out next s reads = reads
+μ-loop input₀ out₀ s₀ reads₀ input out s reads = reads
 
 loop-holds : tie.Need-loop-holds Inv-loop μ-loop
 loop-holds c = (
-  length-replicate {A = ℕ} 262144 0,
   length-replicate {A = ℕ} 98304 0,
+  length-replicate {A = ℕ} 33280 0,
   record {
     held = c .before .start .ensures .1;
     inside = omega arith;
-    next-size = length-replicate {A = ℕ} 512 0;
-    room = omega (arith, length-replicate {A = ℕ} 262144 0, length-replicate {A = ℕ} 98304 0);
+    room = omega (arith, length-replicate {A = ℕ} 98304 0, length-replicate {A = ℕ} 33280 0);
   },
 )
 
@@ -31,28 +29,25 @@ slice-aggregate-step : tie.Need-slice-aggregate-step Inv-loop μ-loop
 slice-aggregate-step c = sym (c .before .before .before .loop .inv .0)
 
 slice-aggregate-step-2 : tie.Need-slice-aggregate-step-2 Inv-loop μ-loop
-slice-aggregate-step-2 c = sym (c .before .before .before .before .loop .inv .2 .next-size)
-
-slice-aggregate-step-3 : tie.Need-slice-aggregate-step-3 Inv-loop μ-loop
-slice-aggregate-step-3 c = sym (c .before .before .before .before .before .loop .inv .1)
+slice-aggregate-step-2 c = sym (c .before .before .before .before .loop .inv .1)
 
 step-requires : tie.Need-step-requires Inv-loop μ-loop
-step-requires c κs = c .before .before .before .before .before .loop .inv .2
+step-requires c κs = c .before .before .before .before .loop .inv .2
 
 loop-again : tie.Need-loop-again Inv-loop μ-loop
-loop-again c = (c .before .before .before .step .kept .1 .0 ∙ c .before .before .before .before .before .before .before .before .before .loop .inv .0, c .before .before .before .step .kept .1 .1 .1 .0 ∙ c .before .before .before .before .before .before .before .before .before .loop .inv .1, c .before .before .before .step .ensures)
+loop-again c =
+    let entry = c .before .before .before .before .before .before .before .loop .inv in
+    let step = c .before .before .step in
+    (step .kept .1 .0 ∙ entry .0, step .kept .1 .1 .0 ∙ entry .1, step .ensures)
 
 slice-aggregate-finish : tie.Need-slice-aggregate-finish Inv-loop μ-loop
 slice-aggregate-finish c = sym (c .before .before .before .loop .inv .0)
 
 slice-aggregate-finish-2 : tie.Need-slice-aggregate-finish-2 Inv-loop μ-loop
-slice-aggregate-finish-2 c = sym (c .before .before .before .before .loop .inv .2 .next-size)
-
-slice-aggregate-finish-3 : tie.Need-slice-aggregate-finish-3 Inv-loop μ-loop
-slice-aggregate-finish-3 c = sym (c .before .before .before .before .before .loop .inv .1)
+slice-aggregate-finish-2 c = sym (c .before .before .before .before .loop .inv .1)
 
 finish-requires : tie.Need-finish-requires Inv-loop μ-loop
-finish-requires c κs = c .before .before .before .before .before .loop .inv .2
+finish-requires c κs = c .before .before .before .before .loop .inv .2 .inside
 
 pub main-spec : {M : Type 1} → statement M
 main-spec =
@@ -64,12 +59,10 @@ main-spec =
     loop-holds
     slice-aggregate-step
     slice-aggregate-step-2
-    slice-aggregate-step-3
     step-requires
     (λ c. search needs) (λ c. search needs)
     loop-again
     slice-aggregate-finish
     slice-aggregate-finish-2
-    slice-aggregate-finish-3
     finish-requires
     (λ c. search needs) (λ c. search needs))

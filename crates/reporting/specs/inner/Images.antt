@@ -1,7 +1,7 @@
 -- What the functions of the report ask and leave.
 use mathlib.Core.Path.{_≡_}
 use mathlib.Core.List.{List}
-use Prim.Native.Nat.{ℕ, _+_, _-_, _*_, _≤_}
+use Prim.Native.Nat.{ℕ, _+_, _-_, _*_, _/_, _≤_}
 use lib.ListN.{length}
 use Rattle.prelude.specs.Answer.{Answer}
 use Rattle.text.specs.inner.Output.{Wrote}
@@ -9,6 +9,8 @@ use Rattle.reporting.specs.Report.{imageAnswer, answerText, totalsWith}
 use Rattle.reporting.specs.Blocks.{TotalsBounded}
 use Rattle.reporting.specs.declared.ReportProgress.{ReportProgress}
 use Rattle.reporting.specs.declared.ImageReport.{ImageReport}
+use Rattle.reporting.specs.declared.FrontAnswer.{FrontAnswer}
+use Rattle.reporting.specs.declared.FrontAnswer.the-variants.{Reported, Refused}
 
 -- one image more
 unfoldable pub progressWith : Answer → ReportProgress → ReportProgress
@@ -31,9 +33,18 @@ pub record ImageReported (image : List ℕ) (p : ReportProgress) (old : List ℕ
   pub progress-is : r .progress ≡ progressWith (imageAnswer image) p
   pub held : TotalsBounded (r .progress)
 
+-- a block of input, and room for the lines of its images and for two more
+pub record BlockLent (input : List ℕ) (p : ReportProgress) (out : List ℕ) : Type 0 where
+  pub held : TotalsBounded p
+  pub room : length input + 768 ≤ 3 * length out
+
 -- what the program keeps between reads: the first `have` bytes of the input are not read yet
-pub record Buffers (p : ReportProgress) (have : ℕ) (input next out : List ℕ) : Type 0 where
+pub record Buffers (p : ReportProgress) (have : ℕ) (input out : List ℕ) : Type 0 where
   pub held : TotalsBounded p
   pub inside : have ≤ length input
-  pub next-size : length next ≡ 512
-  pub room : length input + 768 ≤ 3 * length out
+  pub room : length input / 3 + 257 ≤ length out
+
+-- it was not refused
+abbrev pub IsReported : FrontAnswer → Type 0
+IsReported (Reported r) = Unit {0}
+IsReported Refused = ⊥

@@ -1,10 +1,10 @@
--- `report::move_down` meets its contract. Assumes nothing.
+-- `reporting_code::carry::move_down` meets its contract. Assumes nothing.
 use Prim.Native.Nat.{_-_}
 use native.Mathlib.Omega.{arith}
 use borrow.Author.Needs.{needs}
 use Rattle.reporting.proofs.Moved.{Moving, moving-start, moving-next}
-use Rattle.report.proofs.move_down.Statement.{statement}
-use Rattle.report.proofs.move_down.Tie as tie
+use Rattle.reporting_code.proofs.carry.move_down.Statement.{statement}
+use Rattle.reporting_code.proofs.carry.move_down.Tie as tie
 
 abbrev Inv-loop : tie.InvT-loop
 Inv-loop input₀ from have n i₀ input i = Moving input₀ from n i input
