@@ -21,9 +21,7 @@ pub fn ends_reading(rest: &[u8], left: u32) -> bool
 // The bytes from position `from` up to `have` are moved to the front.
 pub fn move_down(input: &mut [u8], from: usize, have: usize)
     requires { ⌜ (from ≤ have) × (have ≤ length (now input)) ⌝ }
-    ensures moved {
-        λ _. ⌜ ((k : ℕ) → from + k < have → getD (now (input .exit)) k 0 ≡ getD (now (input .entry)) (from + k) 0) ⌝
-    }
+    ensures moved { λ _. ⌜ ((k : ℕ) → from + k < have → getD (now (input .exit)) k 0 ≡ getD (now (input .entry)) (from + k) 0) ⌝ }
 {
     let n = have - from;
     let mut i = 0;
