@@ -30,9 +30,7 @@ fn log_listed(answer: Handed, list: [Store; 48]) -> LogListed
 }
 
 pub fn append_lent(area: &[u8], message: &[u8], list: [Store; 48]) -> LogListed
-    ensures listed {
-        λ r. ⌜ logListEnd (handedSays (r .answer)) (r .list) ≡ appendListResult (now (area .entry)) (now (message .entry)) list ⌝
-    }
+    ensures listed { λ r. ⌜ logListEnd (handedSays (r .answer)) (r .list) ≡ appendListResult (now (area .entry)) (now (message .entry)) list ⌝ }
 {
     let mut lent = list;
     let answer = append_list(area, message, &mut lent);
@@ -40,9 +38,7 @@ pub fn append_lent(area: &[u8], message: &[u8], list: [Store; 48]) -> LogListed
 }
 
 pub fn recover_lent(area: &[u8], list: [Store; 48]) -> LogListed
-    ensures listed {
-        λ r. ⌜ logListEnd (handedSays (r .answer)) (r .list) ≡ logRecoverListResult (now (area .entry)) list ⌝
-    }
+    ensures listed { λ r. ⌜ logListEnd (handedSays (r .answer)) (r .list) ≡ logRecoverListResult (now (area .entry)) list ⌝ }
 {
     let mut lent = list;
     let answer = recover_list(area, &mut lent);
@@ -71,12 +67,10 @@ pub fn basket_lent(
     values: [u8; 640],
     list: [Store; 48],
 ) -> BasketListed
-    ensures listed {
-        λ r.
+    ensures listed { λ r.
         ⌜ basketListEnd count (r .answer) (r .list) (now (heads .exit)) (now (next .exit))
         ≡ leftInList list
-        (basketResult 1 (now (image .entry)) (now (heads .entry)) (now (next .entry)) state (changesOf 1 count items values) (length list) (length list)) ⌝
-    }
+        (basketResult 1 (now (image .entry)) (now (heads .entry)) (now (next .entry)) state (changesOf 1 count items values) (length list) (length list)) ⌝ }
 {
     let mut lent = list;
     let answer = basket_list(image, heads, next, state, count, items, values, &mut lent);
@@ -94,12 +88,10 @@ pub fn basket_lent2(
     values: [u8; 640],
     list: [Store; 48],
 ) -> BasketListed
-    ensures listed {
-        λ r.
+    ensures listed { λ r.
         ⌜ basketListEnd count (r .answer) (r .list) (now (heads .exit)) (now (next .exit))
         ≡ leftInList list
-        (basketResult 2 (now (image .entry)) (now (heads .entry)) (now (next .entry)) state (changesOf 2 count items values) (length list) (length list)) ⌝
-    }
+        (basketResult 2 (now (image .entry)) (now (heads .entry)) (now (next .entry)) state (changesOf 2 count items values) (length list) (length list)) ⌝ }
 {
     let mut lent = list;
     let answer = basket_list2(image, heads, next, state, count, items, values, &mut lent);
@@ -107,9 +99,7 @@ pub fn basket_lent2(
 }
 
 pub fn play_lent(image: &mut [u8], list: [Store; 48]) -> u32
-    ensures played {
-        λ r. ⌜ playEnd r (now (image .exit)) ≡ playListResult (now (image .entry)) (wordNumbers list) (valuesOf list) ⌝
-    }
+    ensures played { λ r. ⌜ playEnd r (now (image .exit)) ≡ playListResult (now (image .entry)) (wordNumbers list) (valuesOf list) ⌝ }
 {
     play_stores(image, &list)
 }

@@ -1,21 +1,24 @@
 // The calls of the log, in both forms.
 use crate::both::Both;
-use crate::both::first_other;
+use crate::both::Numbers;
+use crate::both::Side;
+use crate::both::empty;
+use crate::both::show_equal;
 use lent_list_code::lent::LogListed;
 use lent_list_code::lent::append_lent;
 use lent_list_code::lent::recover_lent;
 use log::Handed;
 use log_code::append;
 use log_code::recover_log;
+use orderset::Store;
 use show::fronts::numbers_of;
 use show::fronts::values_of;
 
 // The area is so many cells of zeros.
 pub fn area(both: Both, cells: u64) -> Both {
-    let zeros = [0u8; 2176];
     let mut after = both;
-    after.first = zeros;
-    after.second = zeros;
+    after.first = empty();
+    after.second = empty();
     after.size = 448 * (cells % 5) as usize;
     after.count = 0;
     after
@@ -37,50 +40,87 @@ fn told(handed: Handed) -> usize {
     }
 }
 
-// Both answers, and in how many first entries the lists are equal.
-fn answered(both: Both, first: Handed, at: [u32; 48], value: [u64; 48], second: LogListed) -> Both {
-    let count = told(first);
-    let other = second.answer;
-    told(other);
-    let stores = second.list;
-    show::number(first_other(at, value, stores) as u64);
+// The two number lists after a call, and the count of its stores.
+struct Counted {
+    numbers: Numbers,
+    count: usize,
+}
+
+fn append_numbers(side: Side, size: usize, numbers: Numbers, message: &[u8]) -> Counted {
+    let bytes = side.bytes;
+    let mut at = numbers.at;
+    let mut value = numbers.value;
+    let a = io::count((size % 2177) as isize, &bytes);
+    let t = numbers_of(48, &at);
+    let v = values_of(48, &value);
+    let handed = append(&bytes[..a], message, &mut at[..t], &mut value[..v]);
+    let count = told(handed);
+    Counted {
+        numbers: Numbers { at, value },
+        count,
+    }
+}
+
+fn append_listed(side: Side, size: usize, stores: [Store; 48], message: &[u8]) -> LogListed {
+    let bytes = side.bytes;
+    let a = io::count((size % 2177) as isize, &bytes);
+    append_lent(&bytes[..a], message, stores)
+}
+
+fn recover_numbers(side: Side, size: usize, numbers: Numbers) -> Counted {
+    let bytes = side.bytes;
+    let mut at = numbers.at;
+    let mut value = numbers.value;
+    let a = io::count((size % 2177) as isize, &bytes);
+    let t = numbers_of(48, &at);
+    let v = values_of(48, &value);
+    let handed = recover_log(&bytes[..a], &mut at[..t], &mut value[..v]);
+    let count = told(handed);
+    Counted {
+        numbers: Numbers { at, value },
+        count,
+    }
+}
+
+fn recover_listed(side: Side, size: usize, stores: [Store; 48]) -> LogListed {
+    let bytes = side.bytes;
+    let a = io::count((size % 2177) as isize, &bytes);
+    recover_lent(&bytes[..a], stores)
+}
+
+// The second answer, and in how many first entries the lists are equal.
+fn answered(both: Both, counted: Counted, listed: LogListed) -> Both {
+    let answer = listed.answer;
+    told(answer);
+    let numbers = counted.numbers;
+    let stores = listed.list;
+    show_equal(numbers, stores);
     let mut after = both;
-    after.at = at;
-    after.value = value;
+    after.numbers = numbers;
     after.stores = stores;
-    after.count = count;
+    after.count = counted.count;
     after
 }
 
 pub fn appended(both: Both, n: [u64; 5]) -> Both {
     let first = both.first;
     let second = both.second;
-    let mut at = both.at;
-    let mut value = both.value;
+    let numbers = both.numbers;
     let stores = both.stores;
     let byte = (n[2] % 256) as u8;
     let message = [byte; 400];
-    let a = io::count((both.size % 2177) as isize, &first);
-    let b = io::count((both.size % 2177) as isize, &second);
-    let t = numbers_of(48, &at);
-    let v = values_of(48, &value);
     let m = io::count((n[1] % 401) as isize, &message);
-    let handed = append(&first[..a], &message[..m], &mut at[..t], &mut value[..v]);
-    let listed = append_lent(&second[..b], &message[..m], stores);
-    answered(both, handed, at, value, listed)
+    let counted = append_numbers(first, both.size, numbers, &message[..m]);
+    let listed = append_listed(second, both.size, stores, &message[..m]);
+    answered(both, counted, listed)
 }
 
 pub fn recovered(both: Both) -> Both {
     let first = both.first;
     let second = both.second;
-    let mut at = both.at;
-    let mut value = both.value;
+    let numbers = both.numbers;
     let stores = both.stores;
-    let a = io::count((both.size % 2177) as isize, &first);
-    let b = io::count((both.size % 2177) as isize, &second);
-    let t = numbers_of(48, &at);
-    let v = values_of(48, &value);
-    let handed = recover_log(&first[..a], &mut at[..t], &mut value[..v]);
-    let listed = recover_lent(&second[..b], stores);
-    answered(both, handed, at, value, listed)
+    let counted = recover_numbers(first, both.size, numbers);
+    let listed = recover_listed(second, both.size, stores);
+    answered(both, counted, listed)
 }

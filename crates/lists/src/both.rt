@@ -1,40 +1,59 @@
-// What the lines work on: two images, or two log areas, of which the first is changed by the forms with number slices and the second by those with a list of stores.
+// What the lines work on: two sides, each an image with its index or a log's area. The first is changed by the forms with number slices, the second by those with a list of
+// stores.
 use orderset::Action;
 use orderset::BasketItem;
 use orderset::State;
 use orderset::Store;
 
-// The first bytes with their index, where they are an image, and the second with theirs. `count` first entries of the two number lists, and of the list of stores, were
-// handed out last.
-pub struct Both {
-    pub size: usize,
-    pub layout: u64,
-    pub first: [u8; 2176],
+// The bytes, with an index and its state where they are an image.
+pub struct Side {
+    pub bytes: [u8; 2176],
     pub heads: [u32; 2],
     pub next: [u32; 17],
     pub state: State,
-    pub second: [u8; 2176],
-    pub second_heads: [u32; 2],
-    pub second_next: [u32; 17],
-    pub second_state: State,
+}
+
+// Word numbers and values of stores.
+pub struct Numbers {
     pub at: [u32; 48],
     pub value: [u64; 48],
-    pub stores: [Store; 48],
+}
+
+// The items of a basket; every byte of their values is `byte`. Of more than eight only the count is kept.
+pub struct Named {
     pub count: usize,
-    pub named: usize,
     pub items: [BasketItem; 8],
     pub byte: u8,
 }
 
-// Nothing is lent, no item is named, and every entry of the lists is 9.
-pub fn start() -> Both {
+// Of each side so many first bytes are lent. `count` first entries of the two number lists, and of the list of stores, were handed out last.
+pub struct Both {
+    pub size: usize,
+    pub layout: u64,
+    pub first: Side,
+    pub second: Side,
+    pub numbers: Numbers,
+    pub stores: [Store; 48],
+    pub count: usize,
+    pub basket: Named,
+}
+
+pub fn no_items() -> Named {
     let item = BasketItem {
         action: Action::Insert,
         low: 0,
         high: 0,
         length: 0,
     };
-    let store = Store { word: 9, value: 9 };
+    Named {
+        count: 0,
+        items: [item; 8],
+        byte: 0,
+    }
+}
+
+// A side of zeros.
+pub fn empty() -> Side {
     let state = State {
         first: 0,
         last: 0,
@@ -42,24 +61,29 @@ pub fn start() -> Both {
         newest: 0,
         version: 0,
     };
-    Both {
-        size: 0,
-        layout: 1,
-        first: [0; 2176],
+    Side {
+        bytes: [0; 2176],
         heads: [0; 2],
         next: [0; 17],
         state,
-        second: [0; 2176],
-        second_heads: [0; 2],
-        second_next: [0; 17],
-        second_state: state,
-        at: [9; 48],
-        value: [9; 48],
+    }
+}
+
+// Nothing is lent, no item is named, and every entry of the lists is 9.
+pub fn start() -> Both {
+    let store = Store { word: 9, value: 9 };
+    Both {
+        size: 0,
+        layout: 1,
+        first: empty(),
+        second: empty(),
+        numbers: Numbers {
+            at: [9; 48],
+            value: [9; 48],
+        },
         stores: [store; 48],
         count: 0,
-        named: 0,
-        items: [item; 8],
-        byte: 0,
+        basket: no_items(),
     }
 }
 
@@ -72,7 +96,7 @@ fn is_other(word: u32, value: u64, store: Store) -> bool {
 }
 
 // The first entry in which the two number lists and the list of stores differ, or their size.
-pub fn first_other(at: [u32; 48], value: [u64; 48], stores: [Store; 48]) -> usize {
+fn first_other(at: [u32; 48], value: [u64; 48], stores: [Store; 48]) -> usize {
     let mut i: usize = 0;
     while i < 48 {
         if is_other(at[i], value[i], stores[i]) {
@@ -81,6 +105,27 @@ pub fn first_other(at: [u32; 48], value: [u64; 48], stores: [Store; 48]) -> usiz
         i += 1;
     }
     i
+}
+
+// In how many first entries the lists are equal.
+pub fn show_equal(numbers: Numbers, stores: [Store; 48]) {
+    let at = numbers.at;
+    let value = numbers.value;
+    show::text(b" equal");
+    show::number(first_other(at, value, stores) as u64);
+}
+
+// One entry of the lists: word number and value of each form.
+pub fn show_entry(both: Both, i: usize) {
+    let numbers = both.numbers;
+    let stores = both.stores;
+    if i < 48 {
+        let store = stores[i];
+        show::number(numbers.at[i] as u64);
+        show::number(numbers.value[i]);
+        show::number(store.word as u64);
+        show::number(store.value);
+    }
 }
 
 // The first byte in which they differ, or their size.

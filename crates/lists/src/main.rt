@@ -1,27 +1,31 @@
 // Prints the lines of its input and carries them out twice: by the forms of the calls that take number slices, on one image or log area, and by those that take a list
-// of stores, on another. A line is a name and numbers. Of a call both answers are printed, the first form's first, and then how many first entries of the lists, of 48,
-// or after a play how many first bytes, of 2,176, are equal.
+// of stores, on another. A line is a name and numbers; one with another name is only printed. Of a call both answers are printed, the first form's first, and then how many
+// first entries of the lists, of 48, or after a play how many first bytes, of 2,176, are equal; after a basket both states and indexes.
 mod area;
 mod both;
 mod names;
 mod set;
 
-use both::Both;
-use both::start;
 use area::appended;
 use area::area;
 use area::recovered;
+use both::Both;
+use both::show_entry;
+use both::start;
 use names::APPEND;
 use names::AREA;
 use names::BASKET;
+use names::ENTRY;
 use names::FORMAT;
 use names::INSERT;
+use names::KEEP;
 use names::PLAY;
 use names::RECOVER;
 use names::REMOVE;
 use names::REPLACE;
 use orderset::Action;
 use set::formatted;
+use set::kept;
 use set::made;
 use set::named;
 use set::played;
@@ -61,6 +65,13 @@ fn carry_out(both: Both, name: u64, n: [u64; 5]) -> Both {
     }
     if name == PLAY {
         return played(both);
+    }
+    if name == KEEP {
+        return kept(both, n[1] as usize);
+    }
+    if name == ENTRY {
+        show_entry(both, n[1] as usize);
+        return both;
     }
     prepare(both, name, n)
 }

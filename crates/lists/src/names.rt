@@ -24,5 +24,11 @@ pub const APPEND: u64 = 0x646e65707061;
 // recover: the log's recovery, by number slices and by a list
 pub const RECOVER: u64 = 0x7265766f636572;
 
-// play: all stores handed out last, if any, by number slices and by a list
+// keep COUNT: of the stores handed out last only so many first ones are left, as after a cut
+pub const KEEP: u64 = 0x7065656b;
+
+// play: the stores handed out last, if any, by number slices and by a list
 pub const PLAY: u64 = 0x79616c70;
+
+// entry PLACE: an entry of the two number lists, and of the list of stores
+pub const ENTRY: u64 = 0x7972746e65;

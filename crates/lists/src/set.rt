@@ -1,7 +1,12 @@
 // Baskets, in both forms and both layouts, and plays.
 use crate::both::Both;
-use crate::both::first_other;
+use crate::both::Named;
+use crate::both::Numbers;
+use crate::both::Side;
+use crate::both::empty;
 use crate::both::first_other_byte;
+use crate::both::no_items;
+use crate::both::show_equal;
 use lent_list_code::lent::BasketListed;
 use lent_list_code::lent::basket_lent;
 use lent_list_code::lent::basket_lent2;
@@ -46,59 +51,69 @@ fn fresh(size: usize, layout: u64) -> [u8; 2176] {
     bytes
 }
 
-// The index of the first, and so of the second, whose bytes are the same.
-fn indexed(both: Both) -> Both {
-    let image = both.first;
-    let mut heads = both.heads;
-    let mut next = both.next;
-    let s = both.state;
-    let i = io::count((both.size % 2177) as isize, &image);
+// The side with the index that recovery leaves.
+fn indexed(side: Side, size: usize, layout: u64) -> Side {
+    let bytes = side.bytes;
+    let mut heads = side.heads;
+    let mut next = side.next;
+    let s = side.state;
+    let i = io::count((size % 2177) as isize, &bytes);
     let h = numbers_of(2, &heads);
-    let k = numbers_of(both.size / 128, &next);
-    let answer = recovered_in(both.layout, &image[..i], &mut heads[..h], &mut next[..k]);
+    let k = numbers_of(size / 128, &next);
+    let answer = recovered_in(layout, &bytes[..i], &mut heads[..h], &mut next[..k]);
     let r = answer.recovered;
     show::recovered(r);
     let state = state_after(r, s);
-    let mut after = both;
-    after.heads = heads;
-    after.next = next;
-    after.state = state;
-    after.second_heads = heads;
-    after.second_next = next;
-    after.second_state = state;
-    after
+    Side {
+        bytes,
+        heads,
+        next,
+        state,
+    }
 }
 
 pub fn formatted(both: Both, n: [u64; 5]) -> Both {
     let slots = (n[1] % 17) as usize;
     let size = 128 * (slots + 1);
-    let image = fresh(size, n[2]);
+    let bytes = fresh(size, n[2]);
+    let mut side = empty();
+    side.bytes = bytes;
+    let image = indexed(side, size, n[2]);
     let mut after = both;
     after.first = image;
     after.second = image;
     after.size = size;
     after.layout = n[2];
-    after.named = 0;
+    after.basket = no_items();
     after.count = 0;
-    indexed(after)
+    after
 }
 
-pub fn named(both: Both, action: Action, n: [u64; 5]) -> Both {
-    let mut after = both;
-    let i = both.named;
+fn with_item(named: Named, action: Action, n: [u64; 5]) -> Named {
+    let mut items = named.items;
+    let i = named.count;
     if 8 < i {
-        return both;
+        return named;
     }
     if i < 8 {
-        after.items[i] = BasketItem {
+        items[i] = BasketItem {
             action,
             low: n[1],
             high: n[4],
             length: n[2] as usize,
         };
     }
-    after.named = i + 1;
-    after.byte = (n[3] % 256) as u8;
+    Named {
+        count: i + 1,
+        items,
+        byte: (n[3] % 256) as u8,
+    }
+}
+
+pub fn named(both: Both, action: Action, n: [u64; 5]) -> Both {
+    let mut after = both;
+    let basket = both.basket;
+    after.basket = with_item(basket, action, n);
     after
 }
 
@@ -156,94 +171,142 @@ fn basket_lent_in(
     basket_lent(image, heads, next, state, count, items, values, list)
 }
 
-// The basket by number slices.
-fn by_numbers(both: Both) -> Both {
-    let image = both.first;
-    let mut heads = both.heads;
-    let mut next = both.next;
-    let mut at = both.at;
-    let mut value = both.value;
-    let s = both.state;
-    let items = both.items;
-    let byte = both.byte;
+// The side and the lists after a basket by number slices, and the count of its stores.
+struct ByNumbers {
+    side: Side,
+    numbers: Numbers,
+    count: usize,
+}
+
+fn by_numbers(side: Side, size: usize, layout: u64, named: Named, numbers: Numbers) -> ByNumbers {
+    let bytes = side.bytes;
+    let mut heads = side.heads;
+    let mut next = side.next;
+    let s = side.state;
+    let mut at = numbers.at;
+    let mut value = numbers.value;
+    let items = named.items;
+    let byte = named.byte;
     let values = [byte; 640];
     let v = values_of(48, &value);
     let t = numbers_of(48, &at);
-    let i = io::count((both.size % 2177) as isize, &image);
+    let i = io::count((size % 2177) as isize, &bytes);
     let h = numbers_of(2, &heads);
-    let k = numbers_of(both.size / 128, &next);
+    let k = numbers_of(size / 128, &next);
     let r = basket_in(
-        both.layout,
-        &image[..i],
+        layout,
+        &bytes[..i],
         &mut heads[..h],
         &mut next[..k],
         s,
-        both.named,
+        named.count,
         items,
         values,
         &mut at[..t],
         &mut value[..v],
     );
-    let count = told(r, both.named);
+    let count = told(r, named.count);
     let state = r.state;
-    let mut after = both;
-    after.heads = heads;
-    after.next = next;
-    after.state = state;
-    after.at = at;
-    after.value = value;
-    after.count = count;
-    after
+    ByNumbers {
+        side: Side {
+            bytes,
+            heads,
+            next,
+            state,
+        },
+        numbers: Numbers { at, value },
+        count,
+    }
 }
 
-// The basket by a list of stores.
-fn by_list(both: Both) -> Both {
-    let image = both.second;
-    let mut heads = both.second_heads;
-    let mut next = both.second_next;
-    let s = both.second_state;
-    let items = both.items;
-    let stores = both.stores;
-    let byte = both.byte;
+// The side and the list after a basket by a list of stores.
+struct ByList {
+    side: Side,
+    stores: [Store; 48],
+}
+
+fn by_list(side: Side, size: usize, layout: u64, named: Named, stores: [Store; 48]) -> ByList {
+    let bytes = side.bytes;
+    let mut heads = side.heads;
+    let mut next = side.next;
+    let s = side.state;
+    let items = named.items;
+    let byte = named.byte;
     let values = [byte; 640];
-    let i = io::count((both.size % 2177) as isize, &image);
+    let i = io::count((size % 2177) as isize, &bytes);
     let h = numbers_of(2, &heads);
-    let k = numbers_of(both.size / 128, &next);
+    let k = numbers_of(size / 128, &next);
     let listed = basket_lent_in(
-        both.layout,
-        &image[..i],
+        layout,
+        &bytes[..i],
         &mut heads[..h],
         &mut next[..k],
         s,
-        both.named,
+        named.count,
         items,
         values,
         stores,
     );
     let r = listed.answer;
-    told(r, both.named);
+    told(r, named.count);
     let state = r.state;
     let list = listed.list;
+    ByList {
+        side: Side {
+            bytes,
+            heads,
+            next,
+            state,
+        },
+        stores: list,
+    }
+}
+
+// A side's state and index, on a line of their own.
+fn show_side(side: Side) {
+    let state = side.state;
+    let heads = side.heads;
+    let next = side.next;
+    show::text(b"\n ");
+    show::state(state);
+    show::text(b" heads");
+    show::numbers(&heads);
+    show::text(b" next");
+    show::numbers(&next);
+}
+
+// Both answers, in how many first entries the lists are equal, and the two states and indexes.
+pub fn made(both: Both) -> Both {
+    let first = both.first;
+    let second = both.second;
+    let numbers = both.numbers;
+    let stores = both.stores;
+    let named = both.basket;
+    let one = by_numbers(first, both.size, both.layout, named, numbers);
+    let other = by_list(second, both.size, both.layout, named, stores);
+    let at = one.numbers;
+    let list = other.stores;
+    show_equal(at, list);
+    let left = one.side;
+    let right = other.side;
+    show_side(left);
+    show_side(right);
     let mut after = both;
-    after.second_heads = heads;
-    after.second_next = next;
-    after.second_state = state;
+    after.first = left;
+    after.second = right;
+    after.numbers = at;
     after.stores = list;
+    after.count = one.count;
+    after.basket = no_items();
     after
 }
 
-// Both answers, the two states, and in how many first entries the lists are equal.
-pub fn made(both: Both) -> Both {
-    let mut after = by_list(by_numbers(both));
-    let s = after.state;
-    let t = after.second_state;
-    show::state(s);
-    show::state(t);
-    let at = after.at;
-    let value = after.value;
-    let stores = after.stores;
-    show::number(first_other(at, value, stores) as u64);
-    after.named = 0;
+// Of the stores handed out last only so many first ones are left.
+pub fn kept(both: Both, count: usize) -> Both {
+    let mut after = both;
+    if count < both.count {
+        after.count = count;
+    }
     after
 }
 
@@ -267,26 +330,45 @@ fn filled(stores: [Store; 48], count: usize) -> [Store; 48] {
     after
 }
 
+fn play_numbers(side: Side, size: usize, numbers: Numbers, count: usize) -> Side {
+    let mut bytes = side.bytes;
+    let at = numbers.at;
+    let value = numbers.value;
+    let i = io::count((size % 2177) as isize, &bytes);
+    let n = numbers_of(count, &at);
+    let v = values_of(count, &value);
+    show::number(play_list(&mut bytes[..i], &at[..n], &value[..v]) as u64);
+    let mut after = side;
+    after.bytes = bytes;
+    after
+}
+
+fn play_listed(side: Side, size: usize, stores: [Store; 48]) -> Side {
+    let mut bytes = side.bytes;
+    let i = io::count((size % 2177) as isize, &bytes);
+    show::number(play_lent(&mut bytes[..i], stores) as u64);
+    let mut after = side;
+    after.bytes = bytes;
+    after
+}
+
 // Both answers, and in how many first bytes the two are equal.
 pub fn played(both: Both) -> Both {
     if both.count == 0 {
         return both;
     }
-    let mut first = both.first;
-    let mut second = both.second;
-    let at = both.at;
-    let value = both.value;
+    let first = both.first;
+    let second = both.second;
+    let numbers = both.numbers;
     let stores = both.stores;
-    let all = filled(stores, both.count);
-    let a = io::count((both.size % 2177) as isize, &first);
-    let b = io::count((both.size % 2177) as isize, &second);
-    let n = numbers_of(both.count, &at);
-    let v = values_of(both.count, &value);
-    show::number(play_list(&mut first[..a], &at[..n], &value[..v]) as u64);
-    show::number(play_lent(&mut second[..b], all) as u64);
-    show::number(first_other_byte(first, second) as u64);
+    let left = play_numbers(first, both.size, numbers, both.count);
+    let right = play_listed(second, both.size, filled(stores, both.count));
+    let a = left.bytes;
+    let b = right.bytes;
+    show::text(b" equal");
+    show::number(first_other_byte(a, b) as u64);
     let mut after = both;
-    after.first = first;
-    after.second = second;
+    after.first = left;
+    after.second = right;
     after
 }
