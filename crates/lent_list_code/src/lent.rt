@@ -51,7 +51,7 @@ pub struct BasketListed {
     pub list: [Store; 48],
 }
 
-fn basket_listed(answer: BasketAnswer, list: [Store; 48]) -> BasketListed
+pub fn basket_listed(answer: BasketAnswer, list: [Store; 48]) -> BasketListed
     ensures result { λ r. ⌜ (r .answer ≡ answer) × (r .list ≡ list) ⌝ }
 {
     BasketListed { answer, list }
