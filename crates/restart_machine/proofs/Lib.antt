@@ -1,0 +1,6 @@
+pub mod WrittenBack
+pub mod PerLine
+pub mod Flushes
+pub mod Working
+pub mod RestartRule
+pub mod Decided

@@ -1,0 +1,5 @@
+pub mod Machine
+pub mod Rule
+pub mod EachLine
+pub mod Laws
+pub mod PerLine
