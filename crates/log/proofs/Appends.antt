@@ -32,7 +32,7 @@ use Rattle.log.proofs.Cells.{Held, held, holding, SameCell}
 
 module _ (m : ℕ → ℕ) (c : ℕ) (message : List ℕ) where
   small : (i : ℕ) → 0 + lineCount m c message i ≤ 8
-  small i = omega (arith, count-within (payloadLine m c i) (messageLine message i) 8)
+  small i = omega (arith, count-within (payloadLine m c i) (messageLine message i))
 
   one-own : (i : ℕ) → onLine (7 * c + 1 + i) (payloadStores m c message i) ≡ payloadStores m c message i
   unfolding payloadStores
@@ -152,13 +152,13 @@ module _ (m : ℕ → ℕ) (m-fits : (i : ℕ) → m i < 2 ^ 64) (c s : ℕ) (me
       at-word i j l
       ∙ run-past counts m ss (7 * c + 1 + i) (lineCount m c message i) (messageLine message i) (on-payload m c message s i h) j l (omega arith)
       ∙ sym (ap (λ (x : ℕ). m (8 * (7 * c + 1 + i) + x)) (mod-eq-of-lt l))
-      ∙ count-equal (payloadLine m c i) (messageLine message i) 8 j (omega arith) l)
+      ∙ count-equal (payloadLine m c i) (messageLine message i) j (omega arith) l)
 
   -- and without the last of them
   line-torn : (i j : ℕ) → i < 6 → lineCount m c message i ≡ suc j → counts (7 * c + 1 + i) ≤ j → payloadLine now c i j ≡ payloadLine m c i j
   unfolding payloadStores
   line-torn i j h e l =
-      let b : j < 8 = omega (arith, count-within (payloadLine m c i) (messageLine message i) 8) in
+      let b : j < 8 = omega (arith, count-within (payloadLine m c i) (messageLine message i)) in
       run-cut counts m ss (7 * c + 1 + i) (lineCount m c message i) (messageLine message i) (on-payload m c message s i h) (j % 8)
       (mod-lt j (zero-lt-suc 7)) (omega (arith, mod-eq-of-lt b))
       ∙ pick-false (ltb (j % 8) (counts (7 * c + 1 + i))) _ _ (le-ltb (j % 8) (counts (7 * c + 1 + i)) (omega (arith, mod-eq-of-lt b)))

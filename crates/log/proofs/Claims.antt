@@ -9,11 +9,11 @@ use native.Mathlib.Omega.{arith}
 use lib.ListN.{length, getD, take, drop, length-append, List·getD-append}
 use lib.Seq.{take-at, getD-at, take-all, take-suc, drop-nil, drop-append-le, length-take-le}
 use lib.Dec.{eqb}
-use borrow.Author.Tests.{ne-eqb}
+use borrow.Author.Tests.{ne-eqb, le-ltb}
 use Rattle.prelude.specs.Refusal.{say, orElse, unlessRefused}
-use Rattle.prelude.specs.Answer.{gives}
+use Rattle.prelude.specs.Answer.{gives, refusalIn}
 use Rattle.prelude.proofs.Choice.{pick-true, pick-false, same-test, split, both, both-left}
-use Rattle.prelude.proofs.Refusals.{say-false, orElse-later}
+use Rattle.prelude.proofs.Refusals.{say-false, orElse-later, taken-leaves}
 use Rattle.words.specs.Word.{AreBytes, word}
 use Rattle.layout.specs.Line.{versionFault}
 use Rattle.stores.specs.Store.{Store, zipped, played}
@@ -22,15 +22,18 @@ use Rattle.stores.proofs.defs.Cut.{StoresInside, nil-in}
 use Rattle.stores.proofs.Lists.{zipped-back, numbers-length, values-length, list-inside}
 use Rattle.log.specs.Area.{cellsOf, cellsIn, areaFault}
 use Rattle.log.specs.Message.{isComplete, highest, inWindow, shown}
-use Rattle.log.specs.Handed.{shortFault, handing}
+use Rattle.log.specs.Handed.{shortFault, LogResult, handing, LogListResult, handingList}
 use Rattle.log.specs.Append.{messageFault, nextMessage, appendStores, appendFault, appendResult}
-use Rattle.log.specs.Recover.{recoveryStores, logRecoverFault, logRecoverResult}
-use Rattle.log.specs.Read.{readFault, readPart, readEnd, readResult}
+use Rattle.log.specs.Recover.{recoveryStores, logRecoverFault, logRecoverResult, logRecoverListResult}
+use Rattle.log.specs.Read.{readFault, readPart, readEnd, readResult, partResult}
 use Rattle.log.specs.Event.{LogCall, an-append, a-read, a-recovery, logStores, areaDone, Messages, logDueFault, FitsCall, append-fits, read-fits, recovery-fits}
-use Rattle.log.specs.Rule.{shownUpTo, shownMessages, lastMessages, Shows, countGiven, HandsOut, CallRight}
+use Rattle.log.specs.Rule.{shownUpTo, shownMessages, lastMessages, PartHolds, Shows, countGiven, HandsOut, CallRight}
 use Rattle.log.specs.Laws.{ShowsSame, ShowsMore}
 use Rattle.log.proofs.Cells.{Window, window, in-window}
+use Rattle.log.proofs.Openings.{recovery-few}
 use Rattle.log.proofs.Parts.{read-fault, read-hidden}
+use Rattle.log.proofs.Readings.{part-holds, no-part}
+use Rattle.log.proofs.Lists.{append-agrees, recovery-agrees}
 use Rattle.log.proofs.Inside.{accepted, append-inside-area, recovery-inside-area}
 
 -- an area of `cells` cells that shows the last messages of the list
@@ -88,9 +91,57 @@ module _ (cells : ℕ) (low : 2 ≤ cells) (area : List ℕ) (log : Messages)
           ∙ ap (λ (x : List ℕ). x ∷ []) (bytes (suc n) w ∙ ap (λ (k : ℕ). getD log k []) (let z : suc n - 1 ≡ n = omega arith in z)))
           ∙ sym (ap (drop d) (take-suc log n [] (omega arith)) ∙ drop-append-le d (take n log) (getD log n [] ∷ []) (omega (arith, length-take-le n log (omega arith))))
 
-  pub list-shown : highest cells (word area) ≡ length log → shownMessages cells area ≡ lastMessages (cells - 1) log
+  list-shown : highest cells (word area) ≡ length log → shownMessages cells area ≡ lastMessages (cells - 1) log
   unfolding shownMessages lastMessages
   list-shown top = ap (shownUpTo cells area) top ∙ up-to (length log) (omega arith) ∙ ap (drop d) (take-all (length log) log (omega arith))
+
+-- ---- all that is claimed of such an area
+
+module _ (cells : ℕ) (low : 2 ≤ cells) (area : List ℕ) (log : Messages) (size : cellsIn area ≡ cells) where
+  pub cells-fine : areaFault area ≡ 0
+  unfolding areaFault
+  cells-fine = say-false (eqb (cellsIn area) 0) 30 0 (ne-eqb _ _ (λ (e : cellsIn area ≡ 0). omega (arith, size)))
+
+  -- with lists of K entries recovery is not refused
+  pub recovery-accepted : (ats vals : ℕ) → cells ≤ ats → cells ≤ vals → logRecoverFault area ats vals ≡ 0
+  unfolding logRecoverFault shortFault
+  recovery-accepted ats vals p q =
+      orElse-later (areaFault area) _ cells-fine
+      ∙ say-false _ 13 _ (le-ltb ats (length (recoveryStores (cellsIn area) (word area))) (omega (arith, few)))
+      ∙ say-false _ 13 0 (le-ltb vals (length (recoveryStores (cellsIn area) (word area))) (omega (arith, few)))
+    where
+      few : length (recoveryStores (cellsIn area) (word area)) ≤ cells
+      few = omega (arith, size, recovery-few (cellsIn area) (word area))
+
+  accepts : (at value : List ℕ) → cells ≤ length at → cells ≤ length value → refusalIn (logRecoverResult area at value .answer) ≡ 0
+  unfolding logRecoverResult handing refusalIn
+  accepts at value p q =
+      ap (λ (r : LogResult). refusalIn (r .answer))
+      (taken-leaves _ _ (logRecoverFault area (length at) (length value)) (recovery-accepted (length at) (length value) p q))
+
+  accepts-list : (list : List Store) → cells ≤ length list → refusalIn (logRecoverListResult area list .answer) ≡ 0
+  unfolding logRecoverListResult handingList refusalIn
+  accepts-list list p =
+      ap (λ (r : LogListResult). refusalIn (r .answer))
+      (taken-leaves _ _ (logRecoverFault area (length list) (length list)) (recovery-accepted (length list) (length list) p p))
+
+  pub shows-by : highest cells (word area) ≡ length log → ((s : ℕ) → shown cells (word area) s ≡ inWindow cells (length log) s)
+      → ((s : ℕ) → inWindow cells (length log) s ≡ true → readPart area s ≡ getD log (s - 1) []) → Shows cells area log
+  shows-by top numbers bytes =
+      record {
+        size = size;
+        messages = list-shown cells low area log numbers bytes top;
+        top = top;
+        numbers = numbers;
+        bytes = bytes;
+        parts = λ s e. subst (λ (t : List ℕ). PartHolds area t (partResult area s)) (bytes s e) (part-holds area cells-fine s (by-size s ∙ e));
+        hidden = λ s e. no-part area cells-fine s (by-size s ∙ e);
+        recovers = accepts;
+        recovers-list = accepts-list;
+      }
+    where
+      by-size : (s : ℕ) → shown (cellsIn area) (word area) s ≡ inWindow cells (length log) s
+      by-size s = ap (λ (k : ℕ). shown k (word area) s) size ∙ numbers s
 
 -- ---- what a call that hands out stores leaves
 
@@ -128,8 +179,7 @@ module _ (area : List ℕ) (call : LogCall) (ss : List Store) (at value : List �
 
 module _ (cells : ℕ) (low : 2 ≤ cells) (area : List ℕ) (log : Messages) (keep : Keeping cells area log) where
   pub area-fine : areaFault area ≡ 0
-  unfolding areaFault
-  area-fine = say-false (eqb (cellsIn area) 0) 30 0 (ne-eqb _ _ (λ (e : cellsIn area ≡ 0). omega (arith, keep .shows .size)))
+  area-fine = cells-fine cells low area log (keep .shows .size)
 
   pub top-in : highest (cellsIn area) (word area) ≡ length log
   top-in = ap (λ (k : ℕ). highest k (word area)) (keep .shows .size) ∙ keep .shows .top
@@ -178,15 +228,19 @@ module _ (cells : ℕ) (low : 2 ≤ cells) (area : List ℕ) (log : Messages) (k
   -- EACH CALL IS RIGHT
   pub call-right : (call : LogCall) → FitsCall call → CallRight area log call
   unfolding CallRight appendResult logRecoverResult readResult logStores
-  call-right (an-append message at value) (append-fits are-bytes) =
-      hands-due area (an-append message at value) (appendStores (cellsIn area) (word area) message) at value
-      (appendFault area message (length at) (length value)) (nextMessage (cellsIn area) (word area)) _ _ (append-due message at value) next-in refl
-      (λ z. append-inside-area area message (keep .bytes) are-bytes (accepted area message (length at) (length value) z))
+  call-right (an-append message at value) (append-fits are-bytes) = (
+    hands-due area (an-append message at value) (appendStores (cellsIn area) (word area) message) at value
+        (appendFault area message (length at) (length value)) (nextMessage (cellsIn area) (word area)) _ _ (append-due message at value) next-in refl
+        (λ z. append-inside-area area message (keep .bytes) are-bytes (accepted area message (length at) (length value) z)),
+    append-agrees area message at value,
+  )
   call-right (a-read number) read-fits = ap₂ readEnd (read-part number) (read-due number)
-  call-right (a-recovery at value) recovery-fits =
-      hands-due area (a-recovery at value) (recoveryStores (cellsIn area) (word area)) at value
-      (logRecoverFault area (length at) (length value)) (highest (cellsIn area) (word area)) _ _ (recover-due at value) top-in refl
-      (λ z. recovery-inside-area area area-fine)
+  call-right (a-recovery at value) recovery-fits = (
+    hands-due area (a-recovery at value) (recoveryStores (cellsIn area) (word area)) at value
+        (logRecoverFault area (length at) (length value)) (highest (cellsIn area) (word area)) _ _ (recover-due at value) top-in refl
+        (λ z. recovery-inside-area area area-fine),
+    recovery-agrees area at value,
+  )
 
   -- ---- the list after it
 
@@ -203,13 +257,7 @@ module _ (cells : ℕ) (low : 2 ≤ cells) (area : List ℕ) (log : Messages) (k
         record {
           size = same ∙ keep .size;
           bytes = bytes′;
-          shows = record {
-            size = size-after;
-            messages = list-shown cells low area′ log same-numbers same-bytes same-top;
-            top = same-top;
-            numbers = same-numbers;
-            bytes = same-bytes;
-          };
+          shows = shows-by cells low area′ log size-after same-top same-numbers same-bytes;
         }
       where
         same-top : highest cells (word area′) ≡ length log
@@ -278,11 +326,5 @@ module _ (cells : ℕ) (low : 2 ≤ cells) (area : List ℕ) (log : Messages) (k
           record {
             size = same ∙ keep .size;
             bytes = bytes′;
-            shows = record {
-              size = size-after;
-              messages = list-shown cells low area′ (log ++ message ∷ []) numbers-after parts-after (top-after ∙ sym longer);
-              top = top-after ∙ sym longer;
-              numbers = numbers-after;
-              bytes = parts-after;
-            };
+            shows = shows-by cells low area′ (log ++ message ∷ []) size-after (top-after ∙ sym longer) numbers-after parts-after;
           }

@@ -12,25 +12,22 @@ use borrow.Author.Tests.{eq-eqb, ne-eqb, le-ltb}
 use Rattle.prelude.specs.Answer.{refuses}
 use Rattle.prelude.proofs.Choice.{pick-true, pick-false}
 use Rattle.prelude.proofs.Any.{any-clear}
-use Rattle.prelude.proofs.Refusals.{say-false, orElse-later, taken-leaves, refused-keeps, by-refusal}
+use Rattle.prelude.proofs.Refusals.{taken-leaves, refused-keeps, by-refusal}
 use Rattle.words.specs.Word.{AreBytes, word}
 use Rattle.words.proofs.Laws.{word-range}
 use Rattle.stores.specs.Store.{Store, played, standing, onLine}
 use Rattle.stores.proofs.StandingStores.{on-few, all-made}
 use Rattle.stores.proofs.Bytes.{played-length, played-bytes}
 use Rattle.log.specs.Area.{cellsIn, areaFault}
-use Rattle.log.specs.Handed.{shortFault}
 use Rattle.log.specs.Append.{appendStores, appendFault}
-use Rattle.log.specs.Message.{highest}
 use Rattle.log.specs.Recover.{recoveryStores, logRecoverFault}
 use Rattle.log.specs.Event.{LogCall, an-append, a-read, a-recovery, CutRecovery, logStores, areaDone, areaCut, areaAgain, areaAfterAll, Messages, logDueFault, isTorn, plainAppend, FitsCall, append-fits, read-fits, recovery-fits}
 use Rattle.log.specs.Laws.{Closed, AppendLeaves, whole-there, wholly-absent}
-use Rattle.log.proofs.Openings.{open-length}
 use Rattle.log.proofs.Shown.{recovery-closed, done-closed}
 use Rattle.log.proofs.Parts.{area-cells}
 use Rattle.log.proofs.Inside.{Accepted, accepted}
 use Rattle.log.proofs.AnyArea.{recovery-words, recovery-keeps, append-words, all-stand, append-leaves}
-use Rattle.log.proofs.Claims.{Keeping, area-fine, append-due, same-keeps, more-keeps}
+use Rattle.log.proofs.Claims.{Keeping, recovery-accepted, area-fine, append-due, same-keeps, more-keeps}
 
 module _ (cells : ℕ) (low : 2 ≤ cells) (area : List ℕ) (log : Messages) (keep : Keeping cells area log) where
   fine : areaFault area ≡ 0
@@ -81,21 +78,14 @@ module _ (cells : ℕ) (low : 2 ≤ cells) (area : List ℕ) (log : Messages) (k
       by-refusal (λ (t : List Store). Closed (cellsIn area) (word (played t area))) (logRecoverFault area (length at) (length value)) opening []
       opened-all-closed closed
 
-  -- with lists of K entries it is not refused
-  few : length (recoveryStores (cellsIn area) (word area)) ≤ cells
-  unfolding recoveryStores
-  few = omega (arith, keep .shows .size, open-length (word area) (highest (cellsIn area) (word area)) 0 (cellsIn area))
-
   pub restart-closed : (at value : List ℕ) → cells ≤ length at → cells ≤ length value → Closed (cellsIn area) (word (areaDone area (a-recovery at value)))
-  unfolding areaDone logStores logRecoverFault shortFault
+  unfolding areaDone logStores
   restart-closed at value p q =
-      subst (λ (t : List Store). Closed (cellsIn area) (word (played t area))) (sym (taken-leaves opening [] (logRecoverFault area (length at) (length value)) fits))
+      subst (λ (t : List Store). Closed (cellsIn area) (word (played t area)))
+      (sym
+      (taken-leaves opening [] (logRecoverFault area (length at) (length value))
+      (recovery-accepted cells low area log (keep .shows .size) (length at) (length value) p q)))
       opened-all-closed
-    where
-      fits : logRecoverFault area (length at) (length value) ≡ 0
-      fits =
-          orElse-later (areaFault area) _ fine ∙ say-false _ 13 _ (le-ltb (length at) (length opening) (omega (arith, few)))
-          ∙ say-false _ 13 0 (le-ltb (length value) (length opening) (omega (arith, few)))
 
   -- ---- append
 

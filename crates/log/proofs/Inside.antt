@@ -44,7 +44,7 @@ module _ (m : ℕ → ℕ) (m-fits : (i : ℕ) → m i < 2 ^ 64) (c : ℕ) (mess
   from-inside n k (suc j) h l =
       append-inside
       (run-inside n (8 * (7 * c + 1 + k)) (messageLine message k) 0 (lineCount m c message k)
-      (omega (arith, count-within (payloadLine m c k) (messageLine message k) 8)) (λ i. word-range message (8 * k + i) are-bytes))
+      (omega (arith, count-within (payloadLine m c k) (messageLine message k))) (λ i. word-range message (8 * k + i) are-bytes))
       (from-inside n (suc k) j (omega arith) l)
 
   message-inside : (n s : ℕ) → s < 2 ^ 63 → length message ≤ 384 → 448 * (c + 1) ≤ n → StoresInside n (messageStores m c s message)

@@ -2,30 +2,33 @@
 use mathlib.Core.Path.{_≡_, refl, sym, ap, ap₂, _∙_}
 use mathlib.Core.Bool.{Bool}
 use mathlib.Core.Logic.{by-cases}
-use mathlib.Core.List.{List, _++_}
+use mathlib.Core.List.{List, [], _∷_, _++_}
 use Prim.Native.Nat.{ℕ, zero, suc, _≤_, min}
 use native.Mathlib.Omega.{arith}
 use borrow.Author.Tests.{ltb-false}
 use native.Mathlib.Decide.{decLt}
 use lib.ListN.{length, take, drop}
 use Rattle.prelude.specs.Refusal.{say, orElse, unlessRefused}
+use Rattle.prelude.specs.Answer.{gives}
 use Rattle.prelude.proofs.Refusals.{orElse-zero, say-zero}
 use Rattle.prelude.proofs.Choice.{lesser-short}
 use Rattle.words.specs.Word.{word}
 use Rattle.layout.specs.Line.{versionFault}
 use Rattle.stores.specs.Store.{Store, zipped}
+use Rattle.stores.specs.Play.{wordNumbers, values}
 use Rattle.stores.specs.inner.List.{storesPut}
+use Rattle.stores.proofs.Lists.{numbers-length, values-length, numbers-append, values-append}
 use Rattle.stores.proofs.ListPut.{zipped-length, front-stores}
 use Rattle.log.specs.Area.{cellsIn, areaFault}
 use Rattle.log.specs.Message.{highest}
 use Rattle.log.specs.Handed.{handedSays, shortFault, LogResult, logEnd, handing, LogListResult, logListEnd, handingList}
-use Rattle.log.specs.Append.{nextMessage, appendStores, messageFault, appendFault, appendResult}
-use Rattle.log.specs.Recover.{recoveryStores, logRecoverFault, logRecoverResult}
-use Rattle.log.specs.Rule.{countGiven}
+use Rattle.log.specs.Append.{nextMessage, appendStores, messageFault, appendFault, appendResult, appendListResult}
+use Rattle.log.specs.Recover.{recoveryStores, logRecoverFault, logRecoverResult, logRecoverListResult}
+use Rattle.log.specs.Rule.{countGiven, asNumbers, ListAgrees}
 use Rattle.log.specs.inner.List.{handedCount, storesHanded, StoresMade}
 use Rattle.log.specs.declared.Handed.{Handed}
 use Rattle.log.specs.declared.Handed.the-variants.{Given, Refused}
-use Rattle.log.proofs.Openings.{open-length}
+use Rattle.log.proofs.Openings.{recovery-few}
 use Rattle.log.proofs.Parts.{area-cells, is-area}
 use Rattle.log.proofs.Plans.{append-few}
 
@@ -109,8 +112,7 @@ module _ (area : List ℕ) (room : ℕ) (a : Handed) (at₀ value₀ at₁ value
   cells-few = by-cases (decLt 0 (cellsIn area)) (λ h. area-cells area (is-area area (cellsIn area) refl (λ e. omega arith)) .few) (λ h. omega arith)
 
   openers-few : length openers ≤ 1000
-  unfolding recoveryStores
-  openers-few = omega (arith, open-length (word area) (highest (cellsIn area) (word area)) 0 (cellsIn area), cells-few)
+  openers-few = omega (arith, recovery-few (cellsIn area) (word area), cells-few)
 
   recovery-fault : logRecoverFault area (min 1000 room) (min 1000 room) ≡ logRecoverFault area room room
   unfolding logRecoverFault
@@ -126,6 +128,48 @@ module _ (area : List ℕ) (room : ℕ) (a : Handed) (at₀ value₀ at₁ value
   recovery-made en em e =
       made 1000 room _ _ openers openers-few recovery-fits a at₀ value₀ at₁ value₁ rest rest′ stored es
       (e ∙ ap (λ (n : ℕ). handing n (highest (cellsIn area) (word area)) openers at₀ value₀) (ap₂ (logRecoverFault area) en em ∙ recovery-fault))
+
+-- ---- the two forms agree: a list of records is left as its word numbers and values are
+
+numbers-drop : (k : ℕ) (ss : List Store) → wordNumbers (drop k ss) ≡ drop k (wordNumbers ss)
+unfolding wordNumbers
+numbers-drop zero ss = refl
+numbers-drop (suc k) [] = refl
+numbers-drop (suc k) (s ∷ ss) = numbers-drop k ss
+
+values-drop : (k : ℕ) (ss : List Store) → values (drop k ss) ≡ drop k (values ss)
+unfolding values
+values-drop zero ss = refl
+values-drop (suc k) [] = refl
+values-drop (suc k) (s ∷ ss) = values-drop k ss
+
+same-hand : (fault number : ℕ) (ss list : List Store)
+    → asNumbers (handingList fault number ss list) ≡ handing fault number ss (wordNumbers list) (values list)
+unfolding asNumbers handingList handing unlessRefused
+same-hand zero number ss list =
+    ap₂ (logEnd (gives (number ∷ length ss ∷ [])))
+    (numbers-append ss (drop (length ss) list) ∙ ap (λ (t : List ℕ). wordNumbers ss ++ t) (numbers-drop (length ss) list))
+    (values-append ss (drop (length ss) list) ∙ ap (λ (t : List ℕ). values ss ++ t) (values-drop (length ss) list))
+same-hand (suc f) number ss list = refl
+
+-- by a refusal that goes by the lengths of the lists
+agrees : (fault : ℕ → ℕ → ℕ) (number : ℕ) (ss : List Store) (at value : List ℕ)
+    → ListAgrees at value (λ list. handingList (fault (length list) (length list)) number ss list) (handing (fault (length at) (length value)) number ss at value)
+agrees fault number ss at value list ea ev =
+    same-hand (fault (length list) (length list)) number ss list
+    ∙ ap (λ (f : ℕ). handing f number ss (wordNumbers list) (values list))
+    (ap₂ fault (sym (numbers-length list)) (sym (values-length list)))
+    ∙ ap₂ (λ (x y : List ℕ). handing (fault (length x) (length y)) number ss x y) ea ev
+
+pub append-agrees : (area message at value : List ℕ) → ListAgrees at value (appendListResult area message) (appendResult area message at value)
+unfolding appendListResult appendResult
+append-agrees area message at value =
+    agrees (appendFault area message) (nextMessage (cellsIn area) (word area)) (appendStores (cellsIn area) (word area) message) at value
+
+pub recovery-agrees : (area at value : List ℕ) → ListAgrees at value (logRecoverListResult area) (logRecoverResult area at value)
+unfolding logRecoverListResult logRecoverResult
+recovery-agrees area at value =
+    agrees (logRecoverFault area) (highest (cellsIn area) (word area)) (recoveryStores (cellsIn area) (word area)) at value
 
 -- ---- what the call that puts them into a list leaves
 

@@ -17,7 +17,8 @@ use Rattle.stores.specs.Store.{Store, stored, playedWords, onLine}
 use Rattle.stores.specs.Cut.{afterCut}
 use Rattle.stores.proofs.StandingStores.{on-hit, on-miss, cut-at, line-out, line-none}
 use Rattle.log.specs.Area.{markedLine, payloadLine}
-use Rattle.log.specs.Recover.{isAbove, opener, openings}
+use Rattle.log.specs.Message.{highest}
+use Rattle.log.specs.Recover.{isAbove, opener, openings, recoveryStores}
 use Rattle.log.proofs.Cells.{SameCell}
 
 -- ---- which stores are on which line
@@ -71,6 +72,11 @@ module _ (m : ℕ → ℕ) (h : ℕ) where
       go : length (openings m h (suc k) j) ≤ j → (isAbove m h k ≡ true) ⊎ (isAbove m h k ≡ false) → length (openings m h k (suc j)) ≤ suc j
       go ih (inl e) = omega (arith, ap length (opens k j e))
       go ih (inr e) = omega (arith, ap length (passes k j e))
+
+-- so recovery has at most K stores
+pub recovery-few : (cells : ℕ) (m : ℕ → ℕ) → length (recoveryStores cells m) ≤ cells
+unfolding recoveryStores
+recovery-few cells m = open-length m (highest cells m) 0 cells
 
 -- ---- after a cut
 

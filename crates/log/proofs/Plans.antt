@@ -16,7 +16,7 @@ use Rattle.layout.specs.Line.{line, versionFault}
 use Rattle.stores.specs.Written.{marked, run, lineStores}
 use Rattle.stores.proofs.Line.{run-length}
 use Rattle.log.specs.Area.{cellsIn, areaFault, payloadLine}
-use Rattle.log.specs.Bit.{storeCount, bitPair, packed}
+use Rattle.log.specs.Bit.{differingPlace, storeCount, bitPair, packed}
 use Rattle.log.specs.Message.{highest}
 use Rattle.log.specs.Handed.{shortFault, logEnd}
 use Rattle.log.specs.Append.{messageLine, lineCount, payloadStores, payloadsFrom, pairsWord, markedBody, markedWords, messageStores, nextMessage, appendStores, messageFault, appendFault, appendResult}
@@ -40,7 +40,7 @@ module _ (m : ℕ → ℕ) (c : ℕ) (message : List ℕ) where
   line-length i = run-length (8 * (7 * c + 1 + i)) (messageLine message i) 0 (lineCount m c message i)
 
   line-few : (i : ℕ) → lineCount m c message i ≤ 8
-  line-few i = count-within (payloadLine m c i) (messageLine message i) 8
+  line-few i = count-within (payloadLine m c i) (messageLine message i)
 
   from-few : (k n : ℕ) → length (payloadsFrom m c message k n) ≤ 8 * n
   unfolding payloadsFrom
@@ -65,7 +65,8 @@ module _ (m : ℕ → ℕ) (c : ℕ) (message : List ℕ) where
   plan-start = record { left = omega arith; packs = refl; size = refl; few = omega arith }
 
   pub plan-next : (pairs count i k n r words : ℕ) → Planning pairs count i → 0 < i → k ≡ i - 1 → n ≡ 7 * c + 1 + k
-      → words ≡ storeCount 8 (line m n) (messageLine message k) → r ≡ bitPair (line m n) (messageLine message k) → Planning (r + 1024 * pairs) (count + words) k
+      → words ≡ storeCount (differingPlace 8 (line m n) (messageLine message k)) → r ≡ bitPair (line m n) (messageLine message k)
+      → Planning (r + 1024 * pairs) (count + words) k
   unfolding packed payloadsFrom
   plan-next pairs count i k n r words g p q o e f =
       record {
@@ -84,7 +85,7 @@ module _ (m : ℕ → ℕ) (c : ℕ) (message : List ℕ) where
       }
     where
       here : words ≡ lineCount m c message k
-      here = e ∙ ap (λ (x : ℕ). storeCount 8 (line m x) (messageLine message k)) o
+      here = e ∙ ap (λ (x : ℕ). storeCount (differingPlace 8 (line m x) (messageLine message k))) o
 
       up : i ≡ suc k
       up = omega arith
@@ -118,8 +119,9 @@ module _ (m : ℕ → ℕ) (c : ℕ) (message : List ℕ) where
       low (suc (suc (suc (suc (suc zero))))) p q = omega arith
       low (suc (suc (suc (suc (suc (suc n)))))) p q = absurd (omega arith)
 
-  pub count-room : (pairs count i n k words : ℕ) → Planning pairs count i → 0 < i → words ≡ storeCount 8 (line m n) (messageLine message k) → count + words ≤ 48
-  count-room pairs count i n k words g h e = omega (arith, g .few, e, count-within (line m n) (messageLine message k) 8)
+  pub count-room : (pairs count i n k words : ℕ) → Planning pairs count i → 0 < i
+      → words ≡ storeCount (differingPlace 8 (line m n) (messageLine message k)) → count + words ≤ 48
+  count-room pairs count i n k words g h e = omega (arith, g .few, e, count-within (line m n) (messageLine message k))
 
 pub plan-end : (area : List ℕ) (c : ℕ) (message : List ℕ) (pairs count i : ℕ) → Planning (word area) c message pairs count i → i ≤ 0
     → PayloadPlanned area c message pairs count
@@ -147,9 +149,10 @@ module _ (m : ℕ → ℕ) (c : ℕ) (message at₀ value₀ : List ℕ) where
   pub pay-start : Paying at₀ value₀ 8 0
   pay-start = record { done = omega arith; left = leave-start at₀ value₀ 8 (payloadsFrom m c message 0 6) _ refl }
 
-  module _ (at value : List ℕ) (k i n count : ℕ) (g : Paying at value k i) (h : i < 6) (o : n ≡ 7 * c + 1 + i) (e : count ≡ storeCount 8 (line m n) (messageLine message i)) where
+  module _ (at value : List ℕ) (k i n count : ℕ) (g : Paying at value k i) (h : i < 6) (o : n ≡ 7 * c + 1 + i)
+      (e : count ≡ storeCount (differingPlace 8 (line m n) (messageLine message i))) where
     count-is : count ≡ lineCount m c message i
-    count-is = e ∙ ap (λ (x : ℕ). storeCount 8 (line m x) (messageLine message i)) o
+    count-is = e ∙ ap (λ (x : ℕ). storeCount (differingPlace 8 (line m x) (messageLine message i))) o
 
     pub pay-next : (at′ value′ : List ℕ) → Filled at value at′ value′ k (run (8 * n) (messageLine message i) 0 count) → Paying at′ value′ (k + count) (i + 1)
     unfolding payloadStores

@@ -1,11 +1,12 @@
 -- What read and its parts compute. Assumes nothing.
-use mathlib.Core.Path.{_≡_, sym, ap, ap₂, _∙_, subst}
+use mathlib.Core.Path.{_≡_, refl, sym, ap, ap₂, _∙_, subst}
 use mathlib.Core.Bool.{Bool, true, false, not}
 use mathlib.Core.List.{List, [], _∷_}
 use Prim.Native.Nat.{ℕ, _+_, _-_, _*_, _%_, _≤_, _<_}
 use native.Mathlib.Nat.{mod-lt}
 use native.Mathlib.Omega.{arith}
-use lib.ListN.{length, take, drop}
+use lib.ListN.{length, take, drop, length-drop}
+use lib.Seq.{length-take-le}
 use borrow.Author.Tests.{not-false}
 use Rattle.prelude.specs.Refusal.{say}
 use Rattle.prelude.specs.Answer.{Answer, gives, refused}
@@ -15,9 +16,10 @@ use Rattle.words.specs.Word.{word}
 use Rattle.log.specs.Area.{cellsIn, areaFault, markedLine}
 use Rattle.log.specs.Message.{inWindow, highest, shown, messageStart, messageIn}
 use Rattle.log.specs.Read.{readFault, readPart, readEnd, readResult, partResult}
+use Rattle.log.specs.Rule.{PartHolds}
 use Rattle.log.specs.inner.Needs.{CellCount, Readable}
 use Rattle.log.proofs.Cells.{held}
-use Rattle.log.proofs.Parts.{area-cells, no-area, is-area, read-fault}
+use Rattle.log.proofs.Parts.{area-cells, no-area, is-area, read-fault, read-shown}
 
 -- ---- the refusals
 
@@ -90,6 +92,47 @@ module _ (area : List ℕ) (number f : ℕ) (e : f ≡ readFault area number) wh
   pub find-refused : (f ≡ 0 → ⊥) → refused f ≡ partResult area number
   unfolding partResult
   find-refused ne = ap refused e ∙ sym (refused-keeps _ (refused (readFault area number)) (readFault area number) (λ z. ne (e ∙ z)))
+
+-- ---- what is answered of a number by whether it is shown
+
+module _ (area : List ℕ) (fine : areaFault area ≡ 0) (s : ℕ) where
+  some : cellsIn area ≡ 0 → ⊥
+  some z = omega (arith, area-cells area fine .some)
+
+  -- shown
+  module _ (e : shown (cellsIn area) (word area) s ≡ true) where
+    accepted : readFault area s ≡ 0
+    accepted = sym (read-accepted area s (cellsIn area) refl some true (sym e) refl)
+
+    is-part : readPart area s ≡ take (markedLine (word area) (s % cellsIn area) 1) (drop (messageStart (s % cellsIn area)) area)
+    unfolding messageIn
+    is-part = read-shown area fine s e
+
+    readable : Readable area (s % cellsIn area)
+    readable = part-readable area s 0 (sym accepted) refl (cellsIn area) (s % cellsIn area) refl refl
+
+    part-length : length (readPart area s) ≡ markedLine (word area) (s % cellsIn area) 1
+    part-length =
+        ap length is-part
+        ∙ length-take-le (markedLine (word area) (s % cellsIn area) 1) (drop (messageStart (s % cellsIn area)) area)
+        (omega (arith, length-drop (messageStart (s % cellsIn area)) area, readable .inside, readable .short))
+
+    pub part-holds : PartHolds area (readPart area s) (partResult area s)
+    unfolding partResult
+    part-holds =
+        record {
+          start = messageStart (s % cellsIn area);
+          told =
+              taken-leaves _ (refused (readFault area s)) (readFault area s) accepted
+              ∙ ap (λ (n : ℕ). gives (messageStart (s % cellsIn area) ∷ n ∷ [])) (sym part-length);
+          held = ap (λ (n : ℕ). take n (drop (messageStart (s % cellsIn area)) area)) part-length ∙ sym is-part;
+        }
+
+  -- not shown
+  pub no-part : shown (cellsIn area) (word area) s ≡ false → (readResult area s ≡ readEnd [] 31) × (partResult area s ≡ refused 31)
+  no-part e =
+      let f : 31 ≡ readFault area s = read-not-shown area s (cellsIn area) refl some false (sym e) refl in
+      (sym (part-refused area s 31 f [] (λ (z : 31 ≡ 0). omega arith) refl), sym (find-refused area s 31 f (λ (z : 31 ≡ 0). omega arith)))
 
 -- the part that the code takes
 pub part-is : (area : List ℕ) (c size : ℕ) → size ≡ word area (8 * (7 * c) + 1)

@@ -10,7 +10,7 @@ use Rattle.layout.specs.Line.{versionFault}
 use Rattle.stores.specs.Store.{Store}
 use Rattle.stores.specs.Written.{marked, run, lineStores}
 use Rattle.log.specs.Area.{cellsIn, areaFault, markedLine, payloadLine}
-use Rattle.log.specs.Bit.{storeCount, bitPair, packed}
+use Rattle.log.specs.Bit.{differingPlace, storeCount, bitPair, packed}
 use Rattle.log.specs.Message.{highest}
 use Rattle.log.specs.Handed.{shortFault, LogResult, handing, LogListResult, handingList}
 
@@ -20,7 +20,7 @@ messageLine message i j = word message (8 * i + j)
 
 -- how many words of payload line i of cell c are stored
 abbrev pub lineCount : (m : ℕ → ℕ) → (c : ℕ) → (message : List ℕ) → (i : ℕ) → ℕ
-lineCount m c message i = storeCount 8 (payloadLine m c i) (messageLine message i)
+lineCount m c message i = storeCount (differingPlace 8 (payloadLine m c i) (messageLine message i))
 
 -- its stores: "words 0 up to that one are stored, in order"
 unfoldable pub payloadStores : (m : ℕ → ℕ) → (c : ℕ) → (message : List ℕ) → (i : ℕ) → List Store

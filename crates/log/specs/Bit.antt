@@ -13,19 +13,22 @@ bitAt x i = x / 2 ^ i % 2
 abbrev pub lineBit : (L : ℕ → ℕ) → (position : ℕ) → ℕ
 lineBit L position = bitAt (L (position / 64)) (position % 64)
 
--- "old and new words are compared from word 7 down to word 0, and the search ends at the first that differs": how many of the first n words are stored, "words 0 up to
--- that one"; none of equal lines, which "store nothing"
-unfoldable pub storeCount : (n : ℕ) → (old new : ℕ → ℕ) → ℕ
-storeCount zero old new = zero
-storeCount (suc j) old new = cond (eqb (old j) (new j)) (storeCount j old new) (suc j)
+-- "old and new words are compared from word 7 down to word 0, and the search ends at the first that differs": the place of the highest of the first n words
+-- that differs, or 8, the place of none, where they are equal
+unfoldable pub differingPlace : (n : ℕ) → (old new : ℕ → ℕ) → ℕ
+differingPlace zero old new = 8
+differingPlace (suc j) old new = cond (eqb (old j) (new j)) (differingPlace j old new) j
+
+-- "words 0 up to that one are stored": how many these are; equal lines "store nothing"
+unfoldable pub storeCount : (place : ℕ) → ℕ
+storeCount place = cond (eqb place 8) 0 (suc place)
 
 -- "The position is 64 times that word plus the trailing zeros of the difference"; "Equal lines take position 0"
-unfoldable pub positionBy : (count : ℕ) → (old new : ℕ → ℕ) → ℕ
-positionBy zero old new = 0
-positionBy (suc j) old new = 64 * j + trailingZeros 64 (bitXor (old j) (new j))
+unfoldable pub positionAt : (place : ℕ) → (old new : ℕ → ℕ) → ℕ
+positionAt place old new = cond (eqb place 8) 0 (64 * place + trailingZeros 64 (bitXor (old place) (new place)))
 
 unfoldable pub bitPosition : (old new : ℕ → ℕ) → ℕ
-bitPosition old new = positionBy (storeCount 8 old new) old new
+bitPosition old new = positionAt (differingPlace 8 old new) old new
 
 -- "a 9-bit position, then the bit's value": the pair of a payload line
 unfoldable pub bitPair : (old new : ℕ → ℕ) → ℕ

@@ -43,9 +43,9 @@ pub extern "C" fn orderset_raw_log_recover(
 {
     let handed = recover_log(area, at, value);
     match handed {
-        Handed::Refused(refusal) => refusal,
-        Handed::Given { number, count } => {
-            *answer = [number, count as u64];
+        Handed::Refused(fault) => fault,
+        Handed::Given { number: top, count } => {
+            *answer = [top, count as u64];
             0
         }
     }

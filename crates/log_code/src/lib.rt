@@ -1,8 +1,5 @@
 // The public calls of the log: append, recovery and read. None has a `requires`; each contract is one equation.
 mod appending;
-mod bit;
-mod cells;
-mod filling;
 mod reading;
 mod recovering;
 

@@ -7,9 +7,9 @@ ghost use Rattle.log.specs.Area.{markedLine};
 ghost use Rattle.log.specs.Message.{messageStart, messageIn};
 ghost use Rattle.log.specs.Read.{readFault, readEnd, readResult, partSays, partResult};
 ghost use Rattle.log.specs.inner.Needs.{Readable};
-use crate::cells::cell_count;
-use crate::cells::is_shown;
 use log::Part;
+use log_cell_code::cells::cell_count;
+use log_cell_code::cells::is_shown;
 use words_code::read_word;
 
 // 30 or 31, else 0.

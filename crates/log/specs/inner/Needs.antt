@@ -9,7 +9,7 @@ use Rattle.layout.specs.Line.{line}
 use Rattle.stores.specs.Store.{Store}
 use Rattle.stores.specs.Play.{wordNumbers, values}
 use Rattle.log.specs.Area.{cellsIn, markedLine}
-use Rattle.log.specs.Bit.{storeCount}
+use Rattle.log.specs.Bit.{differingPlace}
 use Rattle.log.specs.Append.{messageLine, payloadsFrom, pairsWord, nextMessage, appendStores, appendFault}
 use Rattle.log.specs.Recover.{openings}
 
@@ -31,10 +31,10 @@ pub record LineInside (len n i : ℕ) : Type 0 where
   pub room : 64 * n + 64 ≤ len
   pub payload : i < 6
 
--- and count is how many of its words are stored
-pub record Pairable (area : List ℕ) (n : ℕ) (message : List ℕ) (i count : ℕ) : Type 0 where
+-- and place is that of its highest word that differs, or 8
+pub record Pairable (area : List ℕ) (n : ℕ) (message : List ℕ) (i place : ℕ) : Type 0 where
   pub inside : LineInside (length area) n i
-  pub stored : count ≡ storeCount 8 (line (word area) n) (messageLine message i)
+  pub found : place ≡ differingPlace 8 (line (word area) n) (messageLine message i)
 
 -- cell c is inside the area, and its length is that of a message
 pub record Readable (area : List ℕ) (c : ℕ) : Type 0 where
