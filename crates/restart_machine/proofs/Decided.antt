@@ -4,7 +4,7 @@ use mathlib.Core.Bool.{Bool, true, false, _&&_}
 use mathlib.Core.List.{List, [], _∷_, _++_, append-assoc}
 use Prim.Native.Nat.{ℕ}
 use Rattle.stores.specs.Store.{allStand}
-use Rattle.restart_machine.specs.Machine.{Memory, Library, Duties, Continuation, recovering, opened, answering, Program, off, busy, idle, allMade, Outcome, answered, unanswered, Entry, Undecided, none, one, History, decide, ended, Move, start, ask, next-step, write-back, kill, cut, Machine, asked, continued, stepped, moved, movedBy}
+use Rattle.restart_machine.specs.Machine.{Memory, Library, Duties, Continuation, recovering, opened, answering, Program, off, busy, idle, allMade, Outcome, answered, unanswered, Entry, Undecided, none, one, History, decide, ended, killed, Move, start, ask, next-step, write-back, kill, cut, Machine, asked, continued, stepped, moved, movedBy}
 use Rattle.restart_machine.specs.Rule.{DecidedStays}
 
 module _ {Held Request : Type 0} where
@@ -47,7 +47,7 @@ module _ {Lent Held Request : Type 0} (d : Duties) (library : Library Lent Held 
   stepped-grows mem (idle held) h = ([], refl)
 
   moved-grows : (s : Machine Lent Held Request) (move : Move Lent Request) → Grows (s .history .decided) (moved d library s move .history .decided)
-  unfolding moved
+  unfolding moved killed
   moved-grows s (start lent) = ([], refl)
   moved-grows s (ask request) = asked-grows (s .memory) (s .program) (s .history) request
   moved-grows s next-step = stepped-grows (s .memory) (s .program) (s .history)

@@ -8,7 +8,7 @@ use lib.ListN.{length}
 use Rattle.prelude.specs.Members.{All, none-left, one-more}
 use Rattle.stores.specs.Store.{Store, played, standing, allStand}
 use Rattle.stores.proofs.Bytes.{played-length}
-use Rattle.restart_machine.specs.Machine.{Memory, isAmong, seen, notStanding, writtenBack, cutOff, withFlush, withFence, afterKill, Effect, Library, Duties, Sufficient, Continuation, recovering, opened, answering, Program, off, busy, idle, allMade, Taken, answered, unanswered, Entry, Undecided, none, one, History, decide, ended, killed, Move, start, ask, next-step, write-back, kill, cut, Machine, started, asked, continued, stepped, moved, movedBy, atRest}
+use Rattle.restart_machine.specs.Machine.{Memory, isAmong, seen, notStanding, writtenBack, cutOff, withFlush, withFence, afterKill, Effect, Library, Duties, Sufficient, Continuation, recovering, opened, answering, Program, off, busy, idle, allMade, Taken, answered, unanswered, Entry, Undecided, none, one, History, decide, ended, stillUndecided, killed, Move, start, ask, next-step, write-back, kill, cut, Machine, started, asked, continued, stepped, moved, movedBy, atRest}
 use Rattle.restart_machine.specs.Rule.{Promise, stands, FitsMove, start-fits, ask-fits, step-fits, write-back-fits, kill-fits, cut-fits, plainOf, Shows, RestartRule}
 use Rattle.restart_machine.specs.Laws.{Inside, Laws}
 use Rattle.restart_machine.proofs.WrittenBack.{seen-same}
@@ -33,8 +33,8 @@ module _ {Lent Held Request M : Type 0} (promise : Promise Lent Held Request M) 
   fate-seen first true o es = fate-ended first true true o es
   fate-seen first false o es = fate-ended first true false o es
 
-  killed-fate : (made : Bool) (o : Undecided Held Request) (m : M) → fate made o m ≡ fate true (killed made o) m
-  unfolding killed
+  killed-fate : (made : Bool) (o : Undecided Held Request) (m : M) → fate made o m ≡ fate true (stillUndecided made o) m
+  unfolding stillUndecided
   killed-fate made none m = refl
   killed-fate made (one taken true) m = refl
   killed-fate made (one taken false) m = refl
@@ -89,7 +89,7 @@ module _ {Lent Held Request M : Type 0} (promise : Promise Lent Held Request M) 
   GoodOf first s = GoodAt (s .memory) (plainOf promise first (s .history .decided)) (s .program) (s .history .undecided)
 
   -- a kill
-  good-kill : {prog : Program Lent Held} {o : Undecided Held Request} (mem : Memory) (m : M) → GoodAt mem m prog o → GoodAt (afterKill mem) m off (killed (allMade prog) o)
+  good-kill : {prog : Program Lent Held} {o : Undecided Held Request} (mem : Memory) (m : M) → GoodAt mem m prog o → GoodAt (afterKill mem) m off (stillUndecided (allMade prog) o)
   good-kill {prog} {o} mem m g =
       is-off (left-kill Ready mem _ (subst (Left Ready mem) (killed-fate promise (allMade prog) o m) (good-left mem m g)))
 
@@ -240,7 +240,7 @@ module _ {Lent Held Request M : Type 0} (promise : Promise Lent Held Request M) 
     -- EVERY MOVE keeps the invariant
     good-moved : (first : M) (s : Machine Lent Held Request) → GoodOf first s → (move : Move Lent Request) → FitsMove promise move
         → GoodOf first (moved d library s move)
-    unfolding moved
+    unfolding moved killed
     good-moved first s g (start lent) (start-fits f) = good-start (s .memory) _ lent f g
     good-moved first s g (ask request) (ask-fits t) = good-ask (s .memory) first (s .history .decided) request t g
     good-moved first s g next-step step-fits = good-step (s .memory) first (s .history .decided) g

@@ -32,11 +32,7 @@ notStanding counts (s ∷ ss) =
 -- of each line n the first `counts n` pending stores have become durable
 unfoldable pub writtenBack : (counts : ℕ → ℕ) → Memory → Memory
 writtenBack counts mem =
-    record {
-      durable = played (standing counts (mem .pending)) (mem .durable);
-      pending = notStanding counts (mem .pending);
-      flushed = mem .flushed;
-    }
+    record { durable = played (standing counts (mem .pending)) (mem .durable); pending = notStanding counts (mem .pending); flushed = mem .flushed }
 
 -- a power cut: of each line n the first `counts n` pending stores have become durable, and the others are lost
 unfoldable pub cutOff : (counts : ℕ → ℕ) → Memory → Memory
@@ -49,11 +45,7 @@ afterKill mem = record { durable = mem .durable; pending = mem .pending; flushed
 -- a store. A flush of its line before it says nothing of it
 unfoldable pub withStore : Store → Memory → Memory
 withStore s mem =
-    record {
-      durable = mem .durable;
-      pending = mem .pending ++ (s ∷ []);
-      flushed = filter (λ k. not (eqb k (s .word / 8))) (mem .flushed);
-    }
+    record { durable = mem .durable; pending = mem .pending ++ (s ∷ []); flushed = filter (λ k. not (eqb k (s .word / 8))) (mem .flushed) }
 
 -- a flush of line n: it makes nothing durable by itself
 unfoldable pub withFlush : (n : ℕ) → Memory → Memory
@@ -106,12 +98,10 @@ pub data Continuation (Lent Held : Type 0) : Type 0 where
   opened : Held → Continuation Lent Held
   answering : Held → Continuation Lent Held
 
+-- no program runs; or it has yet to make these stores, one by one, then to flush these lines, one by one, then, perhaps, to fence; or it waits for a request
 pub data Program (Lent Held : Type 0) : Type 0 where
-  -- no program runs
   off : Program Lent Held
-  -- it has yet to make these stores, one by one, then to flush these lines, one by one, then, perhaps, to fence
   busy : (stores : List Store) → (lines : List ℕ) → (fence : Bool) → Continuation Lent Held → Program Lent Held
-  -- it waits for a request
   idle : Held → Program Lent Held
 
 -- has it made all its stores?
@@ -158,30 +148,31 @@ module _ {Held Request : Type 0} where
   unfoldable pub ended : (stand : Bool) → History Held Request → History Held Request
   ended stand h = decide (λ made. unanswered (made && stand)) (h .undecided) (h .decided)
 
-  unfoldable pub killed : (made : Bool) → Undecided Held Request → Undecided Held Request
-  killed made none = none
-  killed made (one taken before) = one taken (before && made)
+  unfoldable pub stillUndecided : (made : Bool) → Undecided Held Request → Undecided Held Request
+  stillUndecided made none = none
+  stillUndecided made (one taken before) = one taken (before && made)
+
+  unfoldable pub killed : (made : Bool) → History Held Request → History Held Request
+  killed made h = record { decided = h .decided; undecided = stillUndecided made (h .undecided) }
 
 -- ---- the moves. Each can come at any time; one that the program cannot make changes nothing
 
+-- a program starts; a request comes; the program's next store, flush, fence, recovery or answer; the cache makes stores durable by itself; the program is killed; power fails
 pub data Move (Lent Request : Type 0) : Type 0 where
-  -- a program starts
   start : Lent → Move Lent Request
-  -- a request comes
   ask : Request → Move Lent Request
-  -- the program's next store, flush, fence, recovery or answer
   next-step : Move Lent Request
-  -- the cache makes stores durable by itself
   write-back : (counts : ℕ → ℕ) → Move Lent Request
-  -- the program is killed
   kill : Move Lent Request
-  -- power fails
   cut : (counts : ℕ → ℕ) → Move Lent Request
 
 pub record Machine (Lent Held Request : Type 0) : Type 0 where
   pub memory : Memory
   pub program : Program Lent Held
   pub history : History Held Request
+
+abbrev pub machine : {Lent Held Request : Type 0} → Memory → Program Lent Held → History Held Request → Machine Lent Held Request
+machine mem prog h = record { memory = mem; program = prog; history = h }
 
 module _ {Lent Held Request : Type 0} (d : Duties) (library : Library Lent Held Request) where
   unfoldable pub started : Memory → Program Lent Held → Lent → Program Lent Held
@@ -190,50 +181,37 @@ module _ {Lent Held Request : Type 0} (d : Duties) (library : Library Lent Held 
   started mem (idle held) lent = idle held
 
   unfoldable pub asked : Memory → Program Lent Held → History Held Request → Request → Machine Lent Held Request
-  asked mem off h request = record { memory = mem; program = off; history = h }
-  asked mem (busy ss lines fence c) h request = record { memory = mem; program = busy ss lines fence c; history = h }
+  asked mem off h request = machine mem off h
+  asked mem (busy ss lines fence c) h request = machine mem (busy ss lines fence c) h
   asked mem (idle held) h request =
       let e : Effect Held = library .call (seen mem) held request in
-      record {
-        memory = mem;
-        program = busy (e .stores) (d .requestLines (e .stores)) (d .requestFence) (answering (e .held));
-        history = record { decided = h .decided; undecided = one (record { request = request; image = seen mem; held = held }) true };
-      }
+      machine mem (busy (e .stores) (d .requestLines (e .stores)) (d .requestFence) (answering (e .held)))
+      (record { decided = h .decided; undecided = one (record { request = request; image = seen mem; held = held }) true })
 
   -- recovery decides the undecided request, and so does an answer
   unfoldable pub continued : Memory → Continuation Lent Held → History Held Request → Machine Lent Held Request
   continued mem (recovering lent) h =
       let e : Effect Held = library .recovery (seen mem) lent in
-      record { memory = mem; program = busy (e .stores) (d .openingLines (e .stores)) (d .openingFence) (opened (e .held)); history = ended true h }
-  continued mem (opened held) h = record { memory = mem; program = idle held; history = h }
-  continued mem (answering held) h = record { memory = mem; program = idle held; history = decide (λ made. answered) (h .undecided) (h .decided) }
+      machine mem (busy (e .stores) (d .openingLines (e .stores)) (d .openingFence) (opened (e .held))) (ended true h)
+  continued mem (opened held) h = machine mem (idle held) h
+  continued mem (answering held) h = machine mem (idle held) (decide (λ made. answered) (h .undecided) (h .decided))
 
   unfoldable pub stepped : Memory → Program Lent Held → History Held Request → Machine Lent Held Request
-  stepped mem off h = record { memory = mem; program = off; history = h }
-  stepped mem (busy (s ∷ ss) lines fence c) h = record { memory = withStore s mem; program = busy ss lines fence c; history = h }
-  stepped mem (busy [] (n ∷ lines) fence c) h = record { memory = withFlush n mem; program = busy [] lines fence c; history = h }
-  stepped mem (busy [] [] true c) h = record { memory = withFence mem; program = busy [] [] false c; history = h }
+  stepped mem off h = machine mem off h
+  stepped mem (busy (s ∷ ss) lines fence c) h = machine (withStore s mem) (busy ss lines fence c) h
+  stepped mem (busy [] (n ∷ lines) fence c) h = machine (withFlush n mem) (busy [] lines fence c) h
+  stepped mem (busy [] [] true c) h = machine (withFence mem) (busy [] [] false c) h
   stepped mem (busy [] [] false c) h = continued mem c h
-  stepped mem (idle held) h = record { memory = mem; program = idle held; history = h }
+  stepped mem (idle held) h = machine mem (idle held) h
 
   -- THE MACHINE after a move
   unfoldable pub moved : Machine Lent Held Request → Move Lent Request → Machine Lent Held Request
-  moved s (start lent) = record { memory = s .memory; program = started (s .memory) (s .program) lent; history = s .history }
+  moved s (start lent) = machine (s .memory) (started (s .memory) (s .program) lent) (s .history)
   moved s (ask request) = asked (s .memory) (s .program) (s .history) request
   moved s next-step = stepped (s .memory) (s .program) (s .history)
-  moved s (write-back counts) = record { memory = writtenBack counts (s .memory); program = s .program; history = s .history }
-  moved s kill =
-      record {
-        memory = afterKill (s .memory);
-        program = off;
-        history = record { decided = s .history .decided; undecided = killed (allMade (s .program)) (s .history .undecided) };
-      }
-  moved s (cut counts) =
-      record {
-        memory = cutOff counts (s .memory);
-        program = off;
-        history = ended (allMade (s .program) && allStand counts (s .memory .pending)) (s .history);
-      }
+  moved s (write-back counts) = machine (writtenBack counts (s .memory)) (s .program) (s .history)
+  moved s kill = machine (afterKill (s .memory)) off (killed (allMade (s .program)) (s .history))
+  moved s (cut counts) = machine (cutOff counts (s .memory)) off (ended (allMade (s .program) && allStand counts (s .memory .pending)) (s .history))
 
   -- and after these moves
   unfoldable pub movedBy : Machine Lent Held Request → List (Move Lent Request) → Machine Lent Held Request
@@ -242,5 +220,4 @@ module _ {Lent Held Request : Type 0} (d : Duties) (library : Library Lent Held 
 
 -- no program, an image that is durable, and no request yet
 unfoldable pub atRest : {Lent Held Request : Type 0} → (image : List ℕ) → Machine Lent Held Request
-atRest image =
-    record { memory = record { durable = image; pending = []; flushed = [] }; program = off; history = record { decided = []; undecided = none } }
+atRest image = machine (record { durable = image; pending = []; flushed = [] }) off (record { decided = []; undecided = none })
