@@ -27,7 +27,7 @@ use Rattle.log.proofs.Inside.{accepted, append-inside-area, recovery-inside-are
 use Rattle.log.proofs.Claims.{Keeping, cells-fine, call-right}
 use Rattle.log.proofs.Events.{done-keeps, done-closed-after, cut-keeps, cut-recovery-keeps, recovery-done-keeps, restart-closed}
 use Rattle.log.proofs.LogRule.{Good, closed-by, closed-in, blank-good}
-use Rattle.restart_machine.specs.Laws.{Inside, Laws}
+use Rattle.restart_machine.proofs.defs.Laws.{Inside, Laws}
 use Rattle.restart_machine.proofs.RestartRule.{restart-rule}
 use Rattle.log_restart.specs.Log.{logLibrary, logPromise, LogRestartRule}
 

@@ -40,36 +40,36 @@ use Rattle.face.specs.Event.{stepBy, imageCut}
 use Rattle.prelude.specs.Answer.{absent, refuses}
 use Rattle.cutrule.specs.Request.{requestLeaves, requestFault, requestUpdates}
 use Rattle.plainmap.specs.Plain.{updates, updated, plainNext, plainStep, roomRule, ruleFault}
-use Rattle.restart_machine.specs.Machine.{isAmong, seen, notStanding, writtenBack, cutOff, withStore, withFlush, withFence, afterKill, allMade, decide, ended, stillUndecided, killed, started, asked, continued, stepped, moved, movedBy, atRest}
+use Rattle.restart_machine.specs.Machine.{isAmong, seen, notStanding, writtenBack, cutOff, afterStore, afterFlush, afterFence, afterKill, allMade, decide, ended, stillUndecided, killed, started, asked, continued, stepped, moved, movedBy, atRest}
 use Rattle.restart_machine.specs.Rule.{stands, plainOf}
-use Rattle.restart_machine.specs.EachLine.{linesOf, linesTo, allLines, eachLine}
-use Rattle.restart_examples.specs.Wrong.{noStartFlush, noRequestFence, oneLineFlushed, steps, eightBytes, startWith, insertOf, replaceOf, answerIn, outIn, answerOf, outOf, plainValue, twoSlots, insertAnswered, afterCut, replaceKilled, replaceLost, replaceTorn}
+use Rattle.restart_machine.specs.EachLine.{storeLines, linesTo, allLines, eachLine}
+use Rattle.restart_examples.specs.Wrong.{noStartFlush, noRequestFence, oneLineFlushed, nextSteps, eightBytes, startWith, insertOf, replaceOf, answerIn, outIn, getAnswer, getOutput, plainValue, blankTwo, insertAnswered, insertAfterCut, replaceKilled, replaceLost, replaceTorn}
 
 -- NO FLUSH BEFORE RECOVERY: a start shows the replace that was killed, which is decided then; after a cut the old value is there again
-pub no-start-flush : (outOf 7 (replaceKilled noStartFlush 3) ≡ eightBytes 101) × (outOf 7 (replaceLost noStartFlush 3) ≡ eightBytes 100)
-    × (plainValue twoSlots 2 7 (replaceLost noStartFlush 3) ≡ some (eightBytes 101))
-unfolding word setBytes setWord filter slotNumbers anyOf tabulate greatest topmost lowest atLowest count say orElse unlessRefused made contentBy contentOf content top topOf markFault kindFault kindLimit bitsFault wordFault tailFault faultOf recordFault headerWord headerFault imageFault indexFault lentFault lineTop versionFault keyFrom keyOf valuePlace slotWord valueWord valueByte valueFront valueOf slotsOf paired slotTop verdictOf lineVerdict isValid insert sorted openingStore openingStores wordNumbers values zipped played less standing marked placedWord bodyA bodyB run lineStores recordStores said hasVersion sharers complete versionIfComplete highestComplete isVoid settled rankOf ordered chainOf reuseOf clashes sharersFault isRecord isBroken keyIn weight nextVersion decider decidingPut live spare liveCount brokenCount brokenLimit manyBroken allLive validVersion highestValid isRemove older mayTake firstOf lastOf after nextIn chained takeFirst linkNew append insertAt replaceAt removeAt keyFault isFound setNext setStart setLast link withTaken atEnd takeWalk takeFrom endsFault linkFault fewFault reuseFault roomFault walk search chainFault takingOf voidSlots openingsOf storesIn noState settledFault slotsFault slotsNamed recoverFault recoverSlot chainsOf placeOf recoveredIndex recoveredState recovered recoverResult unchanged storeFault changed writeLentFault insertsOf writeLaterFault writeFault writeDone writeBy writeResult removeLaterFault removeFault removeDone removeBy removeResult formatted lengthFault getLaterFault getFault getDone getResult locateFault locateDone locateResult calledChange calledGet calledLocate called worldAfter afterRound afterRounds openedWorld restarted imageCut stepBy takeableIf anyIn allStand requestLeaves isAmong seen notStanding writtenBack cutOff withStore withFlush withFence afterKill allMade decide ended stillUndecided killed started asked continued stepped moved movedBy atRest plainOf stands linesOf linesTo allLines eachLine requestFault requestUpdates updates updated plainNext plainStep roomRule ruleFault refuses isHeld mapOf valueAt takeableCount steps eightBytes startWith insertOf replaceOf answerIn outIn answerOf outOf plainValue noStartFlush noRequestFence oneLineFlushed twoSlots insertAnswered afterCut replaceKilled replaceLost replaceTorn
+pub no-start-flush : (getOutput 7 (replaceKilled noStartFlush 3) ≡ eightBytes 101) × (getOutput 7 (replaceLost noStartFlush 3) ≡ eightBytes 100)
+    × (plainValue blankTwo 2 7 (replaceLost noStartFlush 3) ≡ some (eightBytes 101))
+unfolding word setBytes setWord filter slotNumbers anyOf tabulate greatest topmost lowest atLowest count say orElse unlessRefused made contentBy contentOf content top topOf markFault kindFault kindLimit bitsFault wordFault tailFault faultOf recordFault headerWord headerFault imageFault indexFault lentFault lineTop versionFault keyFrom keyOf valuePlace slotWord valueWord valueByte valueFront valueOf slotsOf paired slotTop verdictOf lineVerdict isValid insert sorted openingStore openingStores wordNumbers values zipped played less standing marked placedWord bodyA bodyB run lineStores recordStores said hasVersion sharers complete versionIfComplete highestComplete isVoid settled rankOf ordered chainOf reuseOf clashes sharersFault isRecord isBroken keyIn weight nextVersion decider decidingPut live spare liveCount brokenCount brokenLimit manyBroken allLive validVersion highestValid isRemove older mayTake firstOf lastOf after nextIn chained takeFirst linkNew append insertAt replaceAt removeAt keyFault isFound setNext setStart setLast link withTaken atEnd takeWalk takeFrom endsFault linkFault fewFault reuseFault roomFault walk search chainFault takingOf voidSlots openingsOf storesIn noState settledFault slotsFault slotsNamed recoverFault recoverSlot chainsOf placeOf recoveredIndex recoveredState recovered recoverResult unchanged storeFault changed writeLentFault insertsOf writeLaterFault writeFault writeDone writeBy writeResult removeLaterFault removeFault removeDone removeBy removeResult formatted lengthFault getLaterFault getFault getDone getResult locateFault locateDone locateResult calledChange calledGet calledLocate called worldAfter afterRound afterRounds openedWorld restarted imageCut stepBy takeableIf anyIn allStand requestLeaves isAmong seen notStanding writtenBack cutOff afterStore afterFlush afterFence afterKill allMade decide ended stillUndecided killed started asked continued stepped moved movedBy atRest plainOf stands storeLines linesTo allLines eachLine requestFault requestUpdates updates updated plainNext plainStep roomRule ruleFault refuses isHeld mapOf valueAt takeableCount nextSteps eightBytes startWith insertOf replaceOf answerIn outIn getAnswer getOutput plainValue noStartFlush noRequestFence oneLineFlushed blankTwo insertAnswered insertAfterCut replaceKilled replaceLost replaceTorn
 no-start-flush = (refl, refl, refl)
 
 -- and the answered insert is lost where the next replace is torn
-pub no-start-flush-loses : (outOf 7 (insertAnswered noStartFlush 3 20) ≡ eightBytes 100) × (answerOf 7 (replaceTorn noStartFlush 3) ≡ absent)
-unfolding word setBytes setWord filter slotNumbers anyOf tabulate greatest topmost lowest atLowest count say orElse unlessRefused made contentBy contentOf content top topOf markFault kindFault kindLimit bitsFault wordFault tailFault faultOf recordFault headerWord headerFault imageFault indexFault lentFault lineTop versionFault keyFrom keyOf valuePlace slotWord valueWord valueByte valueFront valueOf slotsOf paired slotTop verdictOf lineVerdict isValid insert sorted openingStore openingStores wordNumbers values zipped played less standing marked placedWord bodyA bodyB run lineStores recordStores said hasVersion sharers complete versionIfComplete highestComplete isVoid settled rankOf ordered chainOf reuseOf clashes sharersFault isRecord isBroken keyIn weight nextVersion decider decidingPut live spare liveCount brokenCount brokenLimit manyBroken allLive validVersion highestValid isRemove older mayTake firstOf lastOf after nextIn chained takeFirst linkNew append insertAt replaceAt removeAt keyFault isFound setNext setStart setLast link withTaken atEnd takeWalk takeFrom endsFault linkFault fewFault reuseFault roomFault walk search chainFault takingOf voidSlots openingsOf storesIn noState settledFault slotsFault slotsNamed recoverFault recoverSlot chainsOf placeOf recoveredIndex recoveredState recovered recoverResult unchanged storeFault changed writeLentFault insertsOf writeLaterFault writeFault writeDone writeBy writeResult removeLaterFault removeFault removeDone removeBy removeResult formatted lengthFault getLaterFault getFault getDone getResult locateFault locateDone locateResult calledChange calledGet calledLocate called worldAfter afterRound afterRounds openedWorld restarted imageCut stepBy takeableIf anyIn allStand requestLeaves isAmong seen notStanding writtenBack cutOff withStore withFlush withFence afterKill allMade decide ended stillUndecided killed started asked continued stepped moved movedBy atRest plainOf stands linesOf linesTo allLines eachLine requestFault requestUpdates updates updated plainNext plainStep roomRule ruleFault refuses isHeld mapOf valueAt takeableCount steps eightBytes startWith insertOf replaceOf answerIn outIn answerOf outOf plainValue noStartFlush noRequestFence oneLineFlushed twoSlots insertAnswered afterCut replaceKilled replaceLost replaceTorn
+pub no-start-flush-loses : (getOutput 7 (insertAnswered noStartFlush 3 20) ≡ eightBytes 100) × (getAnswer 7 (replaceTorn noStartFlush 3) ≡ absent)
+unfolding word setBytes setWord filter slotNumbers anyOf tabulate greatest topmost lowest atLowest count say orElse unlessRefused made contentBy contentOf content top topOf markFault kindFault kindLimit bitsFault wordFault tailFault faultOf recordFault headerWord headerFault imageFault indexFault lentFault lineTop versionFault keyFrom keyOf valuePlace slotWord valueWord valueByte valueFront valueOf slotsOf paired slotTop verdictOf lineVerdict isValid insert sorted openingStore openingStores wordNumbers values zipped played less standing marked placedWord bodyA bodyB run lineStores recordStores said hasVersion sharers complete versionIfComplete highestComplete isVoid settled rankOf ordered chainOf reuseOf clashes sharersFault isRecord isBroken keyIn weight nextVersion decider decidingPut live spare liveCount brokenCount brokenLimit manyBroken allLive validVersion highestValid isRemove older mayTake firstOf lastOf after nextIn chained takeFirst linkNew append insertAt replaceAt removeAt keyFault isFound setNext setStart setLast link withTaken atEnd takeWalk takeFrom endsFault linkFault fewFault reuseFault roomFault walk search chainFault takingOf voidSlots openingsOf storesIn noState settledFault slotsFault slotsNamed recoverFault recoverSlot chainsOf placeOf recoveredIndex recoveredState recovered recoverResult unchanged storeFault changed writeLentFault insertsOf writeLaterFault writeFault writeDone writeBy writeResult removeLaterFault removeFault removeDone removeBy removeResult formatted lengthFault getLaterFault getFault getDone getResult locateFault locateDone locateResult calledChange calledGet calledLocate called worldAfter afterRound afterRounds openedWorld restarted imageCut stepBy takeableIf anyIn allStand requestLeaves isAmong seen notStanding writtenBack cutOff afterStore afterFlush afterFence afterKill allMade decide ended stillUndecided killed started asked continued stepped moved movedBy atRest plainOf stands storeLines linesTo allLines eachLine requestFault requestUpdates updates updated plainNext plainStep roomRule ruleFault refuses isHeld mapOf valueAt takeableCount nextSteps eightBytes startWith insertOf replaceOf answerIn outIn getAnswer getOutput plainValue noStartFlush noRequestFence oneLineFlushed blankTwo insertAnswered insertAfterCut replaceKilled replaceLost replaceTorn
 no-start-flush-loses = (refl, refl)
 
 -- THE ANSWER BEFORE THE FENCE: the answered insert is lost
-pub no-request-fence : (outOf 7 (insertAnswered noRequestFence 10 19) ≡ eightBytes 100) × (answerOf 7 (afterCut noRequestFence 10 19) ≡ absent)
-    × (plainValue twoSlots 2 7 (afterCut noRequestFence 10 19) ≡ some (eightBytes 100))
-unfolding word setBytes setWord filter slotNumbers anyOf tabulate greatest topmost lowest atLowest count say orElse unlessRefused made contentBy contentOf content top topOf markFault kindFault kindLimit bitsFault wordFault tailFault faultOf recordFault headerWord headerFault imageFault indexFault lentFault lineTop versionFault keyFrom keyOf valuePlace slotWord valueWord valueByte valueFront valueOf slotsOf paired slotTop verdictOf lineVerdict isValid insert sorted openingStore openingStores wordNumbers values zipped played less standing marked placedWord bodyA bodyB run lineStores recordStores said hasVersion sharers complete versionIfComplete highestComplete isVoid settled rankOf ordered chainOf reuseOf clashes sharersFault isRecord isBroken keyIn weight nextVersion decider decidingPut live spare liveCount brokenCount brokenLimit manyBroken allLive validVersion highestValid isRemove older mayTake firstOf lastOf after nextIn chained takeFirst linkNew append insertAt replaceAt removeAt keyFault isFound setNext setStart setLast link withTaken atEnd takeWalk takeFrom endsFault linkFault fewFault reuseFault roomFault walk search chainFault takingOf voidSlots openingsOf storesIn noState settledFault slotsFault slotsNamed recoverFault recoverSlot chainsOf placeOf recoveredIndex recoveredState recovered recoverResult unchanged storeFault changed writeLentFault insertsOf writeLaterFault writeFault writeDone writeBy writeResult removeLaterFault removeFault removeDone removeBy removeResult formatted lengthFault getLaterFault getFault getDone getResult locateFault locateDone locateResult calledChange calledGet calledLocate called worldAfter afterRound afterRounds openedWorld restarted imageCut stepBy takeableIf anyIn allStand requestLeaves isAmong seen notStanding writtenBack cutOff withStore withFlush withFence afterKill allMade decide ended stillUndecided killed started asked continued stepped moved movedBy atRest plainOf stands linesOf linesTo allLines eachLine requestFault requestUpdates updates updated plainNext plainStep roomRule ruleFault refuses isHeld mapOf valueAt takeableCount steps eightBytes startWith insertOf replaceOf answerIn outIn answerOf outOf plainValue noStartFlush noRequestFence oneLineFlushed twoSlots insertAnswered afterCut replaceKilled replaceLost replaceTorn
+pub no-request-fence : (getOutput 7 (insertAnswered noRequestFence 10 19) ≡ eightBytes 100) × (getAnswer 7 (insertAfterCut noRequestFence 10 19) ≡ absent)
+    × (plainValue blankTwo 2 7 (insertAfterCut noRequestFence 10 19) ≡ some (eightBytes 100))
+unfolding word setBytes setWord filter slotNumbers anyOf tabulate greatest topmost lowest atLowest count say orElse unlessRefused made contentBy contentOf content top topOf markFault kindFault kindLimit bitsFault wordFault tailFault faultOf recordFault headerWord headerFault imageFault indexFault lentFault lineTop versionFault keyFrom keyOf valuePlace slotWord valueWord valueByte valueFront valueOf slotsOf paired slotTop verdictOf lineVerdict isValid insert sorted openingStore openingStores wordNumbers values zipped played less standing marked placedWord bodyA bodyB run lineStores recordStores said hasVersion sharers complete versionIfComplete highestComplete isVoid settled rankOf ordered chainOf reuseOf clashes sharersFault isRecord isBroken keyIn weight nextVersion decider decidingPut live spare liveCount brokenCount brokenLimit manyBroken allLive validVersion highestValid isRemove older mayTake firstOf lastOf after nextIn chained takeFirst linkNew append insertAt replaceAt removeAt keyFault isFound setNext setStart setLast link withTaken atEnd takeWalk takeFrom endsFault linkFault fewFault reuseFault roomFault walk search chainFault takingOf voidSlots openingsOf storesIn noState settledFault slotsFault slotsNamed recoverFault recoverSlot chainsOf placeOf recoveredIndex recoveredState recovered recoverResult unchanged storeFault changed writeLentFault insertsOf writeLaterFault writeFault writeDone writeBy writeResult removeLaterFault removeFault removeDone removeBy removeResult formatted lengthFault getLaterFault getFault getDone getResult locateFault locateDone locateResult calledChange calledGet calledLocate called worldAfter afterRound afterRounds openedWorld restarted imageCut stepBy takeableIf anyIn allStand requestLeaves isAmong seen notStanding writtenBack cutOff afterStore afterFlush afterFence afterKill allMade decide ended stillUndecided killed started asked continued stepped moved movedBy atRest plainOf stands storeLines linesTo allLines eachLine requestFault requestUpdates updates updated plainNext plainStep roomRule ruleFault refuses isHeld mapOf valueAt takeableCount nextSteps eightBytes startWith insertOf replaceOf answerIn outIn getAnswer getOutput plainValue noStartFlush noRequestFence oneLineFlushed blankTwo insertAnswered insertAfterCut replaceKilled replaceLost replaceTorn
 no-request-fence = (refl, refl, refl)
 
 -- ONE LINE ONLY IS FLUSHED: the answered insert is lost
-pub one-line-flushed : (outOf 7 (insertAnswered oneLineFlushed 10 19) ≡ eightBytes 100) × (answerOf 7 (afterCut oneLineFlushed 10 19) ≡ absent)
-    × (plainValue twoSlots 2 7 (afterCut oneLineFlushed 10 19) ≡ some (eightBytes 100))
-unfolding word setBytes setWord filter slotNumbers anyOf tabulate greatest topmost lowest atLowest count say orElse unlessRefused made contentBy contentOf content top topOf markFault kindFault kindLimit bitsFault wordFault tailFault faultOf recordFault headerWord headerFault imageFault indexFault lentFault lineTop versionFault keyFrom keyOf valuePlace slotWord valueWord valueByte valueFront valueOf slotsOf paired slotTop verdictOf lineVerdict isValid insert sorted openingStore openingStores wordNumbers values zipped played less standing marked placedWord bodyA bodyB run lineStores recordStores said hasVersion sharers complete versionIfComplete highestComplete isVoid settled rankOf ordered chainOf reuseOf clashes sharersFault isRecord isBroken keyIn weight nextVersion decider decidingPut live spare liveCount brokenCount brokenLimit manyBroken allLive validVersion highestValid isRemove older mayTake firstOf lastOf after nextIn chained takeFirst linkNew append insertAt replaceAt removeAt keyFault isFound setNext setStart setLast link withTaken atEnd takeWalk takeFrom endsFault linkFault fewFault reuseFault roomFault walk search chainFault takingOf voidSlots openingsOf storesIn noState settledFault slotsFault slotsNamed recoverFault recoverSlot chainsOf placeOf recoveredIndex recoveredState recovered recoverResult unchanged storeFault changed writeLentFault insertsOf writeLaterFault writeFault writeDone writeBy writeResult removeLaterFault removeFault removeDone removeBy removeResult formatted lengthFault getLaterFault getFault getDone getResult locateFault locateDone locateResult calledChange calledGet calledLocate called worldAfter afterRound afterRounds openedWorld restarted imageCut stepBy takeableIf anyIn allStand requestLeaves isAmong seen notStanding writtenBack cutOff withStore withFlush withFence afterKill allMade decide ended stillUndecided killed started asked continued stepped moved movedBy atRest plainOf stands linesOf linesTo allLines eachLine requestFault requestUpdates updates updated plainNext plainStep roomRule ruleFault refuses isHeld mapOf valueAt takeableCount steps eightBytes startWith insertOf replaceOf answerIn outIn answerOf outOf plainValue noStartFlush noRequestFence oneLineFlushed twoSlots insertAnswered afterCut replaceKilled replaceLost replaceTorn
+pub one-line-flushed : (getOutput 7 (insertAnswered oneLineFlushed 10 19) ≡ eightBytes 100) × (getAnswer 7 (insertAfterCut oneLineFlushed 10 19) ≡ absent)
+    × (plainValue blankTwo 2 7 (insertAfterCut oneLineFlushed 10 19) ≡ some (eightBytes 100))
+unfolding word setBytes setWord filter slotNumbers anyOf tabulate greatest topmost lowest atLowest count say orElse unlessRefused made contentBy contentOf content top topOf markFault kindFault kindLimit bitsFault wordFault tailFault faultOf recordFault headerWord headerFault imageFault indexFault lentFault lineTop versionFault keyFrom keyOf valuePlace slotWord valueWord valueByte valueFront valueOf slotsOf paired slotTop verdictOf lineVerdict isValid insert sorted openingStore openingStores wordNumbers values zipped played less standing marked placedWord bodyA bodyB run lineStores recordStores said hasVersion sharers complete versionIfComplete highestComplete isVoid settled rankOf ordered chainOf reuseOf clashes sharersFault isRecord isBroken keyIn weight nextVersion decider decidingPut live spare liveCount brokenCount brokenLimit manyBroken allLive validVersion highestValid isRemove older mayTake firstOf lastOf after nextIn chained takeFirst linkNew append insertAt replaceAt removeAt keyFault isFound setNext setStart setLast link withTaken atEnd takeWalk takeFrom endsFault linkFault fewFault reuseFault roomFault walk search chainFault takingOf voidSlots openingsOf storesIn noState settledFault slotsFault slotsNamed recoverFault recoverSlot chainsOf placeOf recoveredIndex recoveredState recovered recoverResult unchanged storeFault changed writeLentFault insertsOf writeLaterFault writeFault writeDone writeBy writeResult removeLaterFault removeFault removeDone removeBy removeResult formatted lengthFault getLaterFault getFault getDone getResult locateFault locateDone locateResult calledChange calledGet calledLocate called worldAfter afterRound afterRounds openedWorld restarted imageCut stepBy takeableIf anyIn allStand requestLeaves isAmong seen notStanding writtenBack cutOff afterStore afterFlush afterFence afterKill allMade decide ended stillUndecided killed started asked continued stepped moved movedBy atRest plainOf stands storeLines linesTo allLines eachLine requestFault requestUpdates updates updated plainNext plainStep roomRule ruleFault refuses isHeld mapOf valueAt takeableCount nextSteps eightBytes startWith insertOf replaceOf answerIn outIn getAnswer getOutput plainValue noStartFlush noRequestFence oneLineFlushed blankTwo insertAnswered insertAfterCut replaceKilled replaceLost replaceTorn
 one-line-flushed = (refl, refl, refl)
 
 -- THE PROGRAM THAT DOES ITS DUTIES keeps what it showed in the same histories
-pub each-line-keeps : (outOf 7 (replaceKilled eachLine 10) ≡ eightBytes 101) × (outOf 7 (replaceLost eachLine 10) ≡ eightBytes 101)
-    × (outOf 7 (replaceTorn eachLine 10) ≡ eightBytes 101) × (outOf 7 (afterCut eachLine 10 20) ≡ eightBytes 100)
-unfolding word setBytes setWord filter slotNumbers anyOf tabulate greatest topmost lowest atLowest count say orElse unlessRefused made contentBy contentOf content top topOf markFault kindFault kindLimit bitsFault wordFault tailFault faultOf recordFault headerWord headerFault imageFault indexFault lentFault lineTop versionFault keyFrom keyOf valuePlace slotWord valueWord valueByte valueFront valueOf slotsOf paired slotTop verdictOf lineVerdict isValid insert sorted openingStore openingStores wordNumbers values zipped played less standing marked placedWord bodyA bodyB run lineStores recordStores said hasVersion sharers complete versionIfComplete highestComplete isVoid settled rankOf ordered chainOf reuseOf clashes sharersFault isRecord isBroken keyIn weight nextVersion decider decidingPut live spare liveCount brokenCount brokenLimit manyBroken allLive validVersion highestValid isRemove older mayTake firstOf lastOf after nextIn chained takeFirst linkNew append insertAt replaceAt removeAt keyFault isFound setNext setStart setLast link withTaken atEnd takeWalk takeFrom endsFault linkFault fewFault reuseFault roomFault walk search chainFault takingOf voidSlots openingsOf storesIn noState settledFault slotsFault slotsNamed recoverFault recoverSlot chainsOf placeOf recoveredIndex recoveredState recovered recoverResult unchanged storeFault changed writeLentFault insertsOf writeLaterFault writeFault writeDone writeBy writeResult removeLaterFault removeFault removeDone removeBy removeResult formatted lengthFault getLaterFault getFault getDone getResult locateFault locateDone locateResult calledChange calledGet calledLocate called worldAfter afterRound afterRounds openedWorld restarted imageCut stepBy takeableIf anyIn allStand requestLeaves isAmong seen notStanding writtenBack cutOff withStore withFlush withFence afterKill allMade decide ended stillUndecided killed started asked continued stepped moved movedBy atRest plainOf stands linesOf linesTo allLines eachLine requestFault requestUpdates updates updated plainNext plainStep roomRule ruleFault refuses isHeld mapOf valueAt takeableCount steps eightBytes startWith insertOf replaceOf answerIn outIn answerOf outOf plainValue noStartFlush noRequestFence oneLineFlushed twoSlots insertAnswered afterCut replaceKilled replaceLost replaceTorn
+pub each-line-keeps : (getOutput 7 (replaceKilled eachLine 10) ≡ eightBytes 101) × (getOutput 7 (replaceLost eachLine 10) ≡ eightBytes 101)
+    × (getOutput 7 (replaceTorn eachLine 10) ≡ eightBytes 101) × (getOutput 7 (insertAfterCut eachLine 10 20) ≡ eightBytes 100)
+unfolding word setBytes setWord filter slotNumbers anyOf tabulate greatest topmost lowest atLowest count say orElse unlessRefused made contentBy contentOf content top topOf markFault kindFault kindLimit bitsFault wordFault tailFault faultOf recordFault headerWord headerFault imageFault indexFault lentFault lineTop versionFault keyFrom keyOf valuePlace slotWord valueWord valueByte valueFront valueOf slotsOf paired slotTop verdictOf lineVerdict isValid insert sorted openingStore openingStores wordNumbers values zipped played less standing marked placedWord bodyA bodyB run lineStores recordStores said hasVersion sharers complete versionIfComplete highestComplete isVoid settled rankOf ordered chainOf reuseOf clashes sharersFault isRecord isBroken keyIn weight nextVersion decider decidingPut live spare liveCount brokenCount brokenLimit manyBroken allLive validVersion highestValid isRemove older mayTake firstOf lastOf after nextIn chained takeFirst linkNew append insertAt replaceAt removeAt keyFault isFound setNext setStart setLast link withTaken atEnd takeWalk takeFrom endsFault linkFault fewFault reuseFault roomFault walk search chainFault takingOf voidSlots openingsOf storesIn noState settledFault slotsFault slotsNamed recoverFault recoverSlot chainsOf placeOf recoveredIndex recoveredState recovered recoverResult unchanged storeFault changed writeLentFault insertsOf writeLaterFault writeFault writeDone writeBy writeResult removeLaterFault removeFault removeDone removeBy removeResult formatted lengthFault getLaterFault getFault getDone getResult locateFault locateDone locateResult calledChange calledGet calledLocate called worldAfter afterRound afterRounds openedWorld restarted imageCut stepBy takeableIf anyIn allStand requestLeaves isAmong seen notStanding writtenBack cutOff afterStore afterFlush afterFence afterKill allMade decide ended stillUndecided killed started asked continued stepped moved movedBy atRest plainOf stands storeLines linesTo allLines eachLine requestFault requestUpdates updates updated plainNext plainStep roomRule ruleFault refuses isHeld mapOf valueAt takeableCount nextSteps eightBytes startWith insertOf replaceOf answerIn outIn getAnswer getOutput plainValue noStartFlush noRequestFence oneLineFlushed blankTwo insertAnswered insertAfterCut replaceKilled replaceLost replaceTorn
 each-line-keeps = (refl, refl, refl, refl)

@@ -40,25 +40,25 @@ use Rattle.face.specs.Event.{stepBy, imageCut}
 use Rattle.prelude.specs.Answer.{absent, refuses}
 use Rattle.cutrule.specs.Request.{requestLeaves, requestFault, requestUpdates}
 use Rattle.plainmap.specs.Plain.{updates, updated, plainNext, plainStep, roomRule, ruleFault}
-use Rattle.restart_machine.specs.Machine.{isAmong, seen, notStanding, writtenBack, cutOff, withStore, withFlush, withFence, afterKill, allMade, decide, ended, stillUndecided, killed, started, asked, continued, stepped, moved, movedBy, atRest}
+use Rattle.restart_machine.specs.Machine.{isAmong, seen, notStanding, writtenBack, cutOff, afterStore, afterFlush, afterFence, afterKill, allMade, decide, ended, stillUndecided, killed, started, asked, continued, stepped, moved, movedBy, atRest}
 use Rattle.restart_machine.specs.Rule.{stands, plainOf}
-use Rattle.restart_machine.specs.EachLine.{linesOf, linesTo, allLines, eachLine}
-use Rattle.restart_examples.specs.Wrong.{noOpeningFence, steps, eightBytes, startWith, insertOf, replaceOf, answerIn, outIn, answerOf, outOf, plainValue, fourSlots, tornImage, basketOpened, insertCut}
+use Rattle.restart_machine.specs.EachLine.{storeLines, linesTo, allLines, eachLine}
+use Rattle.restart_examples.specs.Wrong.{noOpeningFence, nextSteps, eightBytes, startWith, insertOf, replaceOf, answerIn, outIn, getAnswer, getOutput, plainValue, blankFour, tornBasketImage, basketOpened, insertCut}
 
 -- THE OPENING STORES ARE NOT FENCED: a key of the torn basket is absent, and after a cut in the insert of another key it is there
-pub opening-absent : answerOf 8 (basketOpened noOpeningFence 17) ≡ absent
-unfolding word setBytes setWord filter slotNumbers anyOf tabulate greatest topmost lowest atLowest count say orElse unlessRefused made contentBy contentOf content top topOf markFault kindFault kindLimit bitsFault wordFault tailFault faultOf recordFault headerWord headerFault imageFault indexFault lentFault lineTop versionFault keyFrom keyOf valuePlace slotWord valueWord valueByte valueFront valueOf slotsOf paired slotTop verdictOf lineVerdict isValid insert sorted openingStore openingStores wordNumbers values zipped played less standing marked placedWord bodyA bodyB run lineStores recordStores said hasVersion sharers complete versionIfComplete highestComplete isVoid settled rankOf ordered chainOf reuseOf clashes sharersFault isRecord isBroken keyIn weight nextVersion decider decidingPut live spare liveCount brokenCount brokenLimit manyBroken allLive validVersion highestValid isRemove older mayTake firstOf lastOf after nextIn chained takeFirst linkNew append insertAt replaceAt removeAt keyFault isFound setNext setStart setLast link withTaken atEnd takeWalk takeFrom endsFault linkFault fewFault reuseFault roomFault walk search chainFault takingOf voidSlots openingsOf storesIn noState settledFault slotsFault slotsNamed recoverFault recoverSlot chainsOf placeOf recoveredIndex recoveredState recovered recoverResult unchanged storeFault changed writeLentFault insertsOf writeLaterFault writeFault writeDone writeBy writeResult removeLaterFault removeFault removeDone removeBy removeResult formatted lengthFault getLaterFault getFault getDone getResult locateFault locateDone locateResult calledChange calledGet calledLocate called worldAfter afterRound afterRounds openedWorld restarted imageCut stepBy takeableIf anyIn allStand requestLeaves isAmong seen notStanding writtenBack cutOff withStore withFlush withFence afterKill allMade decide ended stillUndecided killed started asked continued stepped moved movedBy atRest plainOf stands linesOf linesTo allLines eachLine requestFault requestUpdates updates updated plainNext plainStep roomRule ruleFault refuses isHeld mapOf valueAt takeableCount steps eightBytes startWith insertOf replaceOf answerIn outIn answerOf outOf plainValue noOpeningFence fourSlots tornImage basketOpened insertCut
+pub opening-absent : getAnswer 8 (basketOpened noOpeningFence 17) ≡ absent
+unfolding word setBytes setWord filter slotNumbers anyOf tabulate greatest topmost lowest atLowest count say orElse unlessRefused made contentBy contentOf content top topOf markFault kindFault kindLimit bitsFault wordFault tailFault faultOf recordFault headerWord headerFault imageFault indexFault lentFault lineTop versionFault keyFrom keyOf valuePlace slotWord valueWord valueByte valueFront valueOf slotsOf paired slotTop verdictOf lineVerdict isValid insert sorted openingStore openingStores wordNumbers values zipped played less standing marked placedWord bodyA bodyB run lineStores recordStores said hasVersion sharers complete versionIfComplete highestComplete isVoid settled rankOf ordered chainOf reuseOf clashes sharersFault isRecord isBroken keyIn weight nextVersion decider decidingPut live spare liveCount brokenCount brokenLimit manyBroken allLive validVersion highestValid isRemove older mayTake firstOf lastOf after nextIn chained takeFirst linkNew append insertAt replaceAt removeAt keyFault isFound setNext setStart setLast link withTaken atEnd takeWalk takeFrom endsFault linkFault fewFault reuseFault roomFault walk search chainFault takingOf voidSlots openingsOf storesIn noState settledFault slotsFault slotsNamed recoverFault recoverSlot chainsOf placeOf recoveredIndex recoveredState recovered recoverResult unchanged storeFault changed writeLentFault insertsOf writeLaterFault writeFault writeDone writeBy writeResult removeLaterFault removeFault removeDone removeBy removeResult formatted lengthFault getLaterFault getFault getDone getResult locateFault locateDone locateResult calledChange calledGet calledLocate called worldAfter afterRound afterRounds openedWorld restarted imageCut stepBy takeableIf anyIn allStand requestLeaves isAmong seen notStanding writtenBack cutOff afterStore afterFlush afterFence afterKill allMade decide ended stillUndecided killed started asked continued stepped moved movedBy atRest plainOf stands storeLines linesTo allLines eachLine requestFault requestUpdates updates updated plainNext plainStep roomRule ruleFault refuses isHeld mapOf valueAt takeableCount nextSteps eightBytes startWith insertOf replaceOf answerIn outIn getAnswer getOutput plainValue noOpeningFence blankFour tornBasketImage basketOpened insertCut
 opening-absent = refl
 
-pub opening-lost : outOf 8 (insertCut noOpeningFence 17 13) ≡ eightBytes 2
-unfolding word setBytes setWord filter slotNumbers anyOf tabulate greatest topmost lowest atLowest count say orElse unlessRefused made contentBy contentOf content top topOf markFault kindFault kindLimit bitsFault wordFault tailFault faultOf recordFault headerWord headerFault imageFault indexFault lentFault lineTop versionFault keyFrom keyOf valuePlace slotWord valueWord valueByte valueFront valueOf slotsOf paired slotTop verdictOf lineVerdict isValid insert sorted openingStore openingStores wordNumbers values zipped played less standing marked placedWord bodyA bodyB run lineStores recordStores said hasVersion sharers complete versionIfComplete highestComplete isVoid settled rankOf ordered chainOf reuseOf clashes sharersFault isRecord isBroken keyIn weight nextVersion decider decidingPut live spare liveCount brokenCount brokenLimit manyBroken allLive validVersion highestValid isRemove older mayTake firstOf lastOf after nextIn chained takeFirst linkNew append insertAt replaceAt removeAt keyFault isFound setNext setStart setLast link withTaken atEnd takeWalk takeFrom endsFault linkFault fewFault reuseFault roomFault walk search chainFault takingOf voidSlots openingsOf storesIn noState settledFault slotsFault slotsNamed recoverFault recoverSlot chainsOf placeOf recoveredIndex recoveredState recovered recoverResult unchanged storeFault changed writeLentFault insertsOf writeLaterFault writeFault writeDone writeBy writeResult removeLaterFault removeFault removeDone removeBy removeResult formatted lengthFault getLaterFault getFault getDone getResult locateFault locateDone locateResult calledChange calledGet calledLocate called worldAfter afterRound afterRounds openedWorld restarted imageCut stepBy takeableIf anyIn allStand requestLeaves isAmong seen notStanding writtenBack cutOff withStore withFlush withFence afterKill allMade decide ended stillUndecided killed started asked continued stepped moved movedBy atRest plainOf stands linesOf linesTo allLines eachLine requestFault requestUpdates updates updated plainNext plainStep roomRule ruleFault refuses isHeld mapOf valueAt takeableCount steps eightBytes startWith insertOf replaceOf answerIn outIn answerOf outOf plainValue noOpeningFence fourSlots tornImage basketOpened insertCut
+pub opening-lost : getOutput 8 (insertCut noOpeningFence 17 13) ≡ eightBytes 2
+unfolding word setBytes setWord filter slotNumbers anyOf tabulate greatest topmost lowest atLowest count say orElse unlessRefused made contentBy contentOf content top topOf markFault kindFault kindLimit bitsFault wordFault tailFault faultOf recordFault headerWord headerFault imageFault indexFault lentFault lineTop versionFault keyFrom keyOf valuePlace slotWord valueWord valueByte valueFront valueOf slotsOf paired slotTop verdictOf lineVerdict isValid insert sorted openingStore openingStores wordNumbers values zipped played less standing marked placedWord bodyA bodyB run lineStores recordStores said hasVersion sharers complete versionIfComplete highestComplete isVoid settled rankOf ordered chainOf reuseOf clashes sharersFault isRecord isBroken keyIn weight nextVersion decider decidingPut live spare liveCount brokenCount brokenLimit manyBroken allLive validVersion highestValid isRemove older mayTake firstOf lastOf after nextIn chained takeFirst linkNew append insertAt replaceAt removeAt keyFault isFound setNext setStart setLast link withTaken atEnd takeWalk takeFrom endsFault linkFault fewFault reuseFault roomFault walk search chainFault takingOf voidSlots openingsOf storesIn noState settledFault slotsFault slotsNamed recoverFault recoverSlot chainsOf placeOf recoveredIndex recoveredState recovered recoverResult unchanged storeFault changed writeLentFault insertsOf writeLaterFault writeFault writeDone writeBy writeResult removeLaterFault removeFault removeDone removeBy removeResult formatted lengthFault getLaterFault getFault getDone getResult locateFault locateDone locateResult calledChange calledGet calledLocate called worldAfter afterRound afterRounds openedWorld restarted imageCut stepBy takeableIf anyIn allStand requestLeaves isAmong seen notStanding writtenBack cutOff afterStore afterFlush afterFence afterKill allMade decide ended stillUndecided killed started asked continued stepped moved movedBy atRest plainOf stands storeLines linesTo allLines eachLine requestFault requestUpdates updates updated plainNext plainStep roomRule ruleFault refuses isHeld mapOf valueAt takeableCount nextSteps eightBytes startWith insertOf replaceOf answerIn outIn getAnswer getOutput plainValue noOpeningFence blankFour tornBasketImage basketOpened insertCut
 opening-lost = refl
 
-pub opening-plain : plainValue tornImage 4 8 (insertCut noOpeningFence 17 13) ≡ none
-unfolding word setBytes setWord filter slotNumbers anyOf tabulate greatest topmost lowest atLowest count say orElse unlessRefused made contentBy contentOf content top topOf markFault kindFault kindLimit bitsFault wordFault tailFault faultOf recordFault headerWord headerFault imageFault indexFault lentFault lineTop versionFault keyFrom keyOf valuePlace slotWord valueWord valueByte valueFront valueOf slotsOf paired slotTop verdictOf lineVerdict isValid insert sorted openingStore openingStores wordNumbers values zipped played less standing marked placedWord bodyA bodyB run lineStores recordStores said hasVersion sharers complete versionIfComplete highestComplete isVoid settled rankOf ordered chainOf reuseOf clashes sharersFault isRecord isBroken keyIn weight nextVersion decider decidingPut live spare liveCount brokenCount brokenLimit manyBroken allLive validVersion highestValid isRemove older mayTake firstOf lastOf after nextIn chained takeFirst linkNew append insertAt replaceAt removeAt keyFault isFound setNext setStart setLast link withTaken atEnd takeWalk takeFrom endsFault linkFault fewFault reuseFault roomFault walk search chainFault takingOf voidSlots openingsOf storesIn noState settledFault slotsFault slotsNamed recoverFault recoverSlot chainsOf placeOf recoveredIndex recoveredState recovered recoverResult unchanged storeFault changed writeLentFault insertsOf writeLaterFault writeFault writeDone writeBy writeResult removeLaterFault removeFault removeDone removeBy removeResult formatted lengthFault getLaterFault getFault getDone getResult locateFault locateDone locateResult calledChange calledGet calledLocate called worldAfter afterRound afterRounds openedWorld restarted imageCut stepBy takeableIf anyIn allStand requestLeaves isAmong seen notStanding writtenBack cutOff withStore withFlush withFence afterKill allMade decide ended stillUndecided killed started asked continued stepped moved movedBy atRest plainOf stands linesOf linesTo allLines eachLine requestFault requestUpdates updates updated plainNext plainStep roomRule ruleFault refuses isHeld mapOf valueAt takeableCount steps eightBytes startWith insertOf replaceOf answerIn outIn answerOf outOf plainValue noOpeningFence fourSlots tornImage basketOpened insertCut
+pub opening-plain : plainValue tornBasketImage 4 8 (insertCut noOpeningFence 17 13) ≡ none
+unfolding word setBytes setWord filter slotNumbers anyOf tabulate greatest topmost lowest atLowest count say orElse unlessRefused made contentBy contentOf content top topOf markFault kindFault kindLimit bitsFault wordFault tailFault faultOf recordFault headerWord headerFault imageFault indexFault lentFault lineTop versionFault keyFrom keyOf valuePlace slotWord valueWord valueByte valueFront valueOf slotsOf paired slotTop verdictOf lineVerdict isValid insert sorted openingStore openingStores wordNumbers values zipped played less standing marked placedWord bodyA bodyB run lineStores recordStores said hasVersion sharers complete versionIfComplete highestComplete isVoid settled rankOf ordered chainOf reuseOf clashes sharersFault isRecord isBroken keyIn weight nextVersion decider decidingPut live spare liveCount brokenCount brokenLimit manyBroken allLive validVersion highestValid isRemove older mayTake firstOf lastOf after nextIn chained takeFirst linkNew append insertAt replaceAt removeAt keyFault isFound setNext setStart setLast link withTaken atEnd takeWalk takeFrom endsFault linkFault fewFault reuseFault roomFault walk search chainFault takingOf voidSlots openingsOf storesIn noState settledFault slotsFault slotsNamed recoverFault recoverSlot chainsOf placeOf recoveredIndex recoveredState recovered recoverResult unchanged storeFault changed writeLentFault insertsOf writeLaterFault writeFault writeDone writeBy writeResult removeLaterFault removeFault removeDone removeBy removeResult formatted lengthFault getLaterFault getFault getDone getResult locateFault locateDone locateResult calledChange calledGet calledLocate called worldAfter afterRound afterRounds openedWorld restarted imageCut stepBy takeableIf anyIn allStand requestLeaves isAmong seen notStanding writtenBack cutOff afterStore afterFlush afterFence afterKill allMade decide ended stillUndecided killed started asked continued stepped moved movedBy atRest plainOf stands storeLines linesTo allLines eachLine requestFault requestUpdates updates updated plainNext plainStep roomRule ruleFault refuses isHeld mapOf valueAt takeableCount nextSteps eightBytes startWith insertOf replaceOf answerIn outIn getAnswer getOutput plainValue noOpeningFence blankFour tornBasketImage basketOpened insertCut
 opening-plain = refl
 
 -- THE PROGRAM THAT DOES ITS DUTIES keeps it absent in the same history
-pub each-line-hides : answerOf 8 (insertCut eachLine 18 14) ≡ absent
-unfolding word setBytes setWord filter slotNumbers anyOf tabulate greatest topmost lowest atLowest count say orElse unlessRefused made contentBy contentOf content top topOf markFault kindFault kindLimit bitsFault wordFault tailFault faultOf recordFault headerWord headerFault imageFault indexFault lentFault lineTop versionFault keyFrom keyOf valuePlace slotWord valueWord valueByte valueFront valueOf slotsOf paired slotTop verdictOf lineVerdict isValid insert sorted openingStore openingStores wordNumbers values zipped played less standing marked placedWord bodyA bodyB run lineStores recordStores said hasVersion sharers complete versionIfComplete highestComplete isVoid settled rankOf ordered chainOf reuseOf clashes sharersFault isRecord isBroken keyIn weight nextVersion decider decidingPut live spare liveCount brokenCount brokenLimit manyBroken allLive validVersion highestValid isRemove older mayTake firstOf lastOf after nextIn chained takeFirst linkNew append insertAt replaceAt removeAt keyFault isFound setNext setStart setLast link withTaken atEnd takeWalk takeFrom endsFault linkFault fewFault reuseFault roomFault walk search chainFault takingOf voidSlots openingsOf storesIn noState settledFault slotsFault slotsNamed recoverFault recoverSlot chainsOf placeOf recoveredIndex recoveredState recovered recoverResult unchanged storeFault changed writeLentFault insertsOf writeLaterFault writeFault writeDone writeBy writeResult removeLaterFault removeFault removeDone removeBy removeResult formatted lengthFault getLaterFault getFault getDone getResult locateFault locateDone locateResult calledChange calledGet calledLocate called worldAfter afterRound afterRounds openedWorld restarted imageCut stepBy takeableIf anyIn allStand requestLeaves isAmong seen notStanding writtenBack cutOff withStore withFlush withFence afterKill allMade decide ended stillUndecided killed started asked continued stepped moved movedBy atRest plainOf stands linesOf linesTo allLines eachLine requestFault requestUpdates updates updated plainNext plainStep roomRule ruleFault refuses isHeld mapOf valueAt takeableCount steps eightBytes startWith insertOf replaceOf answerIn outIn answerOf outOf plainValue noOpeningFence fourSlots tornImage basketOpened insertCut
+pub each-line-hides : getAnswer 8 (insertCut eachLine 18 14) ≡ absent
+unfolding word setBytes setWord filter slotNumbers anyOf tabulate greatest topmost lowest atLowest count say orElse unlessRefused made contentBy contentOf content top topOf markFault kindFault kindLimit bitsFault wordFault tailFault faultOf recordFault headerWord headerFault imageFault indexFault lentFault lineTop versionFault keyFrom keyOf valuePlace slotWord valueWord valueByte valueFront valueOf slotsOf paired slotTop verdictOf lineVerdict isValid insert sorted openingStore openingStores wordNumbers values zipped played less standing marked placedWord bodyA bodyB run lineStores recordStores said hasVersion sharers complete versionIfComplete highestComplete isVoid settled rankOf ordered chainOf reuseOf clashes sharersFault isRecord isBroken keyIn weight nextVersion decider decidingPut live spare liveCount brokenCount brokenLimit manyBroken allLive validVersion highestValid isRemove older mayTake firstOf lastOf after nextIn chained takeFirst linkNew append insertAt replaceAt removeAt keyFault isFound setNext setStart setLast link withTaken atEnd takeWalk takeFrom endsFault linkFault fewFault reuseFault roomFault walk search chainFault takingOf voidSlots openingsOf storesIn noState settledFault slotsFault slotsNamed recoverFault recoverSlot chainsOf placeOf recoveredIndex recoveredState recovered recoverResult unchanged storeFault changed writeLentFault insertsOf writeLaterFault writeFault writeDone writeBy writeResult removeLaterFault removeFault removeDone removeBy removeResult formatted lengthFault getLaterFault getFault getDone getResult locateFault locateDone locateResult calledChange calledGet calledLocate called worldAfter afterRound afterRounds openedWorld restarted imageCut stepBy takeableIf anyIn allStand requestLeaves isAmong seen notStanding writtenBack cutOff afterStore afterFlush afterFence afterKill allMade decide ended stillUndecided killed started asked continued stepped moved movedBy atRest plainOf stands storeLines linesTo allLines eachLine requestFault requestUpdates updates updated plainNext plainStep roomRule ruleFault refuses isHeld mapOf valueAt takeableCount nextSteps eightBytes startWith insertOf replaceOf answerIn outIn getAnswer getOutput plainValue noOpeningFence blankFour tornBasketImage basketOpened insertCut
 each-line-hides = refl

@@ -13,7 +13,7 @@ use Rattle.face.specs.Set.{formatted, Insert, Replace, Call, write, get, called
 use Rattle.cutrule.specs.Request.{Request, a-call}
 use Rattle.restart_machine.specs.Machine.{Memory, Duties, Program, off, busy, idle, Move, start, ask, next-step, kill, cut, Machine, movedBy, atRest}
 use Rattle.restart_machine.specs.Rule.{plainOf}
-use Rattle.restart_machine.specs.EachLine.{linesOf, allLines, eachLine}
+use Rattle.restart_machine.specs.EachLine.{storeLines, allLines, eachLine}
 use Rattle.restart_rule.specs.Set.{LentIndex, HeldIndex, worldWith, setLibrary, setPromise}
 
 -- ---- the wrong programs: each is `eachLine` but for one duty
@@ -24,9 +24,9 @@ noStartFlush =
     record {
       startLines = λ len. [];
       startFence = false;
-      openingLines = linesOf;
+      openingLines = storeLines;
       openingFence = true;
-      requestLines = linesOf;
+      requestLines = storeLines;
       requestFence = true;
     }
 
@@ -36,9 +36,9 @@ noOpeningFence =
     record {
       startLines = allLines;
       startFence = true;
-      openingLines = linesOf;
+      openingLines = storeLines;
       openingFence = false;
-      requestLines = linesOf;
+      requestLines = storeLines;
       requestFence = true;
     }
 
@@ -48,9 +48,9 @@ noRequestFence =
     record {
       startLines = allLines;
       startFence = true;
-      openingLines = linesOf;
+      openingLines = storeLines;
       openingFence = true;
-      requestLines = linesOf;
+      requestLines = storeLines;
       requestFence = false;
     }
 
@@ -60,9 +60,9 @@ oneLineFlushed =
     record {
       startLines = allLines;
       startFence = true;
-      openingLines = linesOf;
+      openingLines = storeLines;
       openingFence = true;
-      requestLines = λ ss. take 1 (linesOf ss);
+      requestLines = λ ss. take 1 (storeLines ss);
       requestFence = true;
     }
 
@@ -74,9 +74,9 @@ SetMachine = Machine LentIndex HeldIndex Request
 abbrev pub SetMove : Type 0
 SetMove = Move LentIndex Request
 
-unfoldable pub steps : (k : ℕ) → List SetMove → List SetMove
-steps zero moves = moves
-steps (suc k) moves = next-step ∷ steps k moves
+unfoldable pub nextSteps : (k : ℕ) → List SetMove → List SetMove
+nextSteps zero moves = moves
+nextSteps (suc k) moves = next-step ∷ nextSteps k moves
 
 -- the 8 bytes of a small number
 unfoldable pub eightBytes : ℕ → List ℕ
@@ -104,11 +104,11 @@ outIn mem off call = []
 outIn mem (busy ss lines fence c) call = []
 outIn mem (idle held) call = called 1 (worldWith (played (mem .pending) (mem .durable)) held) call .out
 
-unfoldable pub answerOf : (key : ℕ) → SetMachine → Answer
-answerOf key s = answerIn (s .memory) (s .program) (get key (replicate 8 0))
+unfoldable pub getAnswer : (key : ℕ) → SetMachine → Answer
+getAnswer key s = answerIn (s .memory) (s .program) (get key (replicate 8 0))
 
-unfoldable pub outOf : (key : ℕ) → SetMachine → List ℕ
-outOf key s = outIn (s .memory) (s .program) (get key (replicate 8 0))
+unfoldable pub getOutput : (key : ℕ) → SetMachine → List ℕ
+getOutput key s = outIn (s .memory) (s .program) (get key (replicate 8 0))
 
 -- what the plain map of the decided requests holds
 unfoldable pub plainValue : (image : List ℕ) → (n key : ℕ) → SetMachine → Option (List ℕ)
@@ -116,46 +116,46 @@ plainValue image n key s = plainOf (setPromise 1 n) (slotsMap 1 image) (s .histo
 
 -- ---- on an image of two slots
 
-unfoldable pub twoSlots : List ℕ
-twoSlots = formatted 1 384
+unfoldable pub blankTwo : List ℕ
+blankTwo = formatted 1 384
 
 -- an insert of key 7 is answered: after the start's steps (`first`), sixteen stores, the flushes and the fence
 unfoldable pub insertAnswered : (d : Duties) → (first rest : ℕ) → SetMachine
-insertAnswered d first rest = movedBy d (setLibrary 1) (atRest twoSlots) (startWith 2 ∷ steps first (insertOf 7 100 ∷ steps rest []))
+insertAnswered d first rest = movedBy d (setLibrary 1) (atRest blankTwo) (startWith 2 ∷ nextSteps first (insertOf 7 100 ∷ nextSteps rest []))
 
 -- power fails then and takes all that is not durable; the next start
-unfoldable pub afterCut : (d : Duties) → (first rest : ℕ) → SetMachine
-afterCut d first rest = movedBy d (setLibrary 1) (insertAnswered d first rest) (cut (λ n. 0) ∷ startWith 2 ∷ steps first [])
+unfoldable pub insertAfterCut : (d : Duties) → (first rest : ℕ) → SetMachine
+insertAfterCut d first rest = movedBy d (setLibrary 1) (insertAnswered d first rest) (cut (λ n. 0) ∷ startWith 2 ∷ nextSteps first [])
 
 -- a replace of key 7 makes its sixteen stores and is killed before its flush; the next start recovers what is seen
 unfoldable pub replaceKilled : (d : Duties) → (first : ℕ) → SetMachine
-replaceKilled d first = movedBy d (setLibrary 1) (insertAnswered d first 20) (replaceOf 7 101 ∷ steps 16 (kill ∷ startWith 2 ∷ steps first []))
+replaceKilled d first = movedBy d (setLibrary 1) (insertAnswered d first 20) (replaceOf 7 101 ∷ nextSteps 16 (kill ∷ startWith 2 ∷ nextSteps first []))
 
 -- power fails then, and takes all that is not durable; the next start
 unfoldable pub replaceLost : (d : Duties) → (first : ℕ) → SetMachine
-replaceLost d first = movedBy d (setLibrary 1) (replaceKilled d first) (cut (λ n. 0) ∷ startWith 2 ∷ steps first [])
+replaceLost d first = movedBy d (setLibrary 1) (replaceKilled d first) (cut (λ n. 0) ∷ startWith 2 ∷ nextSteps first [])
 
 -- or it is asked for another replace, makes the first of its stores, and power fails: that store stands, and nothing else that was not durable
 unfoldable pub replaceTorn : (d : Duties) → (first : ℕ) → SetMachine
 replaceTorn d first =
     movedBy d (setLibrary 1) (replaceKilled d first)
-    (replaceOf 7 102 ∷ next-step ∷ cut (λ n. cond (eqb n 2) 1 0) ∷ startWith 2 ∷ steps first [])
+    (replaceOf 7 102 ∷ next-step ∷ cut (λ n. cond (eqb n 2) 1 0) ∷ startWith 2 ∷ nextSteps first [])
 
 -- ---- on an image of four slots: of a basket of three keys power left the first two records, whole
 
-unfoldable pub fourSlots : List ℕ
-fourSlots = formatted 1 640
+unfoldable pub blankFour : List ℕ
+blankFour = formatted 1 640
 
-unfoldable pub tornImage : List ℕ
-tornImage =
-    played (recordStores 1 (word fourSlots) 1 7 1 3 (eightBytes 1) 1 ++ recordStores 1 (word fourSlots) 2 8 1 3 (eightBytes 2) 1) fourSlots
+unfoldable pub tornBasketImage : List ℕ
+tornBasketImage =
+    played (recordStores 1 (word blankFour) 1 7 1 3 (eightBytes 1) 1 ++ recordStores 1 (word blankFour) 2 8 1 3 (eightBytes 2) 1) blankFour
 
 -- a start opens both, and goes on to the first request
 unfoldable pub basketOpened : (d : Duties) → (first : ℕ) → SetMachine
-basketOpened d first = movedBy d (setLibrary 1) (atRest tornImage) (startWith 4 ∷ steps first [])
+basketOpened d first = movedBy d (setLibrary 1) (atRest tornBasketImage) (startWith 4 ∷ nextSteps first [])
 
 -- an insert of another key makes its sixteen stores, and power fails: lines 0 to 3, with its record, hold all their stores, and no other line holds any that was not durable
 unfoldable pub insertCut : (d : Duties) → (first again : ℕ) → SetMachine
 insertCut d first again =
     movedBy d (setLibrary 1) (basketOpened d first)
-    (insertOf 10 4 ∷ steps 16 (cut (λ n. cond (ltb n 4) 20 0) ∷ startWith 4 ∷ steps again []))
+    (insertOf 10 4 ∷ nextSteps 16 (cut (λ n. cond (ltb n 4) 20 0) ∷ startWith 4 ∷ nextSteps again []))

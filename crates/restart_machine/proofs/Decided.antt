@@ -4,14 +4,14 @@ use mathlib.Core.Bool.{Bool, true, false, _&&_}
 use mathlib.Core.List.{List, [], _∷_, _++_, append-assoc}
 use Prim.Native.Nat.{ℕ}
 use Rattle.stores.specs.Store.{allStand}
-use Rattle.restart_machine.specs.Machine.{Memory, Library, Duties, Continuation, recovering, opened, answering, Program, off, busy, idle, allMade, Outcome, answered, unanswered, Entry, Undecided, none, one, History, decide, ended, killed, Move, start, ask, next-step, write-back, kill, cut, Machine, asked, continued, stepped, moved, movedBy}
+use Rattle.restart_machine.specs.Machine.{Memory, Library, Duties, Continuation, recovering, opened, answering, Program, off, busy, idle, allMade, Outcome, answered, unanswered, HistoryEntry, Undecided, none, one, History, decide, ended, killed, Move, start, ask, next-step, write-back, kill, cut, Machine, asked, continued, stepped, moved, movedBy}
 use Rattle.restart_machine.specs.Rule.{DecidedStays}
 
 module _ {Held Request : Type 0} where
-  abbrev Grows : List (Entry Held Request) → List (Entry Held Request) → Type 0
-  Grows old new = (newer : List (Entry Held Request)) × (new ≡ newer ++ old)
+  abbrev Grows : List (HistoryEntry Held Request) → List (HistoryEntry Held Request) → Type 0
+  Grows old new = (newer : List (HistoryEntry Held Request)) × (new ≡ newer ++ old)
 
-  decide-grows : (f : Bool → Outcome) (o : Undecided Held Request) (es : List (Entry Held Request)) → Grows es (decide f o es .decided)
+  decide-grows : (f : Bool → Outcome) (o : Undecided Held Request) (es : List (HistoryEntry Held Request)) → Grows es (decide f o es .decided)
   unfolding decide
   decide-grows f none es = ([], refl)
   decide-grows f (one taken made) es = (_ ∷ [], refl)
@@ -20,8 +20,8 @@ module _ {Held Request : Type 0} where
   unfolding ended
   ended-grows b h = decide-grows (λ made. unanswered (made && b)) (h .undecided) (h .decided)
 
-  both-grow : (a b c : List (Entry Held Request)) → Grows a b → Grows b c → Grows a c
-  both-grow a b c (x, e) (y, f) = (y ++ x, f ∙ ap (λ (t : List (Entry Held Request)). y ++ t) e ∙ sym (append-assoc y x a))
+  both-grow : (a b c : List (HistoryEntry Held Request)) → Grows a b → Grows b c → Grows a c
+  both-grow a b c (x, e) (y, f) = (y ++ x, f ∙ ap (λ (t : List (HistoryEntry Held Request)). y ++ t) e ∙ sym (append-assoc y x a))
 
 module _ {Lent Held Request : Type 0} (d : Duties) (library : Library Lent Held Request) where
   asked-grows : (mem : Memory) (prog : Program Lent Held) (h : History Held Request) (request : Request)

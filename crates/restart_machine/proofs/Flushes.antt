@@ -14,8 +14,8 @@ use Rattle.prelude.specs.Filter.{anyIn}
 use Rattle.prelude.proofs.Choice.{pick-true, true-false}
 use Rattle.stores.specs.Store.{Store, played, less, onLine}
 use Rattle.stores.proofs.StandingStores.{on-miss, on-few, all-stand}
-use Rattle.restart_machine.specs.Machine.{Memory, isAmong, seen, notStanding, writtenBack, withFence, Sufficient}
-use Rattle.restart_machine.specs.EachLine.{linesOf, linesTo, allLines, eachLine}
+use Rattle.restart_machine.specs.Machine.{Memory, isAmong, seen, notStanding, writtenBack, afterFence, Sufficient}
+use Rattle.restart_machine.specs.EachLine.{storeLines, linesTo, allLines, eachLine}
 use Rattle.restart_machine.proofs.WrittenBack.{all-gone}
 
 -- ---- lines
@@ -45,27 +45,27 @@ unfolding isAmong anyIn
 among-none n e = true-false e refl
 
 -- each store's line is among the lines of the stores
-lines-more : (s : Store) (ss : List Store) (n : ℕ) → isAmong n (linesOf ss) ≡ true → isAmong n (linesOf (s ∷ ss)) ≡ true
-unfolding linesOf
-lines-more s ss n e = go (isAmong (s .word / 8) (linesOf ss))
+lines-more : (s : Store) (ss : List Store) (n : ℕ) → isAmong n (storeLines ss) ≡ true → isAmong n (storeLines (s ∷ ss)) ≡ true
+unfolding storeLines
+lines-more s ss n e = go (isAmong (s .word / 8) (storeLines ss))
   where
-    go : (b : Bool) → isAmong n (cond b (linesOf ss) (s .word / 8 ∷ linesOf ss)) ≡ true
+    go : (b : Bool) → isAmong n (cond b (storeLines ss) (s .word / 8 ∷ storeLines ss)) ≡ true
     go true = e
-    go false = among-more n (s .word / 8) (linesOf ss) e
+    go false = among-more n (s .word / 8) (storeLines ss) e
 
-lines-first : (s : Store) (ss : List Store) → isAmong (s .word / 8) (linesOf (s ∷ ss)) ≡ true
-unfolding linesOf
-lines-first s ss = go (isAmong (s .word / 8) (linesOf ss)) refl
+lines-first : (s : Store) (ss : List Store) → isAmong (s .word / 8) (storeLines (s ∷ ss)) ≡ true
+unfolding storeLines
+lines-first s ss = go (isAmong (s .word / 8) (storeLines ss)) refl
   where
-    go : (b : Bool) → isAmong (s .word / 8) (linesOf ss) ≡ b → isAmong (s .word / 8) (cond b (linesOf ss) (s .word / 8 ∷ linesOf ss)) ≡ true
+    go : (b : Bool) → isAmong (s .word / 8) (storeLines ss) ≡ b → isAmong (s .word / 8) (cond b (storeLines ss) (s .word / 8 ∷ storeLines ss)) ≡ true
     go true e = e
-    go false e = among-first (s .word / 8) (linesOf ss)
+    go false e = among-first (s .word / 8) (storeLines ss)
 
 pub all-map : {A : Type 0} {P Q : A → Type 0} {l : List A} → ((x : A) → P x → Q x) → All P l → All Q l
 all-map f none-left = none-left
 all-map f (one-more {x = x} p ps) = one-more (f x p) (all-map f ps)
 
-lines-all : (ss : List Store) → All (λ (s : Store). isAmong (s .word / 8) (linesOf ss) ≡ true) ss
+lines-all : (ss : List Store) → All (λ (s : Store). isAmong (s .word / 8) (storeLines ss) ≡ true) ss
 lines-all [] = none-left
 lines-all (s ∷ ss) = one-more (lines-first s ss) (all-map (λ t e. lines-more s ss (t .word / 8) e) (lines-all ss))
 
@@ -128,8 +128,8 @@ enough flushed ss a n = go (isAmong n flushed) refl
     go false e = not-there n flushed ss a e
 
 fenced : (mem : Memory) → All (λ (s : Store). isAmong (s .word / 8) (mem .flushed) ≡ true) (mem .pending)
-    → (withFence mem .durable ≡ seen mem) × (withFence mem .pending ≡ [])
-unfolding withFence writtenBack seen
+    → (afterFence mem .durable ≡ seen mem) × (afterFence mem .pending ≡ [])
+unfolding afterFence writtenBack seen
 fenced mem a = (
   ap (λ (t : List Store). played t (mem .durable)) (all-stand (mem .pending) _ (enough (mem .flushed) (mem .pending) a)),
   all-gone (mem .pending) _ (enough (mem .flushed) (mem .pending) a),
@@ -153,5 +153,5 @@ covered-flush flushed k lines ss a = all-map (λ s e. each (s .word / 8) e) a
         ⊎-elim (λ q. inl (subst (λ (x : ℕ). isAmong i (x ∷ flushed) ≡ true) (sym q) (among-first i flushed))) (λ q. inr q) (among-cons i k lines e)
 
 -- A FENCE, once all lines are flushed, makes all stores durable
-pub covered-fence : (mem : Memory) → Covered (mem .flushed) [] (mem .pending) → (withFence mem .durable ≡ seen mem) × (withFence mem .pending ≡ [])
+pub covered-fence : (mem : Memory) → Covered (mem .flushed) [] (mem .pending) → (afterFence mem .durable ≡ seen mem) × (afterFence mem .pending ≡ [])
 covered-fence mem a = fenced mem (all-map (λ s e. ⊎-elim (λ x. x) (λ x. absurd (among-none (s .word / 8) x)) e) a)

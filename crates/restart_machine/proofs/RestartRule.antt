@@ -8,9 +8,9 @@ use lib.ListN.{length}
 use Rattle.prelude.specs.Members.{All, none-left, one-more}
 use Rattle.stores.specs.Store.{Store, played, standing, allStand}
 use Rattle.stores.proofs.Bytes.{played-length}
-use Rattle.restart_machine.specs.Machine.{Memory, isAmong, seen, notStanding, writtenBack, cutOff, withFlush, withFence, afterKill, Effect, Library, Duties, Sufficient, Continuation, recovering, opened, answering, Program, off, busy, idle, allMade, Taken, answered, unanswered, Entry, Undecided, none, one, History, decide, ended, stillUndecided, killed, Move, start, ask, next-step, write-back, kill, cut, Machine, started, asked, continued, stepped, moved, movedBy, atRest}
-use Rattle.restart_machine.specs.Rule.{Promise, stands, FitsMove, start-fits, ask-fits, step-fits, write-back-fits, kill-fits, cut-fits, plainOf, Shows, RestartRule}
-use Rattle.restart_machine.specs.Laws.{Inside, Laws}
+use Rattle.restart_machine.specs.Machine.{Memory, isAmong, seen, notStanding, writtenBack, cutOff, afterFlush, afterFence, afterKill, Effect, Library, Duties, Sufficient, Continuation, recovering, opened, answering, Program, off, busy, idle, allMade, TakenRequest, answered, unanswered, HistoryEntry, Undecided, none, one, History, decide, ended, stillUndecided, killed, Move, start, ask, next-step, write-back, kill, cut, Machine, started, asked, continued, stepped, moved, movedBy, atRest}
+use Rattle.restart_machine.specs.Rule.{Promise, stands, FitsMove, start-fits, ask-fits, step-fits, write-back-fits, kill-fits, cut-fits, plainOf, HoldsNow, RestartRule}
+use Rattle.restart_machine.proofs.defs.Laws.{Inside, Laws}
 use Rattle.restart_machine.proofs.WrittenBack.{seen-same}
 use Rattle.restart_machine.proofs.Flushes.{Covered, to-be-flushed, covered-flush, covered-fence, all-map, all-left}
 use Rattle.restart_machine.proofs.Working.{Left, Safe, left-written-back, left-flush, left-kill, left-cut, left-seen, bare, seen-bare, to-flush, Working, working-store, working-flush, working-fence, working-written-back, working-left, working-none, working-done}
@@ -22,13 +22,13 @@ module _ {Lent Held Request M : Type 0} (promise : Promise Lent Held Request M) 
   fate made (one taken before) m b = cond (before && (made && b)) (promise .after taken m) m
 
   -- it is that of the requests decided then
-  fate-ended : (first : M) (b made : Bool) (o : Undecided Held Request) (es : List (Entry Held Request))
+  fate-ended : (first : M) (b made : Bool) (o : Undecided Held Request) (es : List (HistoryEntry Held Request))
       → fate made o (plainOf promise first es) b ≡ plainOf promise first (ended (made && b) (record { decided = es; undecided = o }) .decided)
   unfolding plainOf ended decide stands
   fate-ended first b made none es = refl
   fate-ended first b made (one taken before) es = refl
 
-  fate-seen : (first : M) (made : Bool) (o : Undecided Held Request) (es : List (Entry Held Request))
+  fate-seen : (first : M) (made : Bool) (o : Undecided Held Request) (es : List (HistoryEntry Held Request))
       → fate made o (plainOf promise first es) true ≡ plainOf promise first (ended made (record { decided = es; undecided = o }) .decided)
   fate-seen first true o es = fate-ended first true true o es
   fate-seen first false o es = fate-ended first true false o es
@@ -49,7 +49,7 @@ data Good {Lent Held Request M : Type 0} (promise : Promise Lent Held Request M)
       → Ready (seen mem) (fate promise true o m true) → Good promise Ready InUse mem m (busy [] lines false (recovering lent)) o
   is-opening : {rest : List Store} {lines : List ℕ} {fence : Bool} {held : Held} → Working Ready InUse mem rest lines fence held (λ b. m)
       → Good promise Ready InUse mem m (busy rest lines fence (opened held)) none
-  is-in-flight : {rest : List Store} {lines : List ℕ} {fence : Bool} {held : Held} {taken : Taken Held Request}
+  is-in-flight : {rest : List Store} {lines : List ℕ} {fence : Bool} {held : Held} {taken : TakenRequest Held Request}
       → Working Ready InUse mem rest lines fence held (λ b. cond b (promise .after taken m) m)
       → Good promise Ready InUse mem m (busy rest lines fence (answering held)) (one taken true)
   is-idle : {held : Held} → mem .pending ≡ [] → InUse (seen mem) held m → Good promise Ready InUse mem m (idle held) none
@@ -94,7 +94,7 @@ module _ {Lent Held Request M : Type 0} (promise : Promise Lent Held Request M) 
       is-off (left-kill Ready mem _ (subst (Left Ready mem) (killed-fate promise (allMade prog) o m) (good-left mem m g)))
 
   -- a cut
-  good-cut : {prog : Program Lent Held} (o : Undecided Held Request) (mem : Memory) (first : M) (es : List (Entry Held Request)) (c : ℕ → ℕ)
+  good-cut : {prog : Program Lent Held} (o : Undecided Held Request) (mem : Memory) (first : M) (es : List (HistoryEntry Held Request)) (c : ℕ → ℕ)
       → GoodAt mem (plainOf promise first es) prog o
       → GoodAt (cutOff c mem) (plainOf promise first (ended (allMade prog && allStand c (mem .pending)) (record { decided = es; undecided = o }) .decided)) off
       (ended (allMade prog && allStand c (mem .pending)) (record { decided = es; undecided = o }) .undecided)
@@ -162,7 +162,7 @@ module _ {Lent Held Request M : Type 0} (promise : Promise Lent Held Request M) 
         }
 
     -- a request
-    good-ask : {prog : Program Lent Held} {o : Undecided Held Request} (mem : Memory) (first : M) (es : List (Entry Held Request)) (request : Request)
+    good-ask : {prog : Program Lent Held} {o : Undecided Held Request} (mem : Memory) (first : M) (es : List (HistoryEntry Held Request)) (request : Request)
         → promise .FitsRequest request → GoodAt mem (plainOf promise first es) prog o
         → GoodOf first (asked d library mem prog (record { decided = es; undecided = o }) request)
     unfolding asked
@@ -193,7 +193,7 @@ module _ {Lent Held Request M : Type 0} (promise : Promise Lent Held Request M) 
         (laws .recovery-inside (seen mem) m r lent f) (laws .recovery-part (seen mem) m r lent f) (laws .recovery-done (seen mem) m r lent f)
         (done .opening-lines (effect .stores)) (done .opening-fence))
 
-    good-recovery : (o : Undecided Held Request) (mem : Memory) (first : M) (es : List (Entry Held Request)) (lent : Lent) → promise .FitsLent lent → mem .pending ≡ []
+    good-recovery : (o : Undecided Held Request) (mem : Memory) (first : M) (es : List (HistoryEntry Held Request)) (lent : Lent) → promise .FitsLent lent → mem .pending ≡ []
         → Ready (seen mem) (fate promise true o (plainOf promise first es) true)
         → GoodOf first (continued d library mem (recovering lent) (record { decided = es; undecided = o }))
     unfolding continued ended decide plainOf stands
@@ -202,19 +202,19 @@ module _ {Lent Held Request M : Type 0} (promise : Promise Lent Held Request M) 
 
     -- the fence of a start
     started-fence : (mem : Memory) (m : M) (o : Undecided Held Request) (lent : Lent) → promise .FitsLent lent → Left Ready mem (fate promise true o m)
-        → Covered (mem .flushed) [] (mem .pending) → GoodAt (withFence mem) m (busy [] [] false (recovering lent)) o
+        → Covered (mem .flushed) [] (mem .pending) → GoodAt (afterFence mem) m (busy [] [] false (recovering lent)) o
     started-fence mem m o lent f left cover =
         let q = covered-fence mem cover in
         is-ready f (q .1)
-        (subst (λ (x : List ℕ). Ready x (fate promise true o m true)) (sym (seen-bare Ready (withFence mem) (q .1) ∙ q .0)) (left-seen Ready mem _ left))
+        (subst (λ (x : List ℕ). Ready x (fate promise true o m true)) (sym (seen-bare Ready (afterFence mem) (q .1) ∙ q .0)) (left-seen Ready mem _ left))
 
     -- the end of a list of stores
     idle-now : (mem : Memory) (held : Held) (P : Bool → M) → Working Ready InUse mem [] [] false held P → GoodAt mem (P true) (idle held) none
     idle-now mem held P w = is-idle (working-none Ready InUse held P mem w) (working-done Ready InUse held P mem w)
 
-    good-step : {prog : Program Lent Held} {o : Undecided Held Request} (mem : Memory) (first : M) (es : List (Entry Held Request))
+    good-step : {prog : Program Lent Held} {o : Undecided Held Request} (mem : Memory) (first : M) (es : List (HistoryEntry Held Request))
         → GoodAt mem (plainOf promise first es) prog o → GoodOf first (stepped d library mem prog (record { decided = es; undecided = o }))
-    unfolding stepped continued withFlush decide plainOf stands seen
+    unfolding stepped continued afterFlush decide plainOf stands seen
     good-step mem first es (is-off left) = is-off left
     good-step {o = o} mem first es (is-starting {lines = []} {lent = lent} f left cover) = started-fence mem (plainOf promise first es) o lent f left cover
     good-step mem first es (is-starting {lines = k ∷ lines} f left cover) =
@@ -259,11 +259,11 @@ module _ {Lent Held Request M : Type 0} (promise : Promise Lent Held Request M) 
     at-request-good mem m held (is-idle e i) = (e, refl, laws .request-right (seen mem) held m i)
 
     at-answer-good : {o : Undecided Held Request} (mem : Memory) (m : M) (held : Held) → GoodAt mem m (busy [] [] false (answering held)) o
-        → (mem .pending ≡ []) × ((taken : Taken Held Request) × (o ≡ one taken true))
+        → (mem .pending ≡ []) × ((taken : TakenRequest Held Request) × (o ≡ one taken true))
     at-answer-good mem m held (is-in-flight {taken = taken} w) =
         (working-none Ready InUse held (λ b. cond b (promise .after taken m) m) mem w, (taken, refl))
 
-    good-shows : (first : M) (s : Machine Lent Held Request) → GoodOf first s → Shows promise first s
+    good-shows : (first : M) (s : Machine Lent Held Request) → GoodOf first s → HoldsNow promise first s
     good-shows first s g =
         record {
           if-cut = λ counts.
@@ -291,7 +291,7 @@ module _ {Lent Held Request M : Type 0} (promise : Promise Lent Held Request M) 
         at prog e = subst (λ (x : Program Lent Held). GoodAt (s .memory) (plainOf promise first (s .history .decided)) x (s .history .undecided)) e g
 
     shows-after : (first : M) (s : Machine Lent Held Request) (moves : List (Move Lent Request)) → GoodOf first s → All (FitsMove promise) moves
-        → Shows promise first (movedBy d library s moves)
+        → HoldsNow promise first (movedBy d library s moves)
     unfolding movedBy
     shows-after first s [] g none-left = good-shows first s g
     shows-after first s (move ∷ moves) g (one-more f fits) = shows-after first (moved d library s move) moves (good-moved first s g move f) fits

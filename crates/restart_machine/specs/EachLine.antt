@@ -6,9 +6,9 @@ use Rattle.stores.specs.Store.{Store}
 use Rattle.restart_machine.specs.Machine.{isAmong, Duties}
 
 -- the lines of these stores, each once
-unfoldable pub linesOf : List Store → List ℕ
-linesOf [] = []
-linesOf (s ∷ ss) = cond (isAmong (s .word / 8) (linesOf ss)) (linesOf ss) (s .word / 8 ∷ linesOf ss)
+unfoldable pub storeLines : List Store → List ℕ
+storeLines [] = []
+storeLines (s ∷ ss) = cond (isAmong (s .word / 8) (storeLines ss)) (storeLines ss) (s .word / 8 ∷ storeLines ss)
 
 -- the lines 0 to k - 1
 unfoldable pub linesTo : (k : ℕ) → List ℕ
@@ -24,8 +24,8 @@ eachLine =
     record {
       startLines = allLines;
       startFence = true;
-      openingLines = linesOf;
+      openingLines = storeLines;
       openingFence = true;
-      requestLines = linesOf;
+      requestLines = storeLines;
       requestFence = true;
     }

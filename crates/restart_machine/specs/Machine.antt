@@ -43,21 +43,21 @@ unfoldable pub afterKill : Memory → Memory
 afterKill mem = record { durable = mem .durable; pending = mem .pending; flushed = [] }
 
 -- a store. A flush of its line before it says nothing of it
-unfoldable pub withStore : Store → Memory → Memory
-withStore s mem =
+unfoldable pub afterStore : Store → Memory → Memory
+afterStore s mem =
     record { durable = mem .durable; pending = mem .pending ++ (s ∷ []); flushed = filter (λ k. not (eqb k (s .word / 8))) (mem .flushed) }
 
 -- a flush of line n: it makes nothing durable by itself
-unfoldable pub withFlush : (n : ℕ) → Memory → Memory
-withFlush n mem = record { durable = mem .durable; pending = mem .pending; flushed = n ∷ mem .flushed }
+unfoldable pub afterFlush : (n : ℕ) → Memory → Memory
+afterFlush n mem = record { durable = mem .durable; pending = mem .pending; flushed = n ∷ mem .flushed }
 
 -- is n one of these lines?
 unfoldable pub isAmong : (n : ℕ) → List ℕ → Bool
 isAmong n lines = anyIn (λ k. eqb k n) lines
 
 -- a fence: every store of a flushed line is durable when it has ended
-unfoldable pub withFence : Memory → Memory
-withFence mem =
+unfoldable pub afterFence : Memory → Memory
+afterFence mem =
     let all : Memory = writtenBack (λ n. cond (isAmong n (mem .flushed)) (length (mem .pending)) 0) mem in
     record { durable = all .durable; pending = all .pending; flushed = [] }
 
@@ -114,7 +114,7 @@ allMade (idle held) = true
 -- ---- the history of the requests
 
 -- a request as the program took it, with what it saw and held
-pub record Taken (Held Request : Type 0) : Type 0 where
+pub record TakenRequest (Held Request : Type 0) : Type 0 where
   pub request : Request
   pub image : List ℕ
   pub held : Held
@@ -124,23 +124,23 @@ pub data Outcome : Type 0 where
   answered : Outcome
   unanswered : (stands : Bool) → Outcome
 
-pub record Entry (Held Request : Type 0) : Type 0 where
-  pub taken : Taken Held Request
+pub record HistoryEntry (Held Request : Type 0) : Type 0 where
+  pub taken : TakenRequest Held Request
   pub outcome : Outcome
 
 -- the request that the program is at, or was killed at, if any; `made` is whether the killed program had made all its stores
 pub data Undecided (Held Request : Type 0) : Type 0 where
   none : Undecided Held Request
-  one : Taken Held Request → (made : Bool) → Undecided Held Request
+  one : TakenRequest Held Request → (made : Bool) → Undecided Held Request
 
 -- the requests taken, the newest first
 pub record History (Held Request : Type 0) : Type 0 where
-  pub decided : List (Entry Held Request)
+  pub decided : List (HistoryEntry Held Request)
   pub undecided : Undecided Held Request
 
 module _ {Held Request : Type 0} where
   -- the undecided request has this outcome
-  unfoldable pub decide : (made : Bool → Outcome) → Undecided Held Request → List (Entry Held Request) → History Held Request
+  unfoldable pub decide : (made : Bool → Outcome) → Undecided Held Request → List (HistoryEntry Held Request) → History Held Request
   decide outcome none decided = record { decided = decided; undecided = none }
   decide outcome (one taken made) decided = record { decided = record { taken = taken; outcome = outcome made } ∷ decided; undecided = none }
 
@@ -198,9 +198,9 @@ module _ {Lent Held Request : Type 0} (d : Duties) (library : Library Lent Held 
 
   unfoldable pub stepped : Memory → Program Lent Held → History Held Request → Machine Lent Held Request
   stepped mem off h = machine mem off h
-  stepped mem (busy (s ∷ ss) lines fence c) h = machine (withStore s mem) (busy ss lines fence c) h
-  stepped mem (busy [] (n ∷ lines) fence c) h = machine (withFlush n mem) (busy [] lines fence c) h
-  stepped mem (busy [] [] true c) h = machine (withFence mem) (busy [] [] false c) h
+  stepped mem (busy (s ∷ ss) lines fence c) h = machine (afterStore s mem) (busy ss lines fence c) h
+  stepped mem (busy [] (n ∷ lines) fence c) h = machine (afterFlush n mem) (busy [] lines fence c) h
+  stepped mem (busy [] [] true c) h = machine (afterFence mem) (busy [] [] false c) h
   stepped mem (busy [] [] false c) h = continued mem c h
   stepped mem (idle held) h = machine mem (idle held) h
 

@@ -5,12 +5,12 @@ use mathlib.Core.List.{List, [], _∷_, _++_}
 use Prim.Native.Nat.{ℕ}
 use Rattle.prelude.specs.Members.{All}
 use Rattle.stores.specs.Store.{allStand}
-use Rattle.restart_machine.specs.Machine.{Memory, seen, cutOff, Library, Duties, Sufficient, recovering, answering, busy, idle, allMade, Taken, Outcome, answered, unanswered, Entry, none, one, History, ended, Move, start, ask, next-step, write-back, kill, cut, Machine, movedBy, atRest}
+use Rattle.restart_machine.specs.Machine.{Memory, seen, cutOff, Library, Duties, Sufficient, recovering, answering, busy, idle, allMade, TakenRequest, Outcome, answered, unanswered, HistoryEntry, none, one, History, ended, Move, start, ask, next-step, write-back, kill, cut, Machine, movedBy, atRest}
 
 -- what a library promises, by a plain machine that holds an M
 pub record Promise (Lent Held Request M : Type 0) : Type 1 where
   -- the plain machine after a request that is wholly done
-  pub after : Taken Held Request → M → M
+  pub after : TakenRequest Held Request → M → M
   -- recovery of an image gives what the plain machine holds
   pub Recovers : (image : List ℕ) → M → Type 0
   -- the answer of a recovery is right, and that of a request
@@ -36,12 +36,12 @@ pub data FitsMove {Lent Held Request M : Type 0} (promise : Promise Lent Held Re
 
 module _ {Lent Held Request M : Type 0} (promise : Promise Lent Held Request M) where
   -- THE PLAIN MACHINE of a list of requests, from m: each in its place, the answered ones wholly, the others wholly or not at all
-  unfoldable pub plainOf : (m : M) → List (Entry Held Request) → M
+  unfoldable pub plainOf : (m : M) → List (HistoryEntry Held Request) → M
   plainOf m [] = m
   plainOf m (e ∷ es) = cond (stands (e .outcome)) (promise .after (e .taken) (plainOf m es)) (plainOf m es)
 
   -- what holds of the machine s at every moment
-  pub record Shows (m : M) (s : Machine Lent Held Request) : Type 0 where
+  pub record HoldsNow (m : M) (s : Machine Lent Held Request) : Type 0 where
     -- a power cut now, whatever it takes of each line: recovery gives the plain machine of the requests, the undecided one wholly or not at all
     pub if-cut : (counts : ℕ → ℕ)
         → promise .Recovers (cutOff counts (s .memory) .durable) (plainOf m (ended (allMade (s .program) && allStand counts (s .memory .pending)) (s .history) .decided))
@@ -56,15 +56,15 @@ module _ {Lent Held Request M : Type 0} (promise : Promise Lent Held Request M) 
         × ((request : Request) → promise .FitsRequest request → promise .RequestRight (seen (s .memory)) held (plainOf m (s .history .decided)) request)
     -- at an answer nothing is pending, and the answer is that of the request taken last, all of whose stores were made
     pub at-answer : (held : Held) → s .program ≡ busy [] [] false (answering held)
-        → (s .memory .pending ≡ []) × ((taken : Taken Held Request) × (s .history .undecided ≡ one taken true))
+        → (s .memory .pending ≡ []) × ((taken : TakenRequest Held Request) × (s .history .undecided ≡ one taken true))
 
   -- after every list of moves, from a durable image with m
   abbrev pub RestartRule : (d : Duties) → Library Lent Held Request → (image : List ℕ) → (m : M) → Type 0
   RestartRule d library image m =
-      (moves : List (Move Lent Request)) → All (FitsMove promise) moves → Shows m (movedBy d library (atRest image) moves)
+      (moves : List (Move Lent Request)) → All (FitsMove promise) moves → HoldsNow m (movedBy d library (atRest image) moves)
 
 -- what is decided stays so through every later kill and cut: the list only grows
 abbrev pub DecidedStays : (Lent Held Request : Type 0) → Type 0
 DecidedStays Lent Held Request =
     (d : Duties) (library : Library Lent Held Request) (s : Machine Lent Held Request) (moves : List (Move Lent Request))
-    → (newer : List (Entry Held Request)) × (movedBy d library s moves .history .decided ≡ newer ++ s .history .decided)
+    → (newer : List (HistoryEntry Held Request)) × (movedBy d library s moves .history .decided ≡ newer ++ s .history .decided)

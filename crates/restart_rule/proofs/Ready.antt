@@ -9,10 +9,8 @@ use Rattle.prelude.specs.Answer.{refuses}
 use Rattle.prelude.specs.Members.{none-left, one-more}
 use Rattle.prelude.proofs.Refusals.{orElse-zero}
 use Rattle.layout.specs.Header.{imageFault, lentFault}
-use Rattle.stores.specs.Store.{Store, played, standing, allStand}
-use Rattle.stores.specs.Play.{Played, playEnd, playListResult, listFault, wordNumbers, values}
-use Rattle.stores.proofs.ListPlay.{all-inside}
-use Rattle.face.specs.Set.{World, PlainMap, Call, Typed, slotsIn, slotsOf, slotsMap, indexFault, recoverResult, storesIn, Restart, Round, restarted, afterRound, afterRounds, openedWorld, worldAfter}
+use Rattle.stores.specs.Store.{allStand}
+use Rattle.face.specs.Set.{played, standing, recoverFault, World, PlainMap, Call, Typed, slotsIn, slotsOf, slotsMap, indexFault, recoverResult, storesIn, Restart, Round, restarted, afterRound, afterRounds, openedWorld, worldAfter}
 use Rattle.face.specs.Event.{done, struck, Cut, Leaving, stepBy, imageCut, isWhole, plainEvent, RestartFits, done-fits, struck-fits, Fits}
 use Rattle.face.specs.Recovers.{Recovers, RecoversAlong}
 use Rattle.face.specs.Laws.{CallLaws, SetLaws}
@@ -21,7 +19,8 @@ use Rattle.plainmap.proofs.AcceptedImages.{accepted-recovers, recovers-accepted
 use Rattle.cutrule.specs.Request.{Request, a-call, a-basket, a-step, requestLeaves, requestFault, requestUpdates, RequestRight, TypedRequest}
 use Rattle.cutrule.specs.Rule.{PlaysRight}
 use Rattle.cutrule.proofs.CutRule.{keeps-of, all-right}
-use Rattle.restart_machine.specs.Laws.{Inside}
+use Rattle.restart_machine.proofs.defs.Laws.{Inside}
+use Rattle.restart_machine.proofs.Inside.{played-inside}
 
 -- recovery of the image gives m, and so it does however often it is cut among its opening stores; after any restart the set and m go together
 pub record Ready (l : ℕ) (Inv : World → PlainMap → Type 0) (n : ℕ) (image : List ℕ) (m : PlainMap) : Type 0 where
@@ -37,16 +36,6 @@ plainly heads index = record { rounds = []; heads = heads; next = index }
 -- with one first
 abbrev pub again : Round → Restart → Restart
 again round r = record { rounds = round ∷ r .rounds; heads = r .heads; next = r .next }
-
-played-inside : (image : List ℕ) (ss : List Store) (end : List ℕ) → playListResult image (wordNumbers ss) (values ss) ≡ playEnd 0 end
-    → Inside (length image) ss
-unfolding playListResult
-played-inside image ss end e =
-    each ss (all-inside (length image) ss (listFault (length image) (wordNumbers ss) (length (values ss))) refl (ap (λ (p : Played). p .answer) e))
-  where
-    each : (ss : List Store) → ((i : ℕ) → i < length ss → 8 * getD ss i (record { word = 0; value = 0 }) .word + 8 ≤ length image) → Inside (length image) ss
-    each [] h = none-left
-    each (s ∷ ss) h = one-more (h 0 (omega arith)) (each ss (λ i p. h (suc i) (omega arith)))
 
 module _ (l : ℕ) (Inv : World → PlainMap → Type 0) (laws : SetLaws l Inv) (calls : CallLaws l) where
   -- ---- an accepted image

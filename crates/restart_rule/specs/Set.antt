@@ -4,9 +4,7 @@ use mathlib.Core.List.{List}
 use Prim.Native.Nat.{ℕ}
 use lib.ListN.{length}
 use Rattle.prelude.specs.Answer.{refuses, refusalIn}
-use Rattle.index.specs.declared.State.{State}
-use Rattle.plainmap.specs.Plain.{plainStep}
-use Rattle.face.specs.Set.{Layout, World, PlainMap, Result, recoverFault, recoverResult, storesIn, slotsIn, slotsMap, indexFault}
+use Rattle.face.specs.Set.{Layout, State, plainStep, World, PlainMap, Result, recoverFault, recoverResult, storesIn, slotsIn, slotsMap, indexFault}
 use Rattle.face.specs.Event.{Leaving}
 use Rattle.face.specs.Recovers.{Recovers}
 use Rattle.cutrule.specs.Request.{Request, requestLeaves, requestFault, requestUpdates, RequestRight, TypedRequest}

@@ -5,7 +5,7 @@ use Prim.Native.Nat.{ℕ, _+_, _*_, _≤_}
 use lib.ListN.{length}
 use Rattle.prelude.specs.Members.{All}
 use Rattle.stores.specs.Store.{Store, played, standing, allStand}
-use Rattle.restart_machine.specs.Machine.{Library, Taken}
+use Rattle.restart_machine.specs.Machine.{Library, TakenRequest}
 use Rattle.restart_machine.specs.Rule.{Promise}
 
 -- every store inside the image
