@@ -82,7 +82,7 @@ pub each-line : Sufficient eachLine
 unfolding eachLine allLines
 each-line =
     record {
-      start-lines = λ len s inside. lines-to ((len + 63) / 64) (s .word / 8) (omega arith);
+      start-lines = λ len s inside. lines-to _ (s .word / 8) (omega arith);
       start-fence = refl;
       opening-lines = lines-all;
       opening-fence = refl;
