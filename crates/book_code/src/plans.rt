@@ -40,7 +40,7 @@ fn seek_with(
     ensures order { λ r. ⌜ seekSays r
         ≡ seek (layoutNumber wide) (now (image .entry)) (now (heads .entry)) (now (next .entry)) (keyWith low high) ⌝ }
 {
-    let answer = get_in_layout(image, layout, heads, next, low, high, out);
+    let answer = get_in_layout(image, wide, heads, next, low, high, out);
     let got = answer.got;
     match got {
         Got::Length(n) => order_in(out, n),
@@ -56,7 +56,7 @@ fn seek_order(image: &[u8], wide: bool, heads: &[u32], next: &[u32], low: u64, h
 {
     let mut out = [0u8; 80];
     let size = 88 - 8 * layout_number(wide);
-    seek_with(image, layout, heads, next, low, high, &mut out[..size])
+    seek_with(image, wide, heads, next, low, high, &mut out[..size])
 }
 
 // A new order, by what locate answers for its key.
@@ -98,7 +98,7 @@ pub fn new_plan(
     ensures plan { λ r. ⌜ planSays r
         ≡ newCourse quantity (locateResult (layoutNumber wide) (now (image .entry)) (now (heads .entry)) (now (next .entry)) (keyWith low high)) ⌝ }
 {
-    let answer = locate_in_layout(image, layout, heads, next, low, high);
+    let answer = locate_in_layout(image, wide, heads, next, low, high);
     let located = answer.located;
     new_located(located, quantity)
 }
@@ -128,11 +128,11 @@ pub fn acknowledge_plan(
         (locateResult (layoutNumber wide) (now (image .entry)) (now (heads .entry)) (now (next .entry)) (keyWith low high))
         (seek (layoutNumber wide) (now (image .entry)) (now (heads .entry)) (now (next .entry)) (keyWith low high)) ⌝ }
 {
-    let sought = seek_order(image, layout, heads, next, low, high);
+    let sought = seek_order(image, wide, heads, next, low, high);
     match sought {
         Seek::Found(order) => {
             if order.state == 2 {
-                let answer = locate_in_layout(image, layout, heads, next, low, high);
+                let answer = locate_in_layout(image, wide, heads, next, low, high);
                 let located = answer.located;
                 return already_located(located);
             }
@@ -187,7 +187,7 @@ pub fn fill_plan(
     ensures plan { λ r. ⌜ planSays r
         ≡ fillCourse quantity (seek (layoutNumber wide) (now (image .entry)) (now (heads .entry)) (now (next .entry)) (keyWith low high)) ⌝ }
 {
-    let sought = seek_order(image, layout, heads, next, low, high);
+    let sought = seek_order(image, wide, heads, next, low, high);
     match sought {
         Seek::Found(order) => fill_order(order, quantity),
         Seek::Missing(number) => Plan::Refused(number),
@@ -206,7 +206,7 @@ pub fn withdraw_plan(
     ensures plan { λ r. ⌜ planSays r
         ≡ withdrawCourse (seek (layoutNumber wide) (now (image .entry)) (now (heads .entry)) (now (next .entry)) (keyWith low high)) ⌝ }
 {
-    let sought = seek_order(image, layout, heads, next, low, high);
+    let sought = seek_order(image, wide, heads, next, low, high);
     match sought {
         Seek::Found(_) => Plan::Remove,
         Seek::Missing(number) => Plan::Refused(number),

@@ -64,7 +64,7 @@ fn carry_out(
             let bytes = order_bytes(order);
             by_change(write_in_layout(
                 image,
-                layout,
+                wide,
                 heads,
                 next,
                 state,
@@ -78,7 +78,7 @@ fn carry_out(
         }
         Plan::Remove => by_change(remove_in_layout(
             image,
-            layout,
+            wide,
             heads,
             next,
             state,
