@@ -1,5 +1,5 @@
-// What the lines work on: two sides, each an image with its index or a log's area. The first is changed by the forms with number slices, the second by those with a list of
-// stores.
+// What the lines work on: two sides, each an image with its index or a log's area. The first is changed by the forms with number slices, the second by those
+// with a list of stores.
 use orderset::Action;
 use orderset::BasketItem;
 use orderset::State;

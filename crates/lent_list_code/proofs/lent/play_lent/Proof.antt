@@ -132,7 +132,8 @@ module _ {M : Type 1} (𝓤 : URA M) (H : Heap 𝓤) (A : Atoms 𝓤) (W : Given
   abbrev Result : ℕ → List ℕ → Type 0
   Result r zs = playEnd r zs ≡ playListResult image (wordNumbers list) (values list)
 
-  exits : (r : ℕ) (v : Val) → Is u32 r (v ∷ []) → (zs : List ℕ) → length zs ≡ length image → Result r zs → ent 𝓤 (⋆ 𝓤 H A (‵ (flft κ₀ q₀) ∷ ‵ (finally u8 γ₀ zs) ∷ [])) (Post v)
+  exits : (r : ℕ) (v : Val) → Is u32 r (v ∷ []) → (zs : List ℕ) → length zs ≡ length image → Result r zs → ent 𝓤 (⋆ 𝓤 H A (‵ (flft κ₀ q₀) ∷ ‵ (finally u8 γ₀
+      zs) ∷ [])) (Post v)
   exits r v is-r zs ez told =
       qed W (‵ (flft κ₀ q₀) ∷ ‵ (finally u8 γ₀ zs) ∷ []) ∵
       suffices ! _ (ends-at 𝓤 H A f.ended stayed (f.clauses 𝓤 H A mem run) W bound v r (zs, (tt, tt)) (ez, (tt, tt))) $ says ! told $
@@ -146,30 +147,46 @@ module _ {M : Type 1} (𝓤 : URA M) (H : Heap 𝓤) (A : Atoms 𝓤) (W : Given
         pass1 ! (init ! 2 refl (tt, (tt, (record { fits = room₀ .0 }, tt)))) $ pass1 ! (init ! 4 refl (typed .0)) $ pass0 ! $
         sets ! 6 (of-opd ! (copied ! 4 refl)) refl (typed .0) $
         sets ! 8 (addr ! (from ! (fld ! refl (hop ! (look-in ! 2 (sub ! 0 refl (whole !))) (stop !))))) refl (tt, tt) $
-        sets ! 10 (agg ! (and-then ! (copied ! 8 refl) (and-then ! (field-of ! 2 1 refl refl refl) (no-more !)))) refl (tt, (tt, (record { fits = room₀ .0 }, tt))) $
+        sets ! 10 (agg ! (and-then ! (copied ! 8 refl) (and-then ! (field-of ! 2 1 refl refl refl) (no-more !)))) refl (
+          tt,
+          (
+            tt,
+            (
+              record { fits = room₀ .0 },
+              tt,
+            ),
+          ),
+        ) $
         sets ! 12 (addr ! (from ! (stop !))) refl (tt, tt) $
         sets ! 14 (agg ! (and-then ! (copied ! 12 refl) (and-then ! (lit ! tt) (no-more !)))) refl (tt, (tt, (record { fits = lit< tt }, tt))) $
         -- the list is lent
         lft-new ! tt (λ α. move ! (7 ∷ []) $
-        list-shared {𝓤 = 𝓤} {H = H} {A = A} ! tt T.the-row (LL.makes T.the-type T′.the-plain 𝓤 H A) tt svals 48 list (block body.locals bs 3) (α ∷ []) is-list room (λ γ.
+        list-shared {𝓤 = 𝓤} {H = H} {A = A} ! tt T.the-row (LL.makes T.the-type T′.the-plain 𝓤 H A) tt svals 48 list (block body.locals bs 3) (α ∷ [])
+        is-list room (λ γ.
         -- [the list, lent, and the lender's part; its token; the locals without the list; the tokens and what the parameters own]
-        move ! (18 ∷ 19 ∷ 2 ∷ 0 ∷ []) $ group ! 4 $ use1 W (raw (Call 𝓤 H A mem run .pre (ghosts (block body.locals bs 3) α γ))) (passes (block body.locals bs 3) α γ) $
-        calls-at ! fm (Call 𝓤 H A mem run) known (ghosts (block body.locals bs 3) α γ) (and-then ! (copied ! 11 refl) (and-then ! (copied ! 15 refl) (no-more !))) (λ w.
-        use1 W (later (some (λ (r : ℕ). ((‵ (flft κ₀ q₀) ⊛ (‵ (flft (α ∷ []) fullShare) ⊛ ‵ ftrue)) ⊛ ‵ (u32 .own r (w ∷ []))) ⊛ raw (ensured 𝓤 H A g.ended (g.clauses 𝓤 H A mem run) (κ₀, (α ∷ [], tt)) (args (block body.locals bs 3) α γ) tt r)))) (id⊢ 𝓤 _) $ await ! tt $ pick ! (λ r.
-        split ! $ move ! (1 ∷ []) $ use1 W (some (λ (zs : List ℕ × (Unit {0} × Unit {0})). ‵ (lasts g.ended (κ₀, (α ∷ [], tt)) (args (block body.locals bs 3) α γ) zs) ⊛ raw (fact 𝓤 (Result r (zs .0))))) (id⊢ 𝓤 _) $ pick ! (λ zs.
+        move ! (18 ∷ 19 ∷ 2 ∷ 0 ∷ []) $ group ! 4 $ use1 W (raw (Call 𝓤 H A mem run .pre (ghosts (block body.locals bs 3) α γ))) (passes (block body.locals
+        bs 3) α γ) $
+        calls-at ! fm (Call 𝓤 H A mem run) known (ghosts (block body.locals bs 3) α γ) (and-then ! (copied ! 11 refl) (and-then ! (copied ! 15 refl)
+        (no-more !))) (λ w.
+        use1 W (later (some (λ (r : ℕ). ((‵ (flft κ₀ q₀) ⊛ (‵ (flft (α ∷ []) fullShare) ⊛ ‵ ftrue)) ⊛ ‵ (u32 .own r (w ∷ []))) ⊛ raw (ensured 𝓤 H A g.ended
+        (g.clauses 𝓤 H A mem run) (κ₀, (α ∷ [], tt)) (args (block body.locals bs 3) α γ) tt r)))) (id⊢ 𝓤 _) $ await ! tt $ pick ! (λ r.
+        split ! $ move ! (1 ∷ []) $ use1 W (some (λ (zs : List ℕ × (Unit {0} × Unit {0})). ‵ (lasts g.ended (κ₀, (α ∷ [], tt)) (args (block body.locals bs 3)
+        α γ) zs) ⊛ raw (fact 𝓤 (Result r (zs .0))))) (id⊢ 𝓤 _) $ pick ! (λ zs.
         split ! $ move ! (1 ∷ []) $ heard ! (Result r (zs .0)) (λ told. fsplit ! $ fsplit ! $ move ! (1 ∷ []) $ feqL ! (λ ez. move ! (1 ∷ []) $ drop ! $
         -- [the image's last list; the tokens and the answer; the lender's part; the locals without the list]
         move ! (1 ∷ []) $ split ! $ move ! (1 ∷ []) $ facts ! u32 (Is u32) (shows 𝓤 H A u32) r (w ∷ []) (λ is-r.
         split ! $ move ! (1 ∷ []) $ split ! $ lft-end ! tt $
         -- [the lifetime is over; nothing; the token; the last list; the lender's part; …]
-        move ! (0 ∷ 4 ∷ []) $ shared-back {𝓤 = 𝓤} {H = H} {A = A} ! tt T.the-row svals (LL.tells T.the-type T′.the-laws) 48 list (block body.locals bs 3) (α ∷ []) $
+        move ! (0 ∷ 4 ∷ []) $ shared-back {𝓤 = 𝓤} {H = H} {A = A} ! tt T.the-row svals (LL.tells T.the-type T′.the-laws) 48 list (block body.locals bs 3)
+        (α ∷ []) $
         move ! (1 ∷ []) $ drop ! $ move ! (1 ∷ 2 ∷ []) $ behind ! 2 $ sinks ! 6 $
         land ! (from ! (stop !)) (init ! 0 refl (uint-lawful 𝓤 H A W w32 .typed r _ is-r .0)) $
         returns ! (look ! 0 refl) $
         forget ! 0 refl $ forget ! 2 refl $ forget ! 4 refl $ forget ! 6 refl $ forget ! 8 refl $ forget ! 10 refl $ forget ! 12 refl $ forget ! 14 refl $
         freed ! body.locals bs [] $ by ! (exits r w is-r (zs .0) ez told))))))))))
 
-module _ {M : Type 1} (𝓤 : URA M) (H : Heap 𝓤) (A : Atoms 𝓤) (W : Given 𝓤 H A) (mem : Memory → SProp 𝓤) (run : Routine → Fun 𝓤) (𝓣 : Tables 𝓤 H) (known : Triple 𝓤 (𝓣 .C #play-stores) (Call 𝓤 H A mem run)) where
+module _ {M : Type 1} (𝓤 : URA M) (H : Heap 𝓤) (A : Atoms 𝓤) (W : Given 𝓤 H A) (mem : Memory → SProp 𝓤) (run : Routine → Fun 𝓤) (𝓣 : Tables 𝓤 H)
+    (known : Triple 𝓤 (𝓣 .C #play-stores) (Call 𝓤 H A mem run)) where
   walks : Walks 𝓤 H A f.ended stayed (WpFn 𝓤 H (𝓣 .C) (𝓣 .Λ) code.function) (f.clauses 𝓤 H A mem run)
   walks = walked 𝓤 H A f.ended stayed (f.clauses 𝓤 H A mem run) (WpFn 𝓤 H (𝓣 .C) (𝓣 .Λ) code.function)
       (λ κs. (slice-vals, (array-vals svals, tt)))

@@ -1,4 +1,5 @@
--- `lent_list_code::lent::recover_lent` meets its contract: a walk of its MIR, by hand. Of `recover_list` and `log_listed` it knows only that each meets its contract.
+-- `lent_list_code::lent::recover_lent` meets its contract: a walk of its MIR, by hand. Of `recover_list` and `log_listed` it knows only that each meets its
+-- contract.
 use mathlib.Core.Path.{_≡_, refl, sym, ap, _∙_}
 use Prim.Native.Nat.{ℕ}
 use native.Mathlib.Omega.{arith}
@@ -148,15 +149,18 @@ module _ {M : Type 1} (𝓤 : URA M) (H : Heap 𝓤) (A : Atoms 𝓤) (W : Given
 
   -- ---- `log_listed`
 
-  module _ (r : Handed) (w : Val) (is-r : Is B.the-row r (w ∷ [])) (zs : List Store) (is-zs : Is (Array T.the-row 48) zs (array-vals svals zs)) (told : Result r zs) where
+  module _ (r : Handed) (w : Val) (is-r : Is B.the-row r (w ∷ [])) (zs : List Store) (is-zs : Is (Array T.the-row 48) zs (array-vals svals zs))
+      (told : Result r zs) where
     abbrev to-joined : Joined 𝓤 H A mem run .Ghost
     to-joined = ((tt, tt, tt, (r, (zs, tt)), (w ∷ [], (array-vals svals zs, tt))), tt)
 
     joins : ent 𝓤 (⋆ 𝓤 H A []) (Joined 𝓤 H A mem run .pre to-joined)
     joins =
         qed W [] ∵ nothing ! $ nothing ! $
-        owned ! (Array T.the-row 48) (Is (Array T.the-row 48)) (array-makes 𝓤 H A W T.the-row (LL.makes T.the-type T′.the-plain 𝓤 H A) 48) zs _ is-zs $ fjoin ! $
-        owned ! B.the-row (Is B.the-row) (EL.makes B.the-type B′.the-plain 𝓤 H A) r _ is-r $ fjoin ! $ move ! (1 ∷ 0 ∷ []) $ join ! $ nothing ! $ move ! (1 ∷ 0 ∷ []) $ join ! $ done !
+        owned ! (Array T.the-row 48) (Is (Array T.the-row 48)) (array-makes 𝓤 H A W T.the-row (LL.makes T.the-type T′.the-plain 𝓤 H A) 48) zs _ is-zs $ fjoin
+        ! $
+        owned ! B.the-row (Is B.the-row) (EL.makes B.the-type B′.the-plain 𝓤 H A) r _ is-r $ fjoin ! $ move ! (1 ∷ 0 ∷ []) $ join ! $ nothing ! $ move !
+        (1 ∷ 0 ∷ []) $ join ! $ done !
 
     abbrev Same : LogListed → Type 0
     Same m = (m .answer ≡ r) × (m .list ≡ zs)
@@ -169,7 +173,8 @@ module _ {M : Type 1} (𝓤 : URA M) (H : Heap 𝓤) (A : Atoms 𝓤) (W : Given
         nothing ! $ move ! (1 ∷ 0 ∷ []) $ join ! $ frame ! $
         dropped ! 2 $ owned ! D.the-row (Is D.the-row) (LL.makes D.the-type D′.the-plain 𝓤 H A) m _ is-m $ move ! (1 ∷ 0 ∷ []) $ done !
 
-  module _ (C : Calls 𝓤 H) (Λ : Loops 𝓤 H) (fm : FmC 𝓤 H (W .laws) C) (known : Triple 𝓤 (C #recover-list) (Call 𝓤 H A mem run)) (known-joined : Triple 𝓤 (C #log-listed) (Joined 𝓤 H A mem run)) where
+  module _ (C : Calls 𝓤 H) (Λ : Loops 𝓤 H) (fm : FmC 𝓤 H (W .laws) C) (known : Triple 𝓤 (C #recover-list) (Call 𝓤 H A mem run)) (known-joined : Triple 𝓤
+      (C #log-listed) (Joined 𝓤 H A mem run)) where
     walk : ent 𝓤 (onEntry 𝓤 H A f.signature (κ₀, tt) (q₀, tt) a vals) (WpFn 𝓤 H C Λ code.function (s₀ ∷ lv ∷ []) Post)
     walk =
         qed W (Tokens ∷ Owned ∷ []) ∵ enter ! C Λ code.function (s₀ ∷ lv ∷ []) _ $ allocates ! body.locals (λ bs. params1 ! $
@@ -179,26 +184,36 @@ module _ {M : Type 1} (𝓤 : URA M) (H : Heap 𝓤) (A : Atoms 𝓤) (W : Given
         sets ! 12 (agg ! (and-then ! (copied ! 10 refl) (and-then ! (lit ! tt) (no-more !)))) refl (tt, (tt, (record { fits = lit< tt }, tt))) $
         -- the list is lent
         lft-new ! tt (λ α. move ! (7 ∷ []) $
-        list-lent {𝓤 = 𝓤} {H = H} {A = A} ! tt T.the-row (LL.makes T.the-type T′.the-plain 𝓤 H A) tt svals 48 list (block body.locals bs 3) (α ∷ []) is-list room (λ γ.
+        list-lent {𝓤 = 𝓤} {H = H} {A = A} ! tt T.the-row (LL.makes T.the-type T′.the-plain 𝓤 H A) tt svals 48 list (block body.locals bs 3) (α ∷ []) is-list
+        room (λ γ.
         -- [the list, lent, and the lender's part; its token; the locals without the list; the tokens and what the parameters own]
-        move ! (18 ∷ 19 ∷ 2 ∷ 0 ∷ []) $ group ! 4 $ use1 W (raw (Call 𝓤 H A mem run .pre (ghosts (block body.locals bs 3) α γ))) (passes (block body.locals bs 3) α γ) $
-        calls-at ! fm (Call 𝓤 H A mem run) known (ghosts (block body.locals bs 3) α γ) (and-then ! (copied ! 4 refl) (and-then ! (copied ! 13 refl) (no-more !))) (λ w.
-        use1 W (later (some (λ (r : Handed). ((‵ (flft κ₀ q₀) ⊛ (‵ (flft (α ∷ []) fullShare) ⊛ ‵ ftrue)) ⊛ ‵ (B.the-row .own r (w ∷ []))) ⊛ raw (ensured 𝓤 H A g.ended (g.clauses 𝓤 H A mem run) (κ₀, (α ∷ [], tt)) (args (block body.locals bs 3) α γ) tt r)))) (id⊢ 𝓤 _) $ await ! tt $ pick ! (λ r.
-        split ! $ move ! (1 ∷ []) $ use1 W (some (λ (zs : Unit {0} × (List Store × Unit {0})). ‵ (lasts g.ended (κ₀, (α ∷ [], tt)) (args (block body.locals bs 3) α γ) zs) ⊛ raw (fact 𝓤 (Result r (zs .1 .0))))) (id⊢ 𝓤 _) $ pick ! (λ zs.
-        split ! $ move ! (1 ∷ []) $ heard ! (Result r (zs .1 .0)) (λ told. fsplit ! $ drop ! $ fsplit ! $ fsplit ! $ move ! (1 ∷ []) $ feqL ! (λ ez. move ! (1 ∷ []) $ drop ! $
+        move ! (18 ∷ 19 ∷ 2 ∷ 0 ∷ []) $ group ! 4 $ use1 W (raw (Call 𝓤 H A mem run .pre (ghosts (block body.locals bs 3) α γ))) (passes (block body.locals
+        bs 3) α γ) $
+        calls-at ! fm (Call 𝓤 H A mem run) known (ghosts (block body.locals bs 3) α γ) (and-then ! (copied ! 4 refl) (and-then ! (copied ! 13 refl)
+        (no-more !))) (λ w.
+        use1 W (later (some (λ (r : Handed). ((‵ (flft κ₀ q₀) ⊛ (‵ (flft (α ∷ []) fullShare) ⊛ ‵ ftrue)) ⊛ ‵ (B.the-row .own r (w ∷ []))) ⊛ raw (ensured 𝓤 H
+        A g.ended (g.clauses 𝓤 H A mem run) (κ₀, (α ∷ [], tt)) (args (block body.locals bs 3) α γ) tt r)))) (id⊢ 𝓤 _) $ await ! tt $ pick ! (λ r.
+        split ! $ move ! (1 ∷ []) $ use1 W (some (λ (zs : Unit {0} × (List Store × Unit {0})). ‵ (lasts g.ended (κ₀, (α ∷ [], tt)) (args (block body.locals
+        bs 3) α γ) zs) ⊛ raw (fact 𝓤 (Result r (zs .1 .0))))) (id⊢ 𝓤 _) $ pick ! (λ zs.
+        split ! $ move ! (1 ∷ []) $ heard ! (Result r (zs .1 .0)) (λ told. fsplit ! $ drop ! $ fsplit ! $ fsplit ! $ move ! (1 ∷ []) $ feqL ! (λ ez. move !
+        (1 ∷ []) $ drop ! $
         -- [the list's last list; the tokens and the answer; the lender's part; the locals without the list]
         move ! (1 ∷ []) $ split ! $ move ! (1 ∷ []) $ facts ! B.the-row (Is B.the-row) (shows 𝓤 H A B.the-row) r (w ∷ []) (λ is-r.
         split ! $ move ! (1 ∷ []) $ split ! $ lft-end ! tt $
         -- [the lifetime is over; nothing; the token; the last list; the lender's part; …]
-        move ! (0 ∷ 4 ∷ 3 ∷ []) $ list-back {𝓤 = 𝓤} {H = H} {A = A} ! tt T.the-row svals (LL.tells T.the-type T′.the-laws) 48 (zs .1 .0) γ (block body.locals bs 3) (α ∷ []) (λ is-zs.
+        move ! (0 ∷ 4 ∷ 3 ∷ []) $ list-back {𝓤 = 𝓤} {H = H} {A = A} ! tt T.the-row svals (LL.tells T.the-type T′.the-laws) 48 (zs .1 .0) γ (block body.locals
+        bs 3) (α ∷ []) (λ is-zs.
         move ! (1 ∷ []) $ drop ! $ move ! (1 ∷ []) $ behind ! 1 $ sinks ! 6 $
         land ! (from ! (stop !)) (init ! 8 refl (EL.lawful B.the-type B′.the-laws 𝓤 H A W tt .typed r _ is-r .0)) $
         sets ! 14 (of-opd ! (copied ! 6 refl)) refl (typed (zs .1 .0) is-zs .0) $
         -- `log_listed`
         use0 W (raw (Joined 𝓤 H A mem run .pre (to-joined r w is-r (zs .1 .0) is-zs told))) (joins r w is-r (zs .1 .0) is-zs told) $
-        calls-at ! fm (Joined 𝓤 H A mem run) known-joined (to-joined r w is-r (zs .1 .0) is-zs told) (and-then ! (copied ! 9 refl) (and-then ! (copied ! 15 refl) (no-more !))) (λ v.
-        use1 W (later (some (λ (m : LogListed). (‵ ftrue ⊛ ‵ (D.the-row .own m (v ∷ []))) ⊛ raw (ensured 𝓤 H A h.ended (h.clauses 𝓤 H A mem run) tt (r, (zs .1 .0, tt)) tt m)))) (id⊢ 𝓤 _) $ await ! tt $ pick ! (λ m.
-        split ! $ move ! (1 ∷ []) $ use1 W (some (λ (ws : Lasts h.ended tt (r, (zs .1 .0, tt))). ‵ (lasts h.ended tt (r, (zs .1 .0, tt)) ws) ⊛ raw (fact 𝓤 (Same r w is-r (zs .1 .0) is-zs told m)))) (id⊢ 𝓤 _) $ pick ! (λ ws.
+        calls-at ! fm (Joined 𝓤 H A mem run) known-joined (to-joined r w is-r (zs .1 .0) is-zs told) (and-then ! (copied ! 9 refl) (and-then ! (copied ! 15
+        refl) (no-more !))) (λ v.
+        use1 W (later (some (λ (m : LogListed). (‵ ftrue ⊛ ‵ (D.the-row .own m (v ∷ []))) ⊛ raw (ensured 𝓤 H A h.ended (h.clauses 𝓤 H A mem run) tt
+        (r, (zs .1 .0, tt)) tt m)))) (id⊢ 𝓤 _) $ await ! tt $ pick ! (λ m.
+        split ! $ move ! (1 ∷ []) $ use1 W (some (λ (ws : Lasts h.ended tt (r, (zs .1 .0, tt))). ‵ (lasts h.ended tt (r, (zs .1 .0, tt)) ws) ⊛ raw
+        (fact 𝓤 (Same r w is-r (zs .1 .0) is-zs told m)))) (id⊢ 𝓤 _) $ pick ! (λ ws.
         split ! $ move ! (1 ∷ []) $ heard ! (Same r w is-r (zs .1 .0) is-zs told m) (λ same. drop ! $
         split ! $ move ! (1 ∷ []) $ facts ! D.the-row (Is D.the-row) (shows 𝓤 H A D.the-row) m (v ∷ []) (λ is-m. drop ! $
         land ! (from ! (stop !)) (init ! 0 refl (LL.lawful D.the-type D′.the-laws 𝓤 H A W .typed m _ is-m .0)) $
@@ -206,7 +221,8 @@ module _ {M : Type 1} (𝓤 : URA M) (H : Heap 𝓤) (A : Atoms 𝓤) (W : Given
         forget ! 0 refl $ forget ! 2 refl $ forget ! 4 refl $ forget ! 6 refl $ forget ! 8 refl $ forget ! 10 refl $ forget ! 12 refl $ forget ! 14 refl $
         freed ! body.locals bs [] $ by ! (exits r w is-r (zs .1 .0) is-zs told m v is-m same))))))))))))))))
 
-module _ {M : Type 1} (𝓤 : URA M) (H : Heap 𝓤) (A : Atoms 𝓤) (W : Given 𝓤 H A) (mem : Memory → SProp 𝓤) (run : Routine → Fun 𝓤) (𝓣 : Tables 𝓤 H) (known : Triple 𝓤 (𝓣 .C #recover-list) (Call 𝓤 H A mem run)) (known-joined : Triple 𝓤 (𝓣 .C #log-listed) (Joined 𝓤 H A mem run)) where
+module _ {M : Type 1} (𝓤 : URA M) (H : Heap 𝓤) (A : Atoms 𝓤) (W : Given 𝓤 H A) (mem : Memory → SProp 𝓤) (run : Routine → Fun 𝓤) (𝓣 : Tables 𝓤 H)
+    (known : Triple 𝓤 (𝓣 .C #recover-list) (Call 𝓤 H A mem run)) (known-joined : Triple 𝓤 (𝓣 .C #log-listed) (Joined 𝓤 H A mem run)) where
   walks : Walks 𝓤 H A f.ended stayed (WpFn 𝓤 H (𝓣 .C) (𝓣 .Λ) code.function) (f.clauses 𝓤 H A mem run)
   walks = walked 𝓤 H A f.ended stayed (f.clauses 𝓤 H A mem run) (WpFn 𝓤 H (𝓣 .C) (𝓣 .Λ) code.function)
       (λ κs. (slice-vals, (array-vals svals, tt)))
@@ -216,8 +232,14 @@ module _ {M : Type 1} (𝓤 : URA M) (H : Heap 𝓤) (A : Atoms 𝓤) (W : Given
       (𝓣 .C) (𝓣 .Λ) (fmOf 𝓤 H (W .laws) 𝓣) known known-joined))
 
   meets : Meets 𝓤 H A f.signature (WpFn 𝓤 H (𝓣 .C) (𝓣 .Λ) code.function) (f.spec 𝓤 H A mem run)
-  meets = walk-meets 𝓤 H A f.ended stayed W
-      (goes-dropped 𝓤 H A W 1 (shrSliceOf (0 ∷ []) tt (plain (λ _. u8))) yes (λ κs x f. refl), (goes-dropped 𝓤 H A W 1 (ArrayOf (plain (λ _. T.the-row)) (λ _. tt) 48) yes (λ κs x f. refl), tt))
+  meets = walk-meets 𝓤 H A f.ended stayed W (
+    goes-dropped 𝓤 H A W 1 (shrSliceOf (0 ∷ []) tt (plain (λ _. u8))) yes (λ κs x f. refl),
+    (
+      goes-dropped 𝓤 H A W 1 (ArrayOf (plain (λ _. T.the-row))
+          (λ _. tt) 48) yes (λ κs x f. refl),
+      tt,
+    ),
+  )
       (f.clauses 𝓤 H A mem run) (WpFn 𝓤 H (𝓣 .C) (𝓣 .Λ) code.function) (WpFn-mono 𝓤 H (W .laws) 𝓣 code.function) walks
 
 pub recover-lent-spec : {M : Type 1} → stated.statement M
