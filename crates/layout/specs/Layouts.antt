@@ -3,5 +3,5 @@ use mathlib.Core.Bool.{Bool, cond}
 use Prim.Native.Nat.{ℕ}
 
 -- the layout's number, which the rules have as their parameter and header word 1 names: where keys are wide, of 16 bytes, it is 2
-unfoldable pub layoutNumber : (wide : Bool) → ℕ
+abbrev pub layoutNumber : (wide : Bool) → ℕ
 layoutNumber wide = cond wide 2 1
