@@ -28,7 +28,7 @@ use Rattle.log.proofs.Claims.{Keeping, cells-fine, call-right}
 use Rattle.log.proofs.Events.{done-keeps, done-closed-after, cut-keeps, cut-recovery-keeps, recovery-done-keeps, restart-closed}
 use Rattle.log.proofs.LogRule.{Good, closed-by, closed-in, blank-good}
 use Rattle.restart_machine.proofs.defs.Laws.{Inside, Laws}
-use Rattle.restart_machine.proofs.RestartRule.{restart-rule}
+use Rattle.restart_machine.proofs.RestartRule.{restart-rule, requests-kept}
 use Rattle.log_restart.specs.Log.{logLibrary, logPromise, LogRestartRule}
 
 -- ---- an append is torn where not all its stores stand
@@ -142,5 +142,7 @@ module _ (cells : ℕ) (low : 2 ≤ cells) where
 
 -- THE RESTART RULE OF THE LOG
 pub log-restart-rule : LogRestartRule
-log-restart-rule cells low high d done moves fits =
-    restart-rule (logPromise cells) logLibrary _ _ (library-laws cells low) d done _ [] (blank-good cells low high .keep) moves fits
+log-restart-rule cells low high d done = (
+  restart-rule (logPromise cells) logLibrary _ _ (library-laws cells low) d done _ [] (blank-good cells low high .keep),
+  requests-kept (logPromise cells) logLibrary _ _ (library-laws cells low) d done _ [] (blank-good cells low high .keep),
+)

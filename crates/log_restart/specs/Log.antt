@@ -9,6 +9,7 @@ use Rattle.log.specs.Event.{LogCall, a-recovery, logStores, Messages, logDueFau
 use Rattle.log.specs.Rule.{Shows, CallRight}
 use Rattle.restart_machine.specs.Machine.{Library, Duties, Sufficient}
 use Rattle.restart_machine.specs.Rule.{Promise, RestartRule}
+use Rattle.restart_machine.specs.Requests.{RequestsKept}
 
 -- the lists for recovery's stores, lent by a start
 pub record LentLists : Type 0 where
@@ -38,4 +39,5 @@ logPromise cells =
 -- THE RESTART RULE OF THE LOG: from an area of zeros that is durable, for every program that does its duties
 abbrev pub LogRestartRule : Type 0
 LogRestartRule =
-    (cells : ℕ) → 2 ≤ cells → cells ≤ 1000 → (d : Duties) → Sufficient d → RestartRule (logPromise cells) d logLibrary (replicate (448 * cells) 0) []
+    (cells : ℕ) → 2 ≤ cells → cells ≤ 1000 → (d : Duties) → Sufficient d
+    → RestartRule (logPromise cells) d logLibrary (replicate (448 * cells) 0) [] × RequestsKept (logPromise cells) d logLibrary (replicate (448 * cells) 0)

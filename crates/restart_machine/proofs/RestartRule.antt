@@ -10,6 +10,7 @@ use Rattle.stores.specs.Store.{Store, played, standing, allStand}
 use Rattle.stores.proofs.Bytes.{played-length}
 use Rattle.restart_machine.specs.Machine.{Memory, isAmong, seen, notStanding, writtenBack, cutOff, afterFlush, afterFence, afterKill, Effect, Library, Duties, Sufficient, Continuation, recovering, opened, answering, Program, off, busy, idle, allMade, TakenRequest, answered, unanswered, HistoryEntry, Undecided, none, one, History, decide, ended, stillUndecided, killed, Move, start, ask, next-step, write-back, kill, cut, Machine, started, asked, continued, stepped, moved, movedBy, atRest}
 use Rattle.restart_machine.specs.Rule.{Promise, stands, FitsMove, start-fits, ask-fits, step-fits, write-back-fits, kill-fits, cut-fits, plainOf, HoldsNow, RestartRule}
+use Rattle.restart_machine.specs.Requests.{decidedRequests, requestsWith, requestTaken, takenBy, tookBy, RequestsKept}
 use Rattle.restart_machine.proofs.defs.Laws.{Inside, Laws}
 use Rattle.restart_machine.proofs.WrittenBack.{seen-same}
 use Rattle.restart_machine.proofs.Flushes.{Covered, to-be-flushed, covered-flush, covered-fence, all-map, all-left}
@@ -300,3 +301,77 @@ module _ {Lent Held Request M : Type 0} (promise : Promise Lent Held Request M) 
     pub restart-rule : (image : List ℕ) (m : M) → Ready image m → RestartRule promise d library image m
     unfolding atRest plainOf
     restart-rule image m r moves fits = shows-after m (atRest image) moves (is-off (bare Ready (record { durable = image; pending = []; flushed = [] }) _ refl r)) fits
+
+    -- ---- the requests
+
+    ended-requests : (b : Bool) (o : Undecided Held Request) (es : List (HistoryEntry Held Request))
+        → requestsWith (ended b (record { decided = es; undecided = o }) .undecided) (ended b (record { decided = es; undecided = o }) .decided) ≡ requestsWith o es
+    unfolding ended decide requestsWith decidedRequests
+    ended-requests b none es = refl
+    ended-requests b (one taken made) es = refl
+
+    killed-requests : (made : Bool) (o : Undecided Held Request) (es : List (HistoryEntry Held Request))
+        → requestsWith (stillUndecided made o) es ≡ requestsWith o es
+    unfolding stillUndecided requestsWith
+    killed-requests made none es = refl
+    killed-requests made (one taken before) es = refl
+
+    ask-requests : {prog : Program Lent Held} {o : Undecided Held Request} (mem : Memory) (m : M) (es : List (HistoryEntry Held Request)) (request : Request)
+        → GoodAt mem m prog o
+        → requestsWith (asked d library mem prog (record { decided = es; undecided = o }) request .history .undecided)
+        (asked d library mem prog (record { decided = es; undecided = o }) request .history .decided) ≡
+        requestTaken prog request (requestsWith o es)
+    unfolding asked requestTaken requestsWith
+    ask-requests mem m es request (is-off left) = refl
+    ask-requests mem m es request (is-starting f left cover) = refl
+    ask-requests mem m es request (is-ready f e r) = refl
+    ask-requests mem m es request (is-opening w) = refl
+    ask-requests mem m es request (is-in-flight w) = refl
+    ask-requests mem m es request (is-idle e i) = refl
+
+    step-requests : {prog : Program Lent Held} {o : Undecided Held Request} (mem : Memory) (m : M) (es : List (HistoryEntry Held Request)) → GoodAt mem m prog o
+        → requestsWith (stepped d library mem prog (record { decided = es; undecided = o }) .history .undecided)
+        (stepped d library mem prog (record { decided = es; undecided = o }) .history .decided) ≡
+        requestsWith o es
+    unfolding stepped continued decide requestsWith decidedRequests
+    step-requests mem m es (is-off left) = refl
+    step-requests mem m es (is-starting {lines = []} f left cover) = refl
+    step-requests mem m es (is-starting {lines = k ∷ lines} f left cover) = refl
+    step-requests {o = o} mem m es (is-ready {lines = []} f e r) = ended-requests true o es
+    step-requests mem m es (is-ready {lines = k ∷ lines} f e r) = refl
+    step-requests mem m es (is-opening {rest = s ∷ rest} w) = refl
+    step-requests mem m es (is-opening {rest = []} {lines = k ∷ lines} w) = refl
+    step-requests mem m es (is-opening {rest = []} {lines = []} {fence = true} w) = refl
+    step-requests mem m es (is-opening {rest = []} {lines = []} {fence = false} w) = refl
+    step-requests mem m es (is-in-flight {rest = s ∷ rest} w) = refl
+    step-requests mem m es (is-in-flight {rest = []} {lines = k ∷ lines} w) = refl
+    step-requests mem m es (is-in-flight {rest = []} {lines = []} {fence = true} w) = refl
+    step-requests mem m es (is-in-flight {rest = []} {lines = []} {fence = false} w) = refl
+    step-requests mem m es (is-idle e i) = refl
+
+    move-requests : (first : M) (s : Machine Lent Held Request) → GoodOf first s → (move : Move Lent Request)
+        → requestsWith (moved d library s move .history .undecided) (moved d library s move .history .decided) ≡
+        takenBy (s .program) move (requestsWith (s .history .undecided) (s .history .decided))
+    unfolding moved killed takenBy
+    move-requests first s g (start lent) = refl
+    move-requests first s g (ask request) = ask-requests (s .memory) _ (s .history .decided) request g
+    move-requests first s g next-step = step-requests (s .memory) _ (s .history .decided) g
+    move-requests first s g (write-back counts) = refl
+    move-requests first s g kill = killed-requests (allMade (s .program)) (s .history .undecided) (s .history .decided)
+    move-requests first s g (cut counts) =
+        ended-requests (allMade (s .program) && allStand counts (s .memory .pending)) (s .history .undecided) (s .history .decided)
+
+    requests-after : (first : M) (s : Machine Lent Held Request) (moves : List (Move Lent Request)) → GoodOf first s → All (FitsMove promise) moves
+        → requestsWith (movedBy d library s moves .history .undecided) (movedBy d library s moves .history .decided) ≡
+        tookBy d library s moves (requestsWith (s .history .undecided) (s .history .decided))
+    unfolding movedBy tookBy
+    requests-after first s [] g none-left = refl
+    requests-after first s (move ∷ moves) g (one-more f fits) =
+        requests-after first (moved d library s move) moves (good-moved first s g move f) fits
+        ∙ ap (tookBy d library (moved d library s move) moves) (move-requests first s g move)
+
+    -- THE REQUESTS of every history
+    pub requests-kept : (image : List ℕ) (m : M) → Ready image m → RequestsKept promise d library image
+    unfolding atRest plainOf requestsWith decidedRequests
+    requests-kept image m r moves fits =
+        requests-after m (atRest image) moves (is-off (bare Ready (record { durable = image; pending = []; flushed = [] }) _ refl r)) fits

@@ -1,4 +1,5 @@
 pub mod Machine
 pub mod Rule
+pub mod Requests
 pub mod EachLine
 pub mod PerLine

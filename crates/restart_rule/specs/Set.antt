@@ -10,6 +10,7 @@ use Rattle.face.specs.Recovers.{Recovers}
 use Rattle.cutrule.specs.Request.{Request, requestLeaves, requestFault, requestUpdates, RequestRight, TypedRequest}
 use Rattle.restart_machine.specs.Machine.{Library, Duties, Sufficient}
 use Rattle.restart_machine.specs.Rule.{Promise, RestartRule}
+use Rattle.restart_machine.specs.Requests.{RequestsKept}
 
 -- the index that a start lends to recovery
 pub record LentIndex : Type 0 where
@@ -64,4 +65,5 @@ setPromise l n =
 abbrev pub SetRestartRule : Type 0
 SetRestartRule =
     (l : ℕ) → Layout l → (image heads next : List ℕ) → recoverFault l image (length heads) (length next) ≡ 0
-    → (d : Duties) → Sufficient d → RestartRule (setPromise l (slotsIn image)) d (setLibrary l) image (slotsMap l image)
+    → (d : Duties) → Sufficient d
+    → RestartRule (setPromise l (slotsIn image)) d (setLibrary l) image (slotsMap l image) × RequestsKept (setPromise l (slotsIn image)) d (setLibrary l) image
