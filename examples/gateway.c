@@ -23,15 +23,17 @@
  * this file, and none was carried out.
  *
  * On a file system on non-volatile memory (DAX) a write is two line flushes, in a basket two for each item, and one
- * fence; on any other it is msync, the fallback. One gateway writes at a time, alone; those that only read (heads,
- * count, and show and list as arguments) open the file read-only, and several of them may run. What they show was
- * perhaps not durable yet if the last writer was killed.
+ * fence; on any other it is msync, the fallback. On xfs it is always msync: there a file may share blocks with another
+ * (reflink), and then flushes make nothing durable. Whether it does is asked by the handle of orderset_file.h, and not
+ * here. One gateway writes at a time, alone; those that only read (heads, count, and show and list as arguments) open
+ * the file read-only, and several of them may run. What they show was perhaps not durable yet if the last writer was
+ * killed.
  *
  * The calls of the archive are proved; this program, the headers and what lies below them are not. It is made so
- * that a power cut, a kill, a full disk and a failed msync lose nothing that was answered, and that no file is
- * written that recovery refuses. Each start that writes makes the directory of FILE durable too, and not the
- * directories above it. The lock is one that other programs can ignore. A mapped page that cannot be read ends the
- * program as a kill does. */
+ * that a power cut, a kill, a full disk and a failed msync lose nothing that was answered, and it writes to no file
+ * that recovery refuses. Each start that writes makes the directory of FILE durable too, and not the directories above
+ * it. The lock is one that other programs can ignore. A mapped page that cannot be read ends the program as a kill
+ * does. */
 #define _GNU_SOURCE
 #include <errno.h>
 #include <fcntl.h>
@@ -45,13 +47,15 @@
 #include <sys/file.h>
 #include <sys/mman.h>
 #include <sys/stat.h>
+#include <sys/vfs.h>
 #include <unistd.h>
 
 #include "orderset.h"
 #include "orderset2.h"
 #include "orderset_persist.h"
 
-enum { FAILED = 1, USAGE = 2, SHOWN = 80, STACK = 8 << 20 /* of recovery, in bytes */ };
+enum { FAILED = 1, USAGE = 2, SHOWN = 80, STACK = 8 << 20 /* of recovery, in bytes */, LONG_NAME = 100 };
+enum { XFS = 0x58465342 /* f_type of statfs */ };
 
 struct set {
     uint8_t *image;
@@ -232,9 +236,18 @@ static int open_image(const char *path, int writing, size_t *length) {
     return file;
 }
 
+/* On xfs a store to a block that the file shares takes a new one, whose place is not durable although MAP_SYNC was
+ * given. The handle of orderset_file.h asks whether a block is shared; here xfs goes by msync. */
+static int may_flush(int file) {
+    struct statfs mounted;
+    return fstatfs(file, &mounted) == 0 && mounted.f_type != XFS;
+}
+
 static void map_image(struct set *s, int file, const char *path) {
     const int access = PROT_READ | PROT_WRITE;
-    s->image = mmap(NULL, s->length, access, MAP_SHARED_VALIDATE | MAP_SYNC, file, 0);
+    s->image = MAP_FAILED;
+    if (may_flush(file))
+        s->image = mmap(NULL, s->length, access, MAP_SHARED_VALIDATE | MAP_SYNC, file, 0);
     s->flushes = s->image != MAP_FAILED;
     if (!s->flushes)
         s->image = mmap(NULL, s->length, access, MAP_SHARED, file, 0);
@@ -309,8 +322,8 @@ static uint64_t layout_of(const struct set *s) {
     return word_of(s->image + 8);
 }
 
-/* Recovery and the count of slots need up to 2.8 MB of stack, and the main thread may have less (ulimit -s). So the
- * work is done in a thread with a stack of its own, which is waited for. */
+/* Recovery and the count of slots need up to 2.24 MB of stack, in layout 2 up to 2.79 MB, and the main thread may have
+ * less (ulimit -s). So the work is done in a thread with a stack of its own, which is waited for. */
 static void on_own_stack(void *(*work)(void *), struct set *s) {
     pthread_attr_t attributes;
     pthread_t thread;
@@ -420,7 +433,7 @@ static int format_file(int file, size_t length, uint64_t layout) {
 }
 
 /* The file gets its own name, which no other has. Some file systems cannot rename so: there it has two names for a
- * moment. */
+ * moment. The model is give_name of src/orderset_file.c. */
 static int give_name(const char *fresh, const char *path) {
     if (renameat2(AT_FDCWD, fresh, AT_FDCWD, path, RENAME_NOREPLACE) == 0)
         return 0;
@@ -446,14 +459,25 @@ static _Noreturn void left_over(const char *fresh, const char *path) {
          s.state[ORDERSET_LIVE], path);
 }
 
+/* The other name: FILE.new. Of a long name the last five bytes give way to .new, so that the file system takes it; it
+ * is then shorter than the name, and so another. */
+static char *other_name(const char *path) {
+    const char *slash = strrchr(path, '/'), *name = slash ? slash + 1 : path;
+    const size_t length = strlen(path), kept = strlen(name) > LONG_NAME ? length - 5 : length;
+    char *other;
+    return asprintf(&other, "%.*s.new", (int)kept, path) < 0 ? NULL : other;
+}
+
 /* The lock is kept until the name is durable, so that nobody writes orders to a file that a cut could still take. */
 static void make(const char *path, uint64_t slots, uint64_t layout) {
     struct stat found;
-    char *fresh;
     if (lstat(path, &found) == 0)
         stop(FAILED, "%s is there already%s", path, S_ISLNK(found.st_mode) ? ", a symbolic link" : "");
-    if (errno != ENOENT || asprintf(&fresh, "%s.new", path) < 0)
+    if (errno != ENOENT)
         fail(path);
+    char *fresh = other_name(path);
+    if (!fresh)
+        fail("memory");
     int file = open(fresh, O_RDWR | O_CREAT | O_EXCL | O_CLOEXEC, 0600);
     if (file < 0 && errno == EEXIST)
         left_over(fresh, path);
@@ -465,6 +489,7 @@ static void make(const char *path, uint64_t slots, uint64_t layout) {
         unlink(fresh);
         stop(FAILED, "%s: %s; nothing was made", path, strerror(error));
     }
+    free(fresh);
     sync_name(path);
     printf("made %s: %" PRIu64 " slots%s\n", path, slots, layout == ORDERSET2_LAYOUT ? ", layout 2" : "");
     answered();
@@ -987,7 +1012,8 @@ static int run_make(const char *path, char **word, int count) {
     return 0;
 }
 
-/* A standard stream that is closed must not become the image's descriptor: answers would be written to the image. */
+/* A standard stream that is closed must not become the image's descriptor: answers would be written to the image. The
+ * recorder and tools/desk.c have the same function; this one is the model. */
 static void hold_streams(void) {
     int file;
     do

@@ -11,10 +11,11 @@
  * A file of another length is refused with 30, and one that is no log, as a set is none, with 1018: nothing is written
  * to it. A line that is empty or too long is refused with its number, 29, and the next one is read. A last line without
  * its end is not appended, as its rest may be missing. On a file system on non-volatile memory (DAX) an append is up to
- * seven line flushes and one fence; on any other it is msync, the fallback. One recorder writes at a time. What list
- * shows was perhaps not durable yet if the last writer was killed. Status 0: all read; some perhaps refused (no 29), a
- * last line without its end perhaps left out. 1: something failed; the message that was not answered is there whole or
- * not at all. 2: wrong arguments.
+ * seven line flushes and one fence; on any other it is msync, the fallback. On xfs it is always msync: there a file may
+ * share blocks with another (reflink), and then flushes make nothing durable. Whether it does is asked by the handle of
+ * orderset_file.h, and not here. One recorder writes at a time. What list shows was perhaps not durable yet if the last
+ * writer was killed. Status 0: all read; some perhaps refused (no 29), a last line without its end perhaps left out. 1:
+ * something failed; the message that was not answered is there whole or not at all. 2: wrong arguments.
  *
  * The calls of the archive are proved; this program, the headers and what lies below them are not. */
 #define _GNU_SOURCE
@@ -27,6 +28,7 @@
 #include <sys/file.h>
 #include <sys/mman.h>
 #include <sys/stat.h>
+#include <sys/vfs.h>
 #include <unistd.h>
 
 #include "orderset_file.h" /* the number of a file that is no log; the calls of the handle are not used */
@@ -84,6 +86,13 @@ static void look(int file, const struct stat *found) {
     }
 }
 
+/* As in the gateway: xfs goes by msync. */
+static int may_flush(int file) {
+    enum { XFS = 0x58465342 /* f_type of statfs */ };
+    struct statfs mounted;
+    return fstatfs(file, &mounted) == 0 && mounted.f_type != XFS;
+}
+
 static void open_area(int writing) {
     const int access = PROT_READ | (writing ? PROT_WRITE : 0);
     struct stat found;
@@ -93,7 +102,9 @@ static void open_area(int writing) {
     /* a store to a hole of the file, on a full disk, would end the program */
     if (writing && ((errno = posix_fallocate(file, 0, found.st_size)) || fsync(file)))
         fail("make durable");
-    area = mmap(NULL, length, access, MAP_SHARED_VALIDATE | MAP_SYNC, file, 0);
+    area = MAP_FAILED;
+    if (may_flush(file))
+        area = mmap(NULL, length, access, MAP_SHARED_VALIDATE | MAP_SYNC, file, 0);
     flushes = area != MAP_FAILED;
     if (!flushes)
         area = mmap(NULL, length, access, MAP_SHARED, file, 0);
@@ -165,7 +176,8 @@ static void list(uint64_t last) {
         fail("standard output");
 }
 
-/* A standard stream that is closed must not become the area's descriptor: answers would be written to the area. */
+/* A standard stream that is closed must not become the area's descriptor: answers would be written to the area. As in
+ * the gateway. */
 static void hold_streams(void) {
     int file;
     do

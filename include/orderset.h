@@ -92,8 +92,8 @@
  * separate pieces of memory; a basket's kinds, keys, lengths and bytes, which may overlap each other, overlap none of
  * these that it writes.
  *
- * Stack: recovery and count_slots need up to 2.24 MB (see orderset_recover). Of the other calls, measured: a basket 2.4
- * KB, any other below 1 KB.
+ * Stack: recovery and count_slots need up to 2.24 MB: give 3 MiB (see orderset_recover). Of the other calls, measured:
+ * a basket 2.4 KB, any other below 1 KB.
  *
  * Threads: the set has no locks. Gets and locates may run beside each other, each with an output and an answer of its
  * own, and beside nothing else: from the start of an insert, a replace, a remove, a basket, a step of the book, a

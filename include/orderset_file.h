@@ -23,19 +23,19 @@
  * key has 128 bits and a value up to 72. The calls are the same; a key that is too wide for layout 1 is refused by
  * ORDERSET_FILE_WIDE_KEY, in each call that takes a key.
  *
- * Files: a new file is made whole and durable under another name, PATH.new- and six letters, before it gets its own,
- * so that a cut or a kill leaves no half of it; a name like that which is left over may be removed. Of a name over 100
+ * Files: a new file is made whole and durable under another name, PATH.new- and six letters, before it gets its own, so
+ * that a cut or a kill leaves no half of it; a name like that which is left over may be removed. Of a name over 100
  * bytes the last eleven give way to that ending. An open that will write first looks at the length, the header and the
  * marks: a file that is something else keeps every byte, and no block is asked for it. Then it asks for all blocks of
  * the file, writes the same bytes once more, makes the whole of it and its name durable, recovers, and makes durable
- * what recovery hands out, all before it returns: so nothing that was answered is lost by a power cut, nor by a kill
- * of the process with the power on and a cut after it. For the name it syncs the directory, as create does: both need
- * the right to read the directory. A file over the process's limit of a file's length (RLIMIT_FSIZE) is refused by
+ * what recovery hands out, all before it returns: so nothing that was answered is lost by a power cut, nor by a kill of
+ * the process with the power on and a cut after it. For the name it syncs the directory, as create does: both need the
+ * right to read the directory. A file over the process's limit of a file's length (RLIMIT_FSIZE) is refused by
  * ORDERSET_FILE_SYSTEM with EFBIG. On a file system on non-volatile memory (MAP_SYNC) a call is line flushes and one
- * fence; on any other it is msync, the fallback, as good as the device, which must not tear a 64-byte line. So it is,
- * with MAP_SYNC, where the file shares a block with another (reflink) after it was written, and on xfs where that
- * cannot be asked (FIEMAP). A copy with shared blocks that is made while the handle is open is not seen:
- * docs/OPERATIONS.md.
+ * fence; on any other it is msync, the fallback, as good as the device, which must not tear a 64-byte line. msync is
+ * also used, with MAP_SYNC, where the file shares a block with another (reflink) after it was written, and on xfs where
+ * that cannot be asked (FIEMAP). A copy with shared blocks that is made while the handle is open is not seen. Copy a
+ * file in use with no other program; `cp --reflink=never`, both ways, of one that is closed.
  *
  * Locks: one handle writes at a time, alone, in all processes; another open is refused by ORDERSET_FILE_LOCKED. A
  * handle that only reads copies the file under a shared lock, which ends with the open; it shows the file as it was
@@ -48,19 +48,19 @@
  * answered; all of that is lost at close.
  *
  * After a failed sync the call returns ORDERSET_FILE_NOT_DURABLE: it is perhaps done and perhaps not. Every later call
- * is refused by ORDERSET_FILE_STOPPED. So it is after a change whose thread was cancelled in it, which returns
- * nothing. Close, open again, and ask whether it was done. new, insert: the key is held. acknowledge: the state. fill:
- * compare `filled` with what it was before (absent: filled in full). withdraw, remove: absent. replace: compare the
- * value. append: the last number and its bytes. Never just repeat a fill or an append.
+ * is refused by ORDERSET_FILE_STOPPED. The same holds after a change whose thread was cancelled in it; such a change
+ * returns nothing. Close, open again, and ask whether it was done. new, insert: the key is held. acknowledge: the
+ * state. fill: compare `filled` with what it was before (absent: filled in full). withdraw, remove: absent. replace:
+ * compare the value. append: the last number and its bytes. Never just repeat a fill or an append.
  *
- * Threads: one thread at a time for each handle; two handles know nothing of each other. Recovery needs up to 3 MiB of
- * stack and has it in a thread of its own while an open lasts, with all signals blocked; no call here needs more than
- * 16 KB. A thread may be cancelled (pthread_cancel, deferred): create, open and close hold the request back until they
- * return, and leave nothing behind; the handle that an open then gives is to be closed by the caller's cleanup. A
- * change can be left at its msync: the handle is stopped, as after a failed sync, with errno ECANCELED, and another
- * thread closes it and opens the file again. With line flushes no change can be left, and no question ever. A process
- * made by fork does not use the handle of its parent, and as long as it lives and calls no exec it keeps the lock,
- * also after the parent closed the handle or ended.
+ * Threads: one thread at a time for each handle; two handles know nothing of each other. Recovery needs up to 2.24 MB
+ * of stack, in layout 2 up to 2.79 MB, and has 8 MiB in a thread of its own while an open lasts, with all signals
+ * blocked; no call here needs more than 16 KB. A thread may be cancelled (pthread_cancel, deferred): create, open and
+ * close hold the request back until they return, and leave nothing behind; the handle that an open then gives is to be
+ * closed by the caller's cleanup. A change can be left at its msync: the handle is stopped, as after a failed sync,
+ * with errno ECANCELED, and another thread closes it and opens the file again. With line flushes no change can be left,
+ * and no question ever. A process made by fork does not use the handle of its parent, and as long as it lives and calls
+ * no exec it keeps the lock, also after the parent closed the handle or ended.
  *
  * Pointers: none may be null, but for the bytes of a value or an output of length 0, for close, and where it is
  * said. */
@@ -88,8 +88,8 @@ enum orderset_file_number {
     ORDERSET_FILE_END = 1002,         /* next: there is no further open order */
     /* errors; but for 1016 the call changed no order */
     ORDERSET_FILE_SYSTEM = 1010,      /* create, open: a call of the system failed; errno. After a create the file is
-                                         perhaps there; an open perhaps made part of what recovery hands out, which
-                                         changes no order: the next open does the rest */
+                                         perhaps there, whole; an open perhaps made part of what recovery hands out,
+                                         which changes no order: the next open does the rest */
     ORDERSET_FILE_LOCKED = 1011,      /* another handle has the file open for writing, or now copies it */
     ORDERSET_FILE_EXISTS = 1012,      /* create: there is a file of that name */
     ORDERSET_FILE_NOT_REGULAR = 1013, /* not a regular file */
@@ -197,8 +197,8 @@ const char *orderset_file_text(uint32_t number);
 /* ---- the set */
 
 /* Makes a file of an empty set with so many slots, 2 to 65,535, in layout 1 or 2. It is readable and writable by its
- * owner. Refusals: 1, 32, EXISTS, SYSTEM (nothing was made, or the file is there and its name perhaps not durable; an
- * open for writing makes it so). */
+ * owner. Refusals: 1, 32, EXISTS, SYSTEM (nothing was made, or the file is there, whole, and its name perhaps not
+ * durable; an open for writing makes it so). */
 ORDERSET_FILE_CALL uint32_t orderset_file_create(const char *path, uint32_t slots, uint32_t layout);
 
 /* Opens a file in a mode of enum orderset_file_mode; *set is null where it is not 0. Refusals: BAD_MODE, SYSTEM,

@@ -16,10 +16,10 @@
  *         ...answer the client
  *
  * A file is mapped with MAP_SHARED_VALIDATE | MAP_SYNC. Where that mmap fails, the calls with flush make nothing
- * durable although they return 0: use those that end in _file. So it is on xfs where the file shares a block with
- * another (cp --reflink, or plain cp of coreutils 9): a store there takes a new block, whose place is not durable. A
- * start writes and syncs the whole file once, and then asks whether a block is still shared (FIEMAP), as the handle of
- * orderset_file.h does.
+ * durable although they return 0: use those that end in _file. The calls with flush are not enough either on xfs where
+ * the file shares a block with another (cp --reflink, or plain cp of coreutils 9): a store there takes a new block,
+ * whose place is not durable. A start writes and syncs the whole file once, and then asks whether a block is still
+ * shared (FIEMAP), as the handle of orderset_file.h does.
  *
  * The image is mapped from non-volatile memory and 64-byte aligned, so that the eight words of a line are one cache
  * line. What mmap gives is; of other memory orderset_aligned tells it, and orderset_persist_image tests it. at and

@@ -33,7 +33,7 @@ struct area {
     size_t length;
     int file; /* open as long as the lock is kept, else -1 */
     uint32_t mode, flush;
-    int error, stopped; /* stopped also while a change is under way */
+    int error, stopped; /* stopped: also set before the first store of a change, cleared after its sync */
 };
 
 struct orderset_file {
@@ -289,9 +289,9 @@ static int shares_block(const struct area *a) {
 /* A store to a shared block takes a new one, and xfs does not make its place durable although the mapping has MAP_SYNC.
  * So line flushes are not enough where a block is shared, nor where xfs does not tell. */
 static int is_unfit_for_flushes(const struct area *a) {
-    struct statfs system;
+    struct statfs mounted;
     const int shares = shares_block(a);
-    return shares > 0 || (shares < 0 && (fstatfs(a->file, &system) || system.f_type == XFS));
+    return shares > 0 || (shares < 0 && (fstatfs(a->file, &mounted) || mounted.f_type == XFS));
 }
 
 /* Non-volatile memory: the file is mapped with MAP_SYNC, every page is stored to and synced once more through the
@@ -454,13 +454,16 @@ static uint32_t format(int file, size_t length, uint64_t layout) {
 }
 
 /* The file gets its own name, which no other has. Some file systems cannot rename so: there it has two names for a
- * moment. */
+ * moment. The gateway and orderset-show have the same function; this one is the model. */
 static int give_name(const char *fresh, const char *path) {
     if (renameat2(AT_FDCWD, fresh, AT_FDCWD, path, RENAME_NOREPLACE) == 0)
         return 0;
     if (errno != EINVAL && errno != ENOSYS)
         return -1;
-    return link(fresh, path) || unlink(fresh) ? -1 : 0;
+    if (link(fresh, path))
+        return -1;
+    unlink(fresh); /* where that fails, a second name is left, which may be removed */
+    return 0;
 }
 
 /* Makes the file under the other name, and gives it its own. */
@@ -477,7 +480,7 @@ static uint32_t make(int file, const char *fresh, const char *path, size_t lengt
         errno = error;
         return number;
     }
-    return sync_name(path) ? ORDERSET_FILE_SYSTEM : ORDERSET_FILE_OK;
+    return sync_name(path) ? ORDERSET_FILE_SYSTEM : ORDERSET_FILE_OK; /* the file stays, whole */
 }
 
 /* The other name, in the same directory. It is no longer than the name where that is long. */

@@ -47,6 +47,7 @@ static int disk_full, sync_fails;
 static int fails_alone;                           /* the sync that fails alone: 1 is the next one; 0: none */
 static int interrupted, no_fallocate, no_rename;  /* the next call is; the file system has not got it, by this errno */
 static int asked, extended, written;              /* calls for blocks, those that may extend a file, and writes */
+static int no_unlink;                             /* no name can be removed */
 static int no_new_block;                          /* blocks are given, and a write or a store takes another */
 static int stat_error;                            /* errno of stat; 0: it does not fail */
 static int as_memory;                             /* the file can be mapped with MAP_SYNC */
@@ -157,6 +158,11 @@ int renameat2(int from, const char *old, int to, const char *new, unsigned flags
         before_rename();
     errno = no_rename;
     return no_rename ? -1 : (int)syscall(SYS_renameat2, from, old, to, new, flags);
+}
+
+int unlink(const char *name) {
+    errno = EPERM;
+    return no_unlink ? -1 : (int)syscall(SYS_unlink, name);
 }
 
 /* ---- what a case expects */
@@ -307,6 +313,12 @@ static int left_over(void) {
     return are_names(path, ".new-*");
 }
 
+static void remove_left_over(void) {
+    char command[2 * NAME];
+    snprintf(command, sizeof command, "rm '%s'.new-??????", path);
+    holds(system(command) == 0, "a name that is left over is removed");
+}
+
 static void new_files(void) {
     char missing[NAME];
     unlink(path);
@@ -370,7 +382,25 @@ static void names(void) {
         holds(!left_over(), "a link and no other name is left");
         orderset_file_close(open_set(WRITE));
     }
-    no_rename = 0;
+    unlink(path);
+    no_unlink = 1;
+    gives(orderset_file_create(path, 2, 1), 0, "create where no name can be removed");
+    no_unlink = no_rename = 0;
+    holds(left_over() == 1, "its other name is left");
+    orderset_file_close(open_set(WRITE));
+    remove_left_over();
+}
+
+/* Where the directory cannot be synced, the file is there and whole. */
+static void name_not_durable(void) {
+    unlink(path);
+    fails_alone = 2;
+    gives(orderset_file_create(path, FEW_SLOTS, 1), ORDERSET_FILE_SYSTEM, "create where the directory cannot be synced");
+    holds(errno == EIO && !left_over(), "errno tells that the sync failed");
+    fails_alone = 0;
+    struct orderset_file *set = open_set(WRITE);
+    holds(statistics_of(set).slots == FEW_SLOTS, "a file whose name was not synced is whole");
+    orderset_file_close(set);
 }
 
 /* Names of any length that the file system takes. */
@@ -1127,6 +1157,7 @@ int main(int count, char **word) {
     rmdir(path);
     new_files();
     names();
+    name_not_durable();
     long_names();
     length_limit(0);
     length_limit(FEW_SLOTS + 32);

@@ -849,8 +849,14 @@ fault tools 'a picture that cannot be written leaves its other name' $show 's/^ 
     'NOT SO: a picture that cannot be written leaves no name'
 fault tools 'no link where the rename is not there' $show 's/\(errno == EINVAL \|\| errno == ENOSYS\)/0/' \
     'NOT SO: a picture is made without RENAME_NOREPLACE'
-fault tools 'the other name is left beside the link' $show 's/link\(fresh, a->svg\) \|\| unlink\(fresh\)/link(fresh, a->svg)/' \
+fault tools 'the other name is left beside the link' $show 's/\(unlink\(fresh\), 0\)/0/' \
     'NOT SO: a picture without RENAME_NOREPLACE leaves no other name'
+fault tools 'a picture with two names is an error' $show 's/ \? 1 : \(unlink\(fresh\), 0\)/ || unlink(fresh)/' \
+    'NOT SO: a picture with two names is made'
+fault tools "the limit of a file's size is for the copy too" $desk '/most.rlim_cur = most.rlim_max;/d' \
+    "NOT SO: orderset-show with a limit of a file's size, status 0"
+fault tools "a tool raises the limit of a file's size for good" $desk '/setrlimit\(RLIMIT_FSIZE, \&given\);/d' \
+    'NOT SO: a picture that cannot be written is told'
 fault tools "a picture is its owner's alone" $show 's/fchmod\(file, new_mode\(\)\)/new_mode() == 1/' \
     'NOT SO: it is a file as any other'
 fault tools 'the words of a line are read from the file again' $check \
@@ -924,7 +930,7 @@ fault programs 'a set is taken as a log' $recorder 's/if \(mark > 1\)/if (mark >
 fault programs 'a file of any length is taken as a log' $recorder 's/if \(length % ORDERSET_LOG_CELL_BYTES .*/if (0)/' \
     'NOT SO: recorder .* (refuses a set of another length|leaves)'
 fault programs 'blocks are asked for before the file is looked at' $recorder \
-    's/^    look\(file, \&found\);//; s/^    area = mmap\(NULL, length, access, MAP_SHARED_V/    look(file, \&found);\n&/' \
+    's/^    look\(file, \&found\);//; s/^    area = MAP_FAILED;/    look(file, \&found);\n&/' \
     'NOT SO: recorder .* leaves .* as it was'
 fault programs 'a file is written before it is recovered' $gateway 's/^    if \(returned \|\| !writing\)$/    if (!writing)/' \
     'NOT SO: gateway .* leaves a log of 2 cells as it was'
@@ -941,6 +947,18 @@ fault programs "a limit of the file's size ends a make" $gateway '/signal\(SIGXF
 fault programs 'no link where the rename is not there' $gateway \
     's/if \(\(errno != EINVAL \&\& errno != ENOSYS\) \|\| link\(fresh, path\)\)/if (errno)/' 'NOT SO: a set is made by a link'
 fault programs 'the other name is left beside the link' $gateway 's/if \(unlink\(fresh\)\)/if (path == fresh)/' 'NOT SO: with one name'
+fault programs 'a set with two names is an error' $gateway \
+    's/if \(unlink\(fresh\)\)/if (unlink(fresh))\n        return -1;\n    if (path == fresh)/' 'NOT SO: a set with two names is made'
+fault programs 'the other name of a long one is longer' $gateway 's/strlen\(name\) > LONG_NAME \?/strlen(name) > 4096 ?/' \
+    'NOT SO: a set with a name of 252 bytes is made'
+fault programs 'the other name of a long one is the same' $gateway 's/length - 5 : length/length - 4 : length/' \
+    'NOT SO: a set with a name of 101 bytes is made'
+fault programs 'the gateway trusts MAP_SYNC on xfs' $gateway 's/ \&\& mounted.f_type != XFS;/;/' \
+    'NOT SO: the gateway goes by msync .fallback. with PRELOAD_XFS'
+fault programs 'the recorder trusts MAP_SYNC on xfs' $recorder 's/ \&\& mounted.f_type != XFS;/;/' \
+    'NOT SO: the recorder goes by msync .fallback. with PRELOAD_XFS'
+fault programs 'no file system is trusted with MAP_SYNC' $gateway 's/ \&\& mounted.f_type != XFS;/ \&\& !mounted.f_type;/' \
+    'NOT SO: the gateway goes by flush and fence'
 
 handle=src/orderset_file.c
 opened='/^static uint32_t open_and_lock/,/^}/'
@@ -1005,8 +1023,12 @@ fault file 'no link where the rename is not there' $handle 's/if \(errno != EINV
     'NOT SO: create beside another gives 1012'
 fault file 'no link where the system has no such rename' $handle 's/errno != EINVAL \&\& errno != ENOSYS/errno != EINVAL/' \
     'NOT SO: create beside another gives 1012'
-fault file 'the other name is left beside the link' $handle 's/link\(fresh, path\) \|\| unlink\(fresh\)/link(fresh, path)/' \
+fault file 'the other name is left beside the link' $handle '/^    unlink\(fresh\); /d' \
     'NOT SO: a link and no other name is left'
+fault file 'a file with two names is an error' $handle 's/^    unlink\(fresh\); .*/    if (unlink(fresh))\n        return -1;/' \
+    'NOT SO: create where no name can be removed gives 0'
+fault file 'a file is removed where its name is not durable' $handle \
+    '/^static uint32_t make\(/,/^}/s/return sync_name\(path\) \?/return sync_name(path) \&\& !unlink(path) ?/' 'NOT SO: an open gives 0'
 fault file 'a create without a descriptor leaves its file' $handle 's/else if \(made >= 0\)/else if (made == -2)/' \
     'NOT SO: create without a descriptor leaves nothing'
 fault file 'a create is refused by a signal' $handle '/^static int extend/,/^}/s/while \(errno == EINTR\)/while (0)/' \
@@ -1063,10 +1085,10 @@ fault file_storm 'an open does not make the file durable' $handle \
 fault file_storm 'shared blocks are written and not synced' $handle "$not_synced" 'LOST (orders|message|an open)'
 fault file_storm 'shared blocks are not written' $handle \
     's/ \|\| write_at\(a->file, from, chunk, size\)//; s/if \(orderset_persist_image_file\(a->bytes, a->length\)$/if (0/' 'LOST'
-fault file_storm 'shared blocks are not asked for' $handle 's/return shares > 0 \|\| .*/return (void)system, (void)shares, 0;/' 'LOST'
-fault file_storm 'xfs that does not tell what is shared is trusted' $handle 's/ \|\| system.f_type == XFS/ || system.f_type == 0/' 'LOST'
+fault file_storm 'shared blocks are not asked for' $handle 's/return shares > 0 \|\| .*/return (void)mounted, (void)shares, 0;/' 'LOST'
+fault file_storm 'xfs that does not tell what is shared is trusted' $handle 's/ \|\| mounted.f_type == XFS/ || mounted.f_type == 0/' 'LOST'
 fault file_storm 'no file system that does not tell what is shared is trusted' $handle \
-    's/ \|\| system.f_type == XFS/ || system.f_type != 0/' 'LOST flushes'
+    's/ \|\| mounted.f_type == XFS/ || mounted.f_type != 0/' 'LOST flushes'
 fault file_storm 'an open writes other bytes' $handle \
     's/\|\| write_at\(a->file, from, chunk, size\)/|| (chunk[size \/ 8 - 1] ^= 1, write_at(a->file, from, chunk, size))/' 'LOST bytes'
 fault file_storm "recovery's stores are not made" $handle \

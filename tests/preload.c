@@ -5,6 +5,9 @@
  *                                             is cut, the file is cut short before it is read for the first time
  *     PRELOAD_NO_RENAME=1                     RENAME_NOREPLACE is not known (EINVAL)
  *     PRELOAD_NO_LOCK=1                       the file system has no locks (ENOLCK)
+ *     PRELOAD_NO_UNLINK=1                     no name can be removed (EPERM)
+ *     PRELOAD_MEMORY=1                        files are mapped as if they were on non-volatile memory (MAP_SYNC)
+ *     PRELOAD_XFS=1                           the file system is xfs, and who maps a file with MAP_SYNC is aborted
  */
 #define _GNU_SOURCE
 #include <errno.h>
@@ -12,8 +15,10 @@
 #include <stdlib.h>
 #include <string.h>
 #include <sys/file.h>
+#include <sys/mman.h>
 #include <sys/stat.h>
 #include <sys/syscall.h>
+#include <sys/vfs.h>
 #include <unistd.h>
 
 static void swap(const char *what, const char *path) {
@@ -69,4 +74,28 @@ int flock(int file, int how) {
         return -1;
     }
     return (int)syscall(SYS_flock, file, how);
+}
+
+int unlink(const char *path) {
+    if (getenv("PRELOAD_NO_UNLINK")) {
+        errno = EPERM;
+        return -1;
+    }
+    return (int)syscall(SYS_unlink, path);
+}
+
+int fstatfs(int file, struct statfs *found) {
+    const int failed = (int)syscall(SYS_fstatfs, file, found);
+    if (getenv("PRELOAD_XFS"))
+        found->f_type = 0x58465342;
+    return failed;
+}
+
+void *mmap(void *address, size_t size, int access, int flags, int file, off_t offset) {
+    const int sync = file >= 0 && (flags & MAP_SYNC);
+    if (sync && getenv("PRELOAD_XFS"))
+        abort();
+    if (sync && getenv("PRELOAD_MEMORY"))
+        flags = MAP_SHARED;
+    return (void *)syscall(SYS_mmap, address, size, access, flags, file, offset);
 }

@@ -1,6 +1,6 @@
 #!/usr/bin/env python3
 """tests/programs.py FOLDER runs the gateway and the recorder of that folder on files that are not theirs, with little
-stack, without locks, without RENAME_NOREPLACE and with a limit of the file's size. A file that is refused
+stack, without locks, without RENAME_NOREPLACE, with a limit of the file's size, with long names and on xfs. A file that is refused
 keeps its bytes, its blocks and its times; a file that is not made leaves no name. It ends with status 1 at the first
 thing that is not so."""
 import os
@@ -165,9 +165,40 @@ def linked(programs):
     so(seen[0] == 1 and "is there already" in seen[1], "and is not replaced", seen)
 
 
+def second_name(programs):
+    """Where the other name cannot be removed, the set is made and both names are told."""
+    path = programs.path("new")
+    without = {**programs.preloaded("PRELOAD_NO_RENAME"), "PRELOAD_NO_UNLINK": "1"}
+    seen = programs.run("gateway", path, "make", "10", **without)
+    so(seen[0] == 0 and f"made {path}" in seen[1] and f"{path}.new is a second name" in seen[1],
+       "a set with two names is made", seen)
+
+
+def long_names(programs):
+    """All that the file system takes; the other name is never the same, also of a name that ends like one."""
+    for length in 5, 99, 100, 101, 200, 247, 248, 251, 252, 255:
+        for end in "", ".new":
+            path = programs.path("n" * (length - len(end)) + end)
+            seen = programs.run("gateway", path, "make", "10")
+            so(seen[0] == 0, f"a set with a name of {length} bytes is made", seen)
+            so(os.listdir(programs.folder) == [os.path.basename(path)], "a long name leaves no other", seen)
+            so(programs.run("gateway", path, "new", "7", "5")[0] == 0, "it takes an order", seen)
+            os.remove(path)
+
+
+def on_memory(programs):
+    """With MAP_SYNC a write is flushes; not so on xfs, where a file may share blocks."""
+    path, log = programs.make("set", 10), programs.file("log", bytes(CELL * 4))
+    for number, (what, says) in enumerate((("PRELOAD_MEMORY", "flush and fence"), ("PRELOAD_XFS", "msync (fallback)"))):
+        seen = programs.run("gateway", path, "new", str(number), "5", **programs.preloaded(what))
+        so(seen[0] == 0 and says in seen[1], f"the gateway goes by {says} with {what}", seen)
+        seen = programs.run("recorder", log, text="message\n", **programs.preloaded(what))
+        so(seen == (0, f"message {number + 1}\n"), f"the recorder goes by {says} with {what}", seen)
+
+
 def main():
     tools = os.path.abspath(sys.argv[1])
-    for test in sets, logs, others, little_stack, not_made, linked:
+    for test in sets, logs, others, little_stack, not_made, linked, second_name, long_names, on_memory:
         with tempfile.TemporaryDirectory(dir=tools) as folder:
             test(Programs(tools, folder))
     print(f"programs: {count} comparisons")

@@ -17,6 +17,7 @@ import xml.etree.ElementTree
 
 CLASSES = "live hidden removed void broken empty unknown".split()
 SVG = "{http://www.w3.org/2000/svg}"
+HARD = resource.getrlimit(resource.RLIMIT_FSIZE)[1]
 # what a tool tells when the machine has so much to do that a step takes a second
 PROGRESS = re.compile(r"^[a-z-]+: (reading and recovering the file|counting the slots|slots [a-z ]+, \d+ of \d+)\n",
                       re.M)
@@ -357,9 +358,13 @@ def picture_made(desk):
            os.stat(out))
         so(xml.etree.ElementTree.parse(out).getroot().tag == SVG + "svg", "it is a picture")
         os.remove(out)
+    seen = desk.run("orderset-show", "--svg", out, path, env={**preload, "PRELOAD_NO_UNLINK": "1"})
+    so(seen == (0, "", ""), "a picture with two names is made", seen)
+    for name in ["made.svg"] + [name for name in os.listdir(desk.folder) if name.startswith(".orderset-show-")]:
+        os.remove(os.path.join(desk.folder, name))
     before = in_folder(desk)
     seen = desk.run("orderset-show", "--svg", out, path,
-                    preexec_fn=lambda: resource.setrlimit(resource.RLIMIT_FSIZE, (1000, 1000)))
+                    preexec_fn=lambda: resource.setrlimit(resource.RLIMIT_FSIZE, (1000, HARD)))
     so(seen == (2, "", f"orderset-show: {out}: File too large\n"), "a picture that cannot be written is told", seen)
     so(in_folder(desk) == before, "a picture that cannot be written leaves no name",
        in_folder(desk).keys() ^ before.keys())
@@ -422,6 +427,15 @@ def unreadable(desk):
         so(closed.returncode == 2 and "standard output" in closed.stderr, "a closed output is told", closed)
 
 
+def limited(desk):
+    """The copy in memory is no file of the user's: the soft limit of a file's size is not for it, the hard one is."""
+    path = os.path.join(desk.folder, "orders.img")
+    for tool in "orderset-show", "orderset-check":
+        for hard, status, says in (HARD, 0, ""), (1000, 2, "copy in memory: File too large"):
+            seen = desk.run(tool, path, preexec_fn=lambda: resource.setrlimit(resource.RLIMIT_FSIZE, (1000, hard)))
+            so(seen[0] == status and says in seen[2], f"{tool} with a limit of a file's size, status {status}", seen)
+
+
 def arguments(desk):
     path = os.path.join(desk.folder, "orders.img")
     for tool in "orderset-show", "orderset-check":
@@ -455,7 +469,7 @@ def main():
     with tempfile.TemporaryDirectory() as folder:
         desk = Desk(tools, folder)
         for test in accepted, refused, logs, pictures, picture_names, picture_places, picture_made, read_once, \
-                unreadable, arguments, second_layout, progress:
+                unreadable, limited, arguments, second_layout, progress:
             test(desk)
     print(f"tools: {count} comparisons")
 

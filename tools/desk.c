@@ -10,6 +10,7 @@
 #include <string.h>
 #include <sys/file.h>
 #include <sys/mman.h>
+#include <sys/resource.h>
 #include <sys/stat.h>
 #include <sys/time.h>
 #include <time.h>
@@ -116,7 +117,8 @@ void desk_rest(void) {
     each_second(0);
 }
 
-/* ---- the file */
+/* ---- the file. The model of lock, open_locked and read_all is src/orderset_file.c, with lock, open_locked and read_at.
+ * They are not shared: the library has no global names but those of its headers. */
 
 enum { TRIES = 20, PAUSE = 10000000 /* nanoseconds */ };
 
@@ -189,7 +191,8 @@ static uint32_t read_file(struct desk *d, size_t *length) {
     return number;
 }
 
-/* A standard stream that is closed must not become the copy: what is said would be written to it. */
+/* A standard stream that is closed must not become the copy: what is said would be written to it. As in the gateway,
+ * which is the model. */
 static void hold_streams(const char *tool) {
     int file;
     do
@@ -202,7 +205,7 @@ static void hold_streams(const char *tool) {
 
 /* The handles open by name: the copy is a file in memory, which has one as long as it is open. Kernels before 6.3 do
  * not know that it is never to be run; later ones may refuse one of which that is not said. */
-static int name_copy(struct desk *d, size_t length) {
+static int fill_copy(struct desk *d, size_t length) {
     int file = memfd_create("orderset", MFD_CLOEXEC | MFD_NOEXEC_SEAL);
     if (file < 0 && errno == EINVAL)
         file = memfd_create("orderset", MFD_CLOEXEC);
@@ -216,6 +219,21 @@ static int name_copy(struct desk *d, size_t length) {
     }
     snprintf(d->copy, sizeof d->copy, "/proc/self/fd/%d", file);
     return 0;
+}
+
+/* The limit of a file's size is for files in memory too: the copy may have all that the process may ask for. */
+static int name_copy(struct desk *d, size_t length) {
+    struct rlimit given, most;
+    if (getrlimit(RLIMIT_FSIZE, &given))
+        return -1;
+    most = given;
+    most.rlim_cur = most.rlim_max;
+    if (setrlimit(RLIMIT_FSIZE, &most))
+        return -1;
+    const int failed = fill_copy(d, length), error = errno;
+    setrlimit(RLIMIT_FSIZE, &given);
+    errno = error;
+    return failed;
 }
 
 void desk_open(struct desk *d, const char *tool, const char *path) {

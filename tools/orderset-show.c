@@ -103,7 +103,8 @@ static void test_place(const struct asked *a) {
 }
 
 /* The picture gets its name, which no other file has, or that of a picture which it replaces. Answers why not, or NULL.
- * Some file systems cannot rename so: there it has two names for a moment. */
+ * Some file systems cannot rename so: there it has two names for a moment, and the second stays where it cannot be
+ * removed. The model is give_name of src/orderset_file.c. */
 static const char *give_name(const char *fresh, const struct asked *a) {
     int there, failed;
     const char *why = why_not(a, &there);
@@ -111,7 +112,7 @@ static const char *give_name(const char *fresh, const struct asked *a) {
         return why;
     failed = there ? rename(fresh, a->svg) : renameat2(AT_FDCWD, fresh, AT_FDCWD, a->svg, RENAME_NOREPLACE);
     if (failed && !there && (errno == EINVAL || errno == ENOSYS))
-        failed = link(fresh, a->svg) || unlink(fresh);
+        failed = link(fresh, a->svg) ? 1 : (unlink(fresh), 0);
     return failed ? strerror(errno) : NULL;
 }
 
