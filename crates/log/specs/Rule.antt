@@ -9,7 +9,7 @@ use Rattle.prelude.specs.Answer.{Answer, gives, absent, refused, refusalIn}
 use Rattle.prelude.specs.Members.{All}
 use Rattle.prelude.specs.History.{Throughout}
 use Rattle.words.specs.Word.{word}
-use Rattle.stores.specs.Store.{Store, zipped}
+use Rattle.stores.specs.Store.{Store, zipped, standing}
 use Rattle.stores.specs.Play.{playEnd, wordNumbers, values, playListResult}
 use Rattle.log.specs.Area.{cellsIn}
 use Rattle.log.specs.Message.{highest, inWindow, shown}
@@ -95,17 +95,28 @@ CallRight area log (a-recovery at value) =
 
 -- ---- one event
 
--- after a cut the list stays as it is: it is shown before each recovery, whatever stands of the stores of those before, and each recovery answers right
+-- "A cut may strike any call: play makes the counted stores, if there are any" (document 01): of a struck call the play of the list of the stores that
+-- stand answers 0 and leaves just the area that recovery gets
+abbrev pub StandingPlays : (area : List ℕ) → LogCall → (counts : ℕ → ℕ) → Type 0
+StandingPlays area call counts =
+    playListResult area (wordNumbers (standing counts (logStores area call))) (values (standing counts (logStores area call)))
+    ≡ playEnd 0 (areaCut area call counts)
+
+-- after a cut the list stays as it is: it is shown before each recovery, whatever stands of the stores of those before; each recovery answers right, and the
+-- stores of it that stand are played
 abbrev pub RestartRight : (cells : ℕ) → (area : List ℕ) → Messages → LogRestart → Type 0
 RestartRight cells area log restart =
-    Throughout areaAgain (λ a l r. l) (Shows cells) (λ a l r. CallRight a l (a-recovery (r .at) (r .value))) area log (restart .again)
+    Throughout areaAgain (λ a l r. l) (Shows cells)
+    (λ a l r. CallRight a l (a-recovery (r .at) (r .value)) × StandingPlays a (a-recovery (r .at) (r .value)) (r .counts)) area log
+    (restart .again)
     × CallRight (areaAfterAll area (restart .again)) log (a-recovery (restart .at) (restart .value))
 
--- the call is right, and so is the restart after it
+-- the call is right, and so is the restart after it; the stores of the struck call that stand are played
 unfoldable pub EventRight : (cells : ℕ) → (area : List ℕ) → Messages → LogEvent → Type 0
 EventRight cells area log (call-done call) = CallRight area log call
 EventRight cells area log (call-cut call counts restart) =
     CallRight area log call × RestartRight cells (areaCut area call counts) (messagesAfter area log (call-cut call counts restart)) restart
+    × StandingPlays area call counts
 
 -- ---- every list of events
 
