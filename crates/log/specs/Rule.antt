@@ -63,8 +63,8 @@ countGiven (gives values) = getD values 1 0
 countGiven absent = 0
 countGiven (refused number) = 0
 
--- a call that hands out stores: it is refused with this number, or else answers this number and the count of its stores; these stand at the front of the two lists, and
--- play takes them
+-- a call that hands out stores: it is refused with this number, or else answers this number and the count of its stores; these stand at the front of the two
+-- lists, and play takes them
 pub record HandsOut (area : List ℕ) (call : LogCall) (fault number : ℕ) (r : LogResult) : Type 0 where
   pub answer : r .answer ≡ unlessRefused fault (gives (number ∷ length (logStores area call) ∷ [])) (refused fault)
   pub stores : zipped (take (countGiven (r .answer)) (r .at)) (take (countGiven (r .answer)) (r .value)) ≡ logStores area call
