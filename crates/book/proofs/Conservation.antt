@@ -23,7 +23,7 @@ use Rattle.book.specs.declared.Order.{Order}
 use Rattle.book.specs.Orders.{orderBytes, orderOf, isOrder, isState, openOf, sent, acknowledged, filledBy}
 use Rattle.book.specs.Steps.{Step, new, acknowledge, fill, withdraw, BookAnswer, taken, already, declined, quantityFault, booked}
 use Rattle.book.specs.Plain.{stepKey, orderIn, orderFault, bookFault, callBy, stepCall, stepFault, answerFor, stepAnswer, updatesBy, stepUpdates, refusalNumber, StepRight, TypedStep, new-typed, acknowledge-typed, fill-typed, withdraw-typed, stepLeaves, worldAfterStep, mapAfterStep}
-use Rattle.book.specs.Totals.{openHeld, ofHeld, orderedIn, filledIn, withdrawnIn, isAccepted, counts, totalOf, mapAtEnd, openTotal, StepsRight, Conservation}
+use Rattle.book.specs.Totals.{openHeld, ofHeld, orderedIn, filledIn, withdrawnIn, isAccepted, isCounted, totalOf, mapAtEnd, openTotal, StepsRight, Conservation}
 use Rattle.book.proofs.OrderBytes.{BookOrder, BookRecord, order-back, order-record, record-order}
 use Rattle.book.proofs.StepEvents.{step-event-keeps, step-event-slots, to-end}
 use Rattle.book.proofs.Steps.{step-right}
@@ -268,7 +268,7 @@ module _ (l n : ℕ) where
       → (ks js : List ℕ) → Keys m ks → Keys (mapAtEnd l w m events) js
       → totalOf orderedIn l w m events + openTotal m ks
       ≡ totalOf filledIn l w m events + totalOf withdrawnIn l w m events + openTotal (mapAtEnd l w m events) js
-  unfolding mapAtEnd totalOf counts
+  unfolding mapAtEnd totalOf isCounted
   balanced w m r [] none-left right ks js a b = omega (arith, open-same m ks js a b)
   balanced w m r (event ∷ events) (one-more f fs) right ks js a b =
       let v = event-moves l m r w (requestOf event) (typed-request f) _ (step-accepted l w m (requestOf event) (right .1)) (isWhole (stepLeaves l) w event) in

@@ -8,13 +8,13 @@ use Rattle.book.specs.Steps.{Step, declined, idle, booked}
 
 -- every call of layout l on the set w is refused with 3 and changes nothing
 pub record AllGive3 (l : ℕ) (w : World) : Type 0 where
-  -- recover, insert, replace, remove, get, locate, baskets, and what is counted
+  -- recover, insert, replace, remove, get, locate, baskets, count_slots and count_cuts
   pub calls : CallsGive3 l w
   -- new, acknowledge, fill and withdraw
   pub steps : (step : Step) → booked l w step ≡ idle (declined 3) (w .state) (w .heads) (w .next)
 
--- where its image has the header of another layout, of the two or of any, and so on every image that the other's recovery accepts; the index and the state
--- may be any
+-- where its image has the header with any other number as the header's layout, and so on every image that the recovery of that layout accepts; the index and
+-- the state may be any
 pub record OtherLayout : Type 0 where
   pub by-header : (l other : ℕ) → (other ≡ l → ⊥) → (w : World) → HeaderOf other (w .image) → AllGive3 l w
   pub on-accepted : (l other : ℕ) → (other ≡ l → ⊥) → (w : World) (heads next : ℕ) → recoverFault other (w .image) heads next ≡ 0 → AllGive3 l w

@@ -51,15 +51,15 @@ isAccepted (taken values) = true
 isAccepted (already values) = true
 isAccepted (declined number) = false
 
--- an accepted step, by what it answered, "that no cut made absent"
-unfoldable pub counts : (l : ℕ) → World → Event Step → Bool
-counts l w event = isWhole (stepLeaves l) w event && isAccepted (booked l w (requestOf event) .answer)
+-- is the step of an event counted? An accepted step is, by what it answered, "that no cut made absent"
+unfoldable pub isCounted : (l : ℕ) → World → Event Step → Bool
+isCounted l w event = isWhole (stepLeaves l) w event && isAccepted (booked l w (requestOf event) .answer)
 
--- the sum over a list of events of what each step that counts adds
+-- the sum over a list of events of what each counted step adds
 unfoldable pub totalOf : (adds : PlainMap → Step → ℕ) → (l : ℕ) → World → PlainMap → List (Event Step) → ℕ
 totalOf adds l w m [] = 0
 totalOf adds l w m (event ∷ events) =
-    cond (counts l w event) (adds m (requestOf event)) 0 + totalOf adds l (worldAfterStep l w event) (mapAfterStep l w m event) events
+    cond (isCounted l w event) (adds m (requestOf event)) 0 + totalOf adds l (worldAfterStep l w event) (mapAfterStep l w m event) events
 
 -- the set after the events
 unfoldable pub worldAtEnd : (l : ℕ) → World → List (Event Step) → World

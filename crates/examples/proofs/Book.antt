@@ -50,7 +50,7 @@ use Rattle.face.specs.Event.{RestartFits, FitsBy, done-fits, struck-fits, stepB
 use Rattle.book.specs.Orders.{orderBytes, orderOf, isState, isOrder, sent, acknowledged, filledBy}
 use Rattle.book.specs.Steps.{new, fill, idle, changeAnswers, asChange, soughtIn, soughtBy, seek, newAt, newResult, alreadyAt, acknowledgeAt, acknowledgeResult, quantityFault, fillBy, fillAt, fillResult, withdrawAt, withdrawResult, booked}
 use Rattle.book.specs.Plain.{TypedStep, new-typed, acknowledge-typed, fill-typed, withdraw-typed, orderIn, orderFault, bookFault, callBy, stepCall, callFault, stepFault, updatesBy, stepUpdates, bookLeaving}
-use Rattle.book.specs.Totals.{ofHeld, orderedIn, filledIn, withdrawnIn, isAccepted, counts, totalOf, mapAtEnd, openTotal, Conserves}
+use Rattle.book.specs.Totals.{ofHeld, orderedIn, filledIn, withdrawnIn, isAccepted, isCounted, totalOf, mapAtEnd, openTotal, Conserves}
 use Rattle.book.proofs.Conservation.{none-held, others-stay, conservation}
 use Rattle.book.proofs.Sums.{some-none}
 use Rattle.book.specs.declared.Order.{Order}
@@ -66,7 +66,7 @@ history-computed : (bookAnswers 1 emptyBook history ≡ historyAnswers) × (tota
     × (recoverFault 1 (formatted 1 512) (length oneHead) (length threeSlots) ≡ 0) × (slotsIn (formatted 1 512) ≡ 3)
     × ((key : ℕ) → emptyMap key ≡ none) × (historyMap 7 ≡ some (orderBytes filled30))
     × (historyMap 8 ≡ none)
-unfolding word setBytes setWord refuses isAccepted filter slotNumbers anyOf tabulate greatest topmost lowest atLowest count say orElse unlessRefused made contentBy contentOf content top topOf markFault kindFault kindLimit bitsFault wordFault tailFault faultOf recordFault headerWord headerFault imageFault indexFault lentFault lineTop versionFault keyFrom keyOf valuePlace slotWord valueWord valueByte valueFront valueOf slotsOf paired slotTop verdictOf lineVerdict isValid insert sorted openingStore openingStores wordNumbers values zipped played less standing allStand marked placedWord bodyA bodyB run lineStores recordStores said hasVersion sharers complete versionIfComplete highestComplete isVoid settled rankOf ordered chainOf reuseOf clashes sharersFault isRecord isBroken keyIn weight nextVersion decider valueIn valueAt mapOf decidingPut live spare liveCount brokenCount brokenLimit manyBroken allLive isHeld validVersion highestValid isRemove older mayTake takeableCount firstOf lastOf after nextIn chained takeFirst linkNew append insertAt replaceAt removeAt keyFault isFound setNext setStart setLast link withTaken atEnd takeWalk takeFrom endsFault linkFault fewFault reuseFault roomFault walk search chainFault takingOf voidSlots openingsOf storesIn noState settledFault slotsFault slotsNamed recoverFault recoverSlot chainsOf placeOf recoveredIndex recoveredState recovered recoverResult unchanged storeFault changed writeLentFault insertsOf writeLaterFault writeFault writeDone writeBy writeResult removeLaterFault removeFault removeDone removeBy removeResult formatted lengthFault getLaterFault getFault getDone getResult locateFault locateDone locateResult updates updated plainNext plainStep sizeOf roomRule ruleFault worldAfter afterRound afterRounds openedWorld restarted imageCut stepBy isWhole plainEvent orderBytes orderOf isState isOrder sent acknowledged filledBy orderIn orderFault bookFault callBy stepCall callFault stepFault updatesBy stepUpdates bookLeaving idle changeAnswers asChange soughtIn soughtBy seek newAt newResult alreadyAt acknowledgeAt acknowledgeResult quantityFault fillBy fillAt fillResult withdrawAt withdrawResult booked ofHeld orderedIn filledIn withdrawnIn counts totalOf mapAtEnd openTotal bookAnswers totals threeSlots emptyBook history historyAnswers historyTotals historyKeys oneHead recovering cutAt filled30 takeableIf
+unfolding word setBytes setWord refuses isAccepted filter slotNumbers anyOf tabulate greatest topmost lowest atLowest count say orElse unlessRefused made contentBy contentOf content top topOf markFault kindFault kindLimit bitsFault wordFault tailFault faultOf recordFault headerWord headerFault imageFault indexFault lentFault lineTop versionFault keyFrom keyOf valuePlace slotWord valueWord valueByte valueFront valueOf slotsOf paired slotTop verdictOf lineVerdict isValid insert sorted openingStore openingStores wordNumbers values zipped played less standing allStand marked placedWord bodyA bodyB run lineStores recordStores said hasVersion sharers complete versionIfComplete highestComplete isVoid settled rankOf ordered chainOf reuseOf clashes sharersFault isRecord isBroken keyIn weight nextVersion decider valueIn valueAt mapOf decidingPut live spare liveCount brokenCount brokenLimit manyBroken allLive isHeld validVersion highestValid isRemove older mayTake takeableCount firstOf lastOf after nextIn chained takeFirst linkNew append insertAt replaceAt removeAt keyFault isFound setNext setStart setLast link withTaken atEnd takeWalk takeFrom endsFault linkFault fewFault reuseFault roomFault walk search chainFault takingOf voidSlots openingsOf storesIn noState settledFault slotsFault slotsNamed recoverFault recoverSlot chainsOf placeOf recoveredIndex recoveredState recovered recoverResult unchanged storeFault changed writeLentFault insertsOf writeLaterFault writeFault writeDone writeBy writeResult removeLaterFault removeFault removeDone removeBy removeResult formatted lengthFault getLaterFault getFault getDone getResult locateFault locateDone locateResult updates updated plainNext plainStep sizeOf roomRule ruleFault worldAfter afterRound afterRounds openedWorld restarted imageCut stepBy isWhole plainEvent orderBytes orderOf isState isOrder sent acknowledged filledBy orderIn orderFault bookFault callBy stepCall callFault stepFault updatesBy stepUpdates bookLeaving idle changeAnswers asChange soughtIn soughtBy seek newAt newResult alreadyAt acknowledgeAt acknowledgeResult quantityFault fillBy fillAt fillResult withdrawAt withdrawResult booked ofHeld orderedIn filledIn withdrawnIn isCounted totalOf mapAtEnd openTotal bookAnswers totals threeSlots emptyBook history historyAnswers historyTotals historyKeys oneHead recovering cutAt filled30 takeableIf
 history-computed = (refl, refl, refl, refl, λ key. refl, refl, refl)
 
 pub history-answers : bookAnswers 1 emptyBook history ≡ historyAnswers

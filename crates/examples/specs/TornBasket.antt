@@ -21,17 +21,19 @@ use Rattle.book.specs.Steps.{BookAnswer, taken, already, declined, booked}
 use Rattle.cutrule.specs.Request.{Request, a-call, a-basket, a-step, requestLeaves, worldAfterRequest}
 use Rattle.examples.specs.Trial.{small, oneHead, recovering}
 
--- what each request of a list answers
+-- the book's answer as an answer of the set
 unfoldable pub bookAnswerAs : BookAnswer → Answer
 bookAnswerAs (taken values) = gives values
 bookAnswerAs (already values) = gives values
 bookAnswerAs (declined number) = refused number
 
+-- what a request answers
 unfoldable pub answerTo : World → Request → Answer
 answerTo w (a-call call) = called 1 w call .answer
 answerTo w (a-basket b) = basketCalled 1 w b .answer
 answerTo w (a-step step) = bookAnswerAs (booked 1 w step .answer)
 
+-- what each request of a list answers
 unfoldable pub answersTo : World → List (Event Request) → List Answer
 answersTo w [] = []
 answersTo w (event ∷ events) = answerTo w (requestOf event) ∷ answersTo (worldAfterRequest 1 w event) events
@@ -83,12 +85,13 @@ twoCuts = record { counts = tearing; restart = record { rounds = openingCut ∷ 
 unfoldable pub emptyFour : World
 emptyFour = restarted 1 (formatted 1 640) (recovering fourSlots)
 
--- the basket of three keys is torn; key 7 is asked for; key 8 is inserted; the basket of two keys is done; both are asked for
+-- key 7 is asked for; key 8 is inserted; the basket of two keys is done; keys 7 and 9 are asked for
 unfoldable pub afterTearing : List (Event Request)
 afterTearing =
     done (a-call (get 7 (replicate 8 0))) ∷ done (a-call (write InsertMode 8 (small 5))) ∷ done (a-basket (basketGiven 2 twoItems))
     ∷ done (a-call (get 7 (replicate 8 0))) ∷ done (a-call (get 9 (replicate 8 0))) ∷ []
 
+-- all of it after the basket of three keys is torn
 unfoldable pub tornHistory : List (Event Request)
 tornHistory = struck (a-basket (basketGiven 3 threeItems)) twoCuts ∷ afterTearing
 

@@ -103,7 +103,7 @@ module _ (l : ℕ) (lay : Layout l) where
       -- PLAY OF ALL ITS STORES, as a list and with 8 and 8, leaves the image that the next call gets
       the-whole : PlaysSingle l (λ v request. leaving (called l v request)) w (done call)
       unfolding stepBy finished played
-      the-whole = (all, record { made = λ ne. go ne (stored-one l lay w m g call typed); kept = λ e. ap (λ (ss : List Store). played ss (w .image)) e })
+      the-whole = (all, record { played-by-counts = λ ne. go ne (stored-one l lay w m g call typed); unchanged-without-stores = λ e. ap (λ (ss : List Store). played ss (w .image)) e })
         where
           all : ListPlayLeaves (w .image) (called l w call .stores) (played (called l w call .stores) (w .image))
           all = agrees-list l lay w m g call typed
@@ -122,8 +122,8 @@ module _ (l : ℕ) (lay : Layout l) where
       unfolding imageCut playCount played standing
       the-struck cut =
           record {
-            made = λ ne. go ne (stored-one l lay w m g call typed);
-            kept = λ e. ap (λ (ss : List Store). played (standing (cut .counts) ss) (w .image)) e;
+            played-by-counts = λ ne. go ne (stored-one l lay w m g call typed);
+            unchanged-without-stores = λ e. ap (λ (ss : List Store). played (standing (cut .counts) ss) (w .image)) e;
           }
         where
           go : (called l w call .stores ≡ [] → ⊥) → OneStored l w (called l w call .stores)

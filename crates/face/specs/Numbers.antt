@@ -91,7 +91,8 @@ playListRefusals = 15 ∷ []
 pub record CallNumbers (l : ℕ) : Type 0 where
   pub format : (image : List ℕ) → Numbered formatRefusals (formatResult l image .answer)
   pub recover : (image heads next : List ℕ) → Numbered recoverRefusals (recoverResult l image heads next .answer)
-  -- document 02, A.5: "Recovery shall name the lowest slot at fault"
+  -- document 02, A.5: "Recovery shall name the lowest slot at fault": a refusal names a slot, one of 1 to N, exactly where its number is 6, 22, 23 or 24; that
+  -- it is the lowest is in `recoverResult`
   pub recover-slot : (image heads next : List ℕ) (k : ℕ) → recoverResult l image heads next .answer ≡ refused k
       → Names (slotsIn image) k (recoverResult l image heads next .slot)
   pub write : (image heads next : List ℕ) (s : State) (key : ℕ) (mode : Mode) (value : List ℕ)

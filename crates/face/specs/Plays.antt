@@ -15,8 +15,8 @@ ListPlayLeaves image ss after = playListResult image (wordNumbers ss) (values ss
 
 -- play of these stores with counts a and b answers 0 and leaves just this image; where there are no stores nothing is played
 pub record PlayLeaves (image : List ℕ) (ss : List Store) (a b : ℕ) (after : List ℕ) : Type 0 where
-  pub made : (ss ≡ [] → ⊥) → playResult image (wordNumbers ss) (values ss) a b ≡ playEnd 0 after
-  pub kept : ss ≡ [] → after ≡ image
+  pub played-by-counts : (ss ≡ [] → ⊥) → playResult image (wordNumbers ss) (values ss) a b ≡ playEnd 0 after
+  pub unchanged-without-stores : ss ≡ [] → after ≡ image
 
 -- how many stores play is told to make of the line of store k, where each line n holds its first `counts n`: a line has eight, and play gives "14 when a count
 -- exceeds 8"
@@ -25,8 +25,8 @@ playCount counts ss k = min (counts (getD (wordNumbers ss) k 0 / 8)) 8
 
 -- an event in world w; `leaves` is what a request leaves
 module _ {A : Type 0} (l : ℕ) (leaves : World → A → Leaving) (w : World) where
-  -- of a single call, with its 16 stores: with all of them played, by play with 8 and 8 or as a list, the image is that which the next request gets; where a
-  -- cut struck, play with the counts of its two lines leaves the image that recovery gets
+  -- of a single call or a book step, with 16 stores or none: with all of them played, by play with 8 and 8 or as a list, the image is that which the next
+  -- request gets; where a cut struck, play with the counts of its two lines leaves the image that recovery gets
   abbrev pub PlaysSingle : Event A → Type 0
   PlaysSingle (done request) =
       ListPlayLeaves (w .image) (leaves w request .stores) (stepBy l leaves w (done request) .image)

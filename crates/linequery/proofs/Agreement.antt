@@ -81,6 +81,7 @@ module _ (image lent : List ℕ) (n : ℕ) (inside : 64 * (n + 1) ≤ length ima
 
 -- ONE LINE
 line-agreement : (image lent : List ℕ) (n : ℕ) → AreBytes image → 64 * (n + 1) ≤ length image → length lent ≡ 8 → LineAgreement image lent n
+unfolding wholeQuery versionQuery firstQuery lastQuery queried
 line-agreement image lent n bytes inside room =
     record {
       sized = line-sized image lent n inside room;
@@ -88,6 +89,10 @@ line-agreement image lent n bytes inside room =
       has-version = version-answer image lent n inside room bytes;
       first-word = first-answer image lent n inside room;
       last-word = last-answer image lent n inside room;
+      whole-returns = line-sized image lent n inside room;
+      version-returns = line-sized image lent n inside room;
+      first-returns = next-fine image lent n inside room;
+      last-returns = next-fine image lent n inside room;
     }
 
 -- ---- the verdict, by whether each line is whole

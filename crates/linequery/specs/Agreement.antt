@@ -23,13 +23,17 @@ lineBytes image n = take 64 (drop (64 * n) image)
 abbrev pub answerOf : (query : List ℕ → List ℕ → QueryResult) → (image lent : List ℕ) → (n : ℕ) → ℕ
 answerOf query image lent n = word (query (lineBytes image n) lent .answer) 0
 
--- of line n: no query gives 33, and each answers what the set's rules say of the line's mark and stamp, for every next version
+-- of line n: no query gives 33 or, for a next version below 2^63, 9: each returns 0, and answers what the set's rules say of the line's mark and stamp
 pub record LineAgreement (image lent : List ℕ) (n : ℕ) : Type 0 where
   pub sized : sliceFault (length (lineBytes image n)) (length lent) ≡ 0
   pub is-whole : answerOf wholeQuery image lent n ≡ cond (whole (line (word image) n 0) (line (word image) n 7)) 1 0
   pub has-version : answerOf versionQuery image lent n ≡ versionOf (line (word image) n 7)
   pub first-word : (version : ℕ) → version < 2 ^ 63 → answerOf (firstQuery version) image lent n ≡ firstWord (line (word image) n 7)
   pub last-word : (version : ℕ) → version < 2 ^ 63 → answerOf (lastQuery version) image lent n ≡ lastWord (line (word image) n 7) version
+  pub whole-returns : wholeQuery (lineBytes image n) lent .returns ≡ 0
+  pub version-returns : versionQuery (lineBytes image n) lent .returns ≡ 0
+  pub first-returns : (version : ℕ) → version < 2 ^ 63 → firstQuery version (lineBytes image n) lent .returns ≡ 0
+  pub last-returns : (version : ℕ) → version < 2 ^ 63 → lastQuery version (lineBytes image n) lent .returns ≡ 0
 
 -- both lines are whole, by the answers on them, and have one version
 unfoldable pub pairedBy : (wholeA versionA wholeB versionB : ℕ) → Bool

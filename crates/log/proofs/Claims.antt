@@ -19,6 +19,7 @@ use Rattle.layout.specs.Line.{versionFault}
 use Rattle.stores.specs.Store.{Store, zipped, played}
 use Rattle.stores.specs.Play.{playEnd, wordNumbers, values, playListResult}
 use Rattle.stores.proofs.defs.Cut.{StoresInside, nil-in}
+use Rattle.stores.proofs.Bytes.{standing-inside}
 use Rattle.stores.proofs.Lists.{zipped-back, numbers-length, values-length, list-inside}
 use Rattle.log.specs.Area.{cellsOf, cellsIn, areaFault}
 use Rattle.log.specs.Message.{isComplete, highest, inWindow, shown}
@@ -26,8 +27,8 @@ use Rattle.log.specs.Handed.{shortFault, LogResult, handing, LogListResu
 use Rattle.log.specs.Append.{messageFault, nextMessage, appendStores, appendFault, appendResult}
 use Rattle.log.specs.Recover.{recoveryStores, logRecoverFault, logRecoverResult, logRecoverListResult}
 use Rattle.log.specs.Read.{readFault, readPart, readEnd, readResult, partResult}
-use Rattle.log.specs.Event.{LogCall, an-append, a-read, a-recovery, logStores, areaDone, Messages, logDueFault, FitsCall, append-fits, read-fits, recovery-fits}
-use Rattle.log.specs.Rule.{shownUpTo, shownMessages, lastMessages, PartHolds, Shows, countGiven, HandsOut, CallRight}
+use Rattle.log.specs.Event.{LogCall, an-append, a-read, a-recovery, logStores, areaDone, areaCut, Messages, logDueFault, FitsCall, append-fits, read-fits, recovery-fits}
+use Rattle.log.specs.Rule.{shownUpTo, shownMessages, lastMessages, PartHolds, Shows, countGiven, HandsOut, CallRight, StandingPlays}
 use Rattle.log.specs.Laws.{ShowsSame, ShowsMore}
 use Rattle.log.proofs.Cells.{Window, window, in-window}
 use Rattle.log.proofs.Openings.{recovery-few}
@@ -177,6 +178,11 @@ module _ (area : List ℕ) (call : LogCall) (ss : List Store) (at value : List �
 
 -- ---- each call
 
+inside-unless : {n : ℕ} (f : ℕ) (ss : List Store) → (f ≡ 0 → StoresInside n ss) → StoresInside n (unlessRefused f ss [])
+unfolding unlessRefused
+inside-unless zero ss inside = inside refl
+inside-unless (suc f) ss inside = nil-in
+
 module _ (cells : ℕ) (low : 2 ≤ cells) (area : List ℕ) (log : Messages) (keep : Keeping cells area log) where
   pub area-fine : areaFault area ≡ 0
   area-fine = cells-fine cells low area log (keep .shows .size)
@@ -241,6 +247,20 @@ module _ (cells : ℕ) (low : 2 ≤ cells) (area : List ℕ) (log : Messages) (k
         (λ z. recovery-inside-area area area-fine),
     recovery-agrees area at value,
   )
+
+  -- the stores of each call lie in the area, so any part of them is played
+  stores-inside : (call : LogCall) → FitsCall call → StoresInside (length area) (logStores area call)
+  unfolding logStores
+  stores-inside (an-append message at value) (append-fits are-bytes) =
+      inside-unless (appendFault area message (length at) (length value)) (appendStores (cellsIn area) (word area) message)
+      (λ z. append-inside-area area message (keep .bytes) are-bytes (accepted area message (length at) (length value) z))
+  stores-inside (a-read number) read-fits = nil-in
+  stores-inside (a-recovery at value) recovery-fits =
+      inside-unless (logRecoverFault area (length at) (length value)) (recoveryStores (cellsIn area) (word area)) (λ z. recovery-inside-area area area-fine)
+
+  pub standing-plays : (call : LogCall) → FitsCall call → (counts : ℕ → ℕ) → StandingPlays area call counts
+  unfolding areaCut
+  standing-plays call f counts = list-inside area _ (standing-inside counts (stores-inside call f))
 
   -- ---- the list after it
 

@@ -18,7 +18,7 @@ use Rattle.log.specs.Rule.{RestartRight, EventRight, LogHolds, LogRule}
 use Rattle.log.specs.Laws.{Closed}
 use Rattle.log.proofs.Cells.{held, highest-by, window}
 use Rattle.log.proofs.Parts.{cells-sized}
-use Rattle.log.proofs.Claims.{Keeping, shows-by, call-right}
+use Rattle.log.proofs.Claims.{Keeping, shows-by, call-right, standing-plays}
 use Rattle.log.proofs.Events.{done-keeps, done-closed-after, cut-keeps, again-keeps, cut-recovery-keeps, recovery-done-keeps, restart-closed}
 
 -- between events: the list is shown, and no whole marked line is above the highest complete number
@@ -50,7 +50,11 @@ module _ (cells : ℕ) (low : 2 ≤ cells) where
 
     restart-right : RestartRight cells area log restart
     restart-right = (
-      throughout _ _ _ _ (Keeping cells) (λ r. Unit) (λ a l k. k .shows) (λ a l k r u. call-right cells low a l k (a-recovery (r .at) (r .value)) recovery-fits)
+      throughout _ _ _ _ (Keeping cells) (λ r. Unit) (λ a l k. k .shows)
+          (λ a l k r u. (
+            call-right cells low a l k (a-recovery (r .at) (r .value)) recovery-fits,
+            standing-plays cells low a l k (a-recovery (r .at) (r .value)) recovery-fits (r .counts),
+          ))
           (λ a l k r u. cut-recovery-keeps cells low a l k r) area log (restart .again) keep (all-any (restart .again)),
       call-right cells low last log last-keeps (a-recovery (restart .at) (restart .value)) recovery-fits,
     )
@@ -72,6 +76,7 @@ module _ (cells : ℕ) (low : 2 ≤ cells) where
     event-right (call-cut call counts restart) (cut-fits f p q) = (
       call-right cells low area log (good .keep) call f,
       restart-right _ _ (cut-keeps cells low area log (good .keep) call counts f (closed-in area log good)) restart,
+      standing-plays cells low area log (good .keep) call f counts,
     )
 
     event-keeps : (event : LogEvent) → FitsEvent cells event → Good cells (areaAfter area event) (messagesAfter area log event)

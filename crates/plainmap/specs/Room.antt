@@ -29,7 +29,7 @@ InsertsNew l m (remove key) = ⊥
 InsertsNew l m (get key out) = ⊥
 InsertsNew l m (locate key) = ⊥
 
--- 28 is due exactly where a new key is inserted and one slot is left: `fault` is the rules' number
+-- 28 exactly where a new key is inserted and one slot is left; `fault` is the number that is due or that was answered
 pub record RoomRight (l : ℕ) (w : World) (Inserts : Type 0) (fault : ℕ) : Type 0 where
   pub met : Inserts → OneLeft l w → fault ≡ 28
   pub only-new : fault ≡ 28 → Inserts

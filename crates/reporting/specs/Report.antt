@@ -1,6 +1,6 @@
--- The report on images. Document 02, A.8: "A program reads up to a million images one after another and prints the six in this order on a line for each and a last
--- line of totals of the accepted ones. An image that recovery refuses prints `no` and the number. Word 0 of each gives its length; a word 0 outside 2 to 511, or an
--- image cut short, prints `no 1` and ends the reading."
+-- The report on images. Document 02, A.8: "A program reads up to a million images one after another and prints the six in this order on a line for each and a
+-- last line of totals of the accepted ones. An image that recovery refuses prints `no` and the number. Word 0 of each gives its length; a word 0 outside 2 to
+-- 511, or an image cut short, prints `no 1` and ends the reading."
 use mathlib.Core.Bool.{Bool, true, cond}
 use mathlib.Core.List.{List, [], _∷_, _++_}
 use Prim.Native.Nat.{ℕ, zero, suc, _+_, _*_, _/_}

@@ -39,7 +39,7 @@ no-text = refl
 -- the counts that a line prints are those of the call's cuts
 abbrev pub CountsEach : (Inv : World → PlainMap → Type 0) → (counts : World → PlainMap → Call → List ℕ) → Type 0
 CountsEach Inv counts =
-    (w : World) (m : PlainMap) → Inv w m → (call : Call) → Typed 1 call → (called 1 w call .stores ≡ [] → ⊥) → cutCounts w m call ≡ counts w m call
+    (w : World) (m : PlainMap) → Inv w m → (call : Call) → Typed 1 call → (called 1 w call .stores ≡ [] → ⊥) → cutCounts w call ≡ counts w m call
 
 module _ (Inv : World → PlainMap → Type 0) (laws : SetLaws 1 Inv) (counted : CutsCounted 1 Inv) where
   -- by the cut rule these are 80 and 1, or 81 and 81

@@ -99,6 +99,6 @@ pub trace-rule : TraceRule
 trace-rule copy later image heads next output c d room p m reads =
     let laws = set-laws 1 layout-1 in
     let cuts = cuts-counted 1 layout-1 in (
-      written-prints _ laws cuts cutCounts (λ w m i call typed some-there. refl) copy later c d image heads next output room p m reads,
+      written-prints _ laws cuts (λ w m. cutCounts w) (λ w m i call typed some-there. refl) copy later c d image heads next output room p m reads,
       written-prints _ laws cuts (λ w. dueCounts) (due-each _ laws cuts) copy later c d image heads next output room p m reads,
     )

@@ -1,6 +1,6 @@
 -- THE OUTPUT OF A TRACE. Document 02, A.9: "A program shall read a trace of single calls, in the trial's lines without c, and, at every call that stores, try
--- all 81 pairs of counts for its two lines, recover each, and print how many gave the earlier map and how many the later. A line must read `80 1`, or `81 81` for a
--- replace by an equal value; all else prints nothing."
+-- all 81 pairs of counts for its two lines, recover each, and print how many gave the earlier map and how many the later. A line must read `80 1`, or `81 81`
+-- for a replace by an equal value; all else prints nothing."
 use mathlib.Core.Path.{_≡_}
 use mathlib.Core.Option.{Option, some, none}
 use mathlib.Core.List.{List, [], _∷_, _++_}
@@ -18,9 +18,10 @@ use Rattle.session.specs.Lines.{worldOf, callIn}
 use Rattle.session.specs.Rule.{faultAt, mapAfter}
 use Rattle.trace.specs.Step.{withoutCut, traceResult}
 
--- "how many gave the earlier map and how many the later", of the call's stores on the set before it
-unfoldable pub cutCounts : World → PlainMap → Call → List ℕ
-cutCounts w m call =
+-- "how many gave the earlier map and how many the later", of the call's stores on the set before it: the maps are those of the image before the call and of
+-- the image with all its stores played
+unfoldable pub cutCounts : World → Call → List ℕ
+cutCounts w call =
     earlierCount 1 (w .image) (wordNumbers (called 1 w call .stores)) (values (called 1 w call .stores))
     ∷ laterCount 1 (w .image) (wordNumbers (called 1 w call .stores)) (values (called 1 w call .stores)) ∷ []
 
@@ -30,6 +31,7 @@ module _ (counts : World → PlainMap → Call → List ℕ) where
   storesPrint w m call [] = []
   storesPrint w m call (s ∷ ss) = lineText (counts w m call)
 
+  -- what the call in a line prints; nothing where the line has no call
   unfoldable pub callPrint : World → PlainMap → Option Call → List ℕ
   callPrint w m (some call) = storesPrint w m call (called 1 w call .stores)
   callPrint w m none = []
@@ -57,6 +59,6 @@ TraceRule =
     (copy later : ℕ) (image heads next output : List ℕ) → 65536 ≤ copy → 65536 ≤ later → 64 ≤ length output
     → (p : Printed) (m : PlainMap) (reads : List (List ℕ))
     → (traceWritten copy later image heads next output reads ≡
-    callsPrint cutCounts (leaves p noSet image heads next) m (linesOf (joinedReads reads)))
+    callsPrint (λ w m. cutCounts w) (leaves p noSet image heads next) m (linesOf (joinedReads reads)))
     × (traceWritten copy later image heads next output reads ≡
     callsPrint (λ w. dueCounts) (leaves p noSet image heads next) m (linesOf (joinedReads reads)))

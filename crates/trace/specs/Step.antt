@@ -22,8 +22,8 @@ withoutCut Bad = Bad
 
 -- ---- what a line prints; copy and later are the lengths of the two slices that `count_cuts` is lent
 
--- "try all 81 pairs of counts for its two lines, recover each, and print how many gave the earlier map and how many the later"; what `count_cuts` refuses prints
--- nothing
+-- "try all 81 pairs of counts for its two lines, recover each, and print how many gave the earlier map and how many the later"; what `count_cuts` refuses
+-- prints nothing
 unfoldable pub triedCounts : (image : List ℕ) → List Store → (copy later : ℕ) → Printed
 triedCounts image ss copy later =
     unlessRefused (cutCountFault 1 image (wordNumbers ss) copy later)
