@@ -305,7 +305,7 @@ pub fn insert2(
 {
     write_in(
         image,
-        2,
+        2, // an insert in layout 2
         heads,
         next,
         state,
@@ -339,7 +339,7 @@ pub fn replace2(
 {
     write_in(
         image,
-        2,
+        2, // a replace in layout 2
         heads,
         next,
         state,
