@@ -221,7 +221,8 @@ static int storm_thread(pthread_t *thread, const pthread_attr_t *attributes, voi
 /* ---- the plain map or list of what was answered, and what may have been struck */
 
 static const char *path;
-static uint64_t strikes, cuts, kills, in_open, in_call, baskets, answered, opened, messages_answered, flushed, synced;
+static uint64_t histories, of_lines, strikes, cuts, kills, in_open, in_call, baskets, answered, opened,
+    messages_answered, flushed, synced;
 static int under_way, log_storm;
 
 static struct plain now, after;
@@ -363,6 +364,8 @@ static void make_memory(void) {
     all_durable();
     memset(page, 0, sizeof page);
     is_xfs = (int)below(2);
+    histories++;
+    of_lines += !is_xfs;
     tells = below(4) > 0;
     after_store = takes_block;
     under_way = 0;
@@ -413,9 +416,10 @@ int main(int count, char **word) {
             strike();
         }
     }
-    printf("%" PRIu64 " cuts and %" PRIu64 " kills, %" PRIu64 " of them in an open and %" PRIu64 " in a call, %" PRIu64
-           " lines opened, %" PRIu64 " changes, %" PRIu64 " of them baskets, and %" PRIu64
+    printf("%" PRIu64 " histories, %" PRIu64 " of them of the restart machine, with %" PRIu64 " cuts and %" PRIu64
+           " kills, %" PRIu64 " of them in an open and %" PRIu64 " in a call, %" PRIu64 " lines opened, %" PRIu64 " changes, %" PRIu64 " of them baskets, and %" PRIu64
            " messages answered; %" PRIu64 " opens with flushes and %" PRIu64 " with msync: nothing lost (%.0f s)\n",
-           cuts, kills, in_open, in_call, opened, answered, baskets, messages_answered, flushed, synced, seconds());
+           histories, of_lines, cuts, kills, in_open, in_call, opened, answered, baskets, messages_answered, flushed,
+           synced, seconds());
     return in_open == 0 || in_call == 0 || opened == 0 || baskets == 0 || messages_answered == 0 || synced == 0;
 }

@@ -20,7 +20,7 @@
 
 enum { MAX_CELLS = ORDERSET_LOG_CELLS_MAX, MOST = ORDERSET_LOG_MESSAGE_MAX, STRIKES = 1000000 };
 
-static uint64_t strikes, cuts, kills, in_start, in_opening, in_append, answered, opened;
+static uint64_t histories, strikes, cuts, kills, in_start, in_opening, in_append, answered, opened;
 
 /* ---- the plain list of what was answered, and the append that may have been struck */
 
@@ -221,6 +221,7 @@ static void make(void) {
     length = ORDERSET_LOG_BYTES(cells);
     memset(visible, 0, length);
     all_durable();
+    histories++;
     messages = 0;
     append.under_way = after_kill = 0;
 }
@@ -248,9 +249,9 @@ int main(int count, char **word) {
             strike();
         }
     }
-    printf("%" PRIu64 " cuts and %" PRIu64 " kills, %" PRIu64 " of them in a start, %" PRIu64
-           " in a recovery's stores and %" PRIu64 " in an append, %" PRIu64 " lines opened, %" PRIu64
+    printf("%" PRIu64 " histories of the restart machine with %" PRIu64 " cuts and %" PRIu64 " kills, %" PRIu64
+           " of them in a start, %" PRIu64 " in a recovery's stores and %" PRIu64 " in an append, %" PRIu64 " lines opened, %" PRIu64
            " messages answered: nothing lost (%.0f s)\n",
-           cuts, kills, in_start, in_opening, in_append, opened, answered, seconds());
+           histories, cuts, kills, in_start, in_opening, in_append, opened, answered, seconds());
     return 0;
 }

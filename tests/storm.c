@@ -23,8 +23,8 @@
 enum { MAX_N = 300, MAX_HEADS = 40, MAX_KEYS = MAX_N + 3, STRIKES = 1000000 };
 enum { BASKET = ORDERSET_BASKET_MAX };
 
-static uint64_t strikes, cuts, kills, in_start, in_call, in_basket, in_opening, acknowledged, baskets, opened,
-    refused_baskets;
+static uint64_t histories, strikes, cuts, kills, in_start, in_call, in_basket, in_opening, acknowledged, baskets,
+    opened, refused_baskets;
 
 static uint32_t n;
 
@@ -372,6 +372,7 @@ static void make(void) {
     if (orderset_format(visible, length, LAYOUT, answer))
         lost("format");
     all_durable();
+    histories++;
     call.under_way = after_kill = 0;
 }
 
@@ -387,10 +388,10 @@ int main(int count, char **word) {
             strike();
         }
     }
-    printf("%" PRIu64 " cuts and %" PRIu64 " kills, %" PRIu64 " of them in a start, %" PRIu64 " in a call, %" PRIu64
-           " in a basket and %" PRIu64 " while %" PRIu64 " void slots were opened, %" PRIu64 " calls and %" PRIu64
+    printf("%" PRIu64 " histories of the restart machine with %" PRIu64 " cuts and %" PRIu64 " kills, %" PRIu64
+           " of them in a start, %" PRIu64 " in a call, %" PRIu64 " in a basket and %" PRIu64 " while %" PRIu64 " void slots were opened, %" PRIu64 " calls and %" PRIu64
            " baskets acknowledged, %" PRIu64 " baskets refused: nothing lost (%.0f s)\n",
-           cuts, kills, in_start, in_call - in_basket, in_basket, in_opening, opened, acknowledged - baskets, baskets,
-           refused_baskets, seconds());
+           histories, cuts, kills, in_start, in_call - in_basket, in_basket, in_opening, opened,
+           acknowledged - baskets, baskets, refused_baskets, seconds());
     return in_basket == 0 || in_opening == 0 || refused_baskets == 0;
 }

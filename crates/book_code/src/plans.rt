@@ -12,7 +12,6 @@ use book::Seek;
 use orderset::Got;
 use orderset::Located;
 use orderset::Mode;
-use orderset::layouts::LayoutId;
 use orderset::layouts::get_in_layout;
 use orderset::layouts::layout_number;
 use orderset::layouts::locate_in_layout;
@@ -30,18 +29,18 @@ fn sought_number(number: u32) -> u32
 // The order of the key, or a refusal: by a get with this output, of zeros and as long as a value may be.
 fn seek_with(
     image: &[u8],
-    layout: LayoutId,
+    wide: bool,
     heads: &[u32],
     next: &[u32],
     low: u64,
     high: u64,
     out: &mut [u8],
 ) -> Seek
-    requires { ⌜ now out ≡ replicate (limit (layoutNumber layout)) 0 ⌝ }
+    requires { ⌜ now out ≡ replicate (limit (layoutNumber wide)) 0 ⌝ }
     ensures order { λ r. ⌜ seekSays r
-        ≡ seek (layoutNumber layout) (now (image .entry)) (now (heads .entry)) (now (next .entry)) (keyWith low high) ⌝ }
+        ≡ seek (layoutNumber wide) (now (image .entry)) (now (heads .entry)) (now (next .entry)) (keyWith low high) ⌝ }
 {
-    let answer = get_in_layout(image, layout, heads, next, low, high, out);
+    let answer = get_in_layout(image, wide, heads, next, low, high, out);
     let got = answer.got;
     match got {
         Got::Length(n) => order_in(out, n),
@@ -51,20 +50,13 @@ fn seek_with(
 }
 
 // The order of the key, or a refusal.
-fn seek_order(
-    image: &[u8],
-    layout: LayoutId,
-    heads: &[u32],
-    next: &[u32],
-    low: u64,
-    high: u64,
-) -> Seek
+fn seek_order(image: &[u8], wide: bool, heads: &[u32], next: &[u32], low: u64, high: u64) -> Seek
     ensures order { λ r. ⌜ seekSays r
-        ≡ seek (layoutNumber layout) (now (image .entry)) (now (heads .entry)) (now (next .entry)) (keyWith low high) ⌝ }
+        ≡ seek (layoutNumber wide) (now (image .entry)) (now (heads .entry)) (now (next .entry)) (keyWith low high) ⌝ }
 {
     let mut out = [0u8; 80];
-    let size = 88 - 8 * layout_number(layout);
-    seek_with(image, layout, heads, next, low, high, &mut out[..size])
+    let size = 88 - 8 * layout_number(wide);
+    seek_with(image, wide, heads, next, low, high, &mut out[..size])
 }
 
 // A new order, by what locate answers for its key.
@@ -96,7 +88,7 @@ fn new_located(located: Located, quantity: u64) -> Plan
 // A new order.
 pub fn new_plan(
     image: &[u8],
-    layout: LayoutId,
+    wide: bool,
     heads: &[u32],
     next: &[u32],
     low: u64,
@@ -104,9 +96,9 @@ pub fn new_plan(
     quantity: u64,
 ) -> Plan
     ensures plan { λ r. ⌜ planSays r
-        ≡ newCourse quantity (locateResult (layoutNumber layout) (now (image .entry)) (now (heads .entry)) (now (next .entry)) (keyWith low high)) ⌝ }
+        ≡ newCourse quantity (locateResult (layoutNumber wide) (now (image .entry)) (now (heads .entry)) (now (next .entry)) (keyWith low high)) ⌝ }
 {
-    let answer = locate_in_layout(image, layout, heads, next, low, high);
+    let answer = locate_in_layout(image, wide, heads, next, low, high);
     let located = answer.located;
     new_located(located, quantity)
 }
@@ -125,7 +117,7 @@ fn already_located(located: Located) -> Plan
 // An acknowledge.
 pub fn acknowledge_plan(
     image: &[u8],
-    layout: LayoutId,
+    wide: bool,
     heads: &[u32],
     next: &[u32],
     low: u64,
@@ -133,14 +125,14 @@ pub fn acknowledge_plan(
 ) -> Plan
     ensures plan { λ r. ⌜ planSays r
         ≡ acknowledgeCourse
-        (locateResult (layoutNumber layout) (now (image .entry)) (now (heads .entry)) (now (next .entry)) (keyWith low high))
-        (seek (layoutNumber layout) (now (image .entry)) (now (heads .entry)) (now (next .entry)) (keyWith low high)) ⌝ }
+        (locateResult (layoutNumber wide) (now (image .entry)) (now (heads .entry)) (now (next .entry)) (keyWith low high))
+        (seek (layoutNumber wide) (now (image .entry)) (now (heads .entry)) (now (next .entry)) (keyWith low high)) ⌝ }
 {
-    let sought = seek_order(image, layout, heads, next, low, high);
+    let sought = seek_order(image, wide, heads, next, low, high);
     match sought {
         Seek::Found(order) => {
             if order.state == 2 {
-                let answer = locate_in_layout(image, layout, heads, next, low, high);
+                let answer = locate_in_layout(image, wide, heads, next, low, high);
                 let located = answer.located;
                 return already_located(located);
             }
@@ -185,7 +177,7 @@ fn fill_order(order: Order, quantity: u64) -> Plan
 // A fill.
 pub fn fill_plan(
     image: &[u8],
-    layout: LayoutId,
+    wide: bool,
     heads: &[u32],
     next: &[u32],
     low: u64,
@@ -193,9 +185,9 @@ pub fn fill_plan(
     quantity: u64,
 ) -> Plan
     ensures plan { λ r. ⌜ planSays r
-        ≡ fillCourse quantity (seek (layoutNumber layout) (now (image .entry)) (now (heads .entry)) (now (next .entry)) (keyWith low high)) ⌝ }
+        ≡ fillCourse quantity (seek (layoutNumber wide) (now (image .entry)) (now (heads .entry)) (now (next .entry)) (keyWith low high)) ⌝ }
 {
-    let sought = seek_order(image, layout, heads, next, low, high);
+    let sought = seek_order(image, wide, heads, next, low, high);
     match sought {
         Seek::Found(order) => fill_order(order, quantity),
         Seek::Missing(number) => Plan::Refused(number),
@@ -205,16 +197,16 @@ pub fn fill_plan(
 // A withdraw.
 pub fn withdraw_plan(
     image: &[u8],
-    layout: LayoutId,
+    wide: bool,
     heads: &[u32],
     next: &[u32],
     low: u64,
     high: u64,
 ) -> Plan
     ensures plan { λ r. ⌜ planSays r
-        ≡ withdrawCourse (seek (layoutNumber layout) (now (image .entry)) (now (heads .entry)) (now (next .entry)) (keyWith low high)) ⌝ }
+        ≡ withdrawCourse (seek (layoutNumber wide) (now (image .entry)) (now (heads .entry)) (now (next .entry)) (keyWith low high)) ⌝ }
 {
-    let sought = seek_order(image, layout, heads, next, low, high);
+    let sought = seek_order(image, wide, heads, next, low, high);
     match sought {
         Seek::Found(_) => Plan::Remove,
         Seek::Missing(number) => Plan::Refused(number),

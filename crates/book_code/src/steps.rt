@@ -16,7 +16,6 @@ use book::Plan;
 use orderset::Change;
 use orderset::Outcome;
 use orderset::State;
-use orderset::layouts::LayoutId;
 use orderset::layouts::remove_in_layout;
 use orderset::layouts::write_in_layout;
 
@@ -46,7 +45,7 @@ fn by_change(change: Change) -> BookChange
 // Carries a plan out, in either layout.
 fn carry_out(
     image: &[u8],
-    layout: LayoutId,
+    wide: bool,
     heads: &mut [u32],
     next: &mut [u32],
     state: State,
@@ -58,14 +57,14 @@ fn carry_out(
 ) -> BookChange
     ensures result { λ r. ⌜ bookEnd r (now (at .exit)) (now (words .exit)) (now (heads .exit)) (now (next .exit))
         ≡ bookLeftIn (zipped (now (at .entry)) (now (words .entry)))
-        (courseResult (layoutNumber layout) (now (image .entry)) (now (heads .entry)) (now (next .entry)) state (keyWith low high) (planSays plan)) ⌝ }
+        (courseResult (layoutNumber wide) (now (image .entry)) (now (heads .entry)) (now (next .entry)) state (keyWith low high) (planSays plan)) ⌝ }
 {
     match plan {
         Plan::Write { mode, order } => {
             let bytes = order_bytes(order);
             by_change(write_in_layout(
                 image,
-                layout,
+                wide,
                 heads,
                 next,
                 state,
@@ -79,7 +78,7 @@ fn carry_out(
         }
         Plan::Remove => by_change(remove_in_layout(
             image,
-            layout,
+            wide,
             heads,
             next,
             state,
@@ -112,19 +111,8 @@ pub fn new(
 ) -> BookChange
     ensures { λ r. ⌜ bookEnd r (now (at .exit)) (now (words .exit)) (now (heads .exit)) (now (next .exit)) ≡ bookLeftIn (zipped (now (at .entry)) (now (words .entry))) (newResult 1 (now (image .entry)) (now (heads .entry)) (now (next .entry)) state key quantity) ⌝ }
 {
-    let plan = new_plan(image, LayoutId::One, heads, next, key, 0, quantity);
-    carry_out(
-        image,
-        LayoutId::One,
-        heads,
-        next,
-        state,
-        key,
-        0,
-        plan,
-        at,
-        words,
-    )
+    let plan = new_plan(image, false, heads, next, key, 0, quantity);
+    carry_out(image, false, heads, next, state, key, 0, plan, at, words)
 }
 
 // The order is acknowledged: as above; or, of an order that was acknowledged before, its slot and version, which changes nothing.
@@ -139,19 +127,8 @@ pub fn acknowledge(
 ) -> BookChange
     ensures { λ r. ⌜ bookEnd r (now (at .exit)) (now (words .exit)) (now (heads .exit)) (now (next .exit)) ≡ bookLeftIn (zipped (now (at .entry)) (now (words .entry))) (acknowledgeResult 1 (now (image .entry)) (now (heads .entry)) (now (next .entry)) state key) ⌝ }
 {
-    let plan = acknowledge_plan(image, LayoutId::One, heads, next, key, 0);
-    carry_out(
-        image,
-        LayoutId::One,
-        heads,
-        next,
-        state,
-        key,
-        0,
-        plan,
-        at,
-        words,
-    )
+    let plan = acknowledge_plan(image, false, heads, next, key, 0);
+    carry_out(image, false, heads, next, state, key, 0, plan, at, words)
 }
 
 // This quantity of the order is filled: an order that is filled fully is removed.
@@ -167,19 +144,8 @@ pub fn fill(
 ) -> BookChange
     ensures { λ r. ⌜ bookEnd r (now (at .exit)) (now (words .exit)) (now (heads .exit)) (now (next .exit)) ≡ bookLeftIn (zipped (now (at .entry)) (now (words .entry))) (fillResult 1 (now (image .entry)) (now (heads .entry)) (now (next .entry)) state key quantity) ⌝ }
 {
-    let plan = fill_plan(image, LayoutId::One, heads, next, key, 0, quantity);
-    carry_out(
-        image,
-        LayoutId::One,
-        heads,
-        next,
-        state,
-        key,
-        0,
-        plan,
-        at,
-        words,
-    )
+    let plan = fill_plan(image, false, heads, next, key, 0, quantity);
+    carry_out(image, false, heads, next, state, key, 0, plan, at, words)
 }
 
 // The order is removed, with all that is open.
@@ -194,19 +160,8 @@ pub fn withdraw(
 ) -> BookChange
     ensures { λ r. ⌜ bookEnd r (now (at .exit)) (now (words .exit)) (now (heads .exit)) (now (next .exit)) ≡ bookLeftIn (zipped (now (at .entry)) (now (words .entry))) (withdrawResult 1 (now (image .entry)) (now (heads .entry)) (now (next .entry)) state key) ⌝ }
 {
-    let plan = withdraw_plan(image, LayoutId::One, heads, next, key, 0);
-    carry_out(
-        image,
-        LayoutId::One,
-        heads,
-        next,
-        state,
-        key,
-        0,
-        plan,
-        at,
-        words,
-    )
+    let plan = withdraw_plan(image, false, heads, next, key, 0);
+    carry_out(image, false, heads, next, state, key, 0, plan, at, words)
 }
 
 // A new order in layout 2: a key of two words.
@@ -223,19 +178,8 @@ pub fn new2(
 ) -> BookChange
     ensures { λ r. ⌜ bookEnd r (now (at .exit)) (now (words .exit)) (now (heads .exit)) (now (next .exit)) ≡ bookLeftIn (zipped (now (at .entry)) (now (words .entry))) (newResult 2 (now (image .entry)) (now (heads .entry)) (now (next .entry)) state (keyWith low high) quantity) ⌝ }
 {
-    let plan = new_plan(image, LayoutId::Two, heads, next, low, high, quantity);
-    carry_out(
-        image,
-        LayoutId::Two,
-        heads,
-        next,
-        state,
-        low,
-        high,
-        plan,
-        at,
-        words,
-    )
+    let plan = new_plan(image, true, heads, next, low, high, quantity);
+    carry_out(image, true, heads, next, state, low, high, plan, at, words)
 }
 
 // An acknowledge in layout 2.
@@ -251,19 +195,8 @@ pub fn acknowledge2(
 ) -> BookChange
     ensures { λ r. ⌜ bookEnd r (now (at .exit)) (now (words .exit)) (now (heads .exit)) (now (next .exit)) ≡ bookLeftIn (zipped (now (at .entry)) (now (words .entry))) (acknowledgeResult 2 (now (image .entry)) (now (heads .entry)) (now (next .entry)) state (keyWith low high)) ⌝ }
 {
-    let plan = acknowledge_plan(image, LayoutId::Two, heads, next, low, high);
-    carry_out(
-        image,
-        LayoutId::Two,
-        heads,
-        next,
-        state,
-        low,
-        high,
-        plan,
-        at,
-        words,
-    )
+    let plan = acknowledge_plan(image, true, heads, next, low, high);
+    carry_out(image, true, heads, next, state, low, high, plan, at, words)
 }
 
 // A fill in layout 2.
@@ -280,19 +213,8 @@ pub fn fill2(
 ) -> BookChange
     ensures { λ r. ⌜ bookEnd r (now (at .exit)) (now (words .exit)) (now (heads .exit)) (now (next .exit)) ≡ bookLeftIn (zipped (now (at .entry)) (now (words .entry))) (fillResult 2 (now (image .entry)) (now (heads .entry)) (now (next .entry)) state (keyWith low high) quantity) ⌝ }
 {
-    let plan = fill_plan(image, LayoutId::Two, heads, next, low, high, quantity);
-    carry_out(
-        image,
-        LayoutId::Two,
-        heads,
-        next,
-        state,
-        low,
-        high,
-        plan,
-        at,
-        words,
-    )
+    let plan = fill_plan(image, true, heads, next, low, high, quantity);
+    carry_out(image, true, heads, next, state, low, high, plan, at, words)
 }
 
 // A withdraw in layout 2.
@@ -308,17 +230,6 @@ pub fn withdraw2(
 ) -> BookChange
     ensures { λ r. ⌜ bookEnd r (now (at .exit)) (now (words .exit)) (now (heads .exit)) (now (next .exit)) ≡ bookLeftIn (zipped (now (at .entry)) (now (words .entry))) (withdrawResult 2 (now (image .entry)) (now (heads .entry)) (now (next .entry)) state (keyWith low high)) ⌝ }
 {
-    let plan = withdraw_plan(image, LayoutId::Two, heads, next, low, high);
-    carry_out(
-        image,
-        LayoutId::Two,
-        heads,
-        next,
-        state,
-        low,
-        high,
-        plan,
-        at,
-        words,
-    )
+    let plan = withdraw_plan(image, true, heads, next, low, high);
+    carry_out(image, true, heads, next, state, low, high, plan, at, words)
 }

@@ -1,5 +1,5 @@
--- The words that a call moves of a value. Document 02, A.3: "get and the two writing calls shall move it a word at a time: the moving counts its steps, and the count
--- is shown to be the length divided by 8, rounded up."
+-- The words that a call moves of a value. Document 02, A.3: "get and the two writing calls shall move it a word at a time: the moving counts its steps, and
+-- the count is shown to be the length divided by 8, rounded up."
 use Prim.Native.Nat.{ℕ}
 use Rattle.layout.specs.Moved.{wordsMoved}
 use Rattle.calls.specs.declared.Got.{Got}
@@ -13,8 +13,8 @@ getMoved (Length n) = wordsMoved n
 getMoved Absent = 0
 getMoved (Refused number) = 0
 
--- insert and replace, by the answer, for a value of this size: the words of the value that they put into the stores; none where they are refused. They never answer
--- absent. A remove has no value: it moves none
+-- insert and replace, by the answer, for a value of this size: the words of the value that they put into the stores; none where they are refused. They never
+-- answer absent. A remove has no value: it moves none
 unfoldable pub writeMoved : Outcome → (size : ℕ) → ℕ
 writeMoved (Stored slot version) size = wordsMoved size
 writeMoved NotHeld size = 0

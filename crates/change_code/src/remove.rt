@@ -14,7 +14,6 @@ use index::Lookup;
 use index::Place;
 use index::State;
 use index_code::change::remove_held;
-use layout::LayoutId;
 use layout_code::fields::layout_number;
 use layout_code::header::lent_fault;
 use layout_code::header::slot_count;
@@ -131,7 +130,7 @@ pub fn remove_in(
 // Remove, in either layout.
 pub fn remove_in_layout(
     image: &[u8],
-    layout: LayoutId,
+    wide: bool,
     heads: &mut [u32],
     next: &mut [u32],
     state: State,
@@ -143,13 +142,13 @@ pub fn remove_in_layout(
     ensures result { λ r. ⌜ changeEnd r (now (at .exit)) (now (words .exit)) (now (heads .exit)) (now (next .exit))
         ≡ reported
         (leftIn (zipped (now (at .entry)) (now (words .entry)))
-        (removeResult (layoutNumber layout) (now (image .entry)) (now (heads .entry)) (now (next .entry)) state (keyWith low high)))
-        (keyCompared (layoutNumber layout) (now (image .entry)) (now (heads .entry)) (now (next .entry)) (keyWith low high)) ⌝ }
+        (removeResult (layoutNumber wide) (now (image .entry)) (now (heads .entry)) (now (next .entry)) state (keyWith low high)))
+        (keyCompared (layoutNumber wide) (now (image .entry)) (now (heads .entry)) (now (next .entry)) (keyWith low high)) ⌝ }
     ensures moved { λ r. ⌜ r .moved ≡ 0 ⌝ }
 {
     remove_in(
         image,
-        layout_number(layout),
+        layout_number(wide),
         heads,
         next,
         state,

@@ -22,7 +22,6 @@ use index::Mode;
 use index::Place;
 use index::State;
 use index_code::change::write_place;
-use layout::LayoutId;
 use layout_code::fields::layout_number;
 use layout_code::fields::value_limit;
 use layout_code::header::lent_fault;
@@ -184,7 +183,7 @@ pub fn write_in(
 // Insert or replace, in either layout.
 pub fn write_in_layout(
     image: &[u8],
-    layout: LayoutId,
+    wide: bool,
     heads: &mut [u32],
     next: &mut [u32],
     state: State,
@@ -198,13 +197,13 @@ pub fn write_in_layout(
     ensures result { λ r. ⌜ changeEnd r (now (at .exit)) (now (words .exit)) (now (heads .exit)) (now (next .exit))
         ≡ reported
         (leftIn (zipped (now (at .entry)) (now (words .entry)))
-        (writeResult (layoutNumber layout) (now (image .entry)) (now (heads .entry)) (now (next .entry)) state mode (keyWith low high) (now (value .entry))))
-        (writeCompared (layoutNumber layout) (now (image .entry)) (now (heads .entry)) (now (next .entry)) (keyWith low high) (length (now (value .entry)))) ⌝ }
+        (writeResult (layoutNumber wide) (now (image .entry)) (now (heads .entry)) (now (next .entry)) state mode (keyWith low high) (now (value .entry))))
+        (writeCompared (layoutNumber wide) (now (image .entry)) (now (heads .entry)) (now (next .entry)) (keyWith low high) (length (now (value .entry)))) ⌝ }
     ensures moved { λ r. ⌜ r .moved ≡ writeMoved (r .outcome) (length (now (value .entry))) ⌝ }
 {
     write_in(
         image,
-        layout_number(layout),
+        layout_number(wide),
         heads,
         next,
         state,

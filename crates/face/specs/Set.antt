@@ -5,7 +5,6 @@ pub use Rattle.layout.specs.Size.{slotsIn}
 pub use Rattle.layout.specs.Size.{slotsOf}
 pub use Rattle.layout.specs.Record.{Layout, keyWith, limit}
 pub use Rattle.layout.specs.Header.{HeaderOf}
-pub use Rattle.layout.specs.declared.LayoutId.{LayoutId}
 pub use Rattle.layout.specs.Layouts.{layoutNumber}
 unfoldable pub use Rattle.layout.specs.Header.{indexFault}
 pub use Rattle.table.specs.Complete.{tableOf}

@@ -11,7 +11,6 @@ use calls::Got;
 use index::Found;
 use index::Lookup;
 use index::Place;
-use layout::LayoutId;
 use layout_code::fields::layout_number;
 use layout_code::fields::slot_length;
 use layout_code::fields::value_limit;
@@ -125,7 +124,7 @@ pub fn get_in(
 // Get, in either layout.
 pub fn get_in_layout(
     image: &[u8],
-    layout: LayoutId,
+    wide: bool,
     heads: &[u32],
     next: &[u32],
     low: u64,
@@ -134,11 +133,11 @@ pub fn get_in_layout(
 ) -> GetAnswer
     ensures result { λ r. ⌜ getEnd r (now (out .exit))
         ≡ reported
-        (getResult (layoutNumber layout) (now (image .entry)) (now (heads .entry)) (now (next .entry)) (keyWith low high) (now (out .entry)))
-        (keyCompared (layoutNumber layout) (now (image .entry)) (now (heads .entry)) (now (next .entry)) (keyWith low high)) ⌝ }
+        (getResult (layoutNumber wide) (now (image .entry)) (now (heads .entry)) (now (next .entry)) (keyWith low high) (now (out .entry)))
+        (keyCompared (layoutNumber wide) (now (image .entry)) (now (heads .entry)) (now (next .entry)) (keyWith low high)) ⌝ }
     ensures moved { λ r. ⌜ r .moved ≡ getMoved (r .got) ⌝ }
 {
-    get_in(image, layout_number(layout), heads, next, low, high, out)
+    get_in(image, layout_number(wide), heads, next, low, high, out)
 }
 
 // The value of the key fills the front of out: its length, absent, or a refusal. Neither of the last two changes out. Each has the slots compared and

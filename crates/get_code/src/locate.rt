@@ -7,7 +7,6 @@ ghost use Rattle.calls.specs.Locate.{locateEnd, locateResult};
 use calls::LocateAnswer;
 use calls::Located;
 use index::Found;
-use layout::LayoutId;
 use layout_code::fields::layout_number;
 use layout_code::header::lent_fault;
 use layout_code::header::slot_count;
@@ -60,7 +59,7 @@ pub fn locate_in(
 // Locate, in either layout.
 pub fn locate_in_layout(
     image: &[u8],
-    layout: LayoutId,
+    wide: bool,
     heads: &[u32],
     next: &[u32],
     low: u64,
@@ -68,10 +67,10 @@ pub fn locate_in_layout(
 ) -> LocateAnswer
     ensures result { λ r. ⌜ locateEnd r
         ≡ reported
-        (locateResult (layoutNumber layout) (now (image .entry)) (now (heads .entry)) (now (next .entry)) (keyWith low high))
-        (keyCompared (layoutNumber layout) (now (image .entry)) (now (heads .entry)) (now (next .entry)) (keyWith low high)) ⌝ }
+        (locateResult (layoutNumber wide) (now (image .entry)) (now (heads .entry)) (now (next .entry)) (keyWith low high))
+        (keyCompared (layoutNumber wide) (now (image .entry)) (now (heads .entry)) (now (next .entry)) (keyWith low high)) ⌝ }
 {
-    locate_in(image, layout_number(layout), heads, next, low, high)
+    locate_in(image, layout_number(wide), heads, next, low, high)
 }
 
 // The slot that holds the key and the version on its line A; absent; or a refusal. Each has the slots compared.

@@ -6,9 +6,3 @@ pub enum Verdict {
     Empty,
     Broken(u64),
 }
-
-// One of the two layouts of an image, for a call that serves both.
-pub enum LayoutId {
-    One,
-    Two,
-}

@@ -11,7 +11,6 @@ ghost use Rattle.layout.specs.Fault.{bitsFault, kindFault, kindLimit, wordFault
 ghost use Rattle.layout.specs.inner.Inside.{SlotInside};
 ghost use Rattle.layout.specs.inner.Key.{highWord};
 use crate::value::value_word;
-use layout::LayoutId;
 use words_code::read_word;
 
 // The low word of the key in slot s.
@@ -66,14 +65,14 @@ fn length_of(w: u64) -> usize
     (w / 256 % 256) as usize
 }
 
-// The number of a layout.
-pub fn layout_number(layout: LayoutId) -> usize
-    ensures { λ r. ⌜ r ≡ layoutNumber layout ⌝ }
+// The number of the layout: 2 where keys are wide, of 16 bytes, else 1.
+pub fn layout_number(wide: bool) -> usize
+    ensures { λ r. ⌜ r ≡ layoutNumber wide ⌝ }
 {
-    match layout {
-        LayoutId::One => 1,
-        LayoutId::Two => 2,
+    if wide {
+        return 2;
     }
+    1
 }
 
 // The greatest length of a value.

@@ -22,9 +22,9 @@ use Rattle.log.proofs.Claims.{Keeping, shows-by, call-right}
 use Rattle.log.proofs.Events.{done-keeps, done-closed-after, cut-keeps, again-keeps, cut-recovery-keeps, recovery-done-keeps, restart-closed}
 
 -- between events: the list is shown, and no whole marked line is above the highest complete number
-record Good (cells : ℕ) (area : List ℕ) (log : Messages) : Type 0 where
-  keep : Keeping cells area log
-  closed : Closed cells (word area)
+pub record Good (cells : ℕ) (area : List ℕ) (log : Messages) : Type 0 where
+  pub keep : Keeping cells area log
+  pub closed : Closed cells (word area)
 
 -- every element of a list of anything
 all-any : (rs : List CutRecovery) → All (λ r. Unit) rs
@@ -33,10 +33,10 @@ all-any (r ∷ rs) = one-more tt (all-any rs)
 
 module _ (cells : ℕ) (low : 2 ≤ cells) where
   -- closed, by the cells of the area that it was
-  closed-by : (area area′ : List ℕ) (log : Messages) → Keeping cells area log → Closed (cellsIn area) (word area′) → Closed cells (word area′)
+  pub closed-by : (area area′ : List ℕ) (log : Messages) → Keeping cells area log → Closed (cellsIn area) (word area′) → Closed cells (word area′)
   closed-by area area′ log keep c = subst (λ (k : ℕ). Closed k (word area′)) (keep .shows .size) c
 
-  closed-in : (area : List ℕ) (log : Messages) → Good cells area log → Closed (cellsIn area) (word area)
+  pub closed-in : (area : List ℕ) (log : Messages) → Good cells area log → Closed (cellsIn area) (word area)
   closed-in area log good = subst (λ (k : ℕ). Closed k (word area)) (sym (good .keep .shows .size)) (good .closed)
 
   -- ---- a restart
@@ -129,7 +129,7 @@ module _ (cells : ℕ) (low : 2 ≤ cells) (high : cells ≤ 1000) where
       (λ e. ap (λ (n : ℕ). inWindow cells n s) (sym none-highest) ∙ both-left (inWindow cells (highest cells (word blank)) s) (isComplete cells (word blank) s) e)
       (λ e. absurd (no-window s e))
 
-  blank-good : Good cells (replicate (448 * cells) 0) []
+  pub blank-good : Good cells (replicate (448 * cells) 0) []
   blank-good =
       record {
         keep = record {

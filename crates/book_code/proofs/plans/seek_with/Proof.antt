@@ -10,7 +10,7 @@ use Rattle.book_code.proofs.plans.seek_with.Statement.{statement}
 use Rattle.book_code.proofs.plans.seek_with.Tie as tie
 
 order-in-requires : tie.Need-order-in-requires
-order-in-requires c κs = room-left _ (layout-numbered (c .before .before .before .before .before .before .before .before .before .before .before .before .args .layout)) _ (c .before .before .before .before .before .before .before .before .before .before .before .before .pre) _ (c .before .before .before .before .before .before .get-in-layout .kept .1 .1 .1 .1 .1 .1 .0)
+order-in-requires c κs = room-left _ (layout-numbered (c .before .before .before .before .before .before .before .before .before .before .before .before .args .wide)) _ (c .before .before .before .before .before .before .before .before .before .before .before .before .pre) _ (c .before .before .before .before .before .before .get-in-layout .kept .1 .1 .1 .1 .1 .1 .0)
 
 returns : tie.Need-returns
 unfolding getSays

@@ -5,7 +5,7 @@ use Rattle.change_code.proofs.remove.remove_in_layout.Statement.{statem
 use Rattle.change_code.proofs.remove.remove_in_layout.Tie as tie
 
 remove-in-requires : tie.Need-remove-in-requires
-remove-in-requires c κs = rw (c .before .before .before .before .layout-number .ensures) (layout-numbered (c .before .before .before .before .before .before .before .before .args .layout))
+remove-in-requires c κs = rw (c .before .before .before .before .layout-number .ensures) (layout-numbered (c .before .before .before .before .before .before .before .before .args .wide))
 
 same-length : tie.Need-same-length
 same-length c = c .before .before .before .before .remove-in .kept .1 .1 .0

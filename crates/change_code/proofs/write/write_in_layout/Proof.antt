@@ -5,7 +5,7 @@ use Rattle.change_code.proofs.write.write_in_layout.Statement.{statemen
 use Rattle.change_code.proofs.write.write_in_layout.Tie as tie
 
 write-in-requires : tie.Need-write-in-requires
-write-in-requires c κs = rw (c .before .before .before .before .layout-number .ensures) (layout-numbered (c .before .before .before .before .before .before .before .before .before .args .layout))
+write-in-requires c κs = rw (c .before .before .before .before .layout-number .ensures) (layout-numbered (c .before .before .before .before .before .before .before .before .before .args .wide))
 
 same-length : tie.Need-same-length
 same-length c = c .before .before .before .before .write-in .kept .1 .1 .0

@@ -5,7 +5,7 @@ use Rattle.get_code.proofs.get.get_in_layout.Statement.{statement}
 use Rattle.get_code.proofs.get.get_in_layout.Tie as tie
 
 get-in-requires : tie.Need-get-in-requires
-get-in-requires c κs = rw (c .before .layout-number .ensures) (layout-numbered (c .before .before .before .before .before .before .args .layout))
+get-in-requires c κs = rw (c .before .layout-number .ensures) (layout-numbered (c .before .before .before .before .before .before .args .wide))
 
 returns : tie.Need-returns
 returns c = rw (c .before .before .before .before .layout-number .ensures) at (c .before .before .get-in .ensures)

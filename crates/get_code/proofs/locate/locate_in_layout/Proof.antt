@@ -5,7 +5,7 @@ use Rattle.get_code.proofs.locate.locate_in_layout.Statement.{statement
 use Rattle.get_code.proofs.locate.locate_in_layout.Tie as tie
 
 locate-in-requires : tie.Need-locate-in-requires
-locate-in-requires c κs = rw (c .layout-number .ensures) (layout-numbered (c .before .before .before .before .args .layout))
+locate-in-requires c κs = rw (c .layout-number .ensures) (layout-numbered (c .before .before .before .before .args .wide))
 
 returns : tie.Need-returns
 returns c = rw (c .before .layout-number .ensures) at (c .locate-in .ensures)

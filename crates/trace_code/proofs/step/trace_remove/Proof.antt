@@ -10,7 +10,7 @@ use Rattle.trace_code.proofs.step.trace_remove.Tie as tie
 
 returns : tie.Need-returns
 unfolding lineCounts lineStep
-returns c = c .before .before .before .before .before .before .before .before .before .before .trace-change .ensures ∙ ap (changeTraced _ _ _ _) (ap (λ (x : Reported ChangeResult). x .left) (c .before .before .before .before .before .before .before .before .before .before .before .before .before .before .before .before .before .before .before .before .remove .ensures)) ∙ remove-traced _ _ _ _ _ _ _ _
+returns c = c .before .before .before .before .before .before .before .before .before .before .trace-change .ensures ∙ ap (changeTraced _ _ _ _) (ap (λ (x : Reported ChangeResult). x .left) (c .before .before .before .before .before .before .before .before .before .before .before .before .before .before .before .before .before .before .before .before .remove .ensures .0)) ∙ remove-traced _ _ _ _ _ _ _ _
 
 pub trace-remove-spec : {M : Type 1} → statement M
 trace-remove-spec =

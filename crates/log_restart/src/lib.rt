@@ -1,0 +1,1 @@
+// The restart rule for the log: kills and power cuts over a cache.

@@ -1,0 +1,4 @@
+pub mod Machine
+pub mod Rule
+pub mod EachLine
+pub mod PerLine
