@@ -304,7 +304,7 @@ pub fn insert2(
 {
     write_in(
         image,
-        2,
+        2, // an insert in layout 2
         heads,
         next,
         state,
@@ -338,7 +338,7 @@ pub fn replace2(
 {
     write_in(
         image,
-        2,
+        2, // a replace in layout 2
         heads,
         next,
         state,
