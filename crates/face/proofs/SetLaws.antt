@@ -25,7 +25,7 @@ use Rattle.plainmap.specs.Plain.{PlainMap}
 use Rattle.plainmap.specs.Accepted.{Accepted, RightSize}
 use Rattle.plainmap.specs.Claims.{Typed, slotsMap}
 use Rattle.plainmap.specs.Sound.{Agrees}
-use Rattle.plainmap.proofs.AcceptedImages.{accepted-recovers, recovers-accepted, accepted-slots, accepted-long}
+use Rattle.plainmap.proofs.AcceptedImages.{accepted-recovers, recovers-accepted, recovers-index, accepted-slots, accepted-long}
 use Rattle.plainmap.proofs.BasketItems.{changes-typed}
 use Rattle.plainmap.proofs.CallLists.{agrees-right, agrees-reads, agrees-with, agrees-list, opened-agrees, restarted-agrees, formatted-empty, formatted-fine}
 use Rattle.plainmap.proofs.Playing.{record-passes, record-cut, record-counted, record-whole, playing-none}
@@ -154,6 +154,8 @@ module _ (l : ℕ) (lay : Layout l) where
         basket-refusal = basket-refusal l;
         changes-typed = changes-typed l lay;
         hands-out = λ w call writes given e lent. hands-out l w lent call writes given e;
+        accepts-any = λ image heads next heads′ next′ z e. accepted-recovers l image heads′ next′ (recovers-accepted l image heads next z) e;
+        accepted-index = recovers-index l;
         call-heads = called-heads l;
         recovery-heads = recovered-heads l;
         restart-slots = restarted-slots l;

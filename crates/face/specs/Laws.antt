@@ -62,6 +62,10 @@ pub record CallLaws (l : ℕ) : Type 0 where
   -- a call and recovery leave as many heads as they were lent
   pub call-heads : (w : World) (call : Call) → length (called l w call .heads) ≡ length (w .heads)
   pub recovery-heads : (image heads next : List ℕ) → length (recoveredWorld l image heads next .heads) ≡ length heads
+  -- an image that recovery accepts with one index it accepts with every index of the right size, and the one was of that size
+  pub accepts-any : (image : List ℕ) (heads next heads′ next′ : ℕ) → recoverFault l image heads next ≡ 0 → indexFault (slotsIn image) heads′ next′ ≡ 0
+      → recoverFault l image heads′ next′ ≡ 0
+  pub accepted-index : (image : List ℕ) (heads next : ℕ) → recoverFault l image heads next ≡ 0 → indexFault (slotsIn image) heads next ≡ 0
   -- a restart keeps the number of slots
   pub restart-slots : (image : List ℕ) (r : Restart) → slotsIn (restarted l image r .image) ≡ slotsIn image
   -- stores keep an image's length, and no stores change no byte

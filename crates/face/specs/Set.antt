@@ -12,7 +12,7 @@ pub use Rattle.table.specs.Table.{holder, liveCount, nextVersion}
 unfoldable pub use Rattle.table.specs.Table.{isHeld}
 pub use Rattle.table.specs.Keys.{Holds, holds, Keys}
 -- stores and play
-pub use Rattle.stores.specs.Store.{Store, played, standing}
+pub use Rattle.stores.specs.Store.{Store, played, standing, allStand}
 unfoldable pub use Rattle.stores.specs.Store.{zipped}
 pub use Rattle.stores.specs.Play.{Played, playEnd}
 pub use Rattle.stores.specs.Play.{playFault, playResult, playListResult}

@@ -148,3 +148,7 @@ unfolding recoverFault lentFault
 recovers-accepted l image heads next e =
     let parts = orElse-zero (lentFault l image heads next) _ e in
     record { header = orElse-zero (imageFault l image) _ (parts .0) .0; records = parts .1 }
+
+pub recovers-index : (l : ℕ) (image : List ℕ) (heads next : ℕ) → recoverFault l image heads next ≡ 0 → indexFault (slotsIn image) heads next ≡ 0
+unfolding recoverFault lentFault
+recovers-index l image heads next e = orElse-zero (imageFault l image) _ (orElse-zero (lentFault l image heads next) _ e .0) .1

@@ -7,15 +7,10 @@ use native.Mathlib.Omega.{arith}
 use lib.ListN.{length, getD}
 use Rattle.prelude.specs.Answer.{refuses}
 use Rattle.prelude.specs.Members.{none-left, one-more}
-use Rattle.prelude.proofs.Refusals.{orElse-zero}
-use Rattle.layout.specs.Header.{imageFault, lentFault}
-use Rattle.stores.specs.Store.{allStand}
-use Rattle.face.specs.Set.{played, standing, recoverFault, World, PlainMap, Call, Typed, slotsIn, slotsOf, slotsMap, indexFault, recoverResult, storesIn, Restart, Round, restarted, afterRound, afterRounds, openedWorld, worldAfter}
+use Rattle.face.specs.Set.{played, standing, allStand, recoverFault, World, PlainMap, Call, Typed, slotsIn, slotsOf, slotsMap, indexFault, recoverResult, storesIn, Restart, Round, restarted, afterRound, afterRounds, openedWorld, worldAfter}
 use Rattle.face.specs.Event.{done, struck, Cut, Leaving, stepBy, imageCut, isWhole, plainEvent, RestartFits, done-fits, struck-fits, Fits}
 use Rattle.face.specs.Recovers.{Recovers, RecoversAlong}
 use Rattle.face.specs.Laws.{CallLaws, SetLaws}
-use Rattle.recovery.specs.Recover.{recoverFault}
-use Rattle.plainmap.proofs.AcceptedImages.{accepted-recovers, recovers-accepted}
 use Rattle.cutrule.specs.Request.{Request, a-call, a-basket, a-step, requestLeaves, requestFault, requestUpdates, RequestRight, TypedRequest}
 use Rattle.cutrule.specs.Rule.{PlaysRight}
 use Rattle.cutrule.proofs.CutRule.{keeps-of, all-right}
@@ -40,26 +35,18 @@ again round r = record { rounds = round ∷ r .rounds; heads = r .heads; next = 
 module _ (l : ℕ) (Inv : World → PlainMap → Type 0) (laws : SetLaws l Inv) (calls : CallLaws l) where
   -- ---- an accepted image
 
-  index-fits : (image heads index : List ℕ) → recoverFault l image (length heads) (length index) ≡ 0
-      → indexFault (slotsIn image) (length heads) (length index) ≡ 0
-  unfolding recoverFault lentFault
-  index-fits image heads index z =
-      orElse-zero (imageFault l image) _ (orElse-zero (lentFault l image (length heads) (length index)) _ z .0) .1
-
   pub accepted-ready : (image heads index : List ℕ) → recoverFault l image (length heads) (length index) ≡ 0
       → Ready l Inv (slotsIn image) image (slotsMap l image)
   accepted-ready image heads index z =
       record {
         slots = refl;
-        now = laws .along image (plainly heads index) z (record { rounds = none-left; size = index-fits image heads index z });
+        now = laws .along image (plainly heads index) z (record { rounds = none-left; size = calls .accepted-index image (length heads) (length index) z });
         starts = λ r f. laws .after-recovery image r (any r f) f;
         along = λ r f. laws .along image r (any r f) f;
       }
     where
       any : (r : Restart) → RestartFits (slotsIn image) r → recoverFault l image (length (r .heads)) (length (r .next)) ≡ 0
-      any r f =
-          accepted-recovers l image (length (r .heads)) (length (r .next))
-          (recovers-accepted l image (length heads) (length index) z) (f .size)
+      any r f = calls .accepts-any image (length heads) (length index) (length (r .heads)) (length (r .next)) z (f .size)
 
   -- ---- the image of a set in use
 
