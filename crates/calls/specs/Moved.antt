@@ -1,5 +1,4 @@
--- The words that a call moves of a value. Document 02, A.3: "get and the two writing calls shall move it a word at a time: the moving counts its steps, and
--- the count is shown to be the length divided by 8, rounded up."
+-- The words that a call moves of a value. Document 02, A.3: "get and the two writing calls".
 use Prim.Native.Nat.{ℕ}
 use Rattle.layout.specs.Moved.{wordsMoved}
 use Rattle.calls.specs.declared.Got.{Got}

@@ -46,7 +46,9 @@ fn fill_opening(
     c: usize,
 ) -> usize
     requires { ⌜ OpeningRoom (now area) (length (now at)) (length (now value)) n top c ⌝ }
-    ensures { λ r. ⌜ Filled (now (at .entry)) (now (value .entry)) (now (at .exit)) (now (value .exit)) n (openings (word (now (area .entry))) top c 1) × (r ≡ n + length (openings (word (now (area .entry))) top c 1)) ⌝ }
+    ensures { λ r. ⌜ Filled (now (at .entry)) (now (value .entry)) (now (at .exit)) (now (value .exit)) n
+        (openings (word (now (area .entry))) top c 1)
+        × (r ≡ n + length (openings (word (now (area .entry))) top c 1)) ⌝ }
 {
     if is_above(area, top, c) {
         at[n] = (8 * (7 * c)) as u32;
