@@ -161,8 +161,10 @@ int renameat2(int from, const char *old, int to, const char *new, unsigned flags
 }
 
 int unlink(const char *name) {
+    if (!no_unlink)
+        return (int)syscall(SYS_unlink, name);
     errno = EPERM;
-    return no_unlink ? -1 : (int)syscall(SYS_unlink, name);
+    return -1;
 }
 
 /* ---- what a case expects */
