@@ -711,7 +711,8 @@ fault log_guard 'an answer one word shorter' $guard \
     'NOT SO: (signal 11: answer is touched|answer changed, after what was lent)'
 for call in append recover read; do
     fault log_guard "a refused $call changes the answer" $guard \
-        "s/log_$call\(r\(AREA\)/(++*(uint8_t *)w(ANSWER), log_$call)(r(AREA)/" 'NOT SO: answer changed, by a refused'
+        "s/orderset_raw_log_$call\(r\(AREA\)/(++*(uint8_t *)w(ANSWER), orderset_raw_log_$call)(r(AREA)/" \
+        'NOT SO: answer changed, by a refused'
 done
 fault log_guard 'what may only be read is written' $guard 's/m_set_word\(w\(AREA\)/m_set_word((uint8_t *)r(AREA)/' \
     'NOT SO: signal 11: area is .* lent for reading'
