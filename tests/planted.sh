@@ -1043,7 +1043,8 @@ fault file 'blocks are asked for before the header is read' $handle \
 fault file "a failed sync of recovery's stores is not told" $handle \
     '/^static uint32_t persist_opening/,/^}/s/return failed \?/return failed > 1 ?/' 'NOT SO: 3 syncs of an open fail alone: 2'
 fault file 'a failed sync of the directory is not told' $handle \
-    's/directory < 0 \|\| fsync\(directory\)/directory < 0 || (fsync(directory), 0)/' 'NOT SO: 3 syncs of an open fail alone: 1'
+    's/directory < 0 \|\| fsync\(directory\)/directory < 0 || (fsync(directory), 0)/' \
+    'NOT SO: create where the directory cannot be synced gives 1010'
 fault file 'a call uses 32 KB of stack' $handle \
     '/^uint32_t orderset_file_next\(/a\    volatile char deep[32768];\n    deep[0] = 0;' \
     'NOT SO: no call needs more than 16 KB of stack'
