@@ -3,13 +3,13 @@ ghost use mathlib.Core.Path.{_≡_};
 ghost use lib.ListN.{length};
 ghost use Rattle.layout.specs.Record.{Layout};
 ghost use Rattle.layout.specs.Size.{slotsIn};
-ghost use Rattle.taking.specs.Taking.{choiceOf};
-ghost use Rattle.calls.specs.Basket.{changesOf, basketDone, basketResult, basketEnd, leftInLists};
+ghost use Rattle.taking.specs.Taking.{choiceBy};
+ghost use Rattle.calls.specs.Basket.{changesOf, basketDone, basketResult, basketResultBy, basketEnd, leftInLists};
 ghost use Rattle.calls.specs.inner.Basket.{BasketReady};
-use crate::links::change_index;
-use crate::plan::plan;
-use crate::records::put_stores;
-use crate::totals::totals_of;
+use basket_plan_code::plan::plan;
+use basket_plan_code::totals::totals_of;
+use basket_write_code::links::change_index;
+use basket_write_code::records::put_stores;
 use calls::BasketAnswer;
 use calls::BasketItem;
 use calls::BasketOutcome;
@@ -31,9 +31,10 @@ fn store_basket(
     prevs: [u32; 8],
     at: &mut [u32],
     words: &mut [u64],
+    own: bool,
 ) -> BasketAnswer
-    requires { ⌜ Layout l × BasketReady l (now image) (now heads) (now next) (slotsIn (now image)) state count items (length (now at)) (length (now words)) (record { fault = 0; olds = olds; slots = slots; prevs = prevs }) ⌝ }
-    ensures { λ r. ⌜ basketEnd count r (now (at .exit)) (now (words .exit)) (now (heads .exit)) (now (next .exit)) ≡ leftInLists (now (at .entry)) (now (words .entry)) (basketDone l (now (image .entry)) (now (heads .entry)) (now (next .entry)) state (changesOf l count items values) (choiceOf l (now (image .entry)) (now (next .entry)) (slotsIn (now (image .entry))) (state .first) count)) ⌝ }
+    requires { ⌜ Layout l × BasketReady own l (now image) (now heads) (now next) (slotsIn (now image)) state count items (length (now at)) (length (now words)) (record { fault = 0; olds = olds; slots = slots; prevs = prevs }) ⌝ }
+    ensures { λ r. ⌜ basketEnd count r (now (at .exit)) (now (words .exit)) (now (heads .exit)) (now (next .exit)) ≡ leftInLists (now (at .entry)) (now (words .entry)) (basketDone l (now (image .entry)) (now (heads .entry)) (now (next .entry)) state (changesOf l count items values) (choiceBy own l (now (image .entry)) (now (next .entry)) (slotsIn (now (image .entry))) (state .first) (state .newest) count)) ⌝ }
 {
     let n = slot_count(image.len());
     let totals = totals_of(items, count);
@@ -76,9 +77,10 @@ pub fn basket_in(
     values: [u8; 640],
     at: &mut [u32],
     words: &mut [u64],
+    own: bool,
 ) -> BasketAnswer
     requires { ⌜ Layout l ⌝ }
-    ensures { λ r. ⌜ basketEnd count r (now (at .exit)) (now (words .exit)) (now (heads .exit)) (now (next .exit)) ≡ leftInLists (now (at .entry)) (now (words .entry)) (basketResult l (now (image .entry)) (now (heads .entry)) (now (next .entry)) state (changesOf l count items values) (length (now (at .entry))) (length (now (words .entry)))) ⌝ }
+    ensures { λ r. ⌜ basketEnd count r (now (at .exit)) (now (words .exit)) (now (heads .exit)) (now (next .exit)) ≡ leftInLists (now (at .entry)) (now (words .entry)) (basketResultBy own l (now (image .entry)) (now (heads .entry)) (now (next .entry)) state (changesOf l count items values) (length (now (at .entry))) (length (now (words .entry)))) ⌝ }
 {
     let p = plan(
         image,
@@ -90,6 +92,7 @@ pub fn basket_in(
         items,
         at.len(),
         words.len(),
+        own,
     );
     if p.fault != 0 {
         return BasketAnswer {
@@ -115,6 +118,7 @@ pub fn basket_in(
         prevs,
         at,
         words,
+        own,
     )
 }
 
@@ -144,6 +148,7 @@ pub fn basket(
         values,
         at,
         words,
+        false,
     )
 }
 
@@ -172,5 +177,6 @@ pub fn basket2(
         values,
         at,
         words,
+        false,
     )
 }

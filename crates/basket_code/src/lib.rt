@@ -1,10 +1,2 @@
-// The public call that changes up to eight keys.
+// The public call that changes up to eight keys, for any index.
 pub mod basket;
-mod given;
-mod links;
-mod olds;
-mod plan;
-mod records;
-mod sizes;
-mod slots;
-mod totals;

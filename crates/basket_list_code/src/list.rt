@@ -1,7 +1,8 @@
 // A basket that fills a lent list of records, in either layout.
 ghost use mathlib.Core.Path.{_≡_};
+ghost use mathlib.Core.Bool.{true};
 ghost use lib.ListN.{length};
-ghost use Rattle.calls.specs.Basket.{changesOf, basketResult, basketListEnd, leftInList};
+ghost use Rattle.calls.specs.Basket.{changesOf, basketResult, basketResultBy, basketListEnd, leftInList};
 use crate::made::basket_made;
 use calls::BasketAnswer;
 use calls::BasketItem;
@@ -33,6 +34,7 @@ pub fn basket_list(
         items,
         values,
         list.len(),
+        0,
     );
     let at = made.at;
     let words = made.words;
@@ -63,6 +65,70 @@ pub fn basket_list2(
         items,
         values,
         list.len(),
+        0,
+    );
+    let at = made.at;
+    let words = made.words;
+    put_stores(list, &at, &words, made.stored);
+    made.answer
+}
+
+// The same for the owner of the index. It is no call of document 01: where the index is not the image's own, its refusals 11 and 28 go by the slots that it
+// looks at.
+pub fn own_basket_list(
+    image: &[u8],
+    heads: &mut [u32],
+    next: &mut [u32],
+    state: State,
+    count: usize,
+    items: [BasketItem; 8],
+    values: [u8; 640],
+    list: &mut [Store],
+) -> BasketAnswer
+    ensures { λ r. ⌜ basketListEnd count r (now (list .exit)) (now (heads .exit)) (now (next .exit)) ≡ leftInList (now (list .entry)) (basketResultBy true 1 (now (image .entry)) (now (heads .entry)) (now (next .entry)) state (changesOf 1 count items values) (length (now (list .entry))) (length (now (list .entry)))) ⌝ }
+{
+    let made = basket_made(
+        image,
+        1,
+        heads,
+        next,
+        state,
+        count,
+        items,
+        values,
+        list.len(),
+        1,
+    );
+    let at = made.at;
+    let words = made.words;
+    put_stores(list, &at, &words, made.stored);
+    made.answer
+}
+
+// The same in layout 2.
+pub fn own_basket_list2(
+    image: &[u8],
+    heads: &mut [u32],
+    next: &mut [u32],
+    state: State,
+    count: usize,
+    items: [BasketItem; 8],
+    values: [u8; 640],
+    list: &mut [Store],
+) -> BasketAnswer
+    ensures { λ r. ⌜ basketListEnd count r (now (list .exit)) (now (heads .exit)) (now (next .exit)) ≡ leftInList (now (list .entry)) (basketResultBy true 2 (now (image .entry)) (now (heads .entry)) (now (next .entry)) state (changesOf 2 count items values) (length (now (list .entry))) (length (now (list .entry)))) ⌝ }
+{
+    let made = basket_made(
+        image,
+        2,
+        heads,
+        next,
+        state,
+        count,
+        items,
+        values,
+        list.len(),
+        1,
     );
     let at = made.at;
     let words = made.words;

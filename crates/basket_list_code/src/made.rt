@@ -1,8 +1,9 @@
 // A basket whose stores are made in arrays.
 ghost use mathlib.Core.Path.{_≡_};
 ghost use Prim.Native.Nat.{_≤_};
+ghost use lib.Dec.{eqb};
 ghost use Rattle.layout.specs.Record.{Layout};
-ghost use Rattle.calls.specs.Basket.{changesOf, basketResult};
+ghost use Rattle.calls.specs.Basket.{changesOf, basketResultBy};
 ghost use Rattle.calls.specs.inner.Basket.{basketStoreCount, MadeOf};
 use basket_code::basket::basket_in;
 use calls::BasketItem;
@@ -24,7 +25,7 @@ fn store_count(outcome: BasketOutcome, count: usize) -> usize
     }
 }
 
-// A basket for a list with this room, in layout l.
+// A basket for a list with this room, in layout l; of family 1 are the calls for the owner of an index.
 pub fn basket_made(
     image: &[u8],
     l: usize,
@@ -35,9 +36,10 @@ pub fn basket_made(
     items: [BasketItem; 8],
     values: [u8; 640],
     room: usize,
+    family: usize,
 ) -> BasketMade
     requires { ⌜ Layout l ⌝ }
-    ensures { λ r. ⌜ MadeOf (basketResult l (now (image .entry)) (now (heads .entry)) (now (next .entry)) state (changesOf l count items values) room room) room count r (now (heads .exit)) (now (next .exit)) ⌝ }
+    ensures { λ r. ⌜ MadeOf (basketResultBy (eqb family 1) l (now (image .entry)) (now (heads .entry)) (now (next .entry)) state (changesOf l count items values) room room) room count r (now (heads .exit)) (now (next .exit)) ⌝ }
 {
     let mut at = [0u32; 128];
     let mut words = [0u64; 128];
@@ -53,6 +55,7 @@ pub fn basket_made(
         values,
         &mut at[..n],
         &mut words[..n],
+        family == 1,
     );
     let outcome = answer.outcome;
     let stored = store_count(outcome, count);

@@ -2,6 +2,7 @@ pub mod OrderBytes
 pub mod Lookups
 pub mod StepWays
 pub mod Steps
+pub mod OwnSteps
 pub mod StepEvents
 pub mod Seeks
 pub mod Courses

@@ -18,7 +18,7 @@ use Rattle.prelude.specs.Numbers.{Numbered}
 use Rattle.face.specs.Numbers.{AnswersAsAsked, locateRefusals, storingRefusals, roomyGetRefusals}
 use Rattle.face.proofs.Numbers.{locate-asked, get-asked, remove-numbered, roomy-get-numbered, locate-numbered}
 use Rattle.book.specs.Orders.{orderBytes, orderOf, isOrder, openOf, sent, acknowledged, filledBy}
-use Rattle.book.specs.Steps.{Step, new, acknowledge, fill, withdraw, declined, idle, changeAnswers, asChange, Sought, order, none-there, soughtIn, soughtBy, seek, newAt, newResult, alreadyAt, acknowledgeAt, acknowledgeResult, quantityFault, fillBy, fillAt, fillResult, withdrawAt, withdrawResult, booked}
+use Rattle.book.specs.Steps.{Step, new, acknowledge, fill, withdraw, declined, idle, changeAnswers, asChange, Sought, order, none-there, soughtIn, soughtBy, seek, newAt, newResultBy, alreadyAt, acknowledgeAt, acknowledgeResultBy, quantityFault, fillBy, fillAt, fillResultBy, withdrawAt, withdrawResultBy, booked, bookedBy, bookedBy}
 use Rattle.book.specs.Numbers.{stepRefusals, StepNumbered}
 use Rattle.book.specs.declared.Order.{Order}
 
@@ -89,7 +89,7 @@ module _ (l : ℕ) (lay : Layout l) (image heads next : List ℕ) (s : State) (k
 
   -- ---- each step
 
-  located-in : (a : Answer) → locateResult l image heads next key ≡ a → Numbered locateRefusals a → (quantity : ℕ) → StepNumbered (newAt l image heads next s key quantity a .answer)
+  located-in : (a : Answer) → locateResult l image heads next key ≡ a → Numbered locateRefusals a → (quantity : ℕ) → StepNumbered (newAt false l image heads next s key quantity a .answer)
   unfolding newAt idle
   located-in (gives values) e h quantity = one-of 17 stepRefusals refl
   located-in absent e h quantity = go (eqb quantity 0)
@@ -105,7 +105,7 @@ module _ (l : ℕ) (lay : Layout l) (image heads next : List ℕ) (s : State) (k
   already-in absent h = one-of 18 stepRefusals refl
   already-in (refused k) h = among locateRefusals stepRefusals refl k h
 
-  acknowledge-in : (sought : Sought) → StepFound got sought → StepNumbered (acknowledgeAt l image heads next s key sought .answer)
+  acknowledge-in : (sought : Sought) → StepFound got sought → StepNumbered (acknowledgeAt false l image heads next s key sought .answer)
   unfolding acknowledgeAt idle
   acknowledge-in (order o) h = go (eqb (o .state) 2)
     where
@@ -114,7 +114,7 @@ module _ (l : ℕ) (lay : Layout l) (image heads next : List ℕ) (s : State) (k
       go false = replace-step (acknowledged o) h
   acknowledge-in (none-there k) h = h
 
-  fill-in : (quantity : ℕ) (sought : Sought) → StepFound got sought → StepNumbered (fillAt l image heads next s key quantity sought .answer)
+  fill-in : (quantity : ℕ) (sought : Sought) → StepFound got sought → StepNumbered (fillAt false l image heads next s key quantity sought .answer)
   unfolding fillAt fillBy quantityFault say unlessRefused idle
   fill-in quantity (order o) h = go (eqb quantity 0) (ltb (openOf o) quantity) (eqb quantity (openOf o))
     where
@@ -129,14 +129,14 @@ module _ (l : ℕ) (lay : Layout l) (image heads next : List ℕ) (s : State) (k
       go false false false = replace-step (filledBy quantity o) h
   fill-in quantity (none-there k) h = h
 
-  withdraw-in : (sought : Sought) → StepFound got sought → StepNumbered (withdrawAt l image heads next s key sought .answer)
+  withdraw-in : (sought : Sought) → StepFound got sought → StepNumbered (withdrawAt false l image heads next s key sought .answer)
   unfolding withdrawAt idle
   withdraw-in (order o) h = remove-step
   withdraw-in (none-there k) h = h
 
 -- THE NUMBERS of a step
 pub step-numbered : (l : ℕ) → Layout l → (w : World) (step : Step) → StepNumbered (booked l w step .answer)
-unfolding booked newResult acknowledgeResult fillResult withdrawResult
+unfolding bookedBy newResultBy acknowledgeResultBy fillResultBy withdrawResultBy
 step-numbered l lay w (new key quantity) = located-in l lay (w .image) (w .heads) (w .next) (w .state) key _ refl (locate-numbered l _ _ _ key) quantity
 step-numbered l lay w (acknowledge key) =
     acknowledge-in l lay (w .image) (w .heads) (w .next) (w .state) key _ (sought-in l lay (w .image) (w .heads) (w .next) (w .state) key)

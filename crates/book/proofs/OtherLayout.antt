@@ -1,5 +1,6 @@
 -- The calls of a layout on an image of another. Assumes nothing.
 use mathlib.Core.Path.{_≡_, ap}
+use mathlib.Core.Bool.{false}
 use mathlib.Core.List.{List}
 use Prim.Native.Nat.{ℕ}
 use lib.ListN.{replicate}
@@ -7,7 +8,7 @@ use Rattle.prelude.specs.Answer.{refused}
 use Rattle.face.specs.Set.{World, HeaderOf, calledGet, calledLocate, called, get, locate, getResult, locateResult, limit}
 use Rattle.face.specs.OtherLayout.{CallsGive3}
 use Rattle.face.proofs.OtherLayout.{calls-give-3, accepted-header}
-use Rattle.book.specs.Steps.{Step, new, acknowledge, fill, withdraw, declined, idle, none-there, soughtIn, soughtBy, seek, newAt, newResult, acknowledgeAt, acknowledgeResult, fillAt, fillResult, withdrawAt, withdrawResult, booked}
+use Rattle.book.specs.Steps.{Step, new, acknowledge, fill, withdraw, declined, idle, none-there, soughtIn, soughtBy, seek, newAt, newResultBy, acknowledgeAt, acknowledgeResultBy, fillAt, fillResultBy, withdrawAt, withdrawResultBy, booked, bookedBy, bookedBy}
 use Rattle.book.specs.OtherLayout.{AllGive3, OtherLayout}
 
 module _ (l : ℕ) (w : World) (gives : CallsGive3 l w) where
@@ -24,11 +25,11 @@ module _ (l : ℕ) (w : World) (gives : CallsGive3 l w) where
   sought key = ap (soughtIn _) (got key (replicate (limit l) 0))
 
   step-3 : (step : Step) → booked l w step ≡ idle (declined 3) (w .state) (w .heads) (w .next)
-  unfolding booked newResult newAt acknowledgeResult acknowledgeAt fillResult fillAt withdrawResult withdrawAt
-  step-3 (new key quantity) = ap (newAt l (w .image) (w .heads) (w .next) (w .state) key quantity) (located key)
-  step-3 (acknowledge key) = ap (acknowledgeAt l (w .image) (w .heads) (w .next) (w .state) key) (sought key)
-  step-3 (fill key quantity) = ap (fillAt l (w .image) (w .heads) (w .next) (w .state) key quantity) (sought key)
-  step-3 (withdraw key) = ap (withdrawAt l (w .image) (w .heads) (w .next) (w .state) key) (sought key)
+  unfolding bookedBy newResultBy newAt acknowledgeResultBy acknowledgeAt fillResultBy fillAt withdrawResultBy withdrawAt
+  step-3 (new key quantity) = ap (newAt false l (w .image) (w .heads) (w .next) (w .state) key quantity) (located key)
+  step-3 (acknowledge key) = ap (acknowledgeAt false l (w .image) (w .heads) (w .next) (w .state) key) (sought key)
+  step-3 (fill key quantity) = ap (fillAt false l (w .image) (w .heads) (w .next) (w .state) key quantity) (sought key)
+  step-3 (withdraw key) = ap (withdrawAt false l (w .image) (w .heads) (w .next) (w .state) key) (sought key)
 
 all-3 : (l other : ℕ) → (other ≡ l → ⊥) → (w : World) → HeaderOf other (w .image) → AllGive3 l w
 all-3 l other apart w h =

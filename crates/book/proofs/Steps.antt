@@ -16,7 +16,7 @@ use Rattle.face.specs.Set.{World, Mode, Insert, Replace, Call, write, remove, c
 use Rattle.face.specs.Laws.{SetLaws}
 use Rattle.face.proofs.Located.{located}
 use Rattle.book.specs.Orders.{orderBytes, sent, acknowledged, filledBy, openOf}
-use Rattle.book.specs.Steps.{Step, new, acknowledge, fill, withdraw, newAt, newResult, alreadyAt, acknowledgeAt, acknowledgeResult, fillBy, fillAt, fillResult, withdrawAt, withdrawResult, quantityFault, asChange, seek, booked}
+use Rattle.book.specs.Steps.{Step, new, acknowledge, fill, withdraw, newAt, newResultBy, alreadyAt, acknowledgeAt, acknowledgeResultBy, fillBy, fillAt, fillResultBy, withdrawAt, withdrawResultBy, quantityFault, asChange, seek, booked, bookedBy, bookedBy}
 use Rattle.book.specs.Plain.{stepKey, orderIn, orderFault, bookFault, callBy, stepCall, StepRight, TypedStep, new-typed, acknowledge-typed, fill-typed, withdraw-typed}
 use Rattle.book.specs.declared.Order.{Order}
 use Rattle.book.proofs.defs.Ways.{soughtFor}
@@ -59,14 +59,14 @@ module _ (l : ℕ) (Inv : World → PlainMap → Type 0) (laws : SetLaws l Inv) 
   -- ---- new
 
   new-right : (quantity : ℕ) → StepRight l w m (new key quantity)
-  unfolding booked newResult newAt bookFault orderFault orderIn callBy isHeld say
+  unfolding bookedBy newResultBy newAt bookFault orderFault orderIn callBy isHeld say
   new-right quantity = go (m key) refl (eqb quantity 0) refl
     where
       at : (held : Option (List ℕ)) → m key ≡ held → booked l w (new key quantity) ≡
-          newAt l (w .image) (w .heads) (w .next) (w .state) key quantity
+          newAt false l (w .image) (w .heads) (w .next) (w .state) key quantity
           (cond (isHeld held) (gives (holder (tableOf l (w .image)) (slotsIn (w .image)) key)) absent)
       at held e =
-          ap (newAt l (w .image) (w .heads) (w .next) (w .state) key quantity)
+          ap (newAt false l (w .image) (w .heads) (w .next) (w .state) key quantity)
           (located l Inv laws w m i key
           ∙ ap (λ (h : Option (List ℕ)). cond (isHeld h) (gives (holder (tableOf l (w .image)) (slotsIn (w .image)) key)) absent) e)
 
@@ -92,12 +92,12 @@ module _ (l : ℕ) (Inv : World → PlainMap → Type 0) (laws : SetLaws l Inv) 
   order-at held e = sought l Inv laws w m i key ∙ ap soughtFor e
 
   acknowledge-right : StepRight l w m (acknowledge key)
-  unfolding booked acknowledgeResult acknowledgeAt bookFault orderFault callBy soughtFor alreadyAt
+  unfolding bookedBy acknowledgeResultBy acknowledgeAt bookFault orderFault callBy soughtFor alreadyAt
   acknowledge-right = go (orderIn (m key)) refl
     where
       at : (held : Option Order) → orderIn (m key) ≡ held → booked l w (acknowledge key) ≡
-          acknowledgeAt l (w .image) (w .heads) (w .next) (w .state) key (soughtFor held)
-      at held e = ap (acknowledgeAt l (w .image) (w .heads) (w .next) (w .state) key) (order-at held e)
+          acknowledgeAt false l (w .image) (w .heads) (w .next) (w .state) key (soughtFor held)
+      at held e = ap (acknowledgeAt false l (w .image) (w .heads) (w .next) (w .state) key) (order-at held e)
 
       fault : (held : Option Order) → orderIn (m key) ≡ held → bookFault m (acknowledge key) ≡ orderFault held (acknowledge key)
       fault held e = ap (λ (h : Option Order). orderFault h (acknowledge key)) e
@@ -121,12 +121,12 @@ module _ (l : ℕ) (Inv : World → PlainMap → Type 0) (laws : SetLaws l Inv) 
       go (some o) e = of o e (eqb (o .state) 2) refl
 
   fill-right : (quantity : ℕ) → StepRight l w m (fill key quantity)
-  unfolding booked fillResult fillAt fillBy bookFault orderFault callBy soughtFor
+  unfolding bookedBy fillResultBy fillAt fillBy bookFault orderFault callBy soughtFor
   fill-right quantity = go (orderIn (m key)) refl
     where
       at : (held : Option Order) → orderIn (m key) ≡ held → booked l w (fill key quantity) ≡
-          fillAt l (w .image) (w .heads) (w .next) (w .state) key quantity (soughtFor held)
-      at held e = ap (fillAt l (w .image) (w .heads) (w .next) (w .state) key quantity) (order-at held e)
+          fillAt false l (w .image) (w .heads) (w .next) (w .state) key quantity (soughtFor held)
+      at held e = ap (fillAt false l (w .image) (w .heads) (w .next) (w .state) key quantity) (order-at held e)
 
       fault : (held : Option Order) → orderIn (m key) ≡ held → bookFault m (fill key quantity) ≡ orderFault held (fill key quantity)
       fault held e = ap (λ (h : Option Order). orderFault h (fill key quantity)) e
@@ -151,12 +151,12 @@ module _ (l : ℕ) (Inv : World → PlainMap → Type 0) (laws : SetLaws l Inv) 
           (record { fault = fault _ e; some = nz; result = at _ e ∙ refused-keeps _ _ _ nz }))
 
   withdraw-right : StepRight l w m (withdraw key)
-  unfolding booked withdrawResult withdrawAt bookFault orderFault callBy soughtFor
+  unfolding bookedBy withdrawResultBy withdrawAt bookFault orderFault callBy soughtFor
   withdraw-right = go (orderIn (m key)) refl
     where
       at : (held : Option Order) → orderIn (m key) ≡ held → booked l w (withdraw key) ≡
-          withdrawAt l (w .image) (w .heads) (w .next) (w .state) key (soughtFor held)
-      at held e = ap (withdrawAt l (w .image) (w .heads) (w .next) (w .state) key) (order-at held e)
+          withdrawAt false l (w .image) (w .heads) (w .next) (w .state) key (soughtFor held)
+      at held e = ap (withdrawAt false l (w .image) (w .heads) (w .next) (w .state) key) (order-at held e)
 
       fault : (held : Option Order) → orderIn (m key) ≡ held → bookFault m (withdraw key) ≡ orderFault held (withdraw key)
       fault held e = ap (λ (h : Option Order). orderFault h (withdraw key)) e

@@ -1,13 +1,13 @@
 -- The book's steps by the set's calls. Document 02, A.1: "Its steps are new, acknowledge, fill and withdraw." A step is refused with 1, 2, 3, 4 or 11 (chain) as the
 -- set refuses it, then with 17, 18 and 19, "in that order", and then as the set's call that it comes to.
-use mathlib.Core.Bool.{cond}
+use mathlib.Core.Bool.{Bool, false, cond}
 use mathlib.Core.List.{List, [], _∷_}
 use Prim.Native.Nat.{ℕ}
 use lib.Dec.{eqb, ltb}
 use lib.ListN.{take, replicate}
 use Rattle.prelude.specs.Answer.{Answer, gives, absent, refused}
 use Rattle.prelude.specs.Refusal.{say, unlessRefused}
-use Rattle.face.specs.Set.{State, Store, zipped, handedOut, Insert, Replace, ChangeResult, GetResult, writeResult, removeResult, getResult, locateResult, limit, World}
+use Rattle.face.specs.Set.{State, Store, zipped, handedOut, Insert, Replace, ChangeResult, GetResult, writeResultBy, removeResultBy, getResult, locateResult, limit, World}
 use Rattle.book.specs.Orders.{orderBytes, orderOf, isOrder, openOf, sent, acknowledged, filledBy}
 use Rattle.book.specs.declared.Order.{Order}
 use Rattle.book.specs.declared.BookOutcome.{BookOutcome}
@@ -101,16 +101,20 @@ seek l image heads next key = soughtBy (getResult l image heads next key (replic
 
 -- ---- new: "17 when a new order's key is held", "19 when a new quantity is zero"
 
-unfoldable pub newAt : (l : ℕ) → (image heads next : List ℕ) → State → (key quantity : ℕ) → Answer → BookResult
-newAt l image heads next s key quantity (gives values) = idle (declined 17) s heads next
-newAt l image heads next s key quantity absent =
+unfoldable pub newAt : (own : Bool) → (l : ℕ) → (image heads next : List ℕ) → State → (key quantity : ℕ) → Answer → BookResult
+newAt own l image heads next s key quantity (gives values) = idle (declined 17) s heads next
+newAt own l image heads next s key quantity absent =
     cond (eqb quantity 0) (idle (declined 19) s heads next)
-    (asChange (writeResult l image heads next s Insert key (orderBytes (sent quantity))))
-newAt l image heads next s key quantity (refused number) = idle (declined number) s heads next
+    (asChange (writeResultBy own l image heads next s Insert key (orderBytes (sent quantity))))
+newAt own l image heads next s key quantity (refused number) = idle (declined number) s heads next
 
-unfoldable pub newResult : (l : ℕ) → (image heads next : List ℕ) → State → (key quantity : ℕ) → BookResult
-newResult l image heads next s key quantity =
-    newAt l image heads next s key quantity (locateResult l image heads next key)
+-- of a step of either family: `own` tells whether it is for the owner of its index
+unfoldable pub newResultBy : (own : Bool) → (l : ℕ) → (image heads next : List ℕ) → State → (key quantity : ℕ) → BookResult
+newResultBy own l image heads next s key quantity =
+    newAt own l image heads next s key quantity (locateResult l image heads next key)
+
+abbrev pub newResult : (l : ℕ) → (image heads next : List ℕ) → State → (key quantity : ℕ) → BookResult
+newResult l image heads next s key quantity = newResultBy false l image heads next s key quantity
 
 -- ---- acknowledge: "A second acknowledge stores nothing and, before any later check, answers the order's present slot and its line A's version"
 
@@ -119,47 +123,59 @@ alreadyAt s heads next (gives values) = idle (already values) s heads next
 alreadyAt s heads next absent = idle (declined 18) s heads next
 alreadyAt s heads next (refused number) = idle (declined number) s heads next
 
-unfoldable pub acknowledgeAt : (l : ℕ) → (image heads next : List ℕ) → State → (key : ℕ) → Sought → BookResult
-acknowledgeAt l image heads next s key (order o) =
+unfoldable pub acknowledgeAt : (own : Bool) → (l : ℕ) → (image heads next : List ℕ) → State → (key : ℕ) → Sought → BookResult
+acknowledgeAt own l image heads next s key (order o) =
     cond (eqb (o .state) 2) (alreadyAt s heads next (locateResult l image heads next key))
-    (asChange (writeResult l image heads next s Replace key (orderBytes (acknowledged o))))
-acknowledgeAt l image heads next s key (none-there number) = idle (declined number) s heads next
+    (asChange (writeResultBy own l image heads next s Replace key (orderBytes (acknowledged o))))
+acknowledgeAt own l image heads next s key (none-there number) = idle (declined number) s heads next
 
-unfoldable pub acknowledgeResult : (l : ℕ) → (image heads next : List ℕ) → State → (key : ℕ) → BookResult
-acknowledgeResult l image heads next s key = acknowledgeAt l image heads next s key (seek l image heads next key)
+unfoldable pub acknowledgeResultBy : (own : Bool) → (l : ℕ) → (image heads next : List ℕ) → State → (key : ℕ) → BookResult
+acknowledgeResultBy own l image heads next s key = acknowledgeAt own l image heads next s key (seek l image heads next key)
+
+abbrev pub acknowledgeResult : (l : ℕ) → (image heads next : List ℕ) → State → (key : ℕ) → BookResult
+acknowledgeResult l image heads next s key = acknowledgeResultBy false l image heads next s key
 
 -- ---- fill: "19 when .. a fill is zero or more than is open"; "A .. fully filled order is removed"
 
 unfoldable pub quantityFault : (quantity left : ℕ) → ℕ
 quantityFault quantity left = say (eqb quantity 0) 19 (say (ltb left quantity) 19 0)
 
-unfoldable pub fillBy : (l : ℕ) → (image heads next : List ℕ) → State → (key quantity : ℕ) → Order → BookResult
-fillBy l image heads next s key quantity o =
-    cond (eqb quantity (openOf o)) (asChange (removeResult l image heads next s key))
-    (asChange (writeResult l image heads next s Replace key (orderBytes (filledBy quantity o))))
+unfoldable pub fillBy : (own : Bool) → (l : ℕ) → (image heads next : List ℕ) → State → (key quantity : ℕ) → Order → BookResult
+fillBy own l image heads next s key quantity o =
+    cond (eqb quantity (openOf o)) (asChange (removeResultBy own l image heads next s key))
+    (asChange (writeResultBy own l image heads next s Replace key (orderBytes (filledBy quantity o))))
 
-unfoldable pub fillAt : (l : ℕ) → (image heads next : List ℕ) → State → (key quantity : ℕ) → Sought → BookResult
-fillAt l image heads next s key quantity (order o) =
-    unlessRefused (quantityFault quantity (openOf o)) (fillBy l image heads next s key quantity o)
+unfoldable pub fillAt : (own : Bool) → (l : ℕ) → (image heads next : List ℕ) → State → (key quantity : ℕ) → Sought → BookResult
+fillAt own l image heads next s key quantity (order o) =
+    unlessRefused (quantityFault quantity (openOf o)) (fillBy own l image heads next s key quantity o)
     (idle (declined (quantityFault quantity (openOf o))) s heads next)
-fillAt l image heads next s key quantity (none-there number) = idle (declined number) s heads next
+fillAt own l image heads next s key quantity (none-there number) = idle (declined number) s heads next
 
-unfoldable pub fillResult : (l : ℕ) → (image heads next : List ℕ) → State → (key quantity : ℕ) → BookResult
-fillResult l image heads next s key quantity = fillAt l image heads next s key quantity (seek l image heads next key)
+unfoldable pub fillResultBy : (own : Bool) → (l : ℕ) → (image heads next : List ℕ) → State → (key quantity : ℕ) → BookResult
+fillResultBy own l image heads next s key quantity = fillAt own l image heads next s key quantity (seek l image heads next key)
+
+abbrev pub fillResult : (l : ℕ) → (image heads next : List ℕ) → State → (key quantity : ℕ) → BookResult
+fillResult l image heads next s key quantity = fillResultBy false l image heads next s key quantity
 
 -- ---- withdraw: all that is open. "A withdrawn .. order is removed"
 
-unfoldable pub withdrawAt : (l : ℕ) → (image heads next : List ℕ) → State → (key : ℕ) → Sought → BookResult
-withdrawAt l image heads next s key (order o) = asChange (removeResult l image heads next s key)
-withdrawAt l image heads next s key (none-there number) = idle (declined number) s heads next
+unfoldable pub withdrawAt : (own : Bool) → (l : ℕ) → (image heads next : List ℕ) → State → (key : ℕ) → Sought → BookResult
+withdrawAt own l image heads next s key (order o) = asChange (removeResultBy own l image heads next s key)
+withdrawAt own l image heads next s key (none-there number) = idle (declined number) s heads next
 
-unfoldable pub withdrawResult : (l : ℕ) → (image heads next : List ℕ) → State → (key : ℕ) → BookResult
-withdrawResult l image heads next s key = withdrawAt l image heads next s key (seek l image heads next key)
+unfoldable pub withdrawResultBy : (own : Bool) → (l : ℕ) → (image heads next : List ℕ) → State → (key : ℕ) → BookResult
+withdrawResultBy own l image heads next s key = withdrawAt own l image heads next s key (seek l image heads next key)
+
+abbrev pub withdrawResult : (l : ℕ) → (image heads next : List ℕ) → State → (key : ℕ) → BookResult
+withdrawResult l image heads next s key = withdrawResultBy false l image heads next s key
 
 -- ---- a step in a world
 
-unfoldable pub booked : (l : ℕ) → World → Step → BookResult
-booked l w (new key quantity) = newResult l (w .image) (w .heads) (w .next) (w .state) key quantity
-booked l w (acknowledge key) = acknowledgeResult l (w .image) (w .heads) (w .next) (w .state) key
-booked l w (fill key quantity) = fillResult l (w .image) (w .heads) (w .next) (w .state) key quantity
-booked l w (withdraw key) = withdrawResult l (w .image) (w .heads) (w .next) (w .state) key
+unfoldable pub bookedBy : (own : Bool) → (l : ℕ) → World → Step → BookResult
+bookedBy own l w (new key quantity) = newResultBy own l (w .image) (w .heads) (w .next) (w .state) key quantity
+bookedBy own l w (acknowledge key) = acknowledgeResultBy own l (w .image) (w .heads) (w .next) (w .state) key
+bookedBy own l w (fill key quantity) = fillResultBy own l (w .image) (w .heads) (w .next) (w .state) key quantity
+bookedBy own l w (withdraw key) = withdrawResultBy own l (w .image) (w .heads) (w .next) (w .state) key
+
+abbrev pub booked : (l : ℕ) → World → Step → BookResult
+booked l w step = bookedBy false l w step

@@ -1,5 +1,6 @@
 -- What a basket leaves, refused or written. Assumes nothing.
 use mathlib.Core.Path.{_≡_, refl, sym, ap, ap₂, _∙_, subst}
+use mathlib.Core.Bool.{Bool}
 use mathlib.Core.List.{List, [], _∷_, _++_}
 use Prim.Native.Nat.{ℕ, zero, suc, _+_, _-_, _^_, _≤_, _<_}
 use native.Mathlib.Omega.{arith}
@@ -24,12 +25,13 @@ use Rattle.index.specs.inner.Basket.{takensFrom, TakensInside}
 use Rattle.index.specs.declared.State.{State}
 use Rattle.index.specs.declared.Found.{Found}
 use Rattle.index.specs.declared.Found.the-variants.{At, Missing, BadChain}
-use Rattle.index.proofs.BasketInside.{TakenInside, taking-inside}
+use Rattle.taking.proofs.Own.{chosen-inside}
+use Rattle.index.proofs.BasketInside.{TakenInside}
 use Rattle.index.proofs.Takens.{takens-each}
 use Rattle.index.proofs.Walks.{at-inside}
-use Rattle.taking.specs.Taking.{choiceOf}
+use Rattle.taking.specs.Taking.{choiceBy}
 use Rattle.calls.specs.Change.{unchanged}
-use Rattle.calls.specs.Basket.{KeyChange, changesOf, sumOver, insertsBy, removesBy, basketFault, recordsFor, oldIn, indexAfter, basketMade, basketDone, basketBy, basketResult, BasketLeft, basketSays, basketEnd, eightSlots, atFront, leftInLists}
+use Rattle.calls.specs.Basket.{KeyChange, changesOf, sumOver, insertsBy, removesBy, basketFaultBy, recordsFor, oldIn, indexAfter, basketMade, basketDone, basketUnless, basketResultBy, BasketLeft, basketSays, basketEnd, eightSlots, atFront, leftInLists}
 use Rattle.calls.specs.inner.Basket.{itemKeyAt, itemsFrom, recordsFrom, TotalsOf, BasketReady, StoresInside, ItemsInside}
 use Rattle.calls.specs.declared.BasketItem.{BasketItem}
 use Rattle.calls.specs.declared.BasketOutcome.the-variants.{Stored, Refused}
@@ -63,50 +65,49 @@ padded slots count e h zeros =
 
 -- ---- refused
 
-pub basket-refused : (l : ℕ) (image heads next : List ℕ) (s : State) (changes : List KeyChange) (at words : List ℕ) (count k : ℕ)
-    → k ≡ basketFault l image heads next s changes (length at) (length words) → (k ≡ 0 → ⊥)
+pub basket-refused : (own : Bool) (l : ℕ) (image heads next : List ℕ) (s : State) (changes : List KeyChange) (at words : List ℕ) (count k : ℕ)
+    → k ≡ basketFaultBy own l image heads next s changes (length at) (length words) → (k ≡ 0 → ⊥)
     → basketEnd count (record { outcome = Refused k; slots = replicate 8 0; state = s }) at words heads next
-    ≡ leftInLists at words (basketResult l image heads next s changes (length at) (length words))
-unfolding basketResult basketBy basketSays leftInLists unchanged eightSlots atFront wordNumbers values
-basket-refused l image heads next s changes at words count k e ne =
+    ≡ leftInLists at words (basketResultBy own l image heads next s changes (length at) (length words))
+unfolding basketResultBy basketUnless basketSays leftInLists unchanged eightSlots atFront wordNumbers values
+basket-refused own l image heads next s changes at words count k e ne =
     ap (λ (x : ℕ). leftInLists at words (unchanged (refused x) s heads next)) e
-    ∙ sym (ap (leftInLists at words) (refused-keeps (basketDone l image heads next s changes (choiceOf l image next (slotsIn image) (s .first) (length changes))) (unchanged (refused (basketFault l image heads next s changes (length at) (length words))) s heads next) (basketFault l image heads next s changes (length at) (length words)) (λ z. ne (e ∙ z))))
+    ∙ sym (ap (leftInLists at words) (refused-keeps (basketDone l image heads next s changes (choiceBy own l image next (slotsIn image) (s .first) (s .newest) (length changes))) (unchanged (refused (basketFaultBy own l image heads next s changes (length at) (length words))) s heads next) (basketFaultBy own l image heads next s changes (length at) (length words)) (λ z. ne (e ∙ z))))
 
 -- not refused
-pub basket-taken : (l : ℕ) (image heads next : List ℕ) (s : State) (count : ℕ) (items : List BasketItem) (bytes at words : List ℕ) (k : ℕ)
-    → k ≡ basketFault l image heads next s (changesOf l count items bytes) (length at) (length words) → k ≡ 0 → (r : BasketLeft)
-    → r ≡ leftInLists at words (basketDone l image heads next s (changesOf l count items bytes) (choiceOf l image next (slotsIn image) (s .first) count))
-    → r ≡ leftInLists at words (basketResult l image heads next s (changesOf l count items bytes) (length at) (length words))
-unfolding basketResult basketBy
-basket-taken l image heads next s count items bytes at words k e z r h =
+pub basket-taken : (own : Bool) (l : ℕ) (image heads next : List ℕ) (s : State) (count : ℕ) (items : List BasketItem) (bytes at words : List ℕ) (k : ℕ)
+    → k ≡ basketFaultBy own l image heads next s (changesOf l count items bytes) (length at) (length words) → k ≡ 0 → (r : BasketLeft)
+    → r ≡ leftInLists at words (basketDone l image heads next s (changesOf l count items bytes) (choiceBy own l image next (slotsIn image) (s .first) (s .newest) count))
+    → r ≡ leftInLists at words (basketResultBy own l image heads next s (changesOf l count items bytes) (length at) (length words))
+unfolding basketResultBy basketUnless
+basket-taken own l image heads next s count items bytes at words k e z r h =
     h
-    ∙ ap (λ (m : ℕ). leftInLists at words (basketDone l image heads next s (changesOf l count items bytes) (choiceOf l image next (slotsIn image) (s .first) m)))
+    ∙ ap (λ (m : ℕ). leftInLists at words (basketDone l image heads next s (changesOf l count items bytes) (choiceBy own l image next (slotsIn image) (s .first) (s .newest) m)))
     (sym (so-many l items bytes count))
     ∙ sym (ap (leftInLists at words) (taken-leaves _ _ _ (sym e ∙ z)))
 
 -- ---- written
 
 -- m is the slots of the image
-pub ready-at : (l : ℕ) (image heads next : List ℕ) (s : State) (count : ℕ) (items : List BasketItem) (at words : ℕ) (p : Plan) (m : ℕ) → m ≡ slotsIn image
-    → BasketReady l image heads next (slotsIn image) s count items at words p → BasketReady l image heads next m s count items at words p
-ready-at l image heads next s count items at words p m e w = subst (λ (x : ℕ). BasketReady l image heads next x s count items at words p) (sym e) w
+pub ready-at : (own : Bool) (l : ℕ) (image heads next : List ℕ) (s : State) (count : ℕ) (items : List BasketItem) (at words : ℕ) (p : Plan) (m : ℕ) → m ≡ slotsIn image
+    → BasketReady own l image heads next (slotsIn image) s count items at words p → BasketReady own l image heads next m s count items at words p
+ready-at own l image heads next s count items at words p m e w = subst (λ (x : ℕ). BasketReady own l image heads next x s count items at words p) (sym e) w
 
 -- what a plan without a refusal has
-pub ready-plan : (l : ℕ) (image heads next : List ℕ) (n : ℕ) (s : State) (count : ℕ) (items : List BasketItem) (at words : ℕ) (p : Plan) → p .fault ≡ 0
-    → BasketReady l image heads next n s count items at words p
-    → BasketReady l image heads next n s count items at words (record { fault = 0; olds = p .olds; slots = p .slots; prevs = p .prevs })
-ready-plan l image heads next n s count items at words p z w =
-    subst (λ (x : ℕ). BasketReady l image heads next n s count items at words (record { fault = x; olds = p .olds; slots = p .slots; prevs = p .prevs })) z w
+pub ready-plan : (own : Bool) (l : ℕ) (image heads next : List ℕ) (n : ℕ) (s : State) (count : ℕ) (items : List BasketItem) (at words : ℕ) (p : Plan) → p .fault ≡ 0
+    → BasketReady own l image heads next n s count items at words p
+    → BasketReady own l image heads next n s count items at words (record { fault = 0; olds = p .olds; slots = p .slots; prevs = p .prevs })
+ready-plan own l image heads next n s count items at words p z w =
+    subst (λ (x : ℕ). BasketReady own l image heads next n s count items at words (record { fault = x; olds = p .olds; slots = p .slots; prevs = p .prevs })) z w
 
-module _ (l : ℕ) (image heads next : List ℕ) (n : ℕ) (s : State) (count : ℕ) (items : List BasketItem) (at words : ℕ) (p : Plan)
-    (w : BasketReady l image heads next n s count items at words p) where
+module _ (own : Bool) (l : ℕ) (image heads next : List ℕ) (n : ℕ) (s : State) (count : ℕ) (items : List BasketItem) (at words : ℕ) (p : Plan)
+    (w : BasketReady own l image heads next n s count items at words p) where
   abbrev ts : List Taken
   ts = takensFrom (p .slots) (p .prevs) 0 count
 
   -- the slots lie inside the index
   all-inside : All (TakenInside n) ts
-  unfolding choiceOf
-  all-inside = taking-inside _ next n (s .first) count ts (w .choice-is) .0
+  all-inside = chosen-inside l image next n (s .first) (s .newest) count own ts (w .choice-is) .0
 
   each : (j : ℕ) → j < count → TakenInside n (record { slot = getD (p .slots) j 0; prev = getD (p .prevs) j 0 })
   each j h = takens-each (TakenInside n) (p .slots) (p .prevs) 0 count all-inside j (omega arith) (omega arith)
@@ -217,7 +218,7 @@ module _ (l : ℕ) (image heads next : List ℕ) (n : ℕ) (s : State) (count : 
             newest = getD (p .slots) 0 0;
           };
         }) at₁ words₁ heads₁ next₁
-        ≡ leftInLists at₀ words₀ (basketDone l image heads next s changes (choiceOf l image next (slotsIn image) (s .first) count))
+        ≡ leftInLists at₀ words₀ (basketDone l image heads next s changes (choiceBy own l image next (slotsIn image) (s .first) (s .newest) count))
     unfolding basketSays leftInLists basketDone basketMade eightSlots
     basket-written =
         left-by (ap (λ (x : List ℕ). gives (s .version ∷ x)) slots-are) eight
@@ -227,4 +228,4 @@ module _ (l : ℕ) (image heads next : List ℕ) (n : ℕ) (s : State) (count : 
         (ap (λ (i : Index). i .heads) index) (ap (λ (i : Index). i .next) index)
         ∙ sym
         (ap (λ (x : Taking). leftInLists at₀ words₀ (basketDone l image heads next s changes x))
-        (ap (λ (m : ℕ). choiceOf l image next m (s .first) count) (sym en) ∙ w .choice-is))
+        (ap (λ (m : ℕ). choiceBy own l image next m (s .first) (s .newest) count) (sym en) ∙ w .choice-is))

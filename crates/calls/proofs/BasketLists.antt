@@ -21,10 +21,10 @@ use Rattle.stores.specs.Written.{recordStores, lineStores, run}
 use Rattle.stores.proofs.ListPut.{zipped-length, front-stores}
 use Rattle.index.specs.Taking.{Taken, Taking, taken, tooFew, badLink}
 use Rattle.index.specs.declared.State.{State}
-use Rattle.index.proofs.BasketInside.{taking-inside}
-use Rattle.taking.specs.Taking.{choiceOf}
+use Rattle.taking.proofs.Own.{chosen-inside}
+use Rattle.taking.specs.Taking.{choiceBy}
 use Rattle.calls.specs.Change.{ChangeResult, unchanged}
-use Rattle.calls.specs.Basket.{KeyChange, changesOf, keyCountFault, anyTwice, listsFault, givenFault, basketFault, recordsFor, basketMade, basketDone, basketBy, basketResult, basketSays, BasketLeft, basketEnd, atFront, leftInLists, BasketListLeft, basketListEnd, leftWith, leftInList}
+use Rattle.calls.specs.Basket.{KeyChange, changesOf, keyCountFault, anyTwice, listsFault, givenFault, basketFaultBy, recordsFor, basketMade, basketDone, basketUnless, basketResultBy, basketSays, BasketLeft, basketEnd, atFront, leftInLists, BasketListLeft, basketListEnd, leftWith, leftInList}
 use Rattle.calls.specs.inner.Basket.{storesBy, basketStoreCount, MadeOf}
 use Rattle.calls.specs.declared.BasketItem.{BasketItem}
 use Rattle.calls.specs.declared.BasketAnswer.{BasketAnswer}
@@ -46,10 +46,10 @@ given-room changes room = go (keyCountFault (length changes)) refl
     go zero e = ap tested (lesser-short (16 * length changes) 128 room (omega (arith, count-few (length changes) _ refl e .1)))
     go (suc k) e = refl
 
-pub result-room : (l : ℕ) (image heads next : List ℕ) (s : State) (changes : List KeyChange) (room : ℕ)
-    → basketResult l image heads next s changes (min 128 room) (min 128 room) ≡ basketResult l image heads next s changes room room
-unfolding basketResult basketBy basketFault
-result-room l image heads next s changes room = rw (given-room changes room) refl
+pub result-room : (own : Bool) (l : ℕ) (image heads next : List ℕ) (s : State) (changes : List KeyChange) (room : ℕ)
+    → basketResultBy own l image heads next s changes (min 128 room) (min 128 room) ≡ basketResultBy own l image heads next s changes room room
+unfolding basketResultBy basketUnless basketFaultBy
+result-room own l image heads next s changes room = rw (given-room changes room) refl
 
 -- ---- how many stores there are
 
@@ -107,7 +107,7 @@ none-handed count room number s heads next = record { number = same (ltb 8 count
     same true = refl
     same false = refl
 
-module _ (l : ℕ) (image heads next : List ℕ) (s : State) (count : ℕ) (items : List BasketItem) (bytes : List ℕ) (room : ℕ) where
+module _ (own : Bool) (l : ℕ) (image heads next : List ℕ) (s : State) (count : ℕ) (items : List BasketItem) (bytes : List ℕ) (room : ℕ) where
   abbrev changes : List KeyChange
   changes = changesOf l count items bytes
 
@@ -121,9 +121,9 @@ module _ (l : ℕ) (image heads next : List ℕ) (s : State) (count : ℕ) (item
         omega (arith, ltb-false room (16 * length changes) (c .0), so-many l items bytes count),
       )
 
-  all-handed : (count ≤ 8) × (16 * count ≤ room) → (t : Taking) → choiceOf l image next (slotsIn image) (s .first) (length changes) ≡ t
+  all-handed : (count ≤ 8) × (16 * count ≤ room) → (t : Taking) → choiceBy own l image next (slotsIn image) (s .first) (s .newest) (length changes) ≡ t
       → StoresCounted count room (basketDone l image heads next s changes t)
-  unfolding basketDone basketMade choiceOf countIn
+  unfolding basketDone basketMade countIn
   all-handed h (taken ts) e =
       record {
         number = pick-false (ltb 8 count) _ _ (le-ltb 8 count (h .0)) ∙ sym size;
@@ -133,20 +133,20 @@ module _ (l : ℕ) (image heads next : List ℕ) (s : State) (count : ℕ) (item
       size : length (basketStores l (word image) (numberFor (length changes)) (s .version) (recordsFor changes ts)) ≡ 16 * count
       size =
           stores-length l (word image) (numberFor (length changes)) (s .version) (recordsFor changes ts)
-          ∙ ap (λ (n : ℕ). 16 * n) (records-length changes ts (taking-inside _ next (slotsIn image) (s .first) (length changes) ts e .1) ∙ so-many l items bytes count)
+          ∙ ap (λ (n : ℕ). 16 * n) (records-length changes ts (chosen-inside l image next (slotsIn image) (s .first) (s .newest) (length changes) own ts e .1) ∙ so-many l items bytes count)
   all-handed h tooFew e = none-handed count room 28 s heads next
   all-handed h badLink e = none-handed count room 11 s heads next
 
   abbrev result : ChangeResult
-  result = basketResult l image heads next s changes room room
+  result = basketResultBy own l image heads next s changes room room
 
   counted : StoresCounted count room result
-  unfolding basketResult basketBy basketFault unlessRefused
-  counted = go (basketFault l image heads next s changes room room) refl
+  unfolding basketResultBy basketUnless basketFaultBy unlessRefused
+  counted = go (basketFaultBy own l image heads next s changes room room) refl
     where
-      go : (k : ℕ) → basketFault l image heads next s changes room room ≡ k
+      go : (k : ℕ) → basketFaultBy own l image heads next s changes room room ≡ k
           → StoresCounted count room
-          (unlessRefused k (basketDone l image heads next s changes (choiceOf l image next (slotsIn image) (s .first) (length changes)))
+          (unlessRefused k (basketDone l image heads next s changes (choiceBy own l image next (slotsIn image) (s .first) (s .newest) (length changes)))
           (unchanged (refused k) s heads next))
       go zero e = all-handed (few (orElse-zero _ _ e .0)) _ refl
       go (suc k) e = none-handed count room (suc k) s heads next
@@ -158,11 +158,11 @@ module _ (l : ℕ) (image heads next : List ℕ) (s : State) (count : ℕ) (item
 
   module _ (a : BasketAnswer) (at₀ words₀ at₁ words₁ heads₁ next₁ : List ℕ) (stored : ℕ) (rest rest′ : List ℕ) (en : length at₀ ≡ min 128 room) (em : length words₀ ≡ min 128 room)
       (es : stored ≡ basketStoreCount (a .outcome) count)
-      (e : basketEnd count a at₁ words₁ heads₁ next₁ ≡ leftInLists at₀ words₀ (basketResult l image heads next s changes (length at₀) (length words₀))) where
+      (e : basketEnd count a at₁ words₁ heads₁ next₁ ≡ leftInLists at₀ words₀ (basketResultBy own l image heads next s changes (length at₀) (length words₀))) where
     left-by : basketEnd count a at₁ words₁ heads₁ next₁ ≡ leftInLists at₀ words₀ result
     left-by =
         e
-        ∙ ap (leftInLists at₀ words₀) (ap₂ (basketResult l image heads next s changes) en em ∙ result-room l image heads next s changes room)
+        ∙ ap (leftInLists at₀ words₀) (ap₂ (basketResultBy own l image heads next s changes) en em ∙ result-room own l image heads next s changes room)
 
     as-many : stored ≡ length (result .stores)
     unfolding basketStoreCount leftInLists

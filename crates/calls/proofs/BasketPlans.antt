@@ -1,6 +1,6 @@
 -- What a basket reads before it writes: the refusals in order, and what the writes need. Assumes nothing.
 use mathlib.Core.Path.{_≡_, refl, sym, ap, ap₂, _∙_, subst}
-use mathlib.Core.Bool.{not}
+use mathlib.Core.Bool.{Bool, not}
 use mathlib.Core.List.{List, []}
 use Prim.Native.Nat.{ℕ, _*_, _≤_, _<_}
 use native.Mathlib.Omega.{arith}
@@ -21,11 +21,11 @@ use Rattle.index.specs.declared.Found.{Found}
 use Rattle.index.specs.declared.Found.the-variants.{At, Missing, BadChain}
 use Rattle.index.proofs.Walks.{at-inside}
 use Rattle.index.proofs.Faults.{reuse-ends, reuse-live, room-fine}
-use Rattle.taking.specs.Taking.{takingOf, choiceOf}
+use Rattle.taking.specs.Taking.{takingBy, choiceBy}
 use Rattle.taking.specs.inner.Choice.{Chosen}
 use Rattle.taking.specs.declared.Choice.{Choice}
 use Rattle.calls.specs.Change.{storeFault}
-use Rattle.calls.specs.Basket.{KeyChange, changesOf, keyCountFault, listsFault, givenFault, firstFault, valueFault, actionFault, basketLentFault, keysFault, sumOver, insertsBy, removesBy, basketFault, oldIn}
+use Rattle.calls.specs.Basket.{KeyChange, changesOf, keyCountFault, listsFault, givenFault, firstFault, valueFault, actionFault, basketLentFault, keysFault, sumOver, insertsBy, removesBy, basketFaultBy, oldIn}
 use Rattle.calls.specs.inner.Basket.{itemKeyAt, OldsOf, ActionsFault, TotalsOf, StoreChoice, KeysPlanned, BasketReady, Planned}
 use Rattle.calls.specs.declared.BasketItem.{BasketItem}
 use Rattle.calls.specs.declared.Olds.{Olds}
@@ -64,17 +64,17 @@ found-held l image heads next n key e = go (search l image heads next key) refl
     go (Missing prev compared) q = refl
     go BadChain q = refl
 
-module _ (l : ℕ) (image heads next : List ℕ) (n : ℕ) (s : State) (count : ℕ) (items : List BasketItem) where
+module _ (own : Bool) (l : ℕ) (image heads next : List ℕ) (n : ℕ) (s : State) (count : ℕ) (items : List BasketItem) where
   abbrev asked : List ℕ → List KeyChange
   asked values = changesOf l count items values
 
   abbrev stores : List ℕ → ℕ
   stores values =
-      storeFault (takingOf l image next n (s .first) count) n s (sumOver insertsBy (asked values)) (sumOver removesBy (asked values))
+      storeFault (takingBy own l image next n (s .first) (s .newest) count) n s (sumOver insertsBy (asked values)) (sumOver removesBy (asked values))
 
   keys-refused : (p : Plan) (k : ℕ) → p .fault ≡ k → (k ≡ 0 → ⊥)
       → ((values : List ℕ) → k ≡ orElse (keysFault (search l image heads next) (asked values)) (stores values))
-      → KeysPlanned l image heads next n s count items p
+      → KeysPlanned own l image heads next n s count items p
   keys-refused p k e ne f =
       record {
         fault-is = λ values. e ∙ f values;
@@ -84,7 +84,7 @@ module _ (l : ℕ) (image heads next : List ℕ) (n : ℕ) (s : State) (count : 
       }
 
   module _ (o : Olds) (w : OldsOf (search l image heads next) l count items o) where
-    pub keys-chain : (p : Plan) → p .fault ≡ o .fault → (o .fault ≡ 0 → ⊥) → KeysPlanned l image heads next n s count items p
+    pub keys-chain : (p : Plan) → p .fault ≡ o .fault → (o .fault ≡ 0 → ⊥) → KeysPlanned own l image heads next n s count items p
     unfolding keysFault
     keys-chain p e ne =
         keys-refused p (o .fault) e ne
@@ -103,18 +103,18 @@ module _ (l : ℕ) (image heads next : List ℕ) (n : ℕ) (s : State) (count : 
       unfolding keysFault
       held values = passed (w .fault-is values) z (acts values)
 
-      pub keys-held : (p : Plan) → p .fault ≡ h → (h ≡ 0 → ⊥) → KeysPlanned l image heads next n s count items p
+      pub keys-held : (p : Plan) → p .fault ≡ h → (h ≡ 0 → ⊥) → KeysPlanned own l image heads next n s count items p
       keys-held p e ne = keys-refused p h e ne (λ values. said (stores values) (held values) ne)
 
       pub keys-planned : h ≡ 0 → (t : Totals) → TotalsOf l count items t → (c : Choice)
-          → StoreChoice (takingOf l image next n (s .first) count) (choiceOf l image next n (s .first) count) n s count (t .inserts) (t .removes) c
-          → KeysPlanned l image heads next n s count items (record { fault = c .fault; olds = o .slots; slots = c .slots; prevs = c .prevs })
+          → StoreChoice (takingBy own l image next n (s .first) (s .newest) count) (choiceBy own l image next n (s .first) (s .newest) count) n s count (t .inserts) (t .removes) c
+          → KeysPlanned own l image heads next n s count items (record { fault = c .fault; olds = o .slots; slots = c .slots; prevs = c .prevs })
       keys-planned y t g c k =
           record {
             fault-is = λ values.
                 passed (held values) y
                 (k .fault-is
-                ∙ ap₂ (λ (a b : ℕ). storeFault (takingOf l image next n (s .first) count) n s a b) (g .inserts-are values) (g .removes-are values));
+                ∙ ap₂ (λ (a b : ℕ). storeFault (takingBy own l image next n (s .first) (s .newest) count) n s a b) (g .inserts-are values) (g .removes-are values));
             olds-are = λ q j x. w .slot-is z j x;
             choice-is = k .slots-are;
             zeros = k .zeros;
@@ -146,7 +146,7 @@ module _ (l : ℕ) (items : List BasketItem) (count at words g : ℕ) (eg : (val
 
 -- ---- plan
 
-module _ (l : ℕ) (image heads next : List ℕ) (s : State) (count : ℕ) (items : List BasketItem) (at words : ℕ) where
+module _ (own : Bool) (l : ℕ) (image heads next : List ℕ) (s : State) (count : ℕ) (items : List BasketItem) (at words : ℕ) where
   abbrev n : ℕ
   n = slotsIn image
 
@@ -156,30 +156,30 @@ module _ (l : ℕ) (image heads next : List ℕ) (s : State) (count : ℕ) (item
   abbrev later : List ℕ → ℕ
   later values =
       orElse (keysFault (search l image heads next) (wanted values))
-      (storeFault (takingOf l image next n (s .first) count) n s (sumOver insertsBy (wanted values)) (sumOver removesBy (wanted values)))
+      (storeFault (takingBy own l image next n (s .first) (s .newest) count) n s (sumOver insertsBy (wanted values)) (sumOver removesBy (wanted values)))
 
   row : (values : List ℕ) → orElse (givenFault (wanted values) at words) (orElse (basketLentFault l image (length heads) (length next) (wanted values)) (later values))
-      ≡ basketFault l image heads next s (wanted values) at words
-  unfolding basketFault
+      ≡ basketFaultBy own l image heads next s (wanted values) at words
+  unfolding basketFaultBy
   row values =
       ap (λ (m : ℕ).
       orElse (givenFault (wanted values) at words)
       (orElse (basketLentFault l image (length heads) (length next) (wanted values))
       (orElse (keysFault (search l image heads next) (wanted values))
-      (storeFault (takingOf l image next n (s .first) m) n s (sumOver insertsBy (wanted values)) (sumOver removesBy (wanted values))))))
+      (storeFault (takingBy own l image next n (s .first) (s .newest) m) n s (sumOver insertsBy (wanted values)) (sumOver removesBy (wanted values))))))
       (sym (so-many l items values count))
 
-  plan-refused : (p : Plan) (k : ℕ) → p .fault ≡ k → (k ≡ 0 → ⊥) → ((values : List ℕ) → k ≡ basketFault l image heads next s (wanted values) at words)
-      → Planned l image heads next n s count items at words p
+  plan-refused : (p : Plan) (k : ℕ) → p .fault ≡ k → (k ≡ 0 → ⊥) → ((values : List ℕ) → k ≡ basketFaultBy own l image heads next s (wanted values) at words)
+      → Planned own l image heads next n s count items at words p
   plan-refused p k e ne f = record { fault-is = λ values. e ∙ f values; ready = λ z. absurd (ne (sym e ∙ z)) }
 
   module _ (g : ℕ) (eg : (values : List ℕ) → g ≡ givenFault (wanted values) at words) where
-    pub plan-given : (p : Plan) → p .fault ≡ g → (g ≡ 0 → ⊥) → Planned l image heads next n s count items at words p
+    pub plan-given : (p : Plan) → p .fault ≡ g → (g ≡ 0 → ⊥) → Planned own l image heads next n s count items at words p
     plan-given p e ne = plan-refused p g e ne (λ values. said _ (eg values) ne ∙ row values)
 
     module _ (zg : g ≡ 0) where
       module _ (f : ℕ) (ef : (values : List ℕ) → f ≡ basketLentFault l image (length heads) (length next) (wanted values)) where
-        pub plan-lent : (p : Plan) → p .fault ≡ f → (f ≡ 0 → ⊥) → Planned l image heads next n s count items at words p
+        pub plan-lent : (p : Plan) → p .fault ≡ f → (f ≡ 0 → ⊥) → Planned own l image heads next n s count items at words p
         plan-lent p e ne = plan-refused p f e ne (λ values. passed (eg values) zg (said _ (ef values) ne) ∙ row values)
 
         module _ (zf : f ≡ 0) where
@@ -194,11 +194,11 @@ module _ (l : ℕ) (image heads next : List ℕ) (s : State) (count : ℕ) (item
           pub plan-slots : (m : ℕ) → m ≡ n → 2 ≤ m
           plan-slots m e = lent-slots l 0 image heads next (sym (lent-fine .0)) refl m e
 
-          module _ (p : Plan) (w : KeysPlanned l image heads next n s count items p) where
-            prepared : p .fault ≡ 0 → BasketReady l image heads next n s count items at words p
+          module _ (p : Plan) (w : KeysPlanned own l image heads next n s count items p) where
+            prepared : p .fault ≡ 0 → BasketReady own l image heads next n s count items at words p
             unfolding storeFault
             prepared z =
-                let store : (values : List ℕ) → storeFault (takingOf l image next n (s .first) count) n s (sumOver insertsBy (wanted values)) (sumOver removesBy (wanted values)) ≡ 0 =
+                let store : (values : List ℕ) → storeFault (takingBy own l image next n (s .first) (s .newest) count) n s (sumOver insertsBy (wanted values)) (sumOver removesBy (wanted values)) ≡ 0 =
                 λ values. orElse-zero _ _ (sym (w .fault-is values) ∙ z) .1 in
                 record {
                   sized = plan-sized n refl;
@@ -216,12 +216,12 @@ module _ (l : ℕ) (image heads next : List ℕ) (s : State) (count : ℕ) (item
                   live-left = λ values. reuse-live _ _ _ _ _ _ (orElse-zero _ _ (store values) .0);
                 }
 
-            planned : Planned l image heads next n s count items at words p
+            planned : Planned own l image heads next n s count items at words p
             planned =
                 record {
                   fault-is = λ values. passed (eg values) zg (passed (ef values) zf (w .fault-is values)) ∙ row values;
                   ready = prepared;
                 }
 
-          pub plan-keys : (m : ℕ) → m ≡ n → (p : Plan) → KeysPlanned l image heads next m s count items p → Planned l image heads next n s count items at words p
-          plan-keys m e p w = planned p (subst (λ (x : ℕ). KeysPlanned l image heads next x s count items p) e w)
+          pub plan-keys : (m : ℕ) → m ≡ n → (p : Plan) → KeysPlanned own l image heads next m s count items p → Planned own l image heads next n s count items at words p
+          plan-keys m e p w = planned p (subst (λ (x : ℕ). KeysPlanned own l image heads next x s count items p) e w)

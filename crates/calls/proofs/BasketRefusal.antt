@@ -1,5 +1,6 @@
 -- A basket is refused by the rules' number, with any image, index and state. Assumes nothing.
 use mathlib.Core.Path.{_≡_, refl, _∙_}
+use mathlib.Core.Bool.{Bool}
 use mathlib.Core.List.{List}
 use Prim.Native.Nat.{ℕ, zero, suc, _<_}
 use native.Mathlib.Omega.{arith}
@@ -12,20 +13,20 @@ use Rattle.prelude.proofs.Refusals.{say-zero, orElse-zero, orElse-later}
 use Rattle.layout.specs.Size.{slotsIn}
 use Rattle.index.specs.Taking.{Taking, taken, tooFew, badLink, linkFault, fewFault, reuseFault, roomFault}
 use Rattle.index.specs.declared.State.{State}
-use Rattle.taking.specs.Taking.{takingOf, choiceOf}
+use Rattle.taking.specs.Taking.{takingBy, choiceBy}
 use Rattle.taking.specs.inner.Walk.{takeFault}
-use Rattle.taking.proofs.Takes.{choice-fine}
+use Rattle.taking.proofs.Own.{choice-fine-by}
 use Rattle.calls.specs.Change.{unchanged, storeFault}
-use Rattle.calls.specs.Basket.{KeyChange, keyCountFault, givenFault, basketFault, basketMade, basketDone, basketBy, basketResult}
+use Rattle.calls.specs.Basket.{KeyChange, keyCountFault, givenFault, basketFaultBy, basketMade, basketDone, basketUnless, basketResultBy}
 use Rattle.calls.proofs.SingleRefusal.{refusal-by}
 
-module _ (l : ℕ) (image heads next : List ℕ) (s : State) (changes : List KeyChange) (at words : ℕ) where
+module _ (own : Bool) (l : ℕ) (image heads next : List ℕ) (s : State) (changes : List KeyChange) (at words : ℕ) where
   abbrev fault : ℕ
-  fault = basketFault l image heads next s changes at words
+  fault = basketFaultBy own l image heads next s changes at words
 
   -- without a refusal a key is given, and the rule takes a slot for each
   some : fault ≡ 0 → 0 < length changes
-  unfolding basketFault givenFault keyCountFault
+  unfolding basketFaultBy givenFault keyCountFault
   some z =
       let a = orElse-zero (givenFault changes at words) _ z in
       let b = orElse-zero (keyCountFault (length changes)) _ (a .0) in
@@ -35,8 +36,8 @@ module _ (l : ℕ) (image heads next : List ℕ) (s : State) (changes : List Key
       positive zero ne = absurd (ne refl)
       positive (suc x) ne = omega arith
 
-  taking-fine : fault ≡ 0 → takeFault (takingOf l image next (slotsIn image) (s .first) (length changes)) ≡ 0
-  unfolding basketFault storeFault reuseFault roomFault takeFault
+  taking-fine : fault ≡ 0 → takeFault (takingBy own l image next (slotsIn image) (s .first) (s .newest) (length changes)) ≡ 0
+  unfolding basketFaultBy storeFault reuseFault roomFault takeFault
   taking-fine z =
       let a = orElse-zero _ _ (orElse-zero _ _ (orElse-zero _ _ z .1) .1) .1 in
       let b = orElse-zero _ _ a in
@@ -49,11 +50,11 @@ module _ (l : ℕ) (image heads next : List ℕ) (s : State) (changes : List Key
   done badLink e = absurd (omega arith)
 
   -- THE REFUSAL
-  pub basket-refusal : refusalIn (basketResult l image heads next s changes at words .answer) ≡ fault
-  unfolding basketResult basketBy unchanged refusalIn
+  pub basket-refusal : refusalIn (basketResultBy own l image heads next s changes at words .answer) ≡ fault
+  unfolding basketResultBy basketUnless unchanged refusalIn
   basket-refusal =
       refusal-by fault _ _
       (λ z.
-      done (choiceOf l image next (slotsIn image) (s .first) (length changes))
-      (choice-fine l image next (slotsIn image) (s .first) (length changes) (some z) (taking-fine z)))
+      done (choiceBy own l image next (slotsIn image) (s .first) (s .newest) (length changes))
+      (choice-fine-by l image next (slotsIn image) (s .first) (s .newest) (length changes) own (some z) (taking-fine z)))
       refl

@@ -19,7 +19,7 @@ use Rattle.layout.proofs.Lents.{version-fine, lent-sized, lent-slots}
 use Rattle.index.specs.Walk.{search, chainFault}
 use Rattle.index.specs.Change.{keyFault, isFound}
 use Rattle.index.specs.Taking.{Taking, endsFault, linkFault, fewFault, reuseFault, roomFault}
-use Rattle.taking.specs.Taking.{takingOf}
+use Rattle.taking.specs.Taking.{takingBy}
 use Rattle.taking.specs.inner.Walk.{takeFault}
 use Rattle.taking.specs.inner.Takeable.{Walkable}
 use Rattle.index.specs.declared.State.{State}
@@ -34,7 +34,7 @@ use Rattle.index.specs.declared.Found.the-variants.{At, Missing, BadChain}
 use Rattle.index.proofs.Walks.{at-inside, absent-inside}
 use Rattle.index.proofs.LookedUp.{held-by-fault, not-held-by-fault, not-held-taken}
 use Rattle.index.proofs.Faults.{reuse-ends, reuse-live, room-fine}
-use Rattle.calls.specs.Change.{writeLentFault, storeFault, insertsOf, writeLaterFault, writeFault, removeLaterFault, removeFault}
+use Rattle.calls.specs.Change.{writeLentFault, storeFault, insertsOf, writeLaterFault, writeFaultBy, removeLaterFault, removeFaultBy}
 use Rattle.calls.specs.Get.{slotLength, lengthFault, getLaterFault, getFault}
 use Rattle.index.specs.Index.{headOf}
 use Rattle.index.specs.inner.Parts.{PlaceInside}
@@ -97,16 +97,16 @@ module _ (taking : Taking) (n : ℕ) (s : State) (inserts removes a : ℕ) (e : 
         store-version x v k = passed e z (after-live (passed f y (passed g x k))) ∙ store-row taking n s inserts removes
 
 -- the refusals of an insert and a replace where 1, 2, 3 and 4 are not due
-pub write-after : (l : ℕ) (image heads next : List ℕ) (s : State) (mode : Mode) (key size : ℕ) → lentFault l image (length heads) (length next) ≡ 0
-    → writeFault l image heads next s mode key size ≡
+pub write-after : (own : Bool) (l : ℕ) (image heads next : List ℕ) (s : State) (mode : Mode) (key size : ℕ) → lentFault l image (length heads) (length next) ≡ 0
+    → writeFaultBy own l image heads next s mode key size ≡
     say (ltb (limit l) size) 10
-    (writeLaterFault mode (search l image heads next key) (takingOf l image next (slotsIn image) (s .first) 1) (slotsIn image) s)
-unfolding writeFault writeLentFault say orElse
-write-after l image heads next s mode key size z =
+    (writeLaterFault mode (search l image heads next key) (takingBy own l image next (slotsIn image) (s .first) (s .newest) 1) (slotsIn image) s)
+unfolding writeFaultBy writeLentFault say orElse
+write-after own l image heads next s mode key size z =
     ap (λ (f : ℕ). orElse (orElse f (say (ltb (limit l) size) 10 0)) checks) z ∙ long (ltb (limit l) size) checks
   where
     checks : ℕ
-    checks = writeLaterFault mode (search l image heads next key) (takingOf l image next (slotsIn image) (s .first) 1) (slotsIn image) s
+    checks = writeLaterFault mode (search l image heads next key) (takingBy own l image next (slotsIn image) (s .first) (s .newest) 1) (slotsIn image) s
 
     long : (t : Bool) (later : ℕ) → orElse (say t 10 0) later ≡ say t 10 later
     long true later = refl
@@ -297,27 +297,27 @@ module _
   pub lent-inside : Layout l → FoundInside l image found
   lent-inside lay = found-inside l image heads next key n sized lay found ed
 
-  remove-looks : (s : State) (k : ℕ) → k ≡ removeLaterFault found (takingOf l image next n (s .first) 1) n s → (r : Lookup) → r ≡ lookupBy k found
-      → RemoveLookup l image heads next s key r
-  unfolding removeFault
-  remove-looks s k e r h =
-      looks-up ef z (e ∙ ap₂ (λ (d : Found) (m : ℕ). removeLaterFault d (takingOf l image next m (s .first) 1) m s) ed en) ed h
-      (remove-ready l image heads next key n sized s (takingOf l image next n (s .first) 1) found ed k e)
+  remove-looks : (own : Bool) (s : State) (k : ℕ) → k ≡ removeLaterFault found (takingBy own l image next n (s .first) (s .newest) 1) n s → (r : Lookup) → r ≡ lookupBy k found
+      → RemoveLookup own l image heads next s key r
+  unfolding removeFaultBy
+  remove-looks own s k e r h =
+      looks-up ef z (e ∙ ap₂ (λ (d : Found) (m : ℕ). removeLaterFault d (takingBy own l image next m (s .first) (s .newest) 1) m s) ed en) ed h
+      (remove-ready l image heads next key n sized s (takingBy own l image next n (s .first) (s .newest) 1) found ed k e)
 
-  pub remove-looks-held : (s : State) (slot prev compared k : ℕ) → found ≡ At slot prev compared
-      → k ≡ storeFault (takingOf l image next n (s .first) 1) n s 0 1 → (r : Lookup)
-      → r ≡ unlessRefused k (Allowed (Held slot prev) compared) (Refused k compared) → RemoveLookup l image heads next s key r
-  remove-looks-held s slot prev compared k e q r h =
-      remove-looks s k (held-later _ n s found slot prev compared k e q) r (h ∙ held-by-fault found slot prev compared k e)
+  pub remove-looks-held : (own : Bool) (s : State) (slot prev compared k : ℕ) → found ≡ At slot prev compared
+      → k ≡ storeFault (takingBy own l image next n (s .first) (s .newest) 1) n s 0 1 → (r : Lookup)
+      → r ≡ unlessRefused k (Allowed (Held slot prev) compared) (Refused k compared) → RemoveLookup own l image heads next s key r
+  remove-looks-held own s slot prev compared k e q r h =
+      remove-looks own s k (held-later _ n s found slot prev compared k e q) r (h ∙ held-by-fault found slot prev compared k e)
 
-  pub remove-looks-absent : (s : State) (prev compared : ℕ) → found ≡ Missing prev compared
-      → RemoveLookup l image heads next s key (Allowed (NotHeld prev) compared)
-  remove-looks-absent s prev compared e =
-      remove-looks s 0 (absent-later _ n s found prev compared e) _ (not-held-taken found prev compared 0 e refl)
+  pub remove-looks-absent : (own : Bool) (s : State) (prev compared : ℕ) → found ≡ Missing prev compared
+      → RemoveLookup own l image heads next s key (Allowed (NotHeld prev) compared)
+  remove-looks-absent own s prev compared e =
+      remove-looks own s 0 (absent-later _ n s found prev compared e) _ (not-held-taken found prev compared 0 e refl)
 
-  pub remove-looks-bad : (s : State) → found ≡ BadChain → RemoveLookup l image heads next s key (Refused 11 0)
+  pub remove-looks-bad : (own : Bool) (s : State) → found ≡ BadChain → RemoveLookup own l image heads next s key (Refused 11 0)
   unfolding lookupBy
-  remove-looks-bad s e = remove-looks s 11 (bad-later _ n s found e) _ (sym (ap (lookupBy 11) e))
+  remove-looks-bad own s e = remove-looks own s 11 (bad-later _ n s found e) _ (sym (ap (lookupBy 11) e))
 
   pub get-looks : Layout l → (size k : ℕ) → k ≡ getLaterFault l image size found → (r : Lookup) → r ≡ lookupBy k found
       → GetLookup l image heads next key size r
@@ -340,26 +340,26 @@ module _
   write-walkable lay =
       sized-walkable l image heads next n write-sized (lent-slots l 0 image heads next (sym (write-passed .0)) refl n en) lay
 
-  module _ (key : ℕ) (found : Found) (ed : found ≡ search l image heads next key) (s : State) (mode : Mode) where
-    write-looks : (k : ℕ) → k ≡ writeLaterFault mode found (takingOf l image next n (s .first) 1) n s → (r : Lookup) → r ≡ lookupBy k found
-        → WriteLookup l image heads next s mode key size r
-    unfolding writeFault
+  module _ (own : Bool) (key : ℕ) (found : Found) (ed : found ≡ search l image heads next key) (s : State) (mode : Mode) where
+    write-looks : (k : ℕ) → k ≡ writeLaterFault mode found (takingBy own l image next n (s .first) (s .newest) 1) n s → (r : Lookup) → r ≡ lookupBy k found
+        → WriteLookup own l image heads next s mode key size r
+    unfolding writeFaultBy
     write-looks k e r h =
-        looks-up ef z (e ∙ ap₂ (λ (d : Found) (m : ℕ). writeLaterFault mode d (takingOf l image next m (s .first) 1) m s) ed en) ed h
-        (write-ready l image heads next key n write-sized s (takingOf l image next n (s .first) 1) mode size (write-passed .1) found ed k e)
+        looks-up ef z (e ∙ ap₂ (λ (d : Found) (m : ℕ). writeLaterFault mode d (takingBy own l image next m (s .first) (s .newest) 1) m s) ed en) ed h
+        (write-ready l image heads next key n write-sized s (takingBy own l image next n (s .first) (s .newest) 1) mode size (write-passed .1) found ed k e)
 
     pub write-looks-held : (slot prev compared k : ℕ) → found ≡ At slot prev compared
-        → k ≡ orElse (keyFault mode true) (storeFault (takingOf l image next n (s .first) 1) n s (insertsOf mode) 0) → (r : Lookup)
-        → r ≡ unlessRefused k (Allowed (Held slot prev) compared) (Refused k compared) → WriteLookup l image heads next s mode key size r
+        → k ≡ orElse (keyFault mode true) (storeFault (takingBy own l image next n (s .first) (s .newest) 1) n s (insertsOf mode) 0) → (r : Lookup)
+        → r ≡ unlessRefused k (Allowed (Held slot prev) compared) (Refused k compared) → WriteLookup own l image heads next s mode key size r
     write-looks-held slot prev compared k e q r h =
         write-looks k (q ∙ held-write-later _ n s found mode slot prev compared e) r (h ∙ held-by-fault found slot prev compared k e)
 
     pub write-looks-absent : (prev compared k : ℕ) → found ≡ Missing prev compared
-        → k ≡ orElse (keyFault mode false) (storeFault (takingOf l image next n (s .first) 1) n s (insertsOf mode) 0) → (r : Lookup)
-        → r ≡ unlessRefused k (Allowed (NotHeld prev) compared) (Refused k compared) → WriteLookup l image heads next s mode key size r
+        → k ≡ orElse (keyFault mode false) (storeFault (takingBy own l image next n (s .first) (s .newest) 1) n s (insertsOf mode) 0) → (r : Lookup)
+        → r ≡ unlessRefused k (Allowed (NotHeld prev) compared) (Refused k compared) → WriteLookup own l image heads next s mode key size r
     write-looks-absent prev compared k e q r h =
         write-looks k (q ∙ not-held-write-later _ n s found mode prev compared e) r (h ∙ not-held-by-fault found prev compared k e)
 
-    pub write-looks-bad : found ≡ BadChain → WriteLookup l image heads next s mode key size (Refused 11 0)
+    pub write-looks-bad : found ≡ BadChain → WriteLookup own l image heads next s mode key size (Refused 11 0)
     unfolding lookupBy
     write-looks-bad e = write-looks 11 (bad-write-later _ n s found mode e) _ (sym (ap (lookupBy 11) e))

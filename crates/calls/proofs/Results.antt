@@ -1,5 +1,6 @@
 -- The results of the calls, by what the lookup answers: refused, held or not held. Assumes nothing.
 use mathlib.Core.Path.{_≡_, refl, sym, ap, _∙_, subst}
+use mathlib.Core.Bool.{Bool}
 use mathlib.Core.List.{List, [], _∷_, _++_}
 use Prim.Native.Nat.{ℕ, zero, suc, _+_, _-_}
 use native.Mathlib.Omega.{arith}
@@ -14,7 +15,7 @@ use Rattle.layout.specs.Record.{valueFront, valueOf}
 use Rattle.index.specs.Index.{indexOf, headOf}
 use Rattle.index.specs.Walk.{search, chainFault, comparedIn}
 use Rattle.calls.specs.Compared.{comparedAfter}
-use Rattle.taking.specs.Taking.{takingOf}
+use Rattle.taking.specs.Taking.{takingBy}
 use Rattle.index.specs.Change.{takeFirst}
 use Rattle.index.specs.declared.State.{State}
 use Rattle.index.specs.declared.Mode.{Mode}
@@ -24,7 +25,7 @@ use Rattle.index.specs.declared.Lookup.{Lookup}
 use Rattle.index.specs.declared.Lookup.the-variants.{Refused, Allowed}
 use Rattle.index.specs.declared.Found.{Found}
 use Rattle.index.specs.declared.Found.the-variants.{At, Missing, BadChain}
-use Rattle.calls.specs.Change.{unchanged, changed, writeLaterFault, writeFault, writeDone, writeBy, writeResult, removeLaterFault, removeFault, removeDone, removeBy, removeResult}
+use Rattle.calls.specs.Change.{unchanged, changed, writeLaterFault, writeFaultBy, writeDone, writeUnless, writeResultBy, removeLaterFault, removeFaultBy, removeDone, removeUnless, removeResultBy}
 use Rattle.calls.specs.Get.{GetResult, slotLength, getLaterFault, getFault, getDone, getResult}
 use Rattle.index.specs.inner.Parts.{insertNew, replaceHeld, removeHeld, writeAt, liveAt}
 use Rattle.index.specs.inner.Lookup.{lookupBy}
@@ -98,22 +99,22 @@ module _ {fault lent : ℕ} {found : Found} {Ready : Lookup → Type 0} {r : Loo
 
 -- ---- insert and replace: h is the key's head as the code finds it
 
-module _ (l : ℕ) (image heads next : List ℕ) (s : State) (mode : Mode) (key : ℕ) (value : List ℕ) where
-  pub write-bad : writeFault l image heads next s mode key (length value) ≡ 0 → search l image heads next key ≡ BadChain → ⊥
-  unfolding writeFault writeLaterFault chainFault
+module _ (own : Bool) (l : ℕ) (image heads next : List ℕ) (s : State) (mode : Mode) (key : ℕ) (value : List ℕ) where
+  pub write-bad : writeFaultBy own l image heads next s mode key (length value) ≡ 0 → search l image heads next key ≡ BadChain → ⊥
+  unfolding writeFaultBy writeLaterFault chainFault
   write-bad z e = omega (arith, sym (ap chainFault e) ∙ orElse-zero _ _ (orElse-zero _ _ z .1) .0)
 
-  module _ (r : Lookup) (u : WriteLookup l image heads next s mode key (length value) r) where
+  module _ (r : Lookup) (u : WriteLookup own l image heads next s mode key (length value) r) where
     pub write-refused : (number compared : ℕ) → r ≡ Refused number compared
-        → unchanged (refused number) s heads next ≡ writeResult l image heads next s mode key value
-    unfolding writeResult writeBy writeFault
+        → unchanged (refused number) s heads next ≡ writeResultBy own l image heads next s mode key value
+    unfolding writeResultBy writeUnless writeFaultBy
     write-refused number compared e =
         result-refused (writeDone l image heads next s key value (s .first) (takeFirst (indexOf heads next s))) (λ k. unchanged (refused k) s heads next)
         (λ none. orElse-zero _ _ none .0) write-bad u _ number compared e refl
 
     pub write-allowed : (place : Place) (compared h : ℕ) → r ≡ Allowed place compared → h ≡ headOf key (length heads)
-        → changed l image s (s .first) key 1 value (writeAt (indexOf heads next s) h place) (liveAt (s .live) place) ≡ writeResult l image heads next s mode key value
-    unfolding writeResult writeBy writeFault writeDone writeAt liveAt insertNew replaceHeld
+        → changed l image s (s .first) key 1 value (writeAt (indexOf heads next s) h place) (liveAt (s .live) place) ≡ writeResultBy own l image heads next s mode key value
+    unfolding writeResultBy writeUnless writeFaultBy writeDone writeAt liveAt insertNew replaceHeld
     write-allowed (Held old prev) compared h e eh =
         result-held (writeDone l image heads next s key value (s .first) (takeFirst (indexOf heads next s))) (λ k. unchanged (refused k) s heads next)
         (λ none. orElse-zero _ _ none .0) write-bad u _ old prev compared e
@@ -125,29 +126,29 @@ module _ (l : ℕ) (image heads next : List ℕ) (s : State) (mode : Mode) (key 
 
 -- ---- remove
 
-module _ (l : ℕ) (image heads next : List ℕ) (s : State) (key : ℕ) where
-  pub remove-bad : removeFault l image heads next s key ≡ 0 → search l image heads next key ≡ BadChain → ⊥
-  unfolding removeFault removeLaterFault
-  remove-bad z e = omega (arith, sym (ap (λ (d : Found). removeLaterFault d (takingOf l image next (slotsIn image) (s .first) 1) (slotsIn image) s) e) ∙ orElse-zero _ _ z .1)
+module _ (own : Bool) (l : ℕ) (image heads next : List ℕ) (s : State) (key : ℕ) where
+  pub remove-bad : removeFaultBy own l image heads next s key ≡ 0 → search l image heads next key ≡ BadChain → ⊥
+  unfolding removeFaultBy removeLaterFault
+  remove-bad z e = omega (arith, sym (ap (λ (d : Found). removeLaterFault d (takingBy own l image next (slotsIn image) (s .first) (s .newest) 1) (slotsIn image) s) e) ∙ orElse-zero _ _ z .1)
 
-  module _ (r : Lookup) (u : RemoveLookup l image heads next s key r) where
+  module _ (r : Lookup) (u : RemoveLookup own l image heads next s key r) where
     pub remove-refused : (number compared : ℕ) → r ≡ Refused number compared
-        → unchanged (refused number) s heads next ≡ removeResult l image heads next s key
-    unfolding removeResult removeBy removeFault
+        → unchanged (refused number) s heads next ≡ removeResultBy own l image heads next s key
+    unfolding removeResultBy removeUnless removeFaultBy
     remove-refused number compared e =
         result-refused (removeDone l image heads next s key (s .first) (takeFirst (indexOf heads next s))) (λ k. unchanged (refused k) s heads next)
         (λ none. orElse-zero _ _ none .0) remove-bad u _ number compared e refl
 
     pub remove-held : (old prev compared h : ℕ) → r ≡ Allowed (Held old prev) compared → h ≡ headOf key (length heads)
-        → changed l image s (s .first) key 2 [] (removeHeld (indexOf heads next s) h prev old) (s .live - 1) ≡ removeResult l image heads next s key
-    unfolding removeResult removeBy removeFault removeDone removeHeld
+        → changed l image s (s .first) key 2 [] (removeHeld (indexOf heads next s) h prev old) (s .live - 1) ≡ removeResultBy own l image heads next s key
+    unfolding removeResultBy removeUnless removeFaultBy removeDone removeHeld
     remove-held old prev compared h e eh =
         result-held (removeDone l image heads next s key (s .first) (takeFirst (indexOf heads next s))) (λ k. unchanged (refused k) s heads next)
         (λ none. orElse-zero _ _ none .0) remove-bad u _ old prev compared e
         (ap (λ (x : ℕ). changed l image s (s .first) key 2 [] (removeHeld (indexOf heads next s) x prev old) (s .live - 1)) eh)
 
-    pub remove-not-held : (prev compared : ℕ) → r ≡ Allowed (NotHeld prev) compared → unchanged absent s heads next ≡ removeResult l image heads next s key
-    unfolding removeResult removeBy removeFault removeDone
+    pub remove-not-held : (prev compared : ℕ) → r ≡ Allowed (NotHeld prev) compared → unchanged absent s heads next ≡ removeResultBy own l image heads next s key
+    unfolding removeResultBy removeUnless removeFaultBy removeDone
     remove-not-held prev compared e =
         result-not-held (removeDone l image heads next s key (s .first) (takeFirst (indexOf heads next s))) (λ k. unchanged (refused k) s heads next)
         (λ none. orElse-zero _ _ none .0) remove-bad u _ prev compared e refl

@@ -1,5 +1,6 @@
 -- Insert, replace and remove are refused by the rules' number, with any image, index and state. Assumes nothing.
 use mathlib.Core.Path.{_≡_, refl}
+use mathlib.Core.Bool.{Bool}
 use mathlib.Core.List.{List}
 use Prim.Native.Nat.{ℕ, zero, suc}
 use lib.ListN.{length}
@@ -11,7 +12,7 @@ use Rattle.index.specs.declared.State.{State}
 use Rattle.index.specs.declared.Mode.{Mode}
 use Rattle.index.specs.declared.Found.{Found}
 use Rattle.index.specs.declared.Found.the-variants.{At, Missing, BadChain}
-use Rattle.calls.specs.Change.{ChangeResult, changed, unchanged, writeFault, writeDone, writeBy, writeResult, removeFault, removeDone, removeBy, removeResult}
+use Rattle.calls.specs.Change.{ChangeResult, changed, unchanged, writeFaultBy, writeDone, writeUnless, writeResultBy, removeFaultBy, removeDone, removeUnless, removeResultBy}
 use Rattle.calls.proofs.Results.{write-bad, remove-bad}
 
 -- a call that leaves `new`, which is no refusal, where its refusal k is 0, and else says k
@@ -21,7 +22,7 @@ unfolding unlessRefused
 refusal-by zero new old done keeps = done refl
 refusal-by (suc k) new old done keeps = keeps
 
-module _ (l : ℕ) (image heads next : List ℕ) (s : State) where
+module _ (own : Bool) (l : ℕ) (image heads next : List ℕ) (s : State) where
   write-done : (key : ℕ) (value : List ℕ) (t : ℕ) (rest : Index) (found : Found) → (found ≡ BadChain → ⊥)
       → refusalIn (writeDone l image heads next s key value t rest found .answer) ≡ 0
   unfolding writeDone changed refusalIn
@@ -38,11 +39,11 @@ module _ (l : ℕ) (image heads next : List ℕ) (s : State) where
 
   -- THE REFUSALS
   pub write-refusal : (mode : Mode) (key : ℕ) (value : List ℕ)
-      → refusalIn (writeResult l image heads next s mode key value .answer) ≡ writeFault l image heads next s mode key (length value)
-  unfolding writeResult writeBy unchanged refusalIn
+      → refusalIn (writeResultBy own l image heads next s mode key value .answer) ≡ writeFaultBy own l image heads next s mode key (length value)
+  unfolding writeResultBy writeUnless unchanged refusalIn
   write-refusal mode key value =
-      refusal-by _ _ _ (λ z. write-done key value _ _ (search l image heads next key) (write-bad l image heads next s mode key value z)) refl
+      refusal-by _ _ _ (λ z. write-done key value _ _ (search l image heads next key) (write-bad own l image heads next s mode key value z)) refl
 
-  pub remove-refusal : (key : ℕ) → refusalIn (removeResult l image heads next s key .answer) ≡ removeFault l image heads next s key
-  unfolding removeResult removeBy unchanged refusalIn
-  remove-refusal key = refusal-by _ _ _ (λ z. remove-done key _ _ (search l image heads next key) (remove-bad l image heads next s key z)) refl
+  pub remove-refusal : (key : ℕ) → refusalIn (removeResultBy own l image heads next s key .answer) ≡ removeFaultBy own l image heads next s key
+  unfolding removeResultBy removeUnless unchanged refusalIn
+  remove-refusal key = refusal-by _ _ _ (λ z. remove-done key _ _ (search l image heads next key) (remove-bad own l image heads next s key z)) refl

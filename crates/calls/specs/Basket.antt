@@ -25,7 +25,7 @@ use Rattle.index.specs.declared.Action.{Action}
 use Rattle.index.specs.declared.Action.the-variants.{Insert, Replace, Remove}
 use Rattle.index.specs.declared.Found.{Found}
 use Rattle.index.specs.declared.Found.the-variants.{At, Missing, BadChain}
-use Rattle.taking.specs.Taking.{takingOf, choiceOf}
+use Rattle.taking.specs.Taking.{takingOf, takingBy, choiceBy}
 use Rattle.calls.specs.Change.{ChangeResult, unchanged, storeFault}
 use Rattle.calls.specs.declared.BasketItem.{BasketItem}
 use Rattle.calls.specs.declared.BasketAnswer.{BasketAnswer}
@@ -140,13 +140,16 @@ sumOver by [] = 0
 sumOver by (c ∷ cs) = by (c .action) + sumOver by cs
 
 -- the refusals in the order written: 26, 27, 13; 1, 2, 3, 4, 10; 11 (chain); 20 or 21; 11 (reuse), 28, 9
-unfoldable pub basketFault : (l : ℕ) → (image heads next : List ℕ) → State → List KeyChange → (at words : ℕ) → ℕ
-basketFault l image heads next s changes at words =
+unfoldable pub basketFaultBy : (own : Bool) → (l : ℕ) → (image heads next : List ℕ) → State → List KeyChange → (at words : ℕ) → ℕ
+basketFaultBy own l image heads next s changes at words =
     orElse (givenFault changes at words)
     (orElse (basketLentFault l image (length heads) (length next) changes)
     (orElse (keysFault (search l image heads next) changes)
-    (storeFault (takingOf l image next (slotsIn image) (s .first) (length changes)) (slotsIn image) s (sumOver insertsBy changes)
+    (storeFault (takingBy own l image next (slotsIn image) (s .first) (s .newest) (length changes)) (slotsIn image) s (sumOver insertsBy changes)
     (sumOver removesBy changes))))
+
+abbrev pub basketFault : (l : ℕ) → (image heads next : List ℕ) → State → List KeyChange → (at words : ℕ) → ℕ
+basketFault l image heads next s changes at words = basketFaultBy false l image heads next s changes at words
 
 -- ---- what a basket that is not refused leaves; the slots are given to the keys in order
 
@@ -215,22 +218,25 @@ basketDone l image heads next s changes (taken ts) =
 basketDone l image heads next s changes tooFew = unchanged (refused 28) s heads next
 basketDone l image heads next s changes badLink = unchanged (refused 11) s heads next
 
--- where it is not refused, by these slots; at and words are the lengths of the lent lists
-unfoldable pub basketBy : (l : ℕ) → (image heads next : List ℕ) → State → List KeyChange → (at words : ℕ) → Taking → ChangeResult
-basketBy l image heads next s changes at words choice =
-    unlessRefused (basketFault l image heads next s changes at words)
-    (basketDone l image heads next s changes choice)
-    (unchanged (refused (basketFault l image heads next s changes at words)) s heads next)
+-- where this does not refuse it, by these slots
+unfoldable pub basketUnless : (fault : ℕ) → (l : ℕ) → (image heads next : List ℕ) → State → List KeyChange → Taking → ChangeResult
+basketUnless fault l image heads next s changes choice =
+    unlessRefused fault (basketDone l image heads next s changes choice) (unchanged (refused fault) s heads next)
 
--- "with an index not the image's own, only refusals are fixed": they are those of the taking rule for any index; the slots are so chosen that with an index that is the
--- image's own they are the rule's too, `basketByRule`
-unfoldable pub basketResult : (l : ℕ) → (image heads next : List ℕ) → State → List KeyChange → (at words : ℕ) → ChangeResult
-basketResult l image heads next s changes at words =
-    basketBy l image heads next s changes at words (choiceOf l image next (slotsIn image) (s .first) (length changes))
+-- "with an index not the image's own, only refusals are fixed": where `own` is false they are those of the taking rule for any index, where it is true those of
+-- `ownTaking`; the slots are so chosen that with an index that is the image's own they are the rule's too, `basketByRule`
+unfoldable pub basketResultBy : (own : Bool) → (l : ℕ) → (image heads next : List ℕ) → State → List KeyChange → (at words : ℕ) → ChangeResult
+basketResultBy own l image heads next s changes at words =
+    basketUnless (basketFaultBy own l image heads next s changes at words) l image heads next s changes
+    (choiceBy own l image next (slotsIn image) (s .first) (s .newest) (length changes))
+
+abbrev pub basketResult : (l : ℕ) → (image heads next : List ℕ) → State → List KeyChange → (at words : ℕ) → ChangeResult
+basketResult l image heads next s changes at words = basketResultBy false l image heads next s changes at words
 
 unfoldable pub basketByRule : (l : ℕ) → (image heads next : List ℕ) → State → List KeyChange → (at words : ℕ) → ChangeResult
 basketByRule l image heads next s changes at words =
-    basketBy l image heads next s changes at words (takingOf l image next (slotsIn image) (s .first) (length changes))
+    basketUnless (basketFault l image heads next s changes at words) l image heads next s changes
+    (takingOf l image next (slotsIn image) (s .first) (length changes))
 
 -- ---- what a call leaves
 

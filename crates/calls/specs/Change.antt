@@ -1,5 +1,6 @@
 -- Insert, replace and remove. Document 01, "How a call writes", "The index" and "What each operation may say no to"; document 02, A.2: "Put is split in two:
 -- insert for a key not held, replace for one that is." None of them writes to the image.
+use mathlib.Core.Bool.{Bool, true, false}
 use mathlib.Core.List.{List, [], _∷_}
 use Prim.Native.Nat.{ℕ, _+_, _-_}
 use lib.Dec.{ltb}
@@ -18,7 +19,7 @@ use Rattle.index.specs.Walk.{search, chainFault}
 use Rattle.index.specs.Change.{takeFirst, insertAt, replaceAt, removeAt, keyFault, isFound}
 use Rattle.index.specs.Taking.{Taken, Taking, taken, tooFew, badLink, reuseFault, roomFault}
 use Rattle.index.specs.Basket.{takeSlot}
-use Rattle.taking.specs.Taking.{takingOf}
+use Rattle.taking.specs.Taking.{takingOf, takingBy}
 use Rattle.index.specs.declared.State.{State}
 use Rattle.index.specs.declared.Mode.{Mode}
 use Rattle.index.specs.declared.Mode.the-variants.{Insert, Replace}
@@ -123,10 +124,14 @@ unfoldable pub writeLaterFault : Mode → Found → Taking → (n : ℕ) → Sta
 writeLaterFault mode found taking n s =
     orElse (chainFault found) (orElse (keyFault mode (isFound found)) (storeFault taking n s (insertsOf mode) 0))
 
-unfoldable pub writeFault : (l : ℕ) → (image heads next : List ℕ) → State → Mode → (key : ℕ) → (size : ℕ) → ℕ
-writeFault l image heads next s mode key size =
+-- of a call of either family: `own` tells whether it is for the owner of its index
+unfoldable pub writeFaultBy : (own : Bool) → (l : ℕ) → (image heads next : List ℕ) → State → Mode → (key : ℕ) → (size : ℕ) → ℕ
+writeFaultBy own l image heads next s mode key size =
     orElse (writeLentFault l image (length heads) (length next) size)
-    (writeLaterFault mode (search l image heads next key) (takingOf l image next (slotsIn image) (s .first) 1) (slotsIn image) s)
+    (writeLaterFault mode (search l image heads next key) (takingBy own l image next (slotsIn image) (s .first) (s .newest) 1) (slotsIn image) s)
+
+abbrev pub writeFault : (l : ℕ) → (image heads next : List ℕ) → State → Mode → (key : ℕ) → (size : ℕ) → ℕ
+writeFault l image heads next s mode key size = writeFaultBy false l image heads next s mode key size
 
 -- "A put of a new key takes the first reuse slot and links it at the end of its head's chain", "of a held key .. replaces the old slot in its chain": slot t, with the
 -- index `rest` that taking it leaves. "A put of a new key raises the live count by one"
@@ -137,22 +142,24 @@ writeDone l image heads next s key value t rest (Missing prev compared) =
     changed l image s t key 1 value (insertAt rest (headOf key (length heads)) prev t) (s .live + 1)
 writeDone l image heads next s key value t rest BadChain = unchanged (refused 11) s heads next
 
--- where it is not refused, into this slot
-unfoldable pub writeBy : (l : ℕ) → (image heads next : List ℕ) → State → Mode → (key : ℕ) → List ℕ → (t : ℕ) → (rest : Index) → ChangeResult
-writeBy l image heads next s mode key value t rest =
-    unlessRefused (writeFault l image heads next s mode key (length value))
-    (writeDone l image heads next s key value t rest (search l image heads next key))
-    (unchanged (refused (writeFault l image heads next s mode key (length value))) s heads next)
+-- where this does not refuse it, into this slot
+unfoldable pub writeUnless : (fault : ℕ) → (l : ℕ) → (image heads next : List ℕ) → State → (key : ℕ) → List ℕ → (t : ℕ) → (rest : Index) → ChangeResult
+writeUnless fault l image heads next s key value t rest =
+    unlessRefused fault (writeDone l image heads next s key value t rest (search l image heads next key)) (unchanged (refused fault) s heads next)
 
--- "with an index not the image's own, only refusals are fixed, of single calls too": they are those of the taking rule for any index; the slot is the first of reuse,
--- which with an index that is the image's own is the rule's too, `writeByRule`
-unfoldable pub writeResult : (l : ℕ) → (image heads next : List ℕ) → State → Mode → (key : ℕ) → List ℕ → ChangeResult
-writeResult l image heads next s mode key value =
-    writeBy l image heads next s mode key value (s .first) (takeFirst (indexOf heads next s))
+-- "with an index not the image's own, only refusals are fixed, of single calls too": where `own` is false they are those of the taking rule for any index, where it
+-- is true those of `ownTaking`; the slot is the first of reuse, which with an index that is the image's own is the rule's too, `writeByRule`
+unfoldable pub writeResultBy : (own : Bool) → (l : ℕ) → (image heads next : List ℕ) → State → Mode → (key : ℕ) → List ℕ → ChangeResult
+writeResultBy own l image heads next s mode key value =
+    writeUnless (writeFaultBy own l image heads next s mode key (length value)) l image heads next s key value (s .first) (takeFirst (indexOf heads next s))
+
+abbrev pub writeResult : (l : ℕ) → (image heads next : List ℕ) → State → Mode → (key : ℕ) → List ℕ → ChangeResult
+writeResult l image heads next s mode key value = writeResultBy false l image heads next s mode key value
 
 unfoldable pub writeByRule : (l : ℕ) → (image heads next : List ℕ) → State → Mode → (key : ℕ) → List ℕ → ChangeResult
 writeByRule l image heads next s mode key value =
-    writeBy l image heads next s mode key value (slotByRule l image next s .slot) (takeSlot (indexOf heads next s) (slotByRule l image next s))
+    writeUnless (writeFault l image heads next s mode key (length value)) l image heads next s key value (slotByRule l image next s .slot)
+    (takeSlot (indexOf heads next s) (slotByRule l image next s))
 
 -- the slots compared: 10 too comes before the chain
 unfoldable pub writeCompared : (l : ℕ) → (image heads next : List ℕ) → (key size : ℕ) → ℕ
@@ -167,10 +174,13 @@ removeLaterFault (At old prev compared) taking n s = storeFault taking n s 0 1
 removeLaterFault (Missing prev compared) taking n s = 0
 removeLaterFault BadChain taking n s = 11
 
-unfoldable pub removeFault : (l : ℕ) → (image heads next : List ℕ) → State → (key : ℕ) → ℕ
-removeFault l image heads next s key =
+unfoldable pub removeFaultBy : (own : Bool) → (l : ℕ) → (image heads next : List ℕ) → State → (key : ℕ) → ℕ
+removeFaultBy own l image heads next s key =
     orElse (lentFault l image (length heads) (length next))
-    (removeLaterFault (search l image heads next key) (takingOf l image next (slotsIn image) (s .first) 1) (slotsIn image) s)
+    (removeLaterFault (search l image heads next key) (takingBy own l image next (slotsIn image) (s .first) (s .newest) 1) (slotsIn image) s)
+
+abbrev pub removeFault : (l : ℕ) → (image heads next : List ℕ) → State → (key : ℕ) → ℕ
+removeFault l image heads next s key = removeFaultBy false l image heads next s key
 
 -- "A remove takes the first reuse slot, unlinks the old slot, and appends to the reuse chain the old slot and then the slot just taken": slot t, as above; "a remove
 -- lowers it by one"; "the plain answer absent with no stores and no change"
@@ -180,16 +190,19 @@ removeDone l image heads next s key t rest (At old prev compared) =
 removeDone l image heads next s key t rest (Missing prev compared) = unchanged absent s heads next
 removeDone l image heads next s key t rest BadChain = unchanged (refused 11) s heads next
 
-unfoldable pub removeBy : (l : ℕ) → (image heads next : List ℕ) → State → (key t : ℕ) → (rest : Index) → ChangeResult
-removeBy l image heads next s key t rest =
-    unlessRefused (removeFault l image heads next s key)
-    (removeDone l image heads next s key t rest (search l image heads next key))
-    (unchanged (refused (removeFault l image heads next s key)) s heads next)
+unfoldable pub removeUnless : (fault : ℕ) → (l : ℕ) → (image heads next : List ℕ) → State → (key t : ℕ) → (rest : Index) → ChangeResult
+removeUnless fault l image heads next s key t rest =
+    unlessRefused fault (removeDone l image heads next s key t rest (search l image heads next key)) (unchanged (refused fault) s heads next)
 
 -- the first slot of reuse, and that of the taking rule
-unfoldable pub removeResult : (l : ℕ) → (image heads next : List ℕ) → State → (key : ℕ) → ChangeResult
-removeResult l image heads next s key = removeBy l image heads next s key (s .first) (takeFirst (indexOf heads next s))
+unfoldable pub removeResultBy : (own : Bool) → (l : ℕ) → (image heads next : List ℕ) → State → (key : ℕ) → ChangeResult
+removeResultBy own l image heads next s key =
+    removeUnless (removeFaultBy own l image heads next s key) l image heads next s key (s .first) (takeFirst (indexOf heads next s))
+
+abbrev pub removeResult : (l : ℕ) → (image heads next : List ℕ) → State → (key : ℕ) → ChangeResult
+removeResult l image heads next s key = removeResultBy false l image heads next s key
 
 unfoldable pub removeByRule : (l : ℕ) → (image heads next : List ℕ) → State → (key : ℕ) → ChangeResult
 removeByRule l image heads next s key =
-    removeBy l image heads next s key (slotByRule l image next s .slot) (takeSlot (indexOf heads next s) (slotByRule l image next s))
+    removeUnless (removeFault l image heads next s key) l image heads next s key (slotByRule l image next s .slot)
+    (takeSlot (indexOf heads next s) (slotByRule l image next s))

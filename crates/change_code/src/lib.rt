@@ -1,4 +1,3 @@
-// The public calls that write: insert, replace and remove.
+// The public calls that write: insert, replace and remove, for any index.
 pub mod remove;
-mod store;
 pub mod write;

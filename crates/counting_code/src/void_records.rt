@@ -3,7 +3,7 @@ ghost use mathlib.Core.Path.{_≡_};
 ghost use Rattle.layout.specs.Size.{slotsIn};
 ghost use Rattle.layout.specs.Content.{contentsOf, numbersOf};
 ghost use Rattle.counting.specs.inner.Countable.{OpensVoid, voidRemoves};
-use layout_code::fields::slot_kind;
+use fields_code::fields::slot_kind;
 use recovery::Openings;
 
 // How many of the slots that these stores open hold a remove; the store of slot s is to word 16 s.

@@ -1,16 +1,10 @@
 // Power cuts tried on paper: all 81 pairs of counts of sixteen stores are played, recovered and compared.
-mod maps;
-mod pairs;
-mod scratch;
-mod slots;
-mod values;
-
 ghost use mathlib.Core.Path.{_≡_};
 ghost use Rattle.layout.specs.Record.{Layout};
 ghost use Rattle.cutcount.specs.CutCount.{cutCountEnd, cutCountResult};
-use crate::scratch::count_512;
-use crate::scratch::count_65536;
 use cutcount::CutCounts;
+use cutcount_scratch_code::scratch::count_512;
+use cutcount_scratch_code::scratch::count_65536;
 use layout_code::header::slot_count;
 use stores::Stores;
 

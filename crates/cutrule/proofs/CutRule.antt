@@ -1,14 +1,19 @@
 -- THE CUT RULE, proved from the laws of the set and of the book by the one induction over lists. Assumes nothing.
-use mathlib.Core.Path.{_≡_, refl, sym, subst, _∙_}
+use mathlib.Core.Path.{_≡_, refl, sym, ap, subst, fun-ext, _∙_}
 use mathlib.Core.List.{List}
 use Prim.Native.Nat.{ℕ}
+use Rattle.prelude.specs.Answer.{refuses}
 use Rattle.prelude.specs.Members.{All}
 use Rattle.prelude.proofs.Histories.{throughout}
-use Rattle.face.specs.Set.{World, PlainMap, slotsIn, restarted}
-use Rattle.face.specs.Event.{Event, done, struck, requestOf, stepBy, isWhole, FitsBy, done-fits, struck-fits}
+use Rattle.face.specs.Set.{World, PlainMap, called, slotsIn, restarted}
+use Rattle.face.specs.Event.{Event, done, struck, Cut, Leaving, leaving, imageCut, basketLeaves, requestOf, stepBy, isWhole, plainEvent, FitsBy, done-fits, struck-fits}
+use Rattle.face.specs.Plays.{PlaysSingle, PlaysList}
+use Rattle.face.specs.Recovers.{RecoversAlong}
 use Rattle.face.specs.Laws.{CallLaws, SetLaws}
 use Rattle.face.proofs.SetLaws.{call-laws, set-laws}
 use Rattle.book.proofs.Steps.{step-right}
+use Rattle.book.specs.Plain.{bookLeaving, stepLeaves}
+use Rattle.book.proofs.OwnSteps.{either-booked}
 use Rattle.book.proofs.StepEvents.{step-event-keeps, step-event-plays, step-event-slots, step-along}
 use Rattle.cutrule.specs.Request.{Request, a-call, a-basket, a-step, requestLeaves, requestFault, requestUpdates, RequestRight, TypedRequest, worldAfterRequest, mapAfterRequest}
 use Rattle.cutrule.specs.Rule.{CutRight, PlaysRight, AllRight, CutRuleIn, CutRule}
@@ -21,46 +26,87 @@ module _ (l : ℕ) (Inv : World → PlainMap → Type 0) (laws : SetLaws l Inv) 
   -- ---- one event
 
   module _ (w : World) (m : PlainMap) (i : Inv w m) where
-    right : (request : Request) → TypedRequest l request → RequestRight l w m request
-    right (a-call call) t = laws .answers w m i call t
-    right (a-basket b) t = laws .answers-basket w m i b t
-    right (a-step step) t = step-right l Inv laws w m i step t
+    pub right : (request : Request) → TypedRequest l request → RequestRight l w m request
+    right (a-call own call) t = (laws .answers w m i call t, laws .either-call w m i own call)
+    right (a-basket own b) t = (laws .answers-basket w m i b t, laws .either-basket w m i own b)
+    right (a-step own step) t = (step-right l Inv laws w m i step t, either-booked l Inv laws w m i own step)
+
+    -- what the call of document 01 leaves
+    abbrev pub exactLeaves : World → Request → Leaving
+    exactLeaves v (a-call own call) = leaving (called l w call)
+    exactLeaves v (a-basket own b) = basketLeaves l w b
+    exactLeaves v (a-step own step) = stepLeaves l w step
+
+    -- what a request leaves here
+    abbrev pub leavesHere : World → Request → Leaving
+    leavesHere v request = requestLeaves l w request
+
+    -- they are the same: what holds of an event of the one holds of that of the other
+    same-leaves : (v : World) (request : Request) → exactLeaves v request ≡ leavesHere v request
+    unfolding requestLeaves
+    same-leaves v (a-call own call) = ap leaving (sym (laws .either-call w m i own call))
+    same-leaves v (a-basket own b) = ap leaving (sym (laws .either-basket w m i own b))
+    same-leaves v (a-step own step) = ap bookLeaving (sym (either-booked l Inv laws w m i own step))
+
+    pub of-either : (P : (World → Request → Leaving) → Type 0) → P exactLeaves → P leavesHere
+    of-either P p = subst P (fun-ext (λ v. fun-ext (same-leaves v))) p
+
+    -- of an event, by what its request leaves: the invariant after it, the number of slots, and the play of its stores, by counts or as a list
+    abbrev pub KeepsBy : Event Request → (World → Request → Leaving) → Type 0
+    KeepsBy event leaves =
+        Inv (stepBy l leaves w event)
+        (plainEvent (isWhole leaves w event) (requestUpdates m (requestOf event)) (refuses (requestFault l w m (requestOf event))) m)
+
+    abbrev pub SlotsBy : Event Request → (World → Request → Leaving) → Type 0
+    SlotsBy event leaves = slotsIn (stepBy l leaves w event .image) ≡ slotsIn (w .image)
+
+    abbrev pub SingleBy : Event Request → (World → Request → Leaving) → Type 0
+    SingleBy event leaves = PlaysSingle l leaves w event
+
+    abbrev pub ListBy : Event Request → (World → Request → Leaving) → Type 0
+    ListBy event leaves = PlaysList l leaves w event
+
+    -- and recovery after a cut
+    abbrev pub AlongBy : Request → Cut → (World → Request → Leaving) → Type 0
+    AlongBy request cut leaves =
+        RecoversAlong l (imageCut w (leaves w request) cut)
+        (plainEvent (isWhole leaves w (struck request cut)) (requestUpdates m request) (refuses (requestFault l w m request)) m) (cut .restart .rounds)
 
     keeps : (event : Event Request) → FitsBy (TypedRequest l) (slotsIn (w .image)) event
         → Inv (worldAfterRequest l w event) (mapAfterRequest l w m event)
-    unfolding stepBy isWhole requestLeaves requestFault requestUpdates
-    keeps (done (a-call call)) (done-fits t) = laws .keeps w m i (done call) (done-fits t)
-    keeps (done (a-basket b)) (done-fits t) = laws .keeps-basket w m i (done b) (done-fits t)
-    keeps (done (a-step step)) (done-fits t) = step-event-keeps l Inv laws w m i (done step) (done-fits t)
-    keeps (struck (a-call call) cut) (struck-fits t c) = laws .keeps w m i (struck call cut) (struck-fits t c)
-    keeps (struck (a-basket b) cut) (struck-fits t c) = laws .keeps-basket w m i (struck b cut) (struck-fits t c)
-    keeps (struck (a-step step) cut) (struck-fits t c) = step-event-keeps l Inv laws w m i (struck step cut) (struck-fits t c)
+    unfolding stepBy isWhole requestFault requestUpdates
+    keeps (done (a-call own call)) (done-fits t) = of-either (KeepsBy (done (a-call own call))) (laws .keeps w m i (done call) (done-fits t))
+    keeps (done (a-basket own b)) (done-fits t) = of-either (KeepsBy (done (a-basket own b))) (laws .keeps-basket w m i (done b) (done-fits t))
+    keeps (done (a-step own step)) (done-fits t) = of-either (KeepsBy (done (a-step own step))) (step-event-keeps l Inv laws w m i (done step) (done-fits t))
+    keeps (struck (a-call own call) cut) (struck-fits t c) = of-either (KeepsBy (struck (a-call own call) cut)) (laws .keeps w m i (struck call cut) (struck-fits t c))
+    keeps (struck (a-basket own b) cut) (struck-fits t c) = of-either (KeepsBy (struck (a-basket own b) cut)) (laws .keeps-basket w m i (struck b cut) (struck-fits t c))
+    keeps (struck (a-step own step) cut) (struck-fits t c) = of-either (KeepsBy (struck (a-step own step) cut)) (step-event-keeps l Inv laws w m i (struck step cut) (struck-fits t c))
 
     cut-right : (event : Event Request) → FitsBy (TypedRequest l) (slotsIn (w .image)) event → CutRight l w m event
-    unfolding isWhole requestLeaves requestFault requestUpdates
+    unfolding isWhole requestFault requestUpdates
     cut-right (done request) f = tt
-    cut-right (struck (a-call call) cut) (struck-fits t c) = laws .keeps-along w m i call cut (struck-fits t c)
-    cut-right (struck (a-basket b) cut) (struck-fits t c) = laws .keeps-basket-along w m i b cut (struck-fits t c)
-    cut-right (struck (a-step step) cut) (struck-fits t c) = step-along l Inv laws w m i step cut (struck-fits t c)
+    cut-right (struck (a-call own call) cut) (struck-fits t c) = of-either (AlongBy (a-call own call) cut) (laws .keeps-along w m i call cut (struck-fits t c))
+    cut-right (struck (a-basket own b) cut) (struck-fits t c) = of-either (AlongBy (a-basket own b) cut) (laws .keeps-basket-along w m i b cut (struck-fits t c))
+    cut-right (struck (a-step own step) cut) (struck-fits t c) = of-either (AlongBy (a-step own step) cut) (step-along l Inv laws w m i step cut (struck-fits t c))
 
     plays-right : (event : Event Request) → FitsBy (TypedRequest l) (slotsIn (w .image)) event → PlaysRight l w event
-    unfolding stepBy requestLeaves
-    plays-right (done (a-call call)) (done-fits t) = laws .plays-event w m i (done call) (done-fits t)
-    plays-right (done (a-basket b)) (done-fits t) = laws .plays-basket w m i (done b) (done-fits t)
-    plays-right (done (a-step step)) (done-fits t) = step-event-plays l Inv laws w m i (done step) (done-fits t)
-    plays-right (struck (a-call call) cut) (struck-fits t c) = laws .plays-event w m i (struck call cut) (struck-fits t c)
-    plays-right (struck (a-basket b) cut) (struck-fits t c) = laws .plays-basket w m i (struck b cut) (struck-fits t c)
-    plays-right (struck (a-step step) cut) (struck-fits t c) = step-event-plays l Inv laws w m i (struck step cut) (struck-fits t c)
+    unfolding stepBy
+    plays-right (done (a-call own call)) (done-fits t) = of-either (SingleBy (done (a-call own call))) (laws .plays-event w m i (done call) (done-fits t))
+    plays-right (done (a-basket own b)) (done-fits t) = of-either (ListBy (done (a-basket own b))) (laws .plays-basket w m i (done b) (done-fits t))
+    plays-right (done (a-step own step)) (done-fits t) = of-either (SingleBy (done (a-step own step))) (step-event-plays l Inv laws w m i (done step) (done-fits t))
+    plays-right (struck (a-call own call) cut) (struck-fits t c) = of-either (SingleBy (struck (a-call own call) cut)) (laws .plays-event w m i (struck call cut) (struck-fits t c))
+    plays-right (struck (a-basket own b) cut) (struck-fits t c) = of-either (ListBy (struck (a-basket own b) cut)) (laws .plays-basket w m i (struck b cut) (struck-fits t c))
+    plays-right (struck (a-step own step) cut) (struck-fits t c) = of-either (SingleBy (struck (a-step own step) cut)) (step-event-plays l Inv laws w m i (struck step cut) (struck-fits t c))
 
     same-slots : (event : Event Request) → FitsBy (TypedRequest l) (slotsIn (w .image)) event
         → slotsIn (worldAfterRequest l w event .image) ≡ slotsIn (w .image)
-    unfolding stepBy requestLeaves
-    same-slots (done (a-call call)) (done-fits t) = laws .keeps-slots w m i (done call) (done-fits t)
-    same-slots (done (a-basket b)) (done-fits t) = laws .keeps-basket-slots w m i (done b) (done-fits t)
-    same-slots (done (a-step step)) (done-fits t) = step-event-slots l Inv laws w m i (done step) (done-fits t)
-    same-slots (struck (a-call call) cut) (struck-fits t c) = laws .keeps-slots w m i (struck call cut) (struck-fits t c)
-    same-slots (struck (a-basket b) cut) (struck-fits t c) = laws .keeps-basket-slots w m i (struck b cut) (struck-fits t c)
-    same-slots (struck (a-step step) cut) (struck-fits t c) = step-event-slots l Inv laws w m i (struck step cut) (struck-fits t c)
+    unfolding stepBy
+    same-slots (done (a-call own call)) (done-fits t) = of-either (SlotsBy (done (a-call own call))) (laws .keeps-slots w m i (done call) (done-fits t))
+    same-slots (done (a-basket own b)) (done-fits t) = of-either (SlotsBy (done (a-basket own b))) (laws .keeps-basket-slots w m i (done b) (done-fits t))
+    same-slots (done (a-step own step)) (done-fits t) = of-either (SlotsBy (done (a-step own step))) (step-event-slots l Inv laws w m i (done step) (done-fits t))
+    same-slots (struck (a-call own call) cut) (struck-fits t c) = of-either (SlotsBy (struck (a-call own call) cut)) (laws .keeps-slots w m i (struck call cut) (struck-fits t c))
+    same-slots (struck (a-basket own b) cut) (struck-fits t c) = of-either (SlotsBy (struck (a-basket own b) cut)) (laws .keeps-basket-slots w m i (struck b cut) (struck-fits t c))
+    same-slots (struck (a-step own step) cut) (struck-fits t c) = of-either (SlotsBy (struck (a-step own step) cut)) (step-event-slots l Inv laws w m i (struck step cut) (struck-fits t c))
 
   -- ---- every list
 

@@ -6,33 +6,37 @@ use lib.ListN.{length}
 use Rattle.prelude.specs.Members.{All}
 use Rattle.prelude.proofs.Histories.{throughout}
 use Rattle.face.specs.Set.{World, PlainMap, Layout, slotsIn, slotsOf, formatted, Restart, restarted, recoverFault}
-use Rattle.face.specs.Event.{Event, done, struck, requestOf, stepBy, RestartFits, FitsBy, done-fits, struck-fits}
+use Rattle.face.specs.Event.{Event, done, struck, Leaving, requestOf, stepBy, RestartFits, FitsBy, done-fits, struck-fits}
 use Rattle.face.specs.Laws.{CallLaws, SetLaws}
 use Rattle.face.proofs.defs.RoomLaws.{RoomLaws}
 use Rattle.face.proofs.SetLaws.{call-laws, set-laws}
 use Rattle.face.proofs.Rooms.{room-laws}
 use Rattle.book.proofs.StepRoom.{step-room, step-event-room}
-use Rattle.cutrule.specs.Request.{Request, a-call, a-basket, a-step, requestLeaves, TypedRequest, worldAfterRequest}
+use Rattle.cutrule.specs.Request.{Request, a-call, a-basket, a-step, TypedRequest, worldAfterRequest}
 use Rattle.cutrule.specs.GrownRoom.{RequestRoom, RoomThroughout, GrownRoomIn, GrownRoom}
-use Rattle.cutrule.proofs.CutRule.{InvOf, fits-here, keeps-of}
+use Rattle.cutrule.proofs.CutRule.{of-either, InvOf, fits-here, keeps-of}
 
 module _ (l : ℕ) (lay : Layout l) (Inv : World → PlainMap → Type 0) (Room : List ℕ → Type 0) (laws : SetLaws l Inv)
     (rooms : RoomLaws l Inv Room) where
   module _ (w : World) (m : PlainMap) (i : Inv w m) (room : Room (w .image)) where
     room-right : (request : Request) → RequestRoom l w m request
-    room-right (a-call call) = rooms .room-right w m i room call
-    room-right (a-basket b) = tt
-    room-right (a-step step) = step-room l lay w m (rooms .room-right w m i room) step
+    room-right (a-call own call) = rooms .room-right w m i room call
+    room-right (a-basket own b) = tt
+    room-right (a-step own step) = step-room l lay w m (rooms .room-right w m i room) step
+
+    -- room after an event, by what its request leaves
+    abbrev pub RoomBy : Event Request → (World → Request → Leaving) → Type 0
+    RoomBy event leaves = Room (stepBy l leaves w event .image)
 
     -- an event keeps room
     keeps-room : (event : Event Request) → FitsBy (TypedRequest l) (slotsIn (w .image)) event → Room (worldAfterRequest l w event .image)
-    unfolding stepBy requestLeaves
-    keeps-room (done (a-call call)) (done-fits t) = rooms .keeps-room w m i room (done call) (done-fits t)
-    keeps-room (done (a-basket b)) (done-fits t) = rooms .keeps-basket-room w m i room (done b) (done-fits t)
-    keeps-room (done (a-step step)) (done-fits t) = step-event-room l Inv Room laws rooms w m i room (done step) (done-fits t)
-    keeps-room (struck (a-call call) cut) (struck-fits t c) = rooms .keeps-room w m i room (struck call cut) (struck-fits t c)
-    keeps-room (struck (a-basket b) cut) (struck-fits t c) = rooms .keeps-basket-room w m i room (struck b cut) (struck-fits t c)
-    keeps-room (struck (a-step step) cut) (struck-fits t c) = step-event-room l Inv Room laws rooms w m i room (struck step cut) (struck-fits t c)
+    unfolding stepBy
+    keeps-room (done (a-call own call)) (done-fits t) = of-either l Inv laws w m i (RoomBy (done (a-call own call))) (rooms .keeps-room w m i room (done call) (done-fits t))
+    keeps-room (done (a-basket own b)) (done-fits t) = of-either l Inv laws w m i (RoomBy (done (a-basket own b))) (rooms .keeps-basket-room w m i room (done b) (done-fits t))
+    keeps-room (done (a-step own step)) (done-fits t) = of-either l Inv laws w m i (RoomBy (done (a-step own step))) (step-event-room l Inv Room laws rooms w m i room (done step) (done-fits t))
+    keeps-room (struck (a-call own call) cut) (struck-fits t c) = of-either l Inv laws w m i (RoomBy (struck (a-call own call) cut)) (rooms .keeps-room w m i room (struck call cut) (struck-fits t c))
+    keeps-room (struck (a-basket own b) cut) (struck-fits t c) = of-either l Inv laws w m i (RoomBy (struck (a-basket own b) cut)) (rooms .keeps-basket-room w m i room (struck b cut) (struck-fits t c))
+    keeps-room (struck (a-step own step) cut) (struck-fits t c) = of-either l Inv laws w m i (RoomBy (struck (a-step own step) cut)) (step-event-room l Inv Room laws rooms w m i room (struck step cut) (struck-fits t c))
 
   -- ---- every list
 

@@ -13,9 +13,9 @@ use Rattle.cutrule.specs.Request.{Request, a-call, a-basket, a-step, Typ
 -- 28 is due to a single call and to a book step exactly where it inserts a key, which no check before 28 refuses, and one slot is left that holds no open key: no replace,
 -- no remove and no other step of the book meets it. "for baskets, demand 2's sentence on room gives way to 28"
 abbrev pub RequestRoom : (l : ℕ) → World → PlainMap → Request → Type 0
-RequestRoom l w m (a-call call) = RoomRight l w (InsertsNew l m call) (dueFault l w m call)
-RequestRoom l w m (a-basket b) = Unit
-RequestRoom l w m (a-step step) = RoomRight l w (NewOrder m step) (stepFault l w m step)
+RequestRoom l w m (a-call own call) = RoomRight l w (InsertsNew l m call) (dueFault l w m call)
+RequestRoom l w m (a-basket own b) = Unit
+RequestRoom l w m (a-step own step) = RoomRight l w (NewOrder m step) (stepFault l w m step)
 
 -- before each event and after the last some spare slot may be taken
 abbrev pub RoomThroughout : (l : ℕ) → World → PlainMap → List (Event Request) → Type 0

@@ -1,4 +1,4 @@
--- THE CUT RULE, demand 3, as one statement over every list of calls, baskets and book steps, whichever of them power cuts strike.
+-- THE CUT RULE, demand 3, as one statement over every list of calls, baskets and book steps of either family, whichever of them power cuts strike.
 use mathlib.Core.Path.{_≡_}
 use mathlib.Core.List.{List}
 use Prim.Native.Nat.{ℕ}
@@ -20,9 +20,9 @@ CutRight l w m (struck request cut) =
 -- "play makes the counted stores, if there are any": the image that the next request gets, and the one that recovery gets after a cut, are those that play
 -- makes of the image before. A basket's stores are played as a list
 abbrev pub PlaysBy : (l : ℕ) → World → Request → Event Request → Type 0
-PlaysBy l w (a-call call) event = PlaysSingle l (requestLeaves l) w event
-PlaysBy l w (a-basket b) event = PlaysList l (requestLeaves l) w event
-PlaysBy l w (a-step step) event = PlaysSingle l (requestLeaves l) w event
+PlaysBy l w (a-call own call) event = PlaysSingle l (requestLeaves l) w event
+PlaysBy l w (a-basket own b) event = PlaysList l (requestLeaves l) w event
+PlaysBy l w (a-step own step) event = PlaysSingle l (requestLeaves l) w event
 
 abbrev pub PlaysRight : (l : ℕ) → World → Event Request → Type 0
 PlaysRight l w event = PlaysBy l w (requestOf event) event

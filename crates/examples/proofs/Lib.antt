@@ -1,4 +1,3 @@
 pub mod Hold
 pub mod Trial
-pub mod Book
 pub mod TornBasket

@@ -1,4 +1,5 @@
 -- The history with a torn basket: computed, and an instance of the cut rule whose hypotheses are met by computation. Assumes nothing.
+use mathlib.Core.Bool.{Bool, true, false}
 use mathlib.Core.Path.{_≡_, refl}
 use mathlib.Core.List.{List, [], _∷_, _++_}
 use Prim.Native.Nat.{ℕ, zero, suc, _^_, _<_}
@@ -36,16 +37,16 @@ use Rattle.index.specs.Taking.{withTaken, atEnd, takeWalk, takeFrom, endsFault,
 use Rattle.index.specs.Basket.{takeSlot, takeAll, takenSlots, slotBefore, beforeIn, linkBy, linkItem, linkAll, basketIndex}
 use Rattle.index.specs.declared.Action.{Action}
 use Rattle.index.specs.declared.Mode.the-variants.{Insert}
-use Rattle.taking.specs.Taking.{takingOf, choiceOf}
+use Rattle.taking.specs.Taking.{takingOf, choiceOf, choiceBy, takingBy, mayTakeBelow, namedVersion, ownTaking}
 use Rattle.recovery.specs.Recover.{slotsFault, recoverFault, chainsOf, placeOf, recoveredIndex, recoveredState, recovered, recoverResult, noState, settledFault, slotsNamed, recoverSlot}
 use Rattle.recovery.specs.Opening.{voidSlots, openingsOf, storesIn}
 use Rattle.calls.specs.Format.{formatted}
-use Rattle.calls.specs.Change.{unchanged, changed, writeLentFault, writeLaterFault, writeFault, writeDone, writeBy, writeResult, storeFault, insertsOf}
+use Rattle.calls.specs.Change.{unchanged, changed, writeLentFault, writeLaterFault, writeFault, writeDone, writeUnless, writeResult, storeFault, insertsOf, writeFaultBy, writeResultBy}
 use Rattle.calls.specs.Get.{lengthFault, getLaterFault, getFault, getDone, getResult}
-use Rattle.calls.specs.Basket.{highIn, itemKey, itemAt, itemValue, changeAt, changesFrom, changesOf, keyCountFault, among, anyTwice, listsFault, givenFault, firstFault, valueFault, actionFault, basketLentFault, keysFault, insertsBy, removesBy, sumOver, basketFault, kindBy, valueBy, recordsFor, oldIn, itemsFor, indexAfter, basketMade, basketDone, basketBy, basketResult}
+use Rattle.calls.specs.Basket.{highIn, itemKey, itemAt, itemValue, changeAt, changesFrom, changesOf, keyCountFault, among, anyTwice, listsFault, givenFault, firstFault, valueFault, actionFault, basketLentFault, keysFault, insertsBy, removesBy, sumOver, basketFault, kindBy, valueBy, recordsFor, oldIn, itemsFor, indexAfter, basketMade, basketDone, basketUnless, basketResult, basketFaultBy, basketResultBy}
 use Rattle.calls.specs.declared.BasketItem.{BasketItem}
-use Rattle.plainmap.specs.World.{write, calledChange, calledGet, called, worldAfter, afterRound, afterRounds, openedWorld, restarted}
-use Rattle.plainmap.specs.Baskets.{TypedItem, basketCalled}
+use Rattle.plainmap.specs.World.{write, calledChange, calledGet, called, calledBy, worldAfter, afterRound, afterRounds, openedWorld, restarted}
+use Rattle.plainmap.specs.Baskets.{TypedItem, basketCalledBy}
 use Rattle.plainmap.specs.Claims.{Typed, write-typed, get-typed, slotsMap}
 use Rattle.face.specs.Event.{RestartFits, done-fits, struck-fits, FitsBy, stepBy, imageCut}
 use Rattle.face.proofs.SetLaws.{layout-1, call-laws}
@@ -59,7 +60,7 @@ use Rattle.examples.proofs.Trial.{small-bytes}
 -- the answers; the void records after each of the two cuts; recovery accepts the formatted image, which has four slots
 torn-computed : (answersTo emptyFour tornHistory ≡ tornAnswers) × (voidCount tornImage ≡ 2) × (voidCount (afterRound 1 tornImage openingCut) ≡ 1)
     × (recoverFault 1 (formatted 1 640) (length oneHead) (length fourSlots) ≡ 0) × (slotsIn (formatted 1 640) ≡ 4)
-unfolding word setBytes setWord filter slotNumbers anyOf tabulate greatest topmost lowest atLowest count say orElse unlessRefused made contentBy contentOf content top topOf markFault kindFault kindLimit bitsFault wordFault tailFault faultOf recordFault headerWord headerFault imageFault indexFault lentFault lineTop versionFault keyFrom keyOf valuePlace slotWord valueWord valueByte valueFront valueOf slotsOf paired slotTop verdictOf lineVerdict isValid insert sorted openingStore openingStores wordNumbers values zipped played less standing marked placedWord bodyA bodyB run lineStores recordStores said hasVersion sharers complete versionIfComplete highestComplete isVoid settled rankOf ordered chainOf reuseOf clashes sharersFault isRecord isBroken keyIn weight nextVersion decider decidingPut live spare liveCount brokenCount brokenLimit manyBroken allLive validVersion highestValid isRemove older mayTake firstOf lastOf after nextIn chained takeFirst linkNew append insertAt replaceAt removeAt keyFault isFound setNext setStart setLast link withTaken atEnd takeWalk takeFrom endsFault linkFault fewFault reuseFault roomFault walk search chainFault takingOf voidSlots openingsOf storesIn noState settledFault slotsFault slotsNamed recoverFault recoverSlot chainsOf placeOf recoveredIndex recoveredState recovered recoverResult unchanged storeFault changed writeLentFault insertsOf writeLaterFault writeFault writeDone writeBy writeResult formatted lengthFault getLaterFault getFault getDone getResult calledChange calledGet called worldAfter afterRound afterRounds openedWorld restarted imageCut stepBy takeableIf highIn itemKey itemAt itemValue changeAt changesFrom changesOf keyCountFault among anyTwice listsFault givenFault firstFault valueFault actionFault basketLentFault keysFault insertsBy removesBy sumOver basketFault kindBy valueBy recordsFor oldIn itemsFor indexAfter basketMade basketDone basketBy basketResult basketCalled takeSlot takeAll takenSlots slotBefore beforeIn linkBy linkItem linkAll basketIndex basketStores numberFor choiceOf mayTakeAfter anyIn answerTo answersTo item eightyBytes basketBytes basketGiven threeItems twoItems fourSlots tearing openingCut twoCuts emptyFour afterTearing tornHistory tornAnswers tornImage voidCount small oneHead recovering requestLeaves
+unfolding word setBytes setWord filter slotNumbers anyOf tabulate greatest topmost lowest atLowest count say orElse unlessRefused made contentBy contentOf content top topOf markFault kindFault kindLimit bitsFault wordFault tailFault faultOf recordFault headerWord headerFault imageFault indexFault lentFault lineTop versionFault keyFrom keyOf valuePlace slotWord valueWord valueByte valueFront valueOf slotsOf paired slotTop verdictOf lineVerdict isValid insert sorted openingStore openingStores wordNumbers values zipped played less standing marked placedWord bodyA bodyB run lineStores recordStores said hasVersion sharers complete versionIfComplete highestComplete isVoid settled rankOf ordered chainOf reuseOf clashes sharersFault isRecord isBroken keyIn weight nextVersion decider decidingPut live spare liveCount brokenCount brokenLimit manyBroken allLive validVersion highestValid isRemove older mayTake firstOf lastOf after nextIn chained takeFirst linkNew append insertAt replaceAt removeAt keyFault isFound setNext setStart setLast link withTaken atEnd takeWalk takeFrom endsFault linkFault fewFault reuseFault roomFault walk search chainFault takingOf voidSlots openingsOf storesIn noState settledFault slotsFault slotsNamed recoverFault recoverSlot chainsOf placeOf recoveredIndex recoveredState recovered recoverResult unchanged storeFault changed writeLentFault insertsOf writeLaterFault writeFaultBy takingBy writeDone writeUnless writeResultBy formatted lengthFault getLaterFault getFault getDone getResult calledChange calledGet called calledBy worldAfter afterRound afterRounds openedWorld restarted imageCut stepBy takeableIf highIn itemKey itemAt itemValue changeAt changesFrom changesOf keyCountFault among anyTwice listsFault givenFault firstFault valueFault actionFault basketLentFault keysFault insertsBy removesBy sumOver basketFaultBy kindBy valueBy recordsFor oldIn itemsFor indexAfter basketMade basketDone basketUnless basketResultBy choiceBy basketCalledBy ownTaking mayTakeBelow namedVersion takeSlot takeAll takenSlots slotBefore beforeIn linkBy linkItem linkAll basketIndex basketStores numberFor choiceOf mayTakeAfter anyIn answerTo answersTo item eightyBytes basketBytes basketGiven threeItems twoItems fourSlots tearing openingCut twoCuts emptyFour afterTearing tornHistory tornAnswers tornImage voidCount small oneHead recovering requestLeaves
 torn-computed = (refl, refl, refl, refl, refl)
 
 -- THE ANSWERS
@@ -122,9 +123,9 @@ two-typed : All TypedItem twoItems
 unfolding twoItems
 two-typed = one-more (item-typed _ 8 (omega arith)) (one-more (item-typed _ 7 (omega arith)) (item-many 6 _ (item-typed _ 0 (omega arith))))
 
-basket-typed : (count : ℕ) (items : List BasketItem) → All TypedItem items → TypedRequest 1 (a-basket (basketGiven count items))
+basket-typed : (own : Bool) (count : ℕ) (items : List BasketItem) → All TypedItem items → TypedRequest 1 (a-basket own (basketGiven count items))
 unfolding basketGiven
-basket-typed count items typed = call-laws 1 layout-1 .changes-typed items basketBytes typed basket-bytes count
+basket-typed own count items typed = call-laws 1 layout-1 .changes-typed items basketBytes typed basket-bytes count
 
 insert-typed : Typed 1 (write Insert 8 (small 5))
 insert-typed = write-typed {key = 8} (omega arith) (small-bytes 5 (omega arith))
@@ -132,9 +133,9 @@ insert-typed = write-typed {key = 8} (omega arith) (small-bytes 5 (omega arith))
 torn-fits : All (FitsBy (TypedRequest 1) 4) tornHistory
 unfolding tornHistory afterTearing
 torn-fits =
-    one-more (struck-fits (basket-typed 3 threeItems three-typed) cuts-fit)
+    one-more (struck-fits (basket-typed true 3 threeItems three-typed) cuts-fit)
     (one-more (done-fits get-typed) (one-more (done-fits insert-typed)
-    (one-more (done-fits (basket-typed 2 twoItems two-typed)) (one-more (done-fits get-typed) (one-more (done-fits get-typed) none-left)))))
+    (one-more (done-fits (basket-typed false 2 twoItems two-typed)) (one-more (done-fits get-typed) (one-more (done-fits get-typed) none-left)))))
 
 -- AN INSTANCE of the cut rule
 pub torn-holds : AllRight 1 emptyFour (slotsMap 1 (formatted 1 640)) tornHistory

@@ -33,11 +33,11 @@ use Rattle.index.specs.Chained.{firstOf, lastOf, after, nextIn, chained}
 use Rattle.index.specs.Change.{takeFirst, linkNew, append, keyFault, isFound, insertAt, replaceAt, removeAt}
 use Rattle.index.specs.Walk.{walk, search, chainFault}
 use Rattle.index.specs.Taking.{withTaken, atEnd, takeWalk, takeFrom, endsFault, linkFault, fewFault, reuseFault, roomFault}
-use Rattle.taking.specs.Taking.{takingOf}
+use Rattle.taking.specs.Taking.{takingOf, takingBy}
 use Rattle.recovery.specs.Recover.{slotsFault, recoverFault, chainsOf, placeOf, recoveredIndex, recoveredState, recovered, recoverResult, noState, settledFault, slotsNamed, recoverSlot}
 use Rattle.recovery.specs.Opening.{voidSlots, openingsOf, storesIn}
 use Rattle.calls.specs.Format.{formatted}
-use Rattle.calls.specs.Change.{unchanged, changed, writeLentFault, writeLaterFault, writeFault, writeDone, writeBy, writeResult, removeLaterFault, removeFault, removeDone, removeBy, removeResult, storeFault, insertsOf}
+use Rattle.calls.specs.Change.{unchanged, changed, writeLentFault, writeLaterFault, writeFault, writeDone, writeUnless, writeResult, removeLaterFault, removeFault, removeDone, removeUnless, removeResult, storeFault, insertsOf, removeFaultBy, removeResultBy, writeFaultBy, writeResultBy}
 use Rattle.calls.specs.Get.{lengthFault, getLaterFault, getFault, getDone, getResult}
 use Rattle.calls.specs.Locate.{locateFault, locateDone, locateResult}
 use Rattle.plainmap.specs.World.{write, calledChange, calledGet, called, worldAfter, calledLocate, afterRound, afterRounds, openedWorld, restarted}
@@ -54,7 +54,7 @@ session-computed : (answers 1 (fresh 1) session ≡ expected) × (outputs 1 (fre
     × (recoverFault 1 (formatted 1 384) (length oneHead) (length twoSlots) ≡ 0) × (slotsIn (formatted 1 384) ≡ 2)
     × (answers 2 (fresh 2) secondSession ≡ expected) × (outputs 2 (fresh 2) secondSession ≡ expectedOutputs)
     × (recoverFault 2 (formatted 2 384) (length oneHead) (length twoSlots) ≡ 0) × (slotsIn (formatted 2 384) ≡ 2)
-unfolding word setBytes setWord filter slotNumbers anyOf tabulate greatest topmost lowest atLowest count say orElse unlessRefused made contentBy contentOf content top topOf markFault kindFault kindLimit bitsFault wordFault tailFault faultOf recordFault headerWord headerFault imageFault indexFault lentFault lineTop versionFault keyFrom keyOf valuePlace slotWord valueWord valueByte valueFront valueOf slotsOf paired slotTop verdictOf lineVerdict isValid insert sorted openingStore openingStores wordNumbers values zipped played less standing marked placedWord bodyA bodyB run lineStores recordStores said hasVersion sharers complete versionIfComplete highestComplete isVoid settled rankOf ordered chainOf reuseOf clashes sharersFault isRecord isBroken keyIn weight nextVersion decider decidingPut live spare liveCount brokenCount brokenLimit manyBroken allLive validVersion highestValid isRemove older mayTake firstOf lastOf after nextIn chained takeFirst linkNew append insertAt replaceAt removeAt keyFault isFound setNext setStart setLast link withTaken atEnd takeWalk takeFrom endsFault linkFault fewFault reuseFault roomFault walk search chainFault takingOf voidSlots openingsOf storesIn noState settledFault slotsFault slotsNamed recoverFault recoverSlot chainsOf placeOf recoveredIndex recoveredState recovered recoverResult unchanged storeFault changed writeLentFault insertsOf writeLaterFault writeFault writeDone writeBy writeResult removeLaterFault removeFault removeDone removeBy removeResult formatted lengthFault getLaterFault getFault getDone getResult locateFault locateDone locateResult calledChange calledGet calledLocate called worldAfter afterRound afterRounds openedWorld restarted imageCut stepBy answers outputs small oneHead twoSlots recovering cutAt fresh sessionWith expected expectedOutputs takeableIf
+unfolding word setBytes setWord filter slotNumbers anyOf tabulate greatest topmost lowest atLowest count say orElse unlessRefused made contentBy contentOf content top topOf markFault kindFault kindLimit bitsFault wordFault tailFault faultOf recordFault headerWord headerFault imageFault indexFault lentFault lineTop versionFault keyFrom keyOf valuePlace slotWord valueWord valueByte valueFront valueOf slotsOf paired slotTop verdictOf lineVerdict isValid insert sorted openingStore openingStores wordNumbers values zipped played less standing marked placedWord bodyA bodyB run lineStores recordStores said hasVersion sharers complete versionIfComplete highestComplete isVoid settled rankOf ordered chainOf reuseOf clashes sharersFault isRecord isBroken keyIn weight nextVersion decider decidingPut live spare liveCount brokenCount brokenLimit manyBroken allLive validVersion highestValid isRemove older mayTake firstOf lastOf after nextIn chained takeFirst linkNew append insertAt replaceAt removeAt keyFault isFound setNext setStart setLast link withTaken atEnd takeWalk takeFrom endsFault linkFault fewFault reuseFault roomFault walk search chainFault takingOf voidSlots openingsOf storesIn noState settledFault slotsFault slotsNamed recoverFault recoverSlot chainsOf placeOf recoveredIndex recoveredState recovered recoverResult unchanged storeFault changed writeLentFault insertsOf writeLaterFault writeFaultBy takingBy writeDone writeUnless writeResultBy removeLaterFault removeFaultBy removeDone removeUnless removeResultBy formatted lengthFault getLaterFault getFault getDone getResult locateFault locateDone locateResult calledChange calledGet calledLocate called worldAfter afterRound afterRounds openedWorld restarted imageCut stepBy answers outputs small oneHead twoSlots recovering cutAt fresh sessionWith expected expectedOutputs takeableIf
 session-computed = (refl, refl, refl, refl, refl, refl, refl, refl)
 
 pub session-answers : answers 1 (fresh 1) session ≡ expected

@@ -1,4 +1,3 @@
 pub mod Examples
 pub mod Trial
-pub mod Book
 pub mod TornBasket

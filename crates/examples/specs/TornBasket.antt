@@ -1,6 +1,6 @@
 -- A history on four slots: one power cut tears a basket, a second one strikes among recovery's opening stores, and other calls follow. Document 02, A.7: "with
 -- fewer valid records than it says, all of them are void"; "these are played and fenced before any other call, and a cut among them is covered".
-use mathlib.Core.Bool.{cond}
+use mathlib.Core.Bool.{true, false, cond}
 use mathlib.Core.List.{List, [], _∷_, _++_}
 use Prim.Native.Nat.{ℕ}
 use lib.Dec.{eqb}
@@ -14,10 +14,10 @@ use Rattle.index.specs.declared.Mode.the-variants.{Insert as InsertMode}
 use Rattle.calls.specs.Format.{formatted}
 use Rattle.calls.specs.Basket.{changesOf}
 use Rattle.calls.specs.declared.BasketItem.{BasketItem}
-use Rattle.plainmap.specs.World.{World, write, get, called, Round, afterRound, Restart, restarted}
-use Rattle.plainmap.specs.Baskets.{Basket, basketCalled}
+use Rattle.plainmap.specs.World.{World, write, get, calledBy, Round, afterRound, Restart, restarted}
+use Rattle.plainmap.specs.Baskets.{Basket, basketCalledBy}
 use Rattle.face.specs.Event.{Cut, Event, done, struck, imageCut, requestOf}
-use Rattle.book.specs.Steps.{BookAnswer, taken, already, declined, booked}
+use Rattle.book.specs.Steps.{BookAnswer, taken, already, declined, bookedBy}
 use Rattle.cutrule.specs.Request.{Request, a-call, a-basket, a-step, requestLeaves, worldAfterRequest}
 use Rattle.examples.specs.Trial.{small, oneHead, recovering}
 
@@ -29,9 +29,9 @@ bookAnswerAs (declined number) = refused number
 
 -- what a request answers
 unfoldable pub answerTo : World → Request → Answer
-answerTo w (a-call call) = called 1 w call .answer
-answerTo w (a-basket b) = basketCalled 1 w b .answer
-answerTo w (a-step step) = bookAnswerAs (booked 1 w step .answer)
+answerTo w (a-call own call) = calledBy own 1 w call .answer
+answerTo w (a-basket own b) = basketCalledBy own 1 w b .answer
+answerTo w (a-step own step) = bookAnswerAs (bookedBy own 1 w step .answer)
 
 -- what each request of a list answers
 unfoldable pub answersTo : World → List (Event Request) → List Answer
@@ -85,15 +85,16 @@ twoCuts = record { counts = tearing; restart = record { rounds = openingCut ∷ 
 unfoldable pub emptyFour : World
 emptyFour = restarted 1 (formatted 1 640) (recovering fourSlots)
 
--- key 7 is asked for; key 8 is inserted; the basket of two keys is done; keys 7 and 9 are asked for
+-- key 7 is asked for; key 8 is inserted, by the call for the owner of the index; the basket of two keys is done, by the call for any index; keys 7 and 9 are
+-- asked for
 unfoldable pub afterTearing : List (Event Request)
 afterTearing =
-    done (a-call (get 7 (replicate 8 0))) ∷ done (a-call (write InsertMode 8 (small 5))) ∷ done (a-basket (basketGiven 2 twoItems))
-    ∷ done (a-call (get 7 (replicate 8 0))) ∷ done (a-call (get 9 (replicate 8 0))) ∷ []
+    done (a-call false (get 7 (replicate 8 0))) ∷ done (a-call true (write InsertMode 8 (small 5))) ∷ done (a-basket false (basketGiven 2 twoItems))
+    ∷ done (a-call false (get 7 (replicate 8 0))) ∷ done (a-call false (get 9 (replicate 8 0))) ∷ []
 
--- all of it after the basket of three keys is torn
+-- all of it after the basket of three keys is torn, a call for the owner
 unfoldable pub tornHistory : List (Event Request)
-tornHistory = struck (a-basket (basketGiven 3 threeItems)) twoCuts ∷ afterTearing
+tornHistory = struck (a-basket true (basketGiven 3 threeItems)) twoCuts ∷ afterTearing
 
 -- the torn basket answered version 1 and slots 1, 2 and 3, and nothing of it is there; the insert takes slot 1 and version 2; the basket takes slots 2 and 3
 -- and version 3
@@ -104,7 +105,7 @@ tornAnswers = gives (1 ∷ 1 ∷ 2 ∷ 3 ∷ []) ∷ absent ∷ gives (1 ∷ 2 �
 
 -- the image that the first cut leaves
 unfoldable pub tornImage : List ℕ
-tornImage = imageCut emptyFour (requestLeaves 1 emptyFour (a-basket (basketGiven 3 threeItems))) twoCuts
+tornImage = imageCut emptyFour (requestLeaves 1 emptyFour (a-basket true (basketGiven 3 threeItems))) twoCuts
 
 -- how many stores recovery hands out, one for each void record
 unfoldable pub voidCount : (image : List ℕ) → ℕ

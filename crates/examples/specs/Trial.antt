@@ -1,5 +1,5 @@
 -- Document 01's trial session as a list of events, with the answers that it gives there; in layout 2 they are the same.
-use mathlib.Core.Bool.{cond}
+use mathlib.Core.Bool.{false, cond}
 use mathlib.Core.List.{List, [], _∷_}
 use Prim.Native.Nat.{ℕ, _%_}
 use lib.Dec.{eqb}
@@ -63,8 +63,8 @@ secondSession = sessionWith (keyWith 7 1) (keyWith 7 2)
 -- the same as requests of the cut rule
 unfoldable pub asRequests : List (Event Call) → List (Event Request)
 asRequests [] = []
-asRequests (done call ∷ events) = done (a-call call) ∷ asRequests events
-asRequests (struck call cut ∷ events) = struck (a-call call) cut ∷ asRequests events
+asRequests (done call ∷ events) = done (a-call false call) ∷ asRequests events
+asRequests (struck call cut ∷ events) = struck (a-call false call) cut ∷ asRequests events
 
 -- "ok 1 1 / no 12 / ok 2 2 / cut 8 3 / ok 1 3 / found 101 / ok 1 4 / absent / ok 2 5", with 28 "in place of 12 .. in the trial too" (document 02, A.7): `c 8 3` is no
 -- call, and for `found` a get answers the length

@@ -4,7 +4,7 @@ use Prim.Native.Nat.{ℕ}
 use lib.ListN.{getD}
 use Rattle.face.specs.Set.{State}
 
--- first, last, live count and the slot that the last call took stand in one lent slice, the next version in another
+-- first, last, live count and the newest slot stand in one lent slice, the next version in another
 unfoldable pub stateFrom : (state version : List ℕ) → State
 stateFrom state version =
     record {

@@ -1,8 +1,5 @@
-// What the exported calls ask and answer by lent numbers, for both layouts.
-pub mod answer;
-pub mod basket;
-pub mod count;
+// The state, refusals, plays and formats by lent numbers, for both layouts.
 pub mod format;
 pub mod play;
-pub mod recover;
+pub mod refusal;
 pub mod state;

@@ -14,7 +14,7 @@ use Rattle.index.specs.declared.Found.{Found}
 use Rattle.index.specs.declared.Found.the-variants.{At, Missing, BadChain}
 use Rattle.index.proofs.CallWrites.{new-heads, held-heads, remove-heads}
 use Rattle.recovery.specs.Recover.{Result, recoveredIndex, recovered, recoverResult}
-use Rattle.calls.specs.Change.{ChangeResult, changed, unchanged, writeDone, writeBy, writeResult, removeDone, removeBy, removeResult}
+use Rattle.calls.specs.Change.{ChangeResult, changed, unchanged, writeDone, writeUnless, writeResult, removeDone, removeUnless, removeResult, removeResultBy, writeResultBy}
 use Rattle.plainmap.specs.World.{World, Call, write, remove, get, locate, calledChange, calledGet, calledLocate, called, worldAfter, recoveredWorld}
 
 module _ (l : ℕ) (image heads next : List ℕ) (s : State) (key : ℕ) where
@@ -31,7 +31,7 @@ module _ (l : ℕ) (image heads next : List ℕ) (s : State) (key : ℕ) where
   removed-heads BadChain = refl
 
 pub called-heads : (l : ℕ) (w : World) (call : Call) → length (called l w call .heads) ≡ length (w .heads)
-unfolding called calledChange calledGet calledLocate writeResult writeBy removeResult removeBy unchanged
+unfolding called calledChange calledGet calledLocate writeResultBy writeUnless removeResultBy removeUnless unchanged
 called-heads l w (write mode key value) =
     by-refusal (λ (c : ChangeResult). length (c .heads) ≡ length (w .heads)) _ _ _ (write-heads l (w .image) (w .heads) (w .next) (w .state) key value _) refl
 called-heads l w (remove key) =

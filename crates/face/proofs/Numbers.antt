@@ -44,11 +44,11 @@ use Rattle.index.specs.declared.Mode.the-variants.{Insert, Replace}
 use Rattle.index.specs.declared.State.{State}
 use Rattle.index.specs.declared.Found.{Found}
 use Rattle.index.specs.declared.Found.the-variants.{At, Missing, BadChain}
-use Rattle.taking.specs.Taking.{choiceOf}
+use Rattle.taking.specs.Taking.{choiceOf, choiceBy, takingBy}
 use Rattle.recovery.specs.Recover.{Result, settledFault, slotsFault, slotsNamed, recovered, recoverFault, recoverSlot, refusedResult, recoverResult}
 use Rattle.calls.specs.Format.{FormatResult, layoutFault, formatFault, formatResult}
-use Rattle.calls.specs.Change.{ChangeResult, unchanged, changed, writeLentFault, writeLaterFault, writeFault, writeDone, writeBy, writeResult, storeFault, removeLaterFault, removeFault, removeDone, removeBy, removeResult}
-use Rattle.calls.specs.Basket.{KeyChange, keyCountFault, listsFault, givenFault, firstFault, valueFault, actionFault, basketLentFault, keysFault, basketFault, basketMade, basketDone, basketBy, basketResult}
+use Rattle.calls.specs.Change.{ChangeResult, unchanged, changed, writeLentFault, writeLaterFault, writeFault, writeDone, writeUnless, writeResult, storeFault, removeLaterFault, removeFault, removeDone, removeUnless, removeResult, removeFaultBy, removeResultBy, writeFaultBy, writeResultBy}
+use Rattle.calls.specs.Basket.{KeyChange, keyCountFault, listsFault, givenFault, firstFault, valueFault, actionFault, basketLentFault, keysFault, basketFault, basketMade, basketDone, basketUnless, basketResult, basketFaultBy, basketResultBy}
 use Rattle.calls.specs.Get.{GetResult, lengthFault, getLaterFault, getFault, getDone, getResult}
 use Rattle.face.specs.Numbers.{AnswersAsAsked, formatRefusals, noSlotRefusals, slotRefusals, recoverRefusals, Names, a-slot, no-slot, writeRefusals, storingRefusals, basketRefusals, getRefusals, roomyGetRefusals, locateRefusals, cutCountRefusals, playRefusals, playListRefusals, CallNumbers}
 use Rattle.calls.specs.Locate.{locateFault, locateDone, locateResult}
@@ -259,14 +259,14 @@ module _ (l : ℕ) (image heads next : List ℕ) (s : State) (key : ℕ) where
   write-due : (ks : List ℕ) → isOne 1 ks ≡ true → isOne 2 ks ≡ true → isOne 3 ks ≡ true → isOne 4 ks ≡ true → isOne 11 ks ≡ true
       → isOne 28 ks ≡ true → isOne 9 ks ≡ true → (mode : Mode) (size : ℕ) → ZeroOrOneOf ks (say (ltb (limit l) size) 10 0)
       → ZeroOrOneOf ks (keyFault mode (isFound (search l image heads next key))) → ZeroOrOneOf ks (writeFault l image heads next s mode key size)
-  unfolding writeFault writeLentFault writeLaterFault
+  unfolding writeFaultBy takingBy writeLentFault writeLaterFault
   write-due ks a b c d e r g mode size ten asked =
       else-due ks _ _ (else-due ks _ _ (lent-due ks a b c d l image (length heads) (length next)) ten)
       (else-due ks _ _ (chain-due ks e _) (else-due ks _ _ asked (store-due ks e r g _ _ s _ _)))
 
   write-by : (ks : List ℕ) → isOne 11 ks ≡ true → (mode : Mode) (value : List ℕ) → ZeroOrOneOf ks (writeFault l image heads next s mode key (length value))
       → Numbered ks (writeResult l image heads next s mode key value .answer)
-  unfolding writeResult writeBy unchanged
+  unfolding writeResultBy writeUnless unchanged
   write-by ks e mode value d =
       numbered ks (λ (r : ChangeResult). r .answer) (λ fault. unchanged (refused fault) s heads next) (λ k. refl) _ d _ (write-done ks e value _ _ _)
 
@@ -316,7 +316,7 @@ module _ (l : ℕ) (image heads next : List ℕ) (s : State) (key : ℕ) where
 
   -- REMOVE: 1, 2, 3, 4, 11, 28, 9
   pub remove-numbered : Numbered storingRefusals (removeResult l image heads next s key .answer)
-  unfolding removeResult removeBy removeFault unchanged
+  unfolding removeResultBy removeUnless removeFaultBy takingBy unchanged
   remove-numbered =
       numbered storingRefusals (λ (r : ChangeResult). r .answer) (λ fault. unchanged (refused fault) s heads next) (λ k. refl) _
       (else-due storingRefusals _ _ (lent-due storingRefusals refl refl refl refl l image (length heads) (length next)) (remove-due storingRefusals refl refl refl _ _ _)) _ (remove-done storingRefusals refl _ _ _)
@@ -402,7 +402,7 @@ action-due Removing held = say-due basketRefusals _ 21 0 (one-of 21 basketRefusa
 
 module _ (l : ℕ) (image heads next : List ℕ) (s : State) (changes : List KeyChange) (at words : ℕ) where
   basket-due : ZeroOrOneOf basketRefusals (basketFault l image heads next s changes at words)
-  unfolding basketFault basketLentFault keysFault
+  unfolding basketFaultBy takingBy basketLentFault keysFault
   basket-due =
       else-due basketRefusals _ _ (given-due changes at words)
       (else-due basketRefusals _ _
@@ -415,7 +415,7 @@ module _ (l : ℕ) (image heads next : List ℕ) (s : State) (changes : List Key
 
   -- A BASKET: 26, 27, 13, 1, 2, 3, 4, 10, 11, 20 or 21, 28, 9
   pub basket-numbered : Numbered basketRefusals (basketResult l image heads next s changes at words .answer)
-  unfolding basketResult basketBy basketDone basketMade unchanged
+  unfolding basketResultBy choiceBy basketUnless basketDone basketMade unchanged
   basket-numbered =
       numbered basketRefusals (λ (r : ChangeResult). r .answer) (λ fault. unchanged (refused fault) s heads next) (λ k. refl) _ basket-due _
       (done (choiceOf l image next (slotsIn image) (s .first) (length changes)))

@@ -17,8 +17,9 @@ use Rattle.recovery.specs.Recover.{recoverFault, recoverSlot, refusedResult, re
 use Rattle.counting.specs.Count.{CountResult, countSays, countResult}
 use Rattle.cutcount.specs.CutCount.{acceptanceFault, cutCountFault, cutCountResult}
 use Rattle.calls.specs.Compared.{comparedAfter, keyCompared}
-use Rattle.calls.specs.Change.{ChangeResult, unchanged, writeLentFault, writeFault, writeBy, writeResult, writeCompared, removeFault, removeBy, removeResult}
-use Rattle.calls.specs.Basket.{KeyChange, givenFault, basketLentFault, basketFault, basketBy, basketResult, eightSlots, atFront, leftWith, leftInList}
+use Rattle.taking.specs.Taking.{choiceBy, takingBy}
+use Rattle.calls.specs.Change.{ChangeResult, unchanged, writeLentFault, writeFault, writeUnless, writeResult, writeCompared, removeFault, removeUnless, removeResult, removeFaultBy, removeResultBy, writeFaultBy, writeResultBy}
+use Rattle.calls.specs.Basket.{KeyChange, givenFault, basketLentFault, basketFault, basketUnless, basketResult, eightSlots, atFront, leftWith, leftInList, basketFaultBy, basketResultBy}
 use Rattle.calls.specs.Get.{getFault, getResult}
 use Rattle.calls.specs.Locate.{locateFault, locateResult}
 use Rattle.plainmap.specs.World.{World, Call, write, remove, get, locate, outOf, Called, calledChange, calledGet, calledLocate, called, callCompared}
@@ -61,11 +62,11 @@ module _ (l other : ℕ) (apart : other ≡ l → ⊥) (w : World) (h : HeaderOf
   refusedChange = unchanged (refused 3) (w .state) (w .heads) (w .next)
 
   write-3 : (mode : Mode) (key : ℕ) (value : List ℕ) → writeResult l (w .image) (w .heads) (w .next) (w .state) mode key value ≡ refusedChange
-  unfolding writeResult writeBy writeFault writeLentFault
+  unfolding writeResultBy writeUnless writeFaultBy takingBy writeLentFault
   write-3 mode key value = left-3 _ (λ k. unchanged (refused k) (w .state) (w .heads) (w .next)) _ (first-3 _ _ (first-3 _ _ (lent-3 _ _)))
 
   remove-3 : (key : ℕ) → removeResult l (w .image) (w .heads) (w .next) (w .state) key ≡ refusedChange
-  unfolding removeResult removeBy removeFault
+  unfolding removeResultBy removeUnless removeFaultBy takingBy
   remove-3 key = left-3 _ (λ k. unchanged (refused k) (w .state) (w .heads) (w .next)) _ (first-3 _ _ (lent-3 _ _))
 
   get-3 : (key : ℕ) (out : List ℕ) → getResult l (w .image) (w .heads) (w .next) key out ≡ record { answer = refused 3; out = out }
@@ -105,7 +106,7 @@ module _ (l other : ℕ) (apart : other ≡ l → ⊥) (w : World) (h : HeaderOf
 
   basket-3 : (changes : List KeyChange) (at words : ℕ) → givenFault changes at words ≡ 0
       → basketResult l (w .image) (w .heads) (w .next) (w .state) changes at words ≡ refusedChange
-  unfolding basketResult basketBy basketFault basketLentFault
+  unfolding basketResultBy choiceBy basketUnless basketFaultBy takingBy basketLentFault
   basket-3 changes at words z =
       left-3 _ (λ k. unchanged (refused k) (w .state) (w .heads) (w .next)) _ (orElse-later _ _ z ∙ first-3 _ _ (first-3 _ _ (lent-3 _ _)))
 

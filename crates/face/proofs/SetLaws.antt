@@ -1,5 +1,6 @@
 -- THE LAWS OF THE SET, proved. Assumes nothing.
 use mathlib.Core.Path.{_≡_, refl, sym, ap, _∙_, subst}
+use mathlib.Core.Bool.{false}
 use mathlib.Core.Option.{none}
 use mathlib.Core.List.{List, []}
 use Prim.Native.Nat.{ℕ, _+_, _*_, _^_, _≤_, _<_}
@@ -16,6 +17,8 @@ use Rattle.stores.specs.Store.{Store, played, standing}
 use Rattle.stores.specs.Play.{wordNumbers, values, playEnd, playFault, playResult, playing, halfCounts}
 use Rattle.stores.proofs.Bytes.{played-length}
 use Rattle.recovery.specs.Recover.{recoverFault}
+use Rattle.calls.specs.Change.{writeResult, removeResult}
+use Rattle.calls.specs.Basket.{basketResult}
 use Rattle.calls.specs.Format.{formatted}
 use Rattle.calls.proofs.SingleRefusal.{write-refusal, remove-refusal}
 use Rattle.calls.proofs.BasketRefusal.{basket-refusal}
@@ -28,6 +31,7 @@ use Rattle.plainmap.specs.Sound.{Agrees}
 use Rattle.plainmap.proofs.AcceptedImages.{accepted-recovers, recovers-accepted, recovers-index, accepted-slots, accepted-long}
 use Rattle.plainmap.proofs.BasketItems.{changes-typed}
 use Rattle.plainmap.proofs.CallLists.{agrees-right, agrees-reads, agrees-with, agrees-list, opened-agrees, restarted-agrees, formatted-empty, formatted-fine}
+use Rattle.plainmap.proofs.OwnCalls.{either-called, either-basket-called}
 use Rattle.plainmap.proofs.Playing.{record-passes, record-cut, record-counted, record-whole, playing-none}
 use Rattle.face.specs.Event.{Cut, Event, done, struck, leaving, imageCut, stepBy, Fits, done-fits, struck-fits}
 use Rattle.face.specs.Plays.{ListPlayLeaves, PlayLeaves, playCount, PlaysSingle}
@@ -149,9 +153,9 @@ module _ (l : ℕ) (lay : Layout l) where
       record {
         answers-state = state-answered l;
         few-values = few-given l;
-        write-refusal = write-refusal l;
-        remove-refusal = remove-refusal l;
-        basket-refusal = basket-refusal l;
+        write-refusal = write-refusal false l;
+        remove-refusal = remove-refusal false l;
+        basket-refusal = basket-refusal false l;
         changes-typed = changes-typed l lay;
         hands-out = λ w call writes given e lent. hands-out l w lent call writes given e;
         accepts-any = λ image heads next heads′ next′ z e. accepted-recovers l image heads′ next′ (recovers-accepted l image heads next z) e;
@@ -185,6 +189,8 @@ module _ (l : ℕ) (lay : Layout l) where
         plays-event = event-plays;
         accepts = λ w m g heads next s. accepted-recovers l (w .image) (length heads) (length next) (g .accepted) s;
         keeps-slots = event-slots l lay;
+        either-call = either-called l lay;
+        either-basket = either-basket-called l lay;
         answers-basket = basket-answers l lay;
         keeps-basket = basket-agrees l lay;
         keeps-basket-along = basket-along l lay;

@@ -19,7 +19,7 @@ use Rattle.stores.specs.Written.{run, lineStores, recordStores}
 use Rattle.index.specs.Index.{Index}
 use Rattle.index.specs.declared.Found.{Found}
 use Rattle.index.specs.declared.Found.the-variants.{At, Missing, BadChain}
-use Rattle.calls.specs.Change.{ChangeResult, handedOut, changed, unchanged, writeDone, writeBy, writeResult, removeDone, removeBy, removeResult}
+use Rattle.calls.specs.Change.{ChangeResult, handedOut, changed, unchanged, writeDone, writeUnless, writeResult, removeDone, removeUnless, removeResult, removeResultBy, writeResultBy}
 use Rattle.calls.specs.Get.{GetResult, getDone, getResult}
 use Rattle.calls.specs.Locate.{locateDone, locateResult}
 use Rattle.plainmap.specs.World.{World, Call, write, remove, get, locate, Called, calledChange, calledGet, calledLocate, called}
@@ -70,7 +70,7 @@ module _ (l : ℕ) (w : World) where
   locate-few BadChain = omega arith
 
   called-few : (call : Call) → valueCount (called l w call .answer) ≤ 2
-  unfolding called calledChange calledGet calledLocate writeResult writeBy removeResult removeBy getResult locateResult unchanged
+  unfolding called calledChange calledGet calledLocate writeResultBy writeUnless removeResultBy removeUnless getResult locateResult unchanged
   called-few (write mode key value) = by-refusal (λ (c : ChangeResult). valueCount (c .answer) ≤ 2) _ _ _ (write-few key value _ _ _) (omega arith)
   called-few (remove key) = by-refusal (λ (c : ChangeResult). valueCount (c .answer) ≤ 2) _ _ _ (remove-few key _ _ _) (omega arith)
   called-few (get key out) = by-refusal (λ (c : GetResult). valueCount (c .answer) ≤ 2) _ _ _ (get-few out _) (omega arith)
@@ -108,7 +108,7 @@ module _ (l : ℕ) (w : World) (lent : List Store) where
 
   pub hands-out : (call : Call) → Writes call → (given : List ℕ) → called l w call .answer ≡ gives given
       → handedOut (called l w call .stores) lent ≡ called l w call .stores
-  unfolding HandsOut called calledChange writeResult writeBy removeResult removeBy
+  unfolding HandsOut called calledChange writeResultBy writeUnless removeResultBy removeUnless
   hands-out (write mode key value) write-writes = by-refusal HandsOut _ _ _ (write-out key value _ _ _) (refused-out _)
   hands-out (remove key) remove-writes = by-refusal HandsOut _ _ _ (remove-out key _ _ _) (refused-out _)
 

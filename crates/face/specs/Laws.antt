@@ -1,5 +1,6 @@
 -- THE FACE OF THE SET: the laws by which a layer above knows it. What holds of the calls whatever the set is in CallLaws and in Numbers.
 use mathlib.Core.Path.{_≡_}
+use mathlib.Core.Bool.{Bool}
 use mathlib.Core.Option.{none}
 use mathlib.Core.List.{List, []}
 use Prim.Native.Nat.{ℕ, _+_, _*_, _≤_}
@@ -16,13 +17,13 @@ use Rattle.calls.specs.Change.{handedOut, writeFault, writeResult, removeFault,
 use Rattle.calls.specs.Basket.{KeyChange, changesOf, basketFault, basketResult}
 use Rattle.calls.specs.declared.BasketItem.{BasketItem}
 use Rattle.calls.specs.Format.{formatted}
-use Rattle.plainmap.specs.World.{World, Call, write, remove, called, Restart, openedWorld, restarted, recoveredWorld}
+use Rattle.plainmap.specs.World.{World, Call, write, remove, called, Restart, openedWorld, restarted, recoveredWorld, calledBy}
 use Rattle.index.specs.declared.Mode.{Mode}
 use Rattle.index.specs.declared.State.{State}
 use Rattle.plainmap.specs.Plain.{PlainMap}
 use Rattle.plainmap.specs.Accepted.{RightSize}
 use Rattle.plainmap.specs.Claims.{Typed, slotsMap, Right, Reads}
-use Rattle.plainmap.specs.Baskets.{Basket, BasketRight, TypedChange, TypedItem}
+use Rattle.plainmap.specs.Baskets.{Basket, BasketRight, TypedChange, TypedItem, basketCalled, basketCalledBy}
 use Rattle.face.specs.Event.{Cut, Event, struck, leaving, imageCut, step, mapAfterEvent, RestartFits, FitsBy, Fits, TypedBasket, basketLeaves, basketStep, mapAfterBasket}
 use Rattle.face.specs.Plays.{PlaysSingle, PlaysList}
 use Rattle.face.specs.Recovers.{Recovers, RecoversAlong}
@@ -122,6 +123,11 @@ pub record SetLaws (l : ℕ) (Inv : World → PlainMap → Type 0) : Type 0 wher
   -- an event keeps the number of slots
   pub keeps-slots : (w : World) (m : PlainMap) → Inv w m → (event : Event Call) → Fits l (slotsIn (w .image)) event
       → slotsIn (step l w event .image) ≡ slotsIn (w .image)
+  -- ---- calls for the owner of an index, which are no calls of document 01
+
+  -- they are the calls for any index: answer, stores, index and state
+  pub either-call : (w : World) (m : PlainMap) → Inv w m → (own : Bool) (call : Call) → calledBy own l w call ≡ called l w call
+  pub either-basket : (w : World) (m : PlainMap) → Inv w m → (own : Bool) (b : Basket) → basketCalledBy own l w b ≡ basketCalled l w b
   -- ---- baskets
 
   -- a basket is refused exactly where the rules refuse it, and otherwise answers its version and slots; the whole call is that of the taking rule

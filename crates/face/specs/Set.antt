@@ -44,7 +44,7 @@ pub use Rattle.calls.specs.declared.LocateAnswer.{LocateAnswer}
 pub use Rattle.calls.specs.Change.{ChangeResult, changeEnd}
 pub use Rattle.index.specs.declared.Mode.{Mode}
 pub use Rattle.index.specs.declared.Mode.the-variants.{Insert, Replace}
-pub use Rattle.calls.specs.Change.{writeResult, writeCompared, removeResult}
+pub use Rattle.calls.specs.Change.{writeResult, writeResultBy, writeCompared, removeResult, removeResultBy}
 unfoldable pub use Rattle.calls.specs.Change.{changeSays, handedOut, leftIn}
 pub use Rattle.calls.specs.Get.{GetResult, getEnd}
 pub use Rattle.calls.specs.Get.{getResult}
@@ -54,7 +54,7 @@ unfoldable pub use Rattle.calls.specs.Locate.{locateSays}
 -- the world between calls, and the plain map
 pub use Rattle.plainmap.specs.World.{World, Call, write, remove, get, locate, Called}
 pub use Rattle.plainmap.specs.World.{outOf}
-unfoldable pub use Rattle.plainmap.specs.World.{calledChange, calledGet, calledLocate, called, finished, worldAfter, recoveredWorld, openedWorld, restarted}
+unfoldable pub use Rattle.plainmap.specs.World.{calledChange, calledBy, calledGet, calledLocate, called, finished, worldAfter, recoveredWorld, openedWorld, restarted}
 pub use Rattle.plainmap.specs.World.{Round, Restart}
 unfoldable pub use Rattle.plainmap.specs.World.{afterRound, afterRounds}
 pub use Rattle.plainmap.specs.Plain.{PlainMap, Update, giving, dropping}
@@ -68,7 +68,7 @@ pub use Rattle.index.specs.declared.Action.{Action}
 pub use Rattle.index.specs.declared.Action.the-variants.{Insert as Inserting, Replace as Replacing, Remove as Removing}
 pub use Rattle.calls.specs.declared.BasketItem.{BasketItem}
 pub use Rattle.calls.specs.declared.BasketAnswer.{BasketAnswer}
-pub use Rattle.calls.specs.Basket.{KeyChange, BasketLeft, basketEnd, changesOf, basketResult}
+pub use Rattle.calls.specs.Basket.{KeyChange, BasketLeft, basketEnd, changesOf, basketResult, basketResultBy}
 unfoldable pub use Rattle.calls.specs.Basket.{basketSays, leftInLists}
 pub use Rattle.plainmap.specs.Baskets.{Basket, BasketRight, TypedItem, TypedChange, basketDue}
-unfoldable pub use Rattle.plainmap.specs.Baskets.{basketCalled, basketUpdates}
+unfoldable pub use Rattle.plainmap.specs.Baskets.{basketCalled, basketCalledBy, basketUpdates}

@@ -8,12 +8,12 @@ ghost use Rattle.calls.specs.Get.{getEnd, lengthFault, getLaterFault, getResult
 ghost use Rattle.calls.specs.inner.Lookup.{FoundInside, GetLookup};
 use calls::GetAnswer;
 use calls::Got;
+use fields_code::fields::layout_number;
+use fields_code::fields::slot_length;
+use fields_code::fields::value_limit;
 use index::Found;
 use index::Lookup;
 use index::Place;
-use layout_code::fields::layout_number;
-use layout_code::fields::slot_length;
-use layout_code::fields::value_limit;
 use layout_code::header::lent_fault;
 use layout_code::header::slot_count;
 use layout_code::value::copy_value;

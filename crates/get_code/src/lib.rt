@@ -1,3 +1,2 @@
-// The public calls that read: get and locate.
+// The public call that reads a value: get.
 pub mod get;
-pub mod locate;

@@ -1,3 +1,2 @@
-// The public calls on an image alone: format and play.
-pub mod format;
+// The public calls that make stores: play and play_list.
 pub mod play;

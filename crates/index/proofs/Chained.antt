@@ -2,7 +2,7 @@
 use mathlib.Core.Path.{_≡_, refl, sym, ap, _∙_}
 use mathlib.Core.Logic.{inl, inr}
 use mathlib.Core.List.{List, [], _∷_}
-use Prim.Native.Nat.{ℕ, zero, suc, _+_, _≤_, _<_}
+use Prim.Native.Nat.{ℕ, zero, suc, _+_, _-_, _≤_, _<_}
 use native.Mathlib.Omega.{arith}
 use lib.ListN.{length, getD}
 use lib.Seq.{getD-set-other, ext-getD}
@@ -29,6 +29,21 @@ unfolding lastOf
 end-last [] = refl
 end-last (x ∷ []) = refl
 end-last (x ∷ y ∷ xs) = end-last (y ∷ xs)
+
+last-get : (x : ℕ) (xs : List ℕ) → getD (x ∷ xs) (length xs) 0 ≡ lastOf (x ∷ xs)
+unfolding lastOf
+last-get x [] = refl
+last-get x (y ∷ xs) = last-get y xs
+
+-- the last entry, by its number
+pub last-at : (xs : List ℕ) → (length xs ≡ 0 → ⊥) → getD xs (length xs - 1) 0 ≡ lastOf xs
+last-at [] h = absurd (h refl)
+last-at (x ∷ xs) h = let e : length (x ∷ xs) - 1 ≡ length xs = omega arith in ap (λ (k : ℕ). getD (x ∷ xs) k 0) e ∙ last-get x xs
+
+pub last-none : (xs : List ℕ) → length xs ≡ 0 → 0 ≡ lastOf xs
+unfolding lastOf
+last-none [] h = refl
+last-none (x ∷ xs) h = absurd (omega arith)
 
 pub run-first : (f : ℕ → ℕ) (a : ℕ) (xs : List ℕ) → Run f a xs 0 → a ≡ firstOf xs
 unfolding firstOf

@@ -15,7 +15,7 @@ pub record Index : Type 0 where
 abbrev pub indexOf : (heads next : List ℕ) → State → Index
 indexOf heads next s = record { heads = heads; next = next; first = s .first; last = s .last }
 
--- the state beside an index, with a live count, a next version and the first slot that the last call took
+-- the state beside an index, with a live count, a next version and the newest slot
 abbrev pub stateOf : Index → (live version newest : ℕ) → State
 stateOf i live version newest =
     record { first = i .first; last = i .last; live = live; version = version; newest = newest }

@@ -1,7 +1,7 @@
 // The index: chains of slots in two lent slices of numbers, and a state beside them.
 
-// The reuse chain's first and last slot, the live count, the first slot that the last call took (0 for none: a hint, by which a call finds out
-// faster which slots it may take), and the next version.
+// The reuse chain's first and last slot, the live count, the newest slot, one of the highest valid version, and the next version. To the calls for any
+// index the newest slot is a hint, by which they find out faster which slots they may take; the calls for the owner of an index go by it.
 pub struct State {
     pub first: u32,
     pub last: u32,

@@ -172,7 +172,7 @@ abbrev svals : Store → List Val
 svals = LL.vals T.the-type T′.the-laws
 
 abbrev pub Call : {M : Type 1} (𝓤 : URA M) (H : Heap 𝓤) (A : Atoms 𝓤) (l : ℕ) → Contract 𝓤
-Call 𝓤 H A l = tripleOf 𝓤 H A g.signature (closing 𝓤 H A g.ended (called 𝓤 l))
+Call 𝓤 H A l = tripleOf 𝓤 H A g.signature (closing 𝓤 H A g.ended (called 𝓤 l 0))
 
 module _ {M : Type 1} (𝓤 : URA M) (H : Heap 𝓤) (A : Atoms 𝓤) (mem : Memory → SProp 𝓤) (run : Routine → Fun 𝓤) where
   abbrev Joined : Contract 𝓤
@@ -338,7 +338,7 @@ module _ (l : ℕ) (callee : Name) {M : Type 1} (𝓤 : URA M) (H : Heap 𝓤) (
         (and-then ! (copied ! 4 refl) (and-then ! (copied ! 25 refl) (and-then ! (copied ! 29 refl) (and-then ! (copied ! 10 refl) (and-then ! (copied ! 12
         refl) (and-then ! (copied ! 14 refl) (and-then ! (copied ! 16 refl) (and-then ! (copied ! 33 refl) (no-more !))))))))) (λ w.
         use1 W (later (some (λ (r : BasketAnswer). ((‵ (flft κ₀ q₀) ⊛ (‵ (flft κ₁ q₁) ⊛ (‵ (flft κ₂ q₂) ⊛ (‵ (flft (α ∷ []) fullShare) ⊛ ‵ ftrue)))) ⊛ ‵
-        (B.the-row .own r (w ∷ []))) ⊛ raw (ensured 𝓤 H A g.ended (called 𝓤 l) (lfts (block locals bs 9) α γ) (args (block locals bs 9) α γ) tt r))))
+        (B.the-row .own r (w ∷ []))) ⊛ raw (ensured 𝓤 H A g.ended (called 𝓤 l 0) (lfts (block locals bs 9) α γ) (args (block locals bs 9) α γ) tt r))))
         (id⊢ 𝓤 _) $ await ! tt $ pick ! (λ r.
         split ! $ move ! (1 ∷ []) $ use1 W (some (λ (zs : Lasts g.ended (lfts (block locals bs 9) α γ) (args (block locals bs 9) α γ)). ‵ (lasts g.ended
         (lfts (block locals bs 9) α γ) (args (block locals bs 9) α γ) zs) ⊛ raw (fact 𝓤 (Result r (zs .1 .1 .1 .1 .1 .1 .1 .0) (zs .1 .0) (zs .1 .1 .0)))))

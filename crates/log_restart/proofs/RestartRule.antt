@@ -28,7 +28,7 @@ use Rattle.log.proofs.Claims.{Keeping, cells-fine, call-right}
 use Rattle.log.proofs.Events.{done-keeps, done-closed-after, cut-keeps, cut-recovery-keeps, recovery-done-keeps, restart-closed}
 use Rattle.log.proofs.LogRule.{Good, closed-by, closed-in, blank-good}
 use Rattle.restart_machine.proofs.defs.Laws.{Inside, Laws}
-use Rattle.restart_machine.proofs.RestartRule.{restart-rule, requests-kept}
+use Rattle.restart_machine.proofs.RestartRule.{restart-rule}
 use Rattle.log_restart.specs.Log.{logLibrary, logPromise, LogRestartRule}
 
 -- ---- an append is torn where not all its stores stand
@@ -114,35 +114,36 @@ module _ (cells : ℕ) (low : 2 ≤ cells) where
       (cut-keeps cells low area log (good .keep) call counts fits (closed-in cells low area log good))
 
   -- THE LAWS of the log as a library of the machine
-  library-laws : Laws logLibrary (logPromise cells) (Keeping cells) (λ area held log. Good cells area log)
+  library-laws : Laws (logLibrary cells) (logPromise cells) (Keeping cells) (λ area held log. Good cells area log)
   unfolding areaCut areaDone
   library-laws =
       record {
         recovers = λ area log keep. keep .shows;
-        recovery-right = λ area log keep lent f. call-right cells low area log keep (a-recovery (lent .at) (lent .value)) recovery-fits;
-        recovery-inside = λ area log keep lent f.
+        recovery-right = λ area log keep lent. call-right cells low area log keep (a-recovery (lent .at) (lent .value)) recovery-fits;
+        recovery-inside = λ area log keep lent.
             words-inside (length area) _ (call-inside area log keep (a-recovery (lent .at) (lent .value)) recovery-fits);
-        recovery-part = λ area log keep lent f counts.
+        recovery-part = λ area log keep lent counts.
             cut-recovery-keeps cells low area log keep (record { at = lent .at; value = lent .value; counts = counts });
-        recovery-done = λ area log keep lent f.
+        recovery-done = λ area log keep lent.
             record {
               keep = recovery-done-keeps cells low area log keep (lent .at) (lent .value);
-              closed = closed-by cells low area _ log keep (restart-closed cells low area log keep (lent .at) (lent .value) (f .0) (f .1));
+              closed =
+                  closed-by cells low area _ log keep (restart-closed cells low area log keep (lent .at) (lent .value) (lent .enough .0) (lent .enough .1));
             };
         use-ready = λ area held log good. good .keep;
-        request-right = λ area held log good call fits. call-right cells low area log (good .keep) call fits;
-        request-inside = λ area held log good call fits. words-inside (length area) _ (call-inside area log (good .keep) call fits);
-        request-part = λ area held log good call fits counts. part-keeps area log good call fits counts;
-        request-done = λ area held log good call fits.
+        request-right = λ area held log good asked. call-right cells low area log (good .keep) (asked .call) (asked .fits);
+        request-inside = λ area held log good asked. words-inside (length area) _ (call-inside area log (good .keep) (asked .call) (asked .fits));
+        request-part = λ area held log good asked counts. part-keeps area log good (asked .call) (asked .fits) counts;
+        request-done = λ area held log good asked.
             record {
-              keep = done-keeps cells low area log (good .keep) call fits (closed-in cells low area log good);
-              closed = closed-by cells low area _ log (good .keep) (done-closed-after cells low area log (good .keep) call fits (closed-in cells low area log good));
+              keep = done-keeps cells low area log (good .keep) (asked .call) (asked .fits) (closed-in cells low area log good);
+              closed =
+                  closed-by cells low area _ log (good .keep)
+                  (done-closed-after cells low area log (good .keep) (asked .call) (asked .fits) (closed-in cells low area log good));
             };
       }
 
 -- THE RESTART RULE OF THE LOG
 pub log-restart-rule : LogRestartRule
-log-restart-rule cells low high d done = (
-  restart-rule (logPromise cells) logLibrary _ _ (library-laws cells low) d done _ [] (blank-good cells low high .keep),
-  requests-kept (logPromise cells) logLibrary _ _ (library-laws cells low) d done _ [] (blank-good cells low high .keep),
-)
+log-restart-rule cells low high d done =
+    restart-rule (logPromise cells) (logLibrary cells) _ _ (library-laws cells low) d done _ [] (blank-good cells low high .keep)

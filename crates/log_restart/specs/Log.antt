@@ -9,35 +9,40 @@ use Rattle.log.specs.Event.{LogCall, a-recovery, logStores, Messages, logDueFau
 use Rattle.log.specs.Rule.{Shows, CallRight}
 use Rattle.restart_machine.specs.Machine.{Library, Duties, Sufficient}
 use Rattle.restart_machine.specs.Rule.{Promise, RestartRule}
-use Rattle.restart_machine.specs.Requests.{RequestsKept}
 
--- the lists for recovery's stores, lent by a start
-pub record LentLists : Type 0 where
+-- the lists for recovery's stores, lent by a start; "with recovery's list long enough": K entries are
+pub record LentLists (cells : ℕ) : Type 0 where
   pub at : List ℕ
   pub value : List ℕ
+  pub enough : (cells ≤ length at) × (cells ≤ length value)
+
+-- a call whose message is bytes
+pub record LogRequest : Type 0 where
+  pub call : LogCall
+  pub fits : FitsCall call
 
 -- the program holds nothing of the log in its own memory
-abbrev pub logLibrary : Library LentLists Unit LogCall
-logLibrary =
+abbrev pub logLibrary : (cells : ℕ) → Library (LentLists cells) Unit LogRequest
+logLibrary cells =
     record {
       recovery = λ area lent. record { stores = logStores area (a-recovery (lent .at) (lent .value)); held = tt };
-      call = λ area held call. record { stores = logStores area call; held = tt };
+      call = λ area held asked. record { stores = logStores area (asked .call); held = tt };
     }
 
--- what the log promises in an area of K cells, by the plain list; "with recovery's list long enough": K entries are
-abbrev pub logPromise : (cells : ℕ) → Promise LentLists Unit LogCall Messages
+-- what the log promises in an area of K cells, by the plain list
+abbrev pub logPromise : (cells : ℕ) → Promise (LentLists cells) Unit LogRequest Messages
 logPromise cells =
     record {
-      after = λ taken log. plainAppend (refuses (logDueFault (taken .image) log (taken .request))) false (taken .request) log;
+      after = λ taken log.
+          let call : LogCall = taken .request .call in
+          plainAppend (refuses (logDueFault (taken .image) log call)) false call log;
       Recovers = Shows cells;
       RecoveryRight = λ area lent log. CallRight area log (a-recovery (lent .at) (lent .value));
-      RequestRight = λ area held log call. CallRight area log call;
-      FitsLent = λ lent. (cells ≤ length (lent .at)) × (cells ≤ length (lent .value));
-      FitsRequest = FitsCall;
+      RequestRight = λ area held log asked. CallRight area log (asked .call);
     }
 
 -- THE RESTART RULE OF THE LOG: from an area of zeros that is durable, for every program that does its duties
 abbrev pub LogRestartRule : Type 0
 LogRestartRule =
     (cells : ℕ) → 2 ≤ cells → cells ≤ 1000 → (d : Duties) → Sufficient d
-    → RestartRule (logPromise cells) d logLibrary (replicate (448 * cells) 0) [] × RequestsKept (logPromise cells) d logLibrary (replicate (448 * cells) 0)
+    → RestartRule (logPromise cells) d (logLibrary cells) (replicate (448 * cells) 0) []

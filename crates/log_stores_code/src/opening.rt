@@ -5,7 +5,7 @@ ghost use lib.ListN.{length};
 ghost use Rattle.words.specs.Word.{word};
 ghost use Rattle.log.specs.Recover.{isAbove, openings};
 ghost use Rattle.log.specs.inner.Needs.{CellCount, Filled, OpeningRoom, OpeningsRoom};
-use layout_code::line::first_word;
+use line_code::line::first_word;
 use words_code::read_word;
 
 // Is the marked line of cell c whole and above this number?

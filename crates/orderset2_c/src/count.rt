@@ -2,7 +2,7 @@
 ghost use mathlib.Core.Path.{_≡_};
 ghost use Rattle.face.specs.Set.{countResult};
 ghost use Rattle.exports.specs.Count.{countLeft, countCall};
-use exports_code::count::hand_out_counted;
+use exports_answer_code::count::hand_out_counted;
 use orderset::count_slots2;
 
 // How many slots of the image are live, hidden puts, remove records, void, broken and empty. Heads and next are rebuilt, as recover does. Returned is 0, or

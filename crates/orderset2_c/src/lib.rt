@@ -3,6 +3,7 @@ pub mod basket;
 pub mod count;
 pub mod get;
 pub mod locate;
+pub mod own;
 pub mod recover;
 pub mod remove;
 pub mod steps;

@@ -2,7 +2,7 @@
 ghost use mathlib.Core.Path.{_≡_};
 ghost use Rattle.face.specs.Set.{keyWith, locateResult, keyCompared};
 ghost use Rattle.exports.specs.Call.{locateLeft, locateCall};
-use exports_code::answer::hand_out_located;
+use exports_answer_code::answer::hand_out_located;
 use orderset::locate2;
 
 // The answer is the slot that holds the key and its version, or absent, each with the slots compared.

@@ -5,6 +5,7 @@ pub mod format;
 pub mod get;
 pub mod line;
 pub mod locate;
+pub mod own;
 pub mod play;
 pub mod recover;
 pub mod remove;

@@ -4,7 +4,7 @@ ghost use Rattle.face.specs.Set.{recoverResult};
 ghost use Rattle.exports.specs.State.{stateFrom};
 ghost use Rattle.exports.specs.Opening.{openingsFrom};
 ghost use Rattle.exports.specs.Call.{recoverLeft, recoverCall};
-use exports_code::recover::hand_out_recovered;
+use exports_answer_code::recover::hand_out_recovered;
 use orderset::recover;
 
 // The index of the image is rebuilt; the answer is the state beside it, with the opening stores, which are to be made by the caller. Returned is 0, or

@@ -1,13 +1,14 @@
 -- The keys of a basket: what it writes for each, seen in the table and in the index. Assumes nothing.
 use mathlib.Core.Path.{_≡_, refl, sym, ap, ap₂, _∙_, fun-ext}
 use mathlib.Core.Bool.{Bool, true, false, cond, not, _&&_}
+use mathlib.Core.Logic.{inl}
 use mathlib.Core.List.{List, [], _∷_, _++_}
 use Prim.Native.Nat.{ℕ, zero, suc, _+_, _<_}
 use native.Mathlib.Omega.{arith}
 use lib.Dec.{eqb}
-use lib.ListN.{length}
+use lib.ListN.{length, getD}
 use Rattle.prelude.specs.Refusal.{say}
-use Rattle.prelude.specs.Members.{All, none-left, one-more}
+use Rattle.prelude.specs.Members.{In, All, none-left, one-more}
 use Rattle.layout.specs.Content.{made, Table}
 use Rattle.stores.specs.Basket.{BasketRecord, basketSlots}
 use Rattle.table.specs.Table.{keyIn, mapOf, isHeld}
@@ -197,6 +198,14 @@ record-slots [] [] e = refl
 record-slots [] (t ∷ ts) e = absurd (omega arith)
 record-slots (c ∷ cs) [] e = absurd (omega arith)
 record-slots (c ∷ cs) (t ∷ ts) e = ap (λ (l : List ℕ). t .slot ∷ l) (record-slots cs ts (omega arith))
+
+-- the first slot taken is among them
+pub first-among : (cs : List KeyChange) (ts : List Taken) → length ts ≡ length cs → 0 < length cs
+    → In (getD (takenSlots ts) 0 0) (basketSlots (recordsFor cs ts))
+unfolding recordsFor takenSlots basketSlots
+first-among [] ts e h = absurd (omega arith)
+first-among (c ∷ cs) [] e h = absurd (omega arith)
+first-among (c ∷ cs) (t ∷ ts) e h = inl refl
 
 pub item-slots : (found : ℕ → Found) (b : ℕ) (cs : List KeyChange) (ts : List Taken) → length ts ≡ length cs → itemSlots (itemsFor found b cs ts) ≡ takenSlots ts
 unfolding itemSlots itemsFor takenSlots

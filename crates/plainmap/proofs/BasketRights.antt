@@ -38,9 +38,9 @@ use Rattle.index.specs.declared.Action.{Action}
 use Rattle.index.specs.declared.Action.the-variants.{Insert, Replace, Remove}
 use Rattle.index.specs.declared.Found.{Found}
 use Rattle.index.proofs.defs.Items.{oldsBy, oldsOf}
-use Rattle.taking.specs.Taking.{takingOf}
+use Rattle.taking.specs.Taking.{takingOf, choiceBy, takingBy}
 use Rattle.calls.specs.Change.{storeFault, unchanged}
-use Rattle.calls.specs.Basket.{KeyChange, anyTwice, keyCountFault, givenFault, firstFault, valueFault, actionFault, basketLentFault, keysFault, insertsBy, removesBy, sumOver, kindBy, valueBy, basketFault, recordsFor, oldIn, itemsFor, indexAfter, basketMade, basketDone, basketBy, basketResult, basketByRule}
+use Rattle.calls.specs.Basket.{KeyChange, anyTwice, keyCountFault, givenFault, firstFault, valueFault, actionFault, basketLentFault, keysFault, insertsBy, removesBy, sumOver, kindBy, valueBy, basketFault, recordsFor, oldIn, itemsFor, indexAfter, basketMade, basketDone, basketUnless, basketResult, basketByRule, basketFaultBy, basketResultBy}
 use Rattle.images.proofs.defs.Entries.{recordOf}
 use Rattle.plainmap.specs.World.{World, Called, calledChange}
 use Rattle.plainmap.specs.Plain.{PlainMap, Update, giving, dropping, updated, plainNext, plainStep}
@@ -186,7 +186,7 @@ module _ (l : ℕ) (lay : Layout l) (w : World) (chains : Chain → List ℕ) (a
   -- A BASKET is refused where the rules refuse it
   pub basket-fault : (b : Basket) → basketFault l (w .image) (w .heads) (w .next) (w .state) (b .changes) (b .at) (b .words) ≡
       basketDue l w (slotsMap l (w .image)) b
-  unfolding basketFault basketLentFault keysFault basketRule givenFault
+  unfolding basketFaultBy takingBy basketLentFault keysFault basketRule givenFault
   basket-fault b =
       row-when (givenFault cs (b .at) (b .words)) _ _
       (λ z.
@@ -223,7 +223,7 @@ module _ (l : ℕ) (lay : Layout l) (w : World) (chains : Chain → List ℕ) (a
       → basketResult l (w .image) (w .heads) (w .next) (w .state) (b .changes) (b .at) (b .words) ≡
       basketMade l (w .image) (w .state) (b .changes) (ts l lay w chains accepted g none-void (b .changes) typed p)
       (indexAfter l (w .image) (w .heads) (w .next) (w .state) (b .changes) (ts l lay w chains accepted g none-void (b .changes) typed p))
-  unfolding basketResult basketBy basketDone
+  unfolding basketResultBy choiceBy basketUnless basketDone
   made-is b p typed z =
       taken-leaves _ _ _ z
       ∙ ap (basketDone l (w .image) (w .heads) (w .next) (w .state) (b .changes)) (choice-is l lay w chains accepted g none-void (b .changes) typed p)
@@ -231,7 +231,7 @@ module _ (l : ℕ) (lay : Layout l) (w : World) (chains : Chain → List ℕ) (a
   refused-is : (b : Basket) → (basketFault l (w .image) (w .heads) (w .next) (w .state) (b .changes) (b .at) (b .words) ≡ 0 → ⊥)
       → basketResult l (w .image) (w .heads) (w .next) (w .state) (b .changes) (b .at) (b .words) ≡
       unchanged (refused (basketFault l (w .image) (w .heads) (w .next) (w .state) (b .changes) (b .at) (b .words))) (w .state) (w .heads) (w .next)
-  unfolding basketResult basketBy
+  unfolding basketResultBy choiceBy basketUnless
   refused-is b nz = refused-keeps _ _ _ nz
 
   -- THE BASKET: it stores nothing and the plain map stays, or it writes its records, which is the plain map's step
@@ -269,9 +269,11 @@ module _ (l : ℕ) (lay : Layout l) (w : World) (chains : Chain → List ℕ) (a
 
   -- IT IS THE RULE'S
   by-rule : (b : Basket) → basketCalled l w b ≡ basketRuled l w b
-  unfolding basketCalled basketRuled basketResult basketByRule
+  unfolding basketCalled basketRuled basketResultBy choiceBy basketByRule
   by-rule b =
-      ap (λ (t : Taking). calledChange (basketBy l (w .image) (w .heads) (w .next) (w .state) (b .changes) (b .at) (b .words) t))
+      ap (λ (t : Taking).
+      calledChange (basketUnless (basketFault l (w .image) (w .heads) (w .next) (w .state) (b .changes) (b .at) (b .words)) l (w .image) (w .heads) (w .next)
+      (w .state) (b .changes) t))
       (choice-rule l lay w chains accepted g none-void (length (b .changes)))
 
   -- ITS ANSWER IS RIGHT

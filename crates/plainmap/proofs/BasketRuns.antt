@@ -51,9 +51,9 @@ use Rattle.index.proofs.Baskets.{SitsWith, sits-basket}
 use Rattle.index.proofs.defs.Items.{appendsOf, oldsBy, oldsOf, OldStands, Ready}
 use Rattle.recovery.specs.Recover.{placeOf}
 use Rattle.index.proofs.Takings.{sits-taking, takes-slots, few-exact, taken-enough}
-use Rattle.taking.specs.Taking.{takingOf, choiceOf}
+use Rattle.taking.specs.Taking.{takingOf, choiceOf, takingBy}
 use Rattle.taking.proofs.Choices.{choice-own}
-use Rattle.calls.specs.Basket.{KeyChange, keyCountFault, among, anyTwice, givenFault, firstFault, valueFault, actionFault, basketLentFault, keysFault, insertsBy, removesBy, sumOver, kindBy, valueBy, basketFault, recordsFor, oldIn, itemsFor}
+use Rattle.calls.specs.Basket.{KeyChange, keyCountFault, among, anyTwice, givenFault, firstFault, valueFault, actionFault, basketLentFault, keysFault, insertsBy, removesBy, sumOver, kindBy, valueBy, basketFault, recordsFor, oldIn, itemsFor, basketFaultBy}
 use Rattle.images.proofs.defs.Entries.{recordOf, recordAt}
 use Rattle.images.proofs.Entries.{slots-length, EntryAt, entry-at, made-record, made-key}
 use Rattle.plainmap.specs.World.{World}
@@ -65,7 +65,7 @@ use Rattle.plainmap.proofs.Sees.{place-live, Sees, sees-held, sees-abse
 use Rattle.plainmap.proofs.Wrote.{SomeSound, some-sound, nextOf, WroteRecords}
 use Rattle.plainmap.proofs.SoundAfter.{older, broken, place-after, sound-after}
 use Rattle.plainmap.proofs.Outcomes.{StorePassed, store-passed, head-in, free-spares, same, same-map, above, holder-at}
-use Rattle.plainmap.proofs.BasketKeys.{KeyReady, recordFor, put-by, insert-free, replace-held, remove-held, removed-held, inserts-alike, removes-alike, moves-alike, joins-alike, record-slots, item-slots, records-length, records-all}
+use Rattle.plainmap.proofs.BasketKeys.{KeyReady, recordFor, put-by, insert-free, replace-held, remove-held, removed-held, inserts-alike, removes-alike, moves-alike, joins-alike, record-slots, first-among, item-slots, records-length, records-all}
 
 -- ---- what a basket that is not refused has passed
 
@@ -88,7 +88,7 @@ pub record BasketPassed (l : ℕ) (w : World) (cs : List KeyChange) : Type 0 whe
 
 pub basket-passed : (l : ℕ) (w : World) (cs : List KeyChange) (at words : ℕ)
     → basketFault l (w .image) (w .heads) (w .next) (w .state) cs at words ≡ 0 → BasketPassed l w cs
-unfolding basketFault givenFault keyCountFault basketLentFault keysFault
+unfolding basketFaultBy takingBy givenFault keyCountFault basketLentFault keysFault
 basket-passed l w cs at words z =
     let a = orElse-zero (givenFault cs at words) _ z in
     let b = orElse-zero (keyCountFault (length cs)) _ (a .0) in
@@ -552,7 +552,8 @@ module _ (l : ℕ) (lay : Layout l) (w : World) (chains : Chain → List ℕ) (a
             → SomeSound l (record { image = image′; heads = indexIs .heads; next = indexIs .next; state = stateOf indexIs (w .state .live + sumOver insertsBy cs - sumOver removesBy cs) (w .state .version + 1) (getD (takenSlots ts) 0 0) })
         after image′ en st z =
             some-sound _
-            (sound-after l w chains g (basketSlots es) new none-void image′ en basket st z removes indexIs _ _ (sits .chains) (sits .sits) chain-is idle alive-is)
+            (sound-after l w chains g (basketSlots es) new none-void image′ en basket st z removes indexIs _ _ (sits .chains) (sits .sits) chain-is idle alive-is
+            (first-among cs ts as-many (p .some-keys)))
           where
             sits : SitsWith n b (placeOf (contentsOf l image′) n b) indexIs
                 (filter (λ t. not (member (takenSlots ts) t)) (chains reuse) ++ appendsOf (itemsFor found b cs ts))

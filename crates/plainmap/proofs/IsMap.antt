@@ -11,6 +11,7 @@ use Rattle.plainmap.proofs.Sounds.{recovered-sound}
 use Rattle.plainmap.proofs.Compares.{sound-counted}
 use Rattle.plainmap.proofs.Outcomes.{slot-taken}
 use Rattle.plainmap.proofs.Refuses.{taking-few}
+use Rattle.plainmap.proofs.OwnCalls.{either-called, either-basket-called}
 use Rattle.plainmap.proofs.CallLists.{agrees-right, agrees-next, agrees-list, plain-rule, recovered-reads, formatted-empty}
 use Rattle.plainmap.proofs.GrownLists.{accepted-rule, grown-rule}
 
@@ -26,6 +27,8 @@ is-map l lay =
       takes = λ w m g some.
           slot-taken l lay w (g .chains) (g .accepted) (g .sound) (g .none-void)
           (taking-few l w (g .chains) (g .accepted) (g .sound) (g .none-void) 1 ∙ say-false _ 28 0 (le-ltb _ 1 some));
+      either-call = either-called l lay;
+      either-basket = either-basket-called l lay;
       reads = recovered-reads l;
       empty = λ len ne. formatted-empty l len ne (omega (arith, lay .high));
       lists = plain-rule l lay;

@@ -24,5 +24,6 @@ pub mod IsMap
 pub mod FormattedImages
 pub mod Compares
 pub mod BasketRights
+pub mod OwnCalls
 pub mod BasketItems
 pub mod Room

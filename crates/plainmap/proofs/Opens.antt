@@ -52,6 +52,7 @@ sound-same l w chains image′ same s =
       some-spare = s .some-spare;
       live-count = rw (same .table, same .slots) (s .live-count);
       next-version = rw (same .table, same .slots) (s .next-version);
+      newest = rw (same .table, same .slots) (s .newest);
     }
 
 module _ (l : ℕ) (lay : Layout l) (image : List ℕ) (accepted : Accepted l image) where

@@ -53,8 +53,8 @@ use Rattle.index.specs.declared.Found.the-variants.{At, Missing}
 use Rattle.index.proofs.Sits.{sits-first}
 use Rattle.index.proofs.defs.TakenIn.{takenIn}
 use Rattle.index.proofs.Takings.{sits-taking, few-exact, taken-first}
-use Rattle.taking.specs.Taking.{takingOf}
-use Rattle.calls.specs.Change.{ChangeResult, storeFault, changed, unchanged, insertsOf, writeLentFault, writeLaterFault, writeFault, writeDone, writeBy, writeResult, removeLaterFault, removeFault, removeDone, removeBy, removeResult}
+use Rattle.taking.specs.Taking.{takingOf, takingBy}
+use Rattle.calls.specs.Change.{ChangeResult, storeFault, changed, unchanged, insertsOf, writeLentFault, writeLaterFault, writeFault, writeDone, writeUnless, writeResult, removeLaterFault, removeFault, removeDone, removeUnless, removeResult, removeFaultBy, removeResultBy, writeFaultBy, writeResultBy}
 use Rattle.images.proofs.defs.Entries.{recordAt}
 use Rattle.images.proofs.Entries.{made-record, made-key}
 use Rattle.plainmap.specs.World.{World, Called}
@@ -114,7 +114,7 @@ pub record WritePassed (l : ℕ) (w : World) (mode : Mode) (key size : ℕ) : Ty
 
 pub write-passed : (l : ℕ) (w : World) (mode : Mode) (key size : ℕ) → writeFault l (w .image) (w .heads) (w .next) (w .state) mode key size ≡ 0
     → WritePassed l w mode key size
-unfolding writeFault writeLentFault writeLaterFault
+unfolding writeFaultBy takingBy writeLentFault writeLaterFault
 write-passed l w mode key size z =
     let a = orElse-zero (writeLentFault l (w .image) (length (w .heads)) (length (w .next)) size) _ z in
     let b = say-zero (ltb (limit l) size) _ _ (orElse-zero _ _ (a .0) .1) (omega arith) in
@@ -126,7 +126,7 @@ pub remove-passed : (l : ℕ) (w : World) (key old prev compared : ℕ) → sear
     → removeFault l (w .image) (w .heads) (w .next) (w .state) key ≡ 0
     → StorePassed (takingOf l (w .image) (w .next) (slotsIn (w .image)) (w .state .first) 1) (slotsIn (w .image)) (w .state .live)
     (w .state .version) 0 1
-unfolding removeFault removeLaterFault
+unfolding removeFaultBy takingBy removeLaterFault
 remove-passed l w key old prev compared e z =
     let a = orElse-zero (lentFault l (w .image) (length (w .heads)) (length (w .next))) _ z in
     store-passed _ w (slotsIn (w .image)) 0 1
@@ -415,7 +415,7 @@ module _ (l : ℕ) (lay : Layout l) (w : World) (chains : Chain → List ℕ) (a
   pub write-runs : (mode : Mode) (key : ℕ) (value : List ℕ) → key < (2 ^ 64) ^ l → AreBytes value
       → Ran l w key 1 value (writeFault l (w .image) (w .heads) (w .next) (w .state) mode key (length value))
       (writeResult l (w .image) (w .heads) (w .next) (w .state) mode key value)
-  unfolding writeResult writeBy
+  unfolding writeResultBy writeUnless
   write-runs mode key value k b =
       by-cases (ℕ-discrete (writeFault l (w .image) (w .heads) (w .next) (w .state) mode key (length value)) 0)
       (λ z. let t = first-slot (chains reuse) refl (g .some-spare) in
@@ -426,7 +426,7 @@ module _ (l : ℕ) (lay : Layout l) (w : World) (chains : Chain → List ℕ) (a
   pub remove-runs : (key : ℕ) → key < (2 ^ 64) ^ l
       → Ran l w key 2 [] (removeFault l (w .image) (w .heads) (w .next) (w .state) key)
       (removeResult l (w .image) (w .heads) (w .next) (w .state) key)
-  unfolding removeResult removeBy
+  unfolding removeResultBy removeUnless
   remove-runs key k =
       by-cases (ℕ-discrete (removeFault l (w .image) (w .heads) (w .next) (w .state) key) 0)
       (λ z. let t = first-slot (chains reuse) refl (g .some-spare) in

@@ -30,13 +30,13 @@ use Rattle.index.specs.Change.{keyFault, isFound}
 use Rattle.index.specs.Taking.{Taking, endsFault, linkFault, fewFault, reuseFault, roomFault}
 use Rattle.index.proofs.defs.TakenIn.{takenIn}
 use Rattle.index.proofs.Takings.{sits-taking, few-exact, links-fine}
-use Rattle.taking.specs.Taking.{takingOf}
+use Rattle.taking.specs.Taking.{takingOf, takingBy}
 use Rattle.index.specs.declared.Mode.{Mode}
 use Rattle.layout.specs.Line.{versionFault}
 use Rattle.index.specs.declared.State.{State}
 use Rattle.index.specs.declared.Found.{Found}
 use Rattle.index.proofs.Sits.{sits-first, sits-last}
-use Rattle.calls.specs.Change.{storeFault, insertsOf, writeLaterFault, writeFault, removeLaterFault, removeFault}
+use Rattle.calls.specs.Change.{storeFault, insertsOf, writeLaterFault, writeFault, removeLaterFault, removeFault, removeFaultBy}
 use Rattle.calls.specs.Get.{lengthFault, getLaterFault, getFault}
 use Rattle.calls.proofs.Lookups.{write-after}
 use Rattle.plainmap.specs.World.{World, write, remove, get}
@@ -175,9 +175,9 @@ module _ (l : ℕ) (w : World) (chains : Chain → List ℕ) (a : Accepted l (w 
     -- INSERT AND REPLACE are refused where the rules refuse them
     pub write-fault : (mode : Mode) (key : ℕ) (value : List ℕ)
         → writeFault l (w .image) (w .heads) (w .next) (w .state) mode key (length value) ≡ dueFault l w (slotsMap l (w .image)) (write mode key value)
-    unfolding ruleFault
+    unfolding ruleFault takingBy
     write-fault mode key value =
-        write-after l (w .image) (w .heads) (w .next) (w .state) mode key (length value) sound-lent
+        write-after false l (w .image) (w .heads) (w .next) (w .state) mode key (length value) sound-lent
         ∙ ap (say (ltb (limit l) (length value)) 10)
         (write-checks (tableOf l (w .image)) n key _ mode (taking 1) (w .state) _ (sound-sees l w chains s key)
         ∙ ap (orElse (keyFault mode (isHeld (slotsMap l (w .image) key)))) (store-row 1 (insertsOf mode) 0 (omega arith)))
@@ -185,7 +185,7 @@ module _ (l : ℕ) (w : World) (chains : Chain → List ℕ) (a : Accepted l (w 
     -- REMOVE is refused where the rules refuse it
     pub remove-fault : (key : ℕ)
         → removeFault l (w .image) (w .heads) (w .next) (w .state) key ≡ dueFault l w (slotsMap l (w .image)) (remove key)
-    unfolding removeFault ruleFault
+    unfolding removeFaultBy takingBy ruleFault
     remove-fault key =
         orElse-later _ _ sound-lent
         ∙ remove-checks (tableOf l (w .image)) n key _ (taking 1) (w .state) _ (λ some. store-row 1 0 1 some) _ (sound-sees l w chains s key)

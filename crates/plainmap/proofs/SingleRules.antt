@@ -18,7 +18,7 @@ use Rattle.index.specs.declared.Found.{Found}
 use Rattle.index.specs.declared.Found.the-variants.{At, Missing, BadChain}
 use Rattle.index.proofs.TakeAll.{take-first}
 use Rattle.taking.specs.Taking.{takingOf}
-use Rattle.calls.specs.Change.{oneTaken, slotByRule, changed, writeDone, writeBy, writeResult, writeByRule, removeFault, removeDone, removeBy, removeResult, removeByRule}
+use Rattle.calls.specs.Change.{oneTaken, slotByRule, changed, writeDone, writeUnless, writeResult, writeByRule, removeFault, removeDone, removeUnless, removeResult, removeByRule, removeResultBy, writeResultBy}
 use Rattle.plainmap.specs.World.{World}
 use Rattle.plainmap.specs.Accepted.{Accepted}
 use Rattle.plainmap.specs.Sound.{Sound}
@@ -56,7 +56,7 @@ module _ (l : ℕ) (lay : Layout l) (w : World) (chains : Chain → List ℕ) (a
   -- THE CALLS
   pub write-ruled : (mode : Mode) (key : ℕ) (value : List ℕ)
       → writeResult l (w .image) (w .heads) (w .next) (w .state) mode key value ≡ writeByRule l (w .image) (w .heads) (w .next) (w .state) mode key value
-  unfolding writeResult writeByRule writeBy
+  unfolding writeResultBy writeByRule writeUnless
   write-ruled mode key value =
       same-unless _ _ _ _
       (λ z.
@@ -65,7 +65,7 @@ module _ (l : ℕ) (lay : Layout l) (w : World) (chains : Chain → List ℕ) (a
       (sym (ap (λ (x : Taken). x .slot) (first-is few))) (sym (rest-is few)))
 
   pub remove-ruled : (key : ℕ) → removeResult l (w .image) (w .heads) (w .next) (w .state) key ≡ removeByRule l (w .image) (w .heads) (w .next) (w .state) key
-  unfolding removeResult removeByRule removeBy removeDone
+  unfolding removeResultBy removeByRule removeUnless removeDone
   remove-ruled key = same-unless _ _ _ _ (go (search l (w .image) (w .heads) (w .next) key) refl)
     where
       go : (found : Found) → search l (w .image) (w .heads) (w .next) key ≡ found → removeFault l (w .image) (w .heads) (w .next) (w .state) key ≡ 0

@@ -20,7 +20,7 @@ use Rattle.table.proofs.defs.Owners.{ownerIn, moved}
 use Rattle.table.proofs.Complete.{settled-same}
 use Rattle.table.proofs.Alike.{alike-live, alike-next, alike-older-first}
 use Rattle.table.proofs.Broken.{broken-carry}
-use Rattle.table.proofs.Finished.{finished-settled, finished-next}
+use Rattle.table.proofs.Finished.{finished-settled, finished-next, finished-newest}
 use Rattle.table.proofs.ReuseAfter.{finished-first}
 use Rattle.table.proofs.OrderAfter.{finished-older, finished-highest-last}
 use Rattle.table.proofs.Owners.{finished-owner}
@@ -95,12 +95,12 @@ module _ (l : ℕ) (w : World) (chains : Chain → List ℕ) (g : Sound l w chai
     -- THE INDEX AFTER IT: i, whose chains are chains′
     pub sound-after : (removes : HeldRemoved taken new (mapOf f n)) (i : Index) (alive newest : ℕ) (chains′ : Chain → List ℕ)
         → Sits n b (placeOf (contentsOf l image′) n b) i chains′ → chains′ reuse ≡ reuseAfter f n taken new (chains reuse)
-        → liveCount (contentsOf l image′) n < n → alive ≡ liveCount (contentsOf l image′) n
+        → liveCount (contentsOf l image′) n < n → alive ≡ liveCount (contentsOf l image′) n → In newest taken
         → Sound l (record { image = image′; heads = i .heads; next = i .next; state = stateOf i alive (w .state .version + 1) newest }) chains′
-    sound-after removes i alive newest chains′ q e room ea =
+    sound-after removes i alive newest chains′ q e room ea j =
         sound-parts l image′ i alive (w .state .version + 1) newest n b (contentsOf l image′) chains′ en same-after
         (ap (indexFault n b) (sym (g .index .next-size)) ∙ g .size) q
         (subst (OlderFirst (contentsOf l image′)) (sym e) (finished-older bk st z spares older))
         (subst (HighestLast (contentsOf l image′) n) (sym e) (finished-highest-last bk st z spares removes))
         (subst (BrokenFirst (contentsOf l image′)) (sym e) (finished-first bk st z spares broken)) room ea
-        (omega (arith, g .next-version, finished-next bk st z))
+        (omega (arith, g .next-version, finished-next bk st z)) (finished-newest bk st z newest j)

@@ -171,7 +171,7 @@ module _ (l : ℕ) (w : World) (chains : Chain → List ℕ) (g : Sound l w chai
         (sits-new n b place i chains (g .index) place′ h prev s rest e few q (own true p)
         (λ x lo hi ne. other x (omega arith, hi) ne (λ d. omega (arith, d, none-holds))))
         (reuse-now chains rest _ h ∙ sym (append-nil rest) ∙ joined true [] p (joined-new (holder f n key) s none-holds)) idle
-        (omega (arith, c, alive-is))
+        (omega (arith, c, alive-is)) (inl refl)
       where
         none-of : Held f n key → holder f n key ≡ 0
         none-of (held v a t d) = absurd (some-none d m)
@@ -197,7 +197,7 @@ module _ (l : ℕ) (w : World) (chains : Chain → List ℕ) (g : Sound l w chai
           (λ x lo hi ne nq. other x (omega arith, hi) ne (λ (y : x ≡ holder f n key). nq (y ∙ d))))
           (reuse-now chains (rest ++ old ∷ []) _ h
           ∙ joined true (old ∷ []) p (ap (λ (x : ℕ). appended x true s) d ∙ joined-held old s (omega (arith, j .0)))) idle
-          (omega (arith, c, alive-is))
+          (omega (arith, c, alive-is)) (inl refl)
 
       -- a remove
       pub removed-sound : isPut (new s) ≡ false
@@ -210,7 +210,7 @@ module _ (l : ℕ) (w : World) (chains : Chain → List ℕ) (g : Sound l w chai
           (λ x lo hi nq. stays x (omega arith, hi) nq (told x s)))
           (reuse-now chains (rest ++ old ∷ s ∷ []) _ h
           ∙ joined false (old ∷ s ∷ []) p (ap (λ (x : ℕ). appended x false s) d ∙ joined-removed old s (omega (arith, j .0)))) idle
-          (omega (arith, c, alive-is))
+          (omega (arith, c, alive-is)) (inl refl)
         where
           idle-here : place s ≡ reuse
           idle-here =

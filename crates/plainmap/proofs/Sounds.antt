@@ -12,7 +12,8 @@ use Rattle.table.specs.Complete.{tableOf}
 use Rattle.table.specs.Table.{live, liveCount, nextVersion}
 use Rattle.table.proofs.defs.Write.{ApartByKey}
 use Rattle.table.specs.Reuse.{OlderFirst, HighestLast, BrokenFirst}
-use Rattle.table.proofs.Alike.{alike-live, alike-count, alike-next, alike-older-first, alike-highest-last}
+use Rattle.table.specs.Taking.{IsNewest}
+use Rattle.table.proofs.Alike.{alike-live, alike-count, alike-next, alike-older-first, alike-highest-last, alike-newest}
 use Rattle.table.proofs.Broken.{broken-carry}
 use Rattle.prelude.proofs.Count.{Gap, gap}
 use Rattle.table.proofs.LiveCount.{room-spare}
@@ -21,8 +22,9 @@ use Rattle.table.proofs.Recovery.{recovery-broken}
 use Rattle.index.specs.Index.{Index, Chain, reuse, stateOf}
 use Rattle.index.specs.Linked.{Sits}
 use Rattle.index.proofs.Sits.{sits-has, sits-places}
-use Rattle.recovery.specs.Recover.{Result, chainsOf, placeOf, recoveredIndex, recoveredState, recovered}
+use Rattle.recovery.specs.Recover.{Result, chainsOf, placeOf, recoveredIndex, newestSlot, recoveredState, recovered}
 use Rattle.recovery.proofs.Represents.{recovered-sits}
+use Rattle.recovery.proofs.Newest.{recovery-newest}
 use Rattle.recovery.proofs.Lent.{recovery-taken}
 use Rattle.layout.specs.Size.{slotsIn}
 use Rattle.plainmap.specs.World.{worldAfter, recoveredWorld}
@@ -50,9 +52,9 @@ room-starts f n b i chains g h = go (room-spare f n h)
 pub sound-parts : (l : ℕ) (image : List ℕ) (i : Index) (alive version newest n b : ℕ) (f : Table) (chains : Chain → List ℕ)
     → slotsIn image ≡ n → ((t : ℕ) → Slot n t → tableOf l image t ≡ f t) → indexFault n b (n + 1) ≡ 0 → Sits n b (placeOf f n b) i chains
     → OlderFirst f (chains reuse) → HighestLast f n (chains reuse) → BrokenFirst f (chains reuse)
-    → liveCount f n < n → alive ≡ liveCount f n → version ≡ nextVersion f n
+    → liveCount f n < n → alive ≡ liveCount f n → version ≡ nextVersion f n → IsNewest f n newest
     → Sound l (record { image = image; heads = i .heads; next = i .next; state = stateOf i alive version newest }) chains
-sound-parts l image i alive version newest n b f chains en ef size g older highest broken room ea ev =
+sound-parts l image i alive version newest n b f chains en ef size g older highest broken room ea ev latest =
     record {
       size = ap₂ (λ (x y : ℕ). indexFault (slotsIn image) x y) (g .heads-size) (g .next-size) ∙ ap (λ (x : ℕ). indexFault x b (n + 1)) en ∙ size;
       index =
@@ -67,6 +69,7 @@ sound-parts l image i alive version newest n b f chains en ef size g older highe
       some-spare = room-starts f n b i chains g room;
       live-count = ea ∙ sym (ap (liveCount (tableOf l image)) en ∙ alike-count f (tableOf l image) n ef);
       next-version = ev ∙ sym (ap (nextVersion (tableOf l image)) en ∙ alike-next f (tableOf l image) n ef);
+      newest = subst (λ (x : ℕ). IsNewest (tableOf l image) x newest) (sym en) (alike-newest f (tableOf l image) n ef newest latest);
     }
   where
     slot : (t : ℕ) → In t (chains reuse) → Slot n t
@@ -83,10 +86,10 @@ recovered-parts : (l : ℕ) (image : List ℕ) (b : ℕ) (stores : List Store) �
 unfolding worldAfter recovered recoveredState chainsOf
 recovered-parts l image b stores few d room size =
     sound-parts l image (recoveredIndex (tableOf l image) (slotsIn image) b) (liveCount (tableOf l image) (slotsIn image))
-    (nextVersion (tableOf l image) (slotsIn image)) 0 (slotsIn image) b (tableOf l image)
+    (nextVersion (tableOf l image) (slotsIn image)) (newestSlot (tableOf l image) (slotsIn image)) (slotsIn image) b (tableOf l image)
     (chainsOf (tableOf l image) (slotsIn image) b) refl (λ t i. refl) size (recovered-sits (tableOf l image) (slotsIn image) b few)
     (recovery-older (tableOf l image) (slotsIn image)) (recovery-highest-last (tableOf l image) (slotsIn image))
-    (recovery-broken (tableOf l image) (slotsIn image)) room refl refl
+    (recovery-broken (tableOf l image) (slotsIn image)) room refl refl (recovery-newest (tableOf l image) (slotsIn image))
 
 -- RECOVERY LEAVES A SOUND INDEX
 pub recovered-sound : (l : ℕ) (image heads next : List ℕ) → Accepted l image → RightSize image heads next

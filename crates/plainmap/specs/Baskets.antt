@@ -1,5 +1,6 @@
 -- Baskets and the plain map. Document 02, A.7: "Brokers send up to eight linked orders and want all or none after a cut".
 use mathlib.Core.Path.{_≡_}
+use mathlib.Core.Bool.{Bool}
 use mathlib.Core.List.{List, [], _∷_}
 use Prim.Native.Nat.{ℕ, _^_, _<_}
 use lib.ListN.{length}
@@ -15,7 +16,7 @@ use Rattle.index.specs.declared.Action.{Action}
 use Rattle.index.specs.declared.Action.the-variants.{Insert, Replace, Remove}
 use Rattle.taking.specs.Taking.{takingOf}
 use Rattle.calls.specs.declared.BasketItem.{BasketItem}
-use Rattle.calls.specs.Basket.{KeyChange, givenFault, firstFault, valueFault, actionFault, insertsBy, removesBy, sumOver, basketResult, basketByRule}
+use Rattle.calls.specs.Basket.{KeyChange, givenFault, firstFault, valueFault, actionFault, insertsBy, removesBy, sumOver, basketResult, basketResultBy, basketByRule}
 use Rattle.plainmap.specs.World.{World, Called, calledChange}
 use Rattle.plainmap.specs.Plain.{PlainMap, Update, giving, dropping, Room, roomRule}
 use Rattle.plainmap.specs.Claims.{roomOf, StaysAs}
@@ -29,6 +30,10 @@ pub record Basket : Type 0 where
 -- the basket by its contract
 unfoldable pub basketCalled : (l : ℕ) → World → Basket → Called
 basketCalled l w b = calledChange (basketResult l (w .image) (w .heads) (w .next) (w .state) (b .changes) (b .at) (b .words))
+
+-- by the call of either family, for the owner of its index or not
+unfoldable pub basketCalledBy : (own : Bool) → (l : ℕ) → World → Basket → Called
+basketCalledBy own l w b = calledChange (basketResultBy own l (w .image) (w .heads) (w .next) (w .state) (b .changes) (b .at) (b .words))
 
 -- and by the taking rule
 unfoldable pub basketRuled : (l : ℕ) → World → Basket → Called

@@ -1,5 +1,6 @@
 -- DEMAND 2 as one statement: together the calls are a plain map from key to value, for every history without cuts.
 use mathlib.Core.Path.{_≡_}
+use mathlib.Core.Bool.{Bool}
 use mathlib.Core.Option.{none}
 use mathlib.Core.List.{List, [], _∷_}
 use Prim.Native.Nat.{ℕ, _<_}
@@ -11,13 +12,14 @@ use Rattle.index.specs.Walk.{slotKey, search, Counted}
 use Rattle.recovery.specs.Recover.{chainsOf}
 use Rattle.recovery.specs.Represents.{Answers}
 use Rattle.calls.specs.Format.{formatted}
-use Rattle.plainmap.specs.World.{World, Call, finished, recoveredWorld, called, Restart, restarted}
+use Rattle.plainmap.specs.World.{World, Call, finished, recoveredWorld, called, calledBy, Restart, restarted}
 use Rattle.layout.specs.Content.{contentsOf}
 use Rattle.table.specs.Complete.{tableOf}
 use Rattle.plainmap.specs.Plain.{PlainMap}
 use Rattle.plainmap.specs.Accepted.{Accepted, RightSize, RestartFits}
 use Rattle.plainmap.specs.Sound.{Sound, Agrees}
 use Rattle.plainmap.specs.Claims.{Typed, slotsMap, Right, Reads, mapAfterCall}
+use Rattle.plainmap.specs.Baskets.{Basket, basketCalled, basketCalledBy}
 use Rattle.plainmap.specs.Room.{InsertsNew, RoomRight}
 use Rattle.prelude.specs.Answer.{refusalIn}
 use Rattle.prelude.specs.Members.{All}
@@ -56,6 +58,10 @@ pub record IsMap (l : ℕ) : Type 0 where
   -- a call that takes a slot takes the one that the taking rule names: the first that may be taken
   pub takes : (w : World) (m : PlainMap) (agrees : Agrees l w m) → (0 < takeableCount (tableOf l (w .image)) (slotsIn (w .image)))
       → takenOf (contentsOf l (w .image)) (slotsIn (w .image)) 1 (agrees .chains reuse) ≡ w .state .first ∷ []
+  -- the calls for the owner of an index, which are no calls of document 01, are the calls for any index: answer, stores, index and state. So all that is said
+  -- of calls and baskets holds of both families, and a list may use either at each step
+  pub either-call : (w : World) (m : PlainMap) → Agrees l w m → (own : Bool) (call : Call) → calledBy own l w call ≡ called l w call
+  pub either-basket : (w : World) (m : PlainMap) → Agrees l w m → (own : Bool) (b : Basket) → basketCalledBy own l w b ≡ basketCalled l w b
   -- get with the recovered index gives the map that the slots of an accepted image give
   pub reads : (image heads next : List ℕ) → Accepted l image → RightSize image heads next → Reads l (recoveredWorld l image heads next) (slotsMap l image)
   -- a formatted image's map is empty

@@ -5,6 +5,7 @@ use Prim.Native.Nat.{ℕ}
 use lib.ListN.{length}
 use Rattle.table.specs.Table.{liveCount, nextVersion}
 use Rattle.table.specs.Reuse.{OlderFirst, HighestLast, BrokenFirst}
+use Rattle.table.specs.Taking.{IsNewest}
 use Rattle.index.specs.Index.{Chain, reuse, indexOf}
 use Rattle.index.specs.Linked.{Sits}
 use Rattle.recovery.specs.Recover.{placeOf}
@@ -37,6 +38,8 @@ pub record Sound (l : ℕ) (w : World) (chains : Chain → List ℕ) : Type 0 wh
   pub some-spare : Starts (chains reuse)
   pub live-count : w .state .live ≡ liveCount (tableOf l (w .image)) (slotsIn (w .image))
   pub next-version : w .state .version ≡ nextVersion (tableOf l (w .image)) (slotsIn (w .image))
+  -- the state names a slot of the highest valid version
+  pub newest : IsNewest (tableOf l (w .image)) (slotsIn (w .image)) (w .state .newest)
 
 -- the image is accepted and no record in it is void, the index is its own, and the map of its slots is m
 pub record Agrees (l : ℕ) (w : World) (m : PlainMap) : Type 0 where

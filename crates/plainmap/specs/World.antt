@@ -1,4 +1,5 @@
 -- The lent image and index with the state beside them, and what calls and recovery make of them: nothing but the definitions that the contracts of the public calls cite.
+use mathlib.Core.Bool.{Bool}
 use mathlib.Core.List.{List, [], _∷_}
 use Prim.Native.Nat.{ℕ}
 use lib.ListN.{length}
@@ -11,7 +12,7 @@ use Rattle.recovery.specs.Opening.{storesIn}
 use Rattle.recovery.specs.Recover.{Result, recoverResult}
 use Rattle.index.specs.declared.Mode.{Mode}
 use Rattle.calls.specs.Compared.{keyCompared}
-use Rattle.calls.specs.Change.{ChangeResult, writeLentFault, writeResult, writeByRule, writeCompared, removeResult, removeByRule}
+use Rattle.calls.specs.Change.{ChangeResult, writeLentFault, writeResult, writeResultBy, writeByRule, writeCompared, removeResult, removeResultBy, removeByRule}
 use Rattle.calls.specs.Get.{GetResult, getResult}
 use Rattle.calls.specs.Locate.{locateFault, locateResult}
 
@@ -75,6 +76,13 @@ called l w (write mode key value) = calledChange (writeResult l (w .image) (w .h
 called l w (remove key) = calledChange (removeResult l (w .image) (w .heads) (w .next) (w .state) key)
 called l w (get key out) = calledGet w (getResult l (w .image) (w .heads) (w .next) key out)
 called l w (locate key) = calledLocate w (locateResult l (w .image) (w .heads) (w .next) key)
+
+-- the same by a call of either family, for the owner of its index or not; a get and a locate take no slot, and there is one of each
+unfoldable pub calledBy : (own : Bool) → (l : ℕ) → World → Call → Called
+calledBy own l w (write mode key value) = calledChange (writeResultBy own l (w .image) (w .heads) (w .next) (w .state) mode key value)
+calledBy own l w (remove key) = calledChange (removeResultBy own l (w .image) (w .heads) (w .next) (w .state) key)
+calledBy own l w (get key out) = called l w (get key out)
+calledBy own l w (locate key) = called l w (locate key)
 
 -- and by the taking rule; a get and a locate take no slot
 unfoldable pub ruled : (l : ℕ) → World → Call → Called

@@ -1,18 +1,16 @@
 // Recover: the index of an image is rebuilt.
-mod scratch;
-
 ghost use mathlib.Core.Path.{_≡_};
 ghost use Rattle.layout.specs.Record.{Layout};
 ghost use Rattle.recovery.specs.Recover.{recoverResult, recoverEnd};
 ghost use Rattle.recovery.specs.inner.Report.{RecoveredWith};
-use crate::scratch::recover_64;
-use crate::scratch::recover_256;
-use crate::scratch::recover_1024;
-use crate::scratch::recover_4096;
-use crate::scratch::recover_16384;
-use crate::scratch::recover_65536;
 use layout_code::header::lent_fault;
 use layout_code::header::slot_count;
+use recover_scratch_code::scratch::recover_64;
+use recover_scratch_code::scratch::recover_256;
+use recover_scratch_code::scratch::recover_1024;
+use recover_scratch_code::scratch::recover_4096;
+use recover_scratch_code::scratch::recover_16384;
+use recover_scratch_code::scratch::recover_65536;
 use recovery::Classes;
 use recovery::RecoverAnswer;
 use recovery::Recovered;

@@ -3,6 +3,7 @@ pub mod Scans
 pub mod Orders
 pub mod Decides
 pub mod Rebuilt
+pub mod Newest
 pub mod Judges
 pub mod Recovers
 pub mod Represents

@@ -183,15 +183,15 @@ ordered-kept heads next heads′ next′ order places p q o =
       head-in = λ k h. omega (arith, o .head-in k h);
     }
 
-pub rebuilt : (heads next order places heads₁ next₁ heads′ next′ : List ℕ) (built : State) (live-count top : ℕ)
-    → heads₁ ≡ replicate (length heads) 0 → next₁ ≡ replicate (length next) 0
+pub rebuilt : (heads next order places heads₁ next₁ heads′ next′ : List ℕ) (built : State) (live-count top newest : ℕ)
+    → heads₁ ≡ replicate (length heads) 0 → next₁ ≡ replicate (length next) 0 → newest ≡ lastOf order
     → PartsOf heads′ next′ built (build (placeIn places) (unbuilt heads₁ next₁) order) 0 0 0
-    → PartsOf heads′ next′ (record { first = built .first; last = built .last; live = live-count; version = top + 1; newest = 0 })
-    (build (placeIn places) (unbuilt (replicate (length heads) 0) (replicate (length next) 0)) order) live-count (top + 1) 0
-rebuilt heads next order places heads₁ next₁ heads′ next′ built live-count top p q h =
+    → PartsOf heads′ next′ (record { first = built .first; last = built .last; live = live-count; version = top + 1; newest = newest })
+    (build (placeIn places) (unbuilt (replicate (length heads) 0) (replicate (length next) 0)) order) live-count (top + 1) (lastOf order)
+rebuilt heads next order places heads₁ next₁ heads′ next′ built live-count top newest p q e h =
     record {
       index = h .index ∙ ap₂ (λ (x y : List ℕ). build (placeIn places) (unbuilt x y) order) p q;
       live-count = refl;
       next-version = refl;
-      newest-slot = refl;
+      newest-slot = e;
     }

@@ -20,6 +20,7 @@ use Rattle.table.specs.Complete.{settled, tableOf}
 use Rattle.prelude.proofs.Refusals.{orElse-first, orElse-later, orElse-zero, taken-leaves, refused-keeps}
 use Rattle.table.specs.Table.{keyIn, live, liveCount, nextVersion}
 use Rattle.index.specs.Index.{Index, headOf, stateOf}
+use Rattle.index.specs.Chained.{lastOf}
 use Rattle.index.specs.inner.Parts.{PartsOf}
 use Rattle.index.specs.inner.Build.{build, placeIn, unbuilt, Ordered}
 use Rattle.index.specs.declared.State.{State}
@@ -27,7 +28,7 @@ use Rattle.layout.proofs.Lents.{lent-sized, lent-heads, lent-slots}
 use Rattle.stores.specs.Store.{Store}
 use Rattle.stores.specs.Opening.{openingStores}
 use Rattle.recovery.specs.Opening.{voidSlots, openingsOf}
-use Rattle.recovery.specs.Recover.{Result, rebuiltResult, refusedResult, recoverEnd, slotsFault, slotsNamed, recoverFault, recoverSlot, recoveredIndex, recoveredState, recovered, recoverResult}
+use Rattle.recovery.specs.Recover.{Result, rebuiltResult, refusedResult, recoverEnd, slotsFault, slotsNamed, recoverFault, recoverSlot, recoveredIndex, newestSlot, recoveredState, recovered, recoverResult}
 use Rattle.recovery.specs.inner.Decide.{livePlace, Within}
 use Rattle.recovery.specs.inner.Judge.{Ready, Roomy, Judgeable, Arranged, Judgement, Left, answerBy}
 use Rattle.recovery.specs.inner.Report.{RecoveredWith}
@@ -98,13 +99,13 @@ module _ (l : ℕ) (image heads next : List ℕ) (n : ℕ) (ready : Ready image 
   slots-taken : (fault : ℕ) → fault ≡ slotsFault l (word image) n → fault ≡ 0 → (order places heads′ next′ : List ℕ) (live-count top : ℕ) (r : State)
       (openings : Openings) → Arranged (settled (contentsOf l image) (numbersOf l image) n) n (length heads) order places live-count top
       → openings ≡ openingsOf (openingStores (word image) (voidSlots l (word image) n))
-      → PartsOf heads′ next′ r (build (placeIn places) (unbuilt (replicate (length heads) 0) (replicate (length next) 0)) order) live-count (top + 1) 0
+      → PartsOf heads′ next′ r (build (placeIn places) (unbuilt (replicate (length heads) 0) (replicate (length next) 0)) order) live-count (top + 1) (lastOf order)
       → rebuiltResult r openings heads′ next′ ≡ recoverResult l image heads next
-  unfolding shown recovered recoveredState
+  unfolding shown recovered recoveredState newestSlot
   slots-taken fault e z order places heads′ next′ live-count top r openings a o h =
       ap (λ (i : Index). shown openings i (r .live) (r .version) (r .newest)) (h .index ∙ built)
       ∙ ap₂ (λ (x y : ℕ). shown openings (recoveredIndex f n (length heads)) x y (r .newest)) (h .live-count ∙ a .live-is) (h .next-version ∙ next-is)
-      ∙ ap₂ (λ (x : Openings) (y : ℕ). shown x (recoveredIndex f n (length heads)) (liveCount f n) (nextVersion f n) y) o (h .newest-slot)
+      ∙ ap₂ (λ (x : Openings) (y : ℕ). shown x (recoveredIndex f n (length heads)) (liveCount f n) (nextVersion f n) y) o (h .newest-slot ∙ ap lastOf (a .order-is))
       ∙ ap (λ (k : ℕ). recovered (settled (contentsOf l image) (numbersOf l image) k) k (length heads) (openingStores (word image) (voidSlots l (word image) k)))
       (sym (ready .sized .slot-count))
       ∙ result-taken l image heads next fault (by-slots fault e) z

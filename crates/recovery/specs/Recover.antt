@@ -8,6 +8,7 @@ use Rattle.words.specs.Word.{word}
 use Rattle.prelude.specs.Refusal.{say, orElse, unlessRefused}
 use Rattle.prelude.specs.Answer.{Answer, gives, refused}
 use Rattle.prelude.specs.Range.{anyOf, lowest, atLowest}
+use Rattle.prelude.specs.Members.{slotNumbers}
 use Rattle.layout.specs.Size.{slotsIn}
 use Rattle.layout.specs.Content.{content, numberIn, Table}
 use Rattle.layout.specs.Header.{lentFault}
@@ -15,9 +16,9 @@ use Rattle.layout.specs.Fault.{markFault, recordFault}
 use Rattle.table.specs.Table.{keyIn, live, liveCount, nextVersion, manyBroken, allLive}
 use Rattle.table.specs.Complete.{settled, tableOf}
 use Rattle.table.specs.Shared.{sharersFault}
-use Rattle.table.specs.Order.{chainOf, reuseOf}
+use Rattle.table.specs.Order.{ordered, chainOf, reuseOf}
 use Rattle.index.specs.Index.{Index, Chain, reuse, head, headOf, stateOf}
-use Rattle.index.specs.Chained.{chained}
+use Rattle.index.specs.Chained.{lastOf, chained}
 use Rattle.index.specs.declared.State.{State}
 use Rattle.stores.specs.Store.{Store}
 use Rattle.stores.specs.Opening.{openingStores}
@@ -94,9 +95,13 @@ placeOf f n b s = cond (live f n s) (head (headOf (keyIn (f s)) b)) reuse
 unfoldable pub recoveredIndex : Table → (n b : ℕ) → Index
 recoveredIndex f n b = chained n b (chainsOf f n b) (placeOf f n b)
 
--- "A state beside them holds the reuse chain's first and last slot, the live count and the next version"; no call has taken a slot yet
+-- a slot of the highest valid version, where any slot is valid: the last of all slots in recovery's order
+unfoldable pub newestSlot : Table → (n : ℕ) → ℕ
+newestSlot f n = lastOf (ordered f (slotNumbers n))
+
+-- "A state beside them holds the reuse chain's first and last slot, the live count and the next version"; it also names the newest slot
 unfoldable pub recoveredState : Table → (n b : ℕ) → State
-recoveredState f n b = stateOf (recoveredIndex f n b) (liveCount f n) (nextVersion f n) 0
+recoveredState f n b = stateOf (recoveredIndex f n b) (liveCount f n) (nextVersion f n) (newestSlot f n)
 
 -- f is the settled table, and stores are those that open the void slots
 unfoldable pub recovered : Table → (n b : ℕ) → (stores : List Store) → Result

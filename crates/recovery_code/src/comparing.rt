@@ -9,7 +9,7 @@ ghost use Rattle.table.specs.Complete.{said};
 ghost use Rattle.recovery.specs.inner.Scan.{keyAt};
 ghost use Rattle.recovery.specs.inner.Decide.{equalNeighbours, tooMany, runFault, keyTwice, Within, NoneOrAll};
 ghost use Rattle.recovery.specs.inner.Judge.{OrderNumbered, Comparable, Compared};
-use layout_code::fields::slot_number;
+use fields_code::fields::slot_number;
 use order_code::ordering::entry_at;
 use order_code::ordering::is_followed;
 use order_code::ordering::order_by_key;

@@ -1,49 +1,15 @@
 // The refusals of the slots, and the order and the chain of each slot. Nothing lent but scratch lists is written.
-ghost use mathlib.Core.Path.{_≡_};
 ghost use Rattle.words.specs.Word.{word};
-ghost use Rattle.recovery.specs.inner.Judge.{Judgeable, foundFault, foundSlot, Judgement};
+ghost use Rattle.recovery.specs.inner.Judge.{Judgeable, Judgement};
 use crate::comparing::compare;
 use crate::settling::judged_rank;
 use crate::settling::settle;
 use order_code::ordering::count_placed;
 use order_code::ordering::decide;
 use recovery::Judged;
+use recovery_fault_code::fault::found_fault;
+use recovery_fault_code::fault::found_slot;
 use scan_code::scanning::scan;
-
-// More broken and void slots than this are refused with 25.
-const BROKEN_LIMIT: u32 = 8;
-
-// The refusal of the slots by what was found, else 0: 5, the fault of the lowest slot at fault, 7, 25, 8. `broken` counts void slots too.
-fn found_fault(mark: bool, fault: u32, shared: bool, broken: u32, live: u32, n: u32) -> u32
-    ensures { λ r. ⌜ r ≡ foundFault mark fault shared broken live n ⌝ }
-{
-    if mark {
-        return 5;
-    }
-    if fault != 0 {
-        return fault;
-    }
-    if shared {
-        return 7;
-    }
-    if BROKEN_LIMIT < broken {
-        return 25;
-    }
-    if live == n {
-        return 8;
-    }
-    0
-}
-
-// The slot that it names: 5 names none.
-fn found_slot(mark: bool, slot: u32) -> u32
-    ensures { λ r. ⌜ r ≡ foundSlot mark slot ⌝ }
-{
-    if mark {
-        return 0;
-    }
-    slot
-}
 
 // Judges the slots of the image with the lent scratch lists.
 pub fn judge(

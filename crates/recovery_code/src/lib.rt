@@ -1,5 +1,4 @@
-// The steps of recovery after the scan: comparing, settling, judging, rebuilding.
+// The steps of recovery after the scan: comparing, settling, judging.
 mod comparing;
-mod judging;
-pub mod rebuilding;
+pub mod judging;
 pub mod settling;

@@ -14,7 +14,7 @@ ghost use Rattle.recovery.specs.inner.Decide.{fullRun, judgedRank, Cleared};
 ghost use Rattle.recovery.specs.inner.Judge.{OrderNumbered, Settleable, Settled, withStore};
 use crate::comparing::number_at;
 use crate::comparing::records_said;
-use layout_code::line::first_word;
+use line_code::line::first_word;
 use order_code::ordering::entry_at;
 use order_code::ordering::order_by_key;
 use order_code::ordering::order_by_rank;

@@ -1,5 +1,4 @@
 // The report on images that come one after another: the first bytes of a buffer, and the end of the input.
-mod carry;
 mod image;
 mod lent;
 mod storing;
@@ -10,13 +9,13 @@ ghost use lib.ListN.{length, take};
 ghost use Rattle.reporting.specs.Report.{noTotals};
 ghost use Rattle.reporting.specs.Blocks.{TotalsBounded, BlockReported, FrontAnswered, lastText};
 ghost use Rattle.reporting.specs.inner.Images.{BlockLent};
-use crate::carry::ends_reading;
-use crate::carry::move_down;
-use crate::image::readable_size;
 use crate::image::report_image;
 use crate::lent::is_lent;
 use crate::storing::store_totals;
 use crate::storing::store_unread;
+use report_input_code::carry::ends_reading;
+use report_input_code::carry::move_down;
+use report_input_code::size::readable_size;
 use reporting::Block;
 use reporting::FrontAnswer;
 use reporting::FrontReport;

@@ -1,11 +1,11 @@
 -- Programs without the flush before recovery, without the fence before the answer, and with the flush of one line only break the rule: computed. Assumes nothing.
 use mathlib.Core.Path.{_≡_, refl}
-use mathlib.Core.Option.{none, some}
+use mathlib.Core.Option.{none, some, Option·elim}
 use Rattle.words.specs.Word.{word, setBytes, setWord}
 use Rattle.prelude.specs.Members.{slotNumbers}
 use Rattle.prelude.specs.Refusal.{say, orElse, unlessRefused}
 use Rattle.prelude.specs.Range.{anyOf, tabulate, greatest, topmost, lowest, atLowest, count}
-use Rattle.prelude.specs.Filter.{filter, anyIn}
+use Rattle.prelude.specs.Filter.{filter, anyIn, isAmong}
 use Rattle.layout.specs.Size.{slotsOf}
 use Rattle.layout.specs.Line.{lineTop, versionFault}
 use Rattle.layout.specs.Slot.{paired, slotTop, verdictOf, lineVerdict, isValid}
@@ -13,7 +13,7 @@ use Rattle.layout.specs.Record.{keyFrom, keyOf, valuePlace, slotWord, valueWord
 use Rattle.layout.specs.Content.{made, contentBy, contentOf, content, topOf, top}
 use Rattle.layout.specs.Header.{headerWord, headerFault, imageFault, indexFault, lentFault}
 use Rattle.layout.specs.Fault.{markFault, kindFault, kindLimit, wordFault, tailFault, faultOf, recordFault, bitsFault}
-use Rattle.stores.specs.Store.{zipped, played, less, standing, allStand}
+use Rattle.stores.specs.Store.{zipped, played, less, standing, allStand, notStanding}
 use Rattle.stores.specs.Written.{marked, placedWord, bodyA, bodyB, run, lineStores, recordStores}
 use Rattle.stores.specs.Play.{wordNumbers, values}
 use Rattle.stores.specs.Opening.{openingStore, openingStores}
@@ -28,48 +28,54 @@ use Rattle.index.specs.Chained.{firstOf, lastOf, after, nextIn, chained}
 use Rattle.index.specs.Change.{takeFirst, linkNew, append, keyFault, isFound, insertAt, replaceAt, removeAt}
 use Rattle.index.specs.Walk.{walk, search, chainFault}
 use Rattle.index.specs.Taking.{withTaken, atEnd, takeWalk, takeFrom, endsFault, linkFault, fewFault, reuseFault, roomFault}
-use Rattle.taking.specs.Taking.{takingOf}
+use Rattle.taking.specs.Taking.{takingOf, takingBy}
 use Rattle.recovery.specs.Recover.{slotsFault, recoverFault, chainsOf, placeOf, recoveredIndex, recoveredState, recovered, recoverResult, noState, settledFault, slotsNamed, recoverSlot}
 use Rattle.recovery.specs.Opening.{voidSlots, openingsOf, storesIn}
 use Rattle.calls.specs.Format.{formatted}
-use Rattle.calls.specs.Change.{unchanged, changed, writeLentFault, writeLaterFault, writeFault, writeDone, writeBy, writeResult, removeLaterFault, removeFault, removeDone, removeBy, removeResult, storeFault, insertsOf}
+use Rattle.calls.specs.Change.{unchanged, changed, writeLentFault, writeLaterFault, writeFault, writeDone, writeUnless, writeResult, removeLaterFault, removeFault, removeDone, removeUnless, removeResult, storeFault, insertsOf, removeFaultBy, removeResultBy, writeFaultBy, writeResultBy}
 use Rattle.calls.specs.Get.{lengthFault, getLaterFault, getFault, getDone, getResult}
 use Rattle.calls.specs.Locate.{locateFault, locateDone, locateResult}
-use Rattle.plainmap.specs.World.{calledChange, calledGet, called, worldAfter, calledLocate, afterRound, afterRounds, openedWorld, restarted}
+use Rattle.plainmap.specs.World.{calledChange, calledGet, called, calledBy, worldAfter, calledLocate, afterRound, afterRounds, openedWorld, restarted}
 use Rattle.face.specs.Event.{stepBy, imageCut}
 use Rattle.prelude.specs.Answer.{absent, refuses}
 use Rattle.cutrule.specs.Request.{requestLeaves, requestFault, requestUpdates}
 use Rattle.plainmap.specs.Plain.{updates, updated, plainNext, plainStep, roomRule, ruleFault}
-use Rattle.restart_machine.specs.Machine.{isAmong, seen, notStanding, writtenBack, cutOff, afterStore, afterFlush, afterFence, afterKill, allMade, decide, ended, stillUndecided, killed, started, asked, continued, stepped, moved, movedBy, atRest}
-use Rattle.restart_machine.specs.Rule.{stands, plainOf}
+use Rattle.restart_machine.specs.Machine.{seen, writtenBack, cutOff, afterStore, afterFlush, afterFence, noneFlushed, allMade, decide, started, asked, continued, stepped, moved, movedBy, atRest}
+use Rattle.restart_machine.specs.Rule.{plainOf}
 use Rattle.restart_machine.specs.EachLine.{storeLines, linesTo, allLines, eachLine}
-use Rattle.restart_examples.specs.Wrong.{noStartFlush, noRequestFence, oneLineFlushed, nextSteps, eightBytes, startWith, insertOf, replaceOf, answerIn, outIn, getAnswer, getOutput, plainValue, blankTwo, insertAnswered, insertAfterCut, replaceKilled, replaceLost, replaceTorn}
+use Rattle.restart_examples.specs.Wrong.{Fitting, noStartFlush, noRequestFence, oneLineFlushed, nextSteps, eightBytes, startWith, insertOf, replaceOf, answerIn, outIn, getAnswer, getOutput, plainValue, blankTwo, insertAnswered, insertAfterCut, replaceKilled, replaceLost, replaceTorn}
+use Rattle.restart_examples.proofs.Fitting.{fitting}
 
 -- NO FLUSH BEFORE RECOVERY: a start shows the replace that was killed, which is decided then; after a cut the old value is there again
-pub no-start-flush : (getOutput 7 (replaceKilled noStartFlush 3) ≡ eightBytes 101) × (getOutput 7 (replaceLost noStartFlush 3) ≡ eightBytes 100)
-    × (plainValue blankTwo 2 7 (replaceLost noStartFlush 3) ≡ some (eightBytes 101))
-unfolding word setBytes setWord filter slotNumbers anyOf tabulate greatest topmost lowest atLowest count say orElse unlessRefused made contentBy contentOf content top topOf markFault kindFault kindLimit bitsFault wordFault tailFault faultOf recordFault headerWord headerFault imageFault indexFault lentFault lineTop versionFault keyFrom keyOf valuePlace slotWord valueWord valueByte valueFront valueOf slotsOf paired slotTop verdictOf lineVerdict isValid insert sorted openingStore openingStores wordNumbers values zipped played less standing marked placedWord bodyA bodyB run lineStores recordStores said hasVersion sharers complete versionIfComplete highestComplete isVoid settled rankOf ordered chainOf reuseOf clashes sharersFault isRecord isBroken keyIn weight nextVersion decider decidingPut live spare liveCount brokenCount brokenLimit manyBroken allLive validVersion highestValid isRemove older mayTake firstOf lastOf after nextIn chained takeFirst linkNew append insertAt replaceAt removeAt keyFault isFound setNext setStart setLast link withTaken atEnd takeWalk takeFrom endsFault linkFault fewFault reuseFault roomFault walk search chainFault takingOf voidSlots openingsOf storesIn noState settledFault slotsFault slotsNamed recoverFault recoverSlot chainsOf placeOf recoveredIndex recoveredState recovered recoverResult unchanged storeFault changed writeLentFault insertsOf writeLaterFault writeFault writeDone writeBy writeResult removeLaterFault removeFault removeDone removeBy removeResult formatted lengthFault getLaterFault getFault getDone getResult locateFault locateDone locateResult calledChange calledGet calledLocate called worldAfter afterRound afterRounds openedWorld restarted imageCut stepBy takeableIf anyIn allStand requestLeaves isAmong seen notStanding writtenBack cutOff afterStore afterFlush afterFence afterKill allMade decide ended stillUndecided killed started asked continued stepped moved movedBy atRest plainOf stands storeLines linesTo allLines eachLine requestFault requestUpdates updates updated plainNext plainStep roomRule ruleFault refuses isHeld mapOf valueAt takeableCount nextSteps eightBytes startWith insertOf replaceOf answerIn outIn getAnswer getOutput plainValue noStartFlush noRequestFence oneLineFlushed blankTwo insertAnswered insertAfterCut replaceKilled replaceLost replaceTorn
-no-start-flush = (refl, refl, refl)
+pub no-start-flush : (fit : Fitting) × (getOutput 7 (replaceKilled fit noStartFlush 3) ≡ eightBytes 101)
+    × (getOutput 7 (replaceLost fit noStartFlush 3) ≡ eightBytes 100)
+    × (plainValue blankTwo 7 (replaceLost fit noStartFlush 3) ≡ some (eightBytes 101))
+unfolding word setBytes setWord filter slotNumbers anyOf tabulate greatest topmost lowest atLowest count say orElse unlessRefused made contentBy contentOf content top topOf markFault kindFault kindLimit bitsFault wordFault tailFault faultOf recordFault headerWord headerFault imageFault indexFault lentFault lineTop versionFault keyFrom keyOf valuePlace slotWord valueWord valueByte valueFront valueOf slotsOf paired slotTop verdictOf lineVerdict isValid insert sorted openingStore openingStores wordNumbers values zipped played less standing marked placedWord bodyA bodyB run lineStores recordStores said hasVersion sharers complete versionIfComplete highestComplete isVoid settled rankOf ordered chainOf reuseOf clashes sharersFault isRecord isBroken keyIn weight nextVersion decider decidingPut live spare liveCount brokenCount brokenLimit manyBroken allLive validVersion highestValid isRemove older mayTake firstOf lastOf after nextIn chained takeFirst linkNew append insertAt replaceAt removeAt keyFault isFound setNext setStart setLast link withTaken atEnd takeWalk takeFrom endsFault linkFault fewFault reuseFault roomFault walk search chainFault takingOf voidSlots openingsOf storesIn noState settledFault slotsFault slotsNamed recoverFault recoverSlot chainsOf placeOf recoveredIndex recoveredState recovered recoverResult unchanged storeFault changed writeLentFault insertsOf writeLaterFault writeFaultBy takingBy writeDone writeUnless writeResultBy removeLaterFault removeFaultBy removeDone removeUnless removeResultBy formatted lengthFault getLaterFault getFault getDone getResult locateFault locateDone locateResult calledChange calledGet calledLocate called calledBy worldAfter afterRound afterRounds openedWorld restarted imageCut stepBy takeableIf anyIn allStand requestLeaves isAmong seen notStanding writtenBack cutOff afterStore afterFlush afterFence noneFlushed allMade decide Option·elim started asked continued stepped moved movedBy atRest plainOf storeLines linesTo allLines eachLine requestFault requestUpdates updates updated plainNext plainStep roomRule ruleFault refuses isHeld mapOf valueAt takeableCount nextSteps eightBytes startWith insertOf replaceOf answerIn outIn getAnswer getOutput plainValue noStartFlush noRequestFence oneLineFlushed blankTwo insertAnswered insertAfterCut replaceKilled replaceLost replaceTorn
+no-start-flush = (fitting, refl, refl, refl)
 
 -- and the answered insert is lost where the next replace is torn
-pub no-start-flush-loses : (getOutput 7 (insertAnswered noStartFlush 3 20) ≡ eightBytes 100) × (getAnswer 7 (replaceTorn noStartFlush 3) ≡ absent)
-unfolding word setBytes setWord filter slotNumbers anyOf tabulate greatest topmost lowest atLowest count say orElse unlessRefused made contentBy contentOf content top topOf markFault kindFault kindLimit bitsFault wordFault tailFault faultOf recordFault headerWord headerFault imageFault indexFault lentFault lineTop versionFault keyFrom keyOf valuePlace slotWord valueWord valueByte valueFront valueOf slotsOf paired slotTop verdictOf lineVerdict isValid insert sorted openingStore openingStores wordNumbers values zipped played less standing marked placedWord bodyA bodyB run lineStores recordStores said hasVersion sharers complete versionIfComplete highestComplete isVoid settled rankOf ordered chainOf reuseOf clashes sharersFault isRecord isBroken keyIn weight nextVersion decider decidingPut live spare liveCount brokenCount brokenLimit manyBroken allLive validVersion highestValid isRemove older mayTake firstOf lastOf after nextIn chained takeFirst linkNew append insertAt replaceAt removeAt keyFault isFound setNext setStart setLast link withTaken atEnd takeWalk takeFrom endsFault linkFault fewFault reuseFault roomFault walk search chainFault takingOf voidSlots openingsOf storesIn noState settledFault slotsFault slotsNamed recoverFault recoverSlot chainsOf placeOf recoveredIndex recoveredState recovered recoverResult unchanged storeFault changed writeLentFault insertsOf writeLaterFault writeFault writeDone writeBy writeResult removeLaterFault removeFault removeDone removeBy removeResult formatted lengthFault getLaterFault getFault getDone getResult locateFault locateDone locateResult calledChange calledGet calledLocate called worldAfter afterRound afterRounds openedWorld restarted imageCut stepBy takeableIf anyIn allStand requestLeaves isAmong seen notStanding writtenBack cutOff afterStore afterFlush afterFence afterKill allMade decide ended stillUndecided killed started asked continued stepped moved movedBy atRest plainOf stands storeLines linesTo allLines eachLine requestFault requestUpdates updates updated plainNext plainStep roomRule ruleFault refuses isHeld mapOf valueAt takeableCount nextSteps eightBytes startWith insertOf replaceOf answerIn outIn getAnswer getOutput plainValue noStartFlush noRequestFence oneLineFlushed blankTwo insertAnswered insertAfterCut replaceKilled replaceLost replaceTorn
-no-start-flush-loses = (refl, refl)
+pub no-start-flush-loses : (fit : Fitting) × (getOutput 7 (insertAnswered fit noStartFlush 3 20) ≡ eightBytes 100)
+    × (getAnswer 7 (replaceTorn fit noStartFlush 3) ≡ absent)
+unfolding word setBytes setWord filter slotNumbers anyOf tabulate greatest topmost lowest atLowest count say orElse unlessRefused made contentBy contentOf content top topOf markFault kindFault kindLimit bitsFault wordFault tailFault faultOf recordFault headerWord headerFault imageFault indexFault lentFault lineTop versionFault keyFrom keyOf valuePlace slotWord valueWord valueByte valueFront valueOf slotsOf paired slotTop verdictOf lineVerdict isValid insert sorted openingStore openingStores wordNumbers values zipped played less standing marked placedWord bodyA bodyB run lineStores recordStores said hasVersion sharers complete versionIfComplete highestComplete isVoid settled rankOf ordered chainOf reuseOf clashes sharersFault isRecord isBroken keyIn weight nextVersion decider decidingPut live spare liveCount brokenCount brokenLimit manyBroken allLive validVersion highestValid isRemove older mayTake firstOf lastOf after nextIn chained takeFirst linkNew append insertAt replaceAt removeAt keyFault isFound setNext setStart setLast link withTaken atEnd takeWalk takeFrom endsFault linkFault fewFault reuseFault roomFault walk search chainFault takingOf voidSlots openingsOf storesIn noState settledFault slotsFault slotsNamed recoverFault recoverSlot chainsOf placeOf recoveredIndex recoveredState recovered recoverResult unchanged storeFault changed writeLentFault insertsOf writeLaterFault writeFaultBy takingBy writeDone writeUnless writeResultBy removeLaterFault removeFaultBy removeDone removeUnless removeResultBy formatted lengthFault getLaterFault getFault getDone getResult locateFault locateDone locateResult calledChange calledGet calledLocate called calledBy worldAfter afterRound afterRounds openedWorld restarted imageCut stepBy takeableIf anyIn allStand requestLeaves isAmong seen notStanding writtenBack cutOff afterStore afterFlush afterFence noneFlushed allMade decide Option·elim started asked continued stepped moved movedBy atRest plainOf storeLines linesTo allLines eachLine requestFault requestUpdates updates updated plainNext plainStep roomRule ruleFault refuses isHeld mapOf valueAt takeableCount nextSteps eightBytes startWith insertOf replaceOf answerIn outIn getAnswer getOutput plainValue noStartFlush noRequestFence oneLineFlushed blankTwo insertAnswered insertAfterCut replaceKilled replaceLost replaceTorn
+no-start-flush-loses = (fitting, refl, refl)
 
 -- THE ANSWER BEFORE THE FENCE: the answered insert is lost
-pub no-request-fence : (getOutput 7 (insertAnswered noRequestFence 10 19) ≡ eightBytes 100) × (getAnswer 7 (insertAfterCut noRequestFence 10 19) ≡ absent)
-    × (plainValue blankTwo 2 7 (insertAfterCut noRequestFence 10 19) ≡ some (eightBytes 100))
-unfolding word setBytes setWord filter slotNumbers anyOf tabulate greatest topmost lowest atLowest count say orElse unlessRefused made contentBy contentOf content top topOf markFault kindFault kindLimit bitsFault wordFault tailFault faultOf recordFault headerWord headerFault imageFault indexFault lentFault lineTop versionFault keyFrom keyOf valuePlace slotWord valueWord valueByte valueFront valueOf slotsOf paired slotTop verdictOf lineVerdict isValid insert sorted openingStore openingStores wordNumbers values zipped played less standing marked placedWord bodyA bodyB run lineStores recordStores said hasVersion sharers complete versionIfComplete highestComplete isVoid settled rankOf ordered chainOf reuseOf clashes sharersFault isRecord isBroken keyIn weight nextVersion decider decidingPut live spare liveCount brokenCount brokenLimit manyBroken allLive validVersion highestValid isRemove older mayTake firstOf lastOf after nextIn chained takeFirst linkNew append insertAt replaceAt removeAt keyFault isFound setNext setStart setLast link withTaken atEnd takeWalk takeFrom endsFault linkFault fewFault reuseFault roomFault walk search chainFault takingOf voidSlots openingsOf storesIn noState settledFault slotsFault slotsNamed recoverFault recoverSlot chainsOf placeOf recoveredIndex recoveredState recovered recoverResult unchanged storeFault changed writeLentFault insertsOf writeLaterFault writeFault writeDone writeBy writeResult removeLaterFault removeFault removeDone removeBy removeResult formatted lengthFault getLaterFault getFault getDone getResult locateFault locateDone locateResult calledChange calledGet calledLocate called worldAfter afterRound afterRounds openedWorld restarted imageCut stepBy takeableIf anyIn allStand requestLeaves isAmong seen notStanding writtenBack cutOff afterStore afterFlush afterFence afterKill allMade decide ended stillUndecided killed started asked continued stepped moved movedBy atRest plainOf stands storeLines linesTo allLines eachLine requestFault requestUpdates updates updated plainNext plainStep roomRule ruleFault refuses isHeld mapOf valueAt takeableCount nextSteps eightBytes startWith insertOf replaceOf answerIn outIn getAnswer getOutput plainValue noStartFlush noRequestFence oneLineFlushed blankTwo insertAnswered insertAfterCut replaceKilled replaceLost replaceTorn
-no-request-fence = (refl, refl, refl)
+pub no-request-fence : (fit : Fitting) × (getOutput 7 (insertAnswered fit noRequestFence 10 19) ≡ eightBytes 100)
+    × (getAnswer 7 (insertAfterCut fit noRequestFence 10 19) ≡ absent)
+    × (plainValue blankTwo 7 (insertAfterCut fit noRequestFence 10 19) ≡ some (eightBytes 100))
+unfolding word setBytes setWord filter slotNumbers anyOf tabulate greatest topmost lowest atLowest count say orElse unlessRefused made contentBy contentOf content top topOf markFault kindFault kindLimit bitsFault wordFault tailFault faultOf recordFault headerWord headerFault imageFault indexFault lentFault lineTop versionFault keyFrom keyOf valuePlace slotWord valueWord valueByte valueFront valueOf slotsOf paired slotTop verdictOf lineVerdict isValid insert sorted openingStore openingStores wordNumbers values zipped played less standing marked placedWord bodyA bodyB run lineStores recordStores said hasVersion sharers complete versionIfComplete highestComplete isVoid settled rankOf ordered chainOf reuseOf clashes sharersFault isRecord isBroken keyIn weight nextVersion decider decidingPut live spare liveCount brokenCount brokenLimit manyBroken allLive validVersion highestValid isRemove older mayTake firstOf lastOf after nextIn chained takeFirst linkNew append insertAt replaceAt removeAt keyFault isFound setNext setStart setLast link withTaken atEnd takeWalk takeFrom endsFault linkFault fewFault reuseFault roomFault walk search chainFault takingOf voidSlots openingsOf storesIn noState settledFault slotsFault slotsNamed recoverFault recoverSlot chainsOf placeOf recoveredIndex recoveredState recovered recoverResult unchanged storeFault changed writeLentFault insertsOf writeLaterFault writeFaultBy takingBy writeDone writeUnless writeResultBy removeLaterFault removeFaultBy removeDone removeUnless removeResultBy formatted lengthFault getLaterFault getFault getDone getResult locateFault locateDone locateResult calledChange calledGet calledLocate called calledBy worldAfter afterRound afterRounds openedWorld restarted imageCut stepBy takeableIf anyIn allStand requestLeaves isAmong seen notStanding writtenBack cutOff afterStore afterFlush afterFence noneFlushed allMade decide Option·elim started asked continued stepped moved movedBy atRest plainOf storeLines linesTo allLines eachLine requestFault requestUpdates updates updated plainNext plainStep roomRule ruleFault refuses isHeld mapOf valueAt takeableCount nextSteps eightBytes startWith insertOf replaceOf answerIn outIn getAnswer getOutput plainValue noStartFlush noRequestFence oneLineFlushed blankTwo insertAnswered insertAfterCut replaceKilled replaceLost replaceTorn
+no-request-fence = (fitting, refl, refl, refl)
 
 -- ONE LINE ONLY IS FLUSHED: the answered insert is lost
-pub one-line-flushed : (getOutput 7 (insertAnswered oneLineFlushed 10 19) ≡ eightBytes 100) × (getAnswer 7 (insertAfterCut oneLineFlushed 10 19) ≡ absent)
-    × (plainValue blankTwo 2 7 (insertAfterCut oneLineFlushed 10 19) ≡ some (eightBytes 100))
-unfolding word setBytes setWord filter slotNumbers anyOf tabulate greatest topmost lowest atLowest count say orElse unlessRefused made contentBy contentOf content top topOf markFault kindFault kindLimit bitsFault wordFault tailFault faultOf recordFault headerWord headerFault imageFault indexFault lentFault lineTop versionFault keyFrom keyOf valuePlace slotWord valueWord valueByte valueFront valueOf slotsOf paired slotTop verdictOf lineVerdict isValid insert sorted openingStore openingStores wordNumbers values zipped played less standing marked placedWord bodyA bodyB run lineStores recordStores said hasVersion sharers complete versionIfComplete highestComplete isVoid settled rankOf ordered chainOf reuseOf clashes sharersFault isRecord isBroken keyIn weight nextVersion decider decidingPut live spare liveCount brokenCount brokenLimit manyBroken allLive validVersion highestValid isRemove older mayTake firstOf lastOf after nextIn chained takeFirst linkNew append insertAt replaceAt removeAt keyFault isFound setNext setStart setLast link withTaken atEnd takeWalk takeFrom endsFault linkFault fewFault reuseFault roomFault walk search chainFault takingOf voidSlots openingsOf storesIn noState settledFault slotsFault slotsNamed recoverFault recoverSlot chainsOf placeOf recoveredIndex recoveredState recovered recoverResult unchanged storeFault changed writeLentFault insertsOf writeLaterFault writeFault writeDone writeBy writeResult removeLaterFault removeFault removeDone removeBy removeResult formatted lengthFault getLaterFault getFault getDone getResult locateFault locateDone locateResult calledChange calledGet calledLocate called worldAfter afterRound afterRounds openedWorld restarted imageCut stepBy takeableIf anyIn allStand requestLeaves isAmong seen notStanding writtenBack cutOff afterStore afterFlush afterFence afterKill allMade decide ended stillUndecided killed started asked continued stepped moved movedBy atRest plainOf stands storeLines linesTo allLines eachLine requestFault requestUpdates updates updated plainNext plainStep roomRule ruleFault refuses isHeld mapOf valueAt takeableCount nextSteps eightBytes startWith insertOf replaceOf answerIn outIn getAnswer getOutput plainValue noStartFlush noRequestFence oneLineFlushed blankTwo insertAnswered insertAfterCut replaceKilled replaceLost replaceTorn
-one-line-flushed = (refl, refl, refl)
+pub one-line-flushed : (fit : Fitting) × (getOutput 7 (insertAnswered fit oneLineFlushed 10 19) ≡ eightBytes 100)
+    × (getAnswer 7 (insertAfterCut fit oneLineFlushed 10 19) ≡ absent)
+    × (plainValue blankTwo 7 (insertAfterCut fit oneLineFlushed 10 19) ≡ some (eightBytes 100))
+unfolding word setBytes setWord filter slotNumbers anyOf tabulate greatest topmost lowest atLowest count say orElse unlessRefused made contentBy contentOf content top topOf markFault kindFault kindLimit bitsFault wordFault tailFault faultOf recordFault headerWord headerFault imageFault indexFault lentFault lineTop versionFault keyFrom keyOf valuePlace slotWord valueWord valueByte valueFront valueOf slotsOf paired slotTop verdictOf lineVerdict isValid insert sorted openingStore openingStores wordNumbers values zipped played less standing marked placedWord bodyA bodyB run lineStores recordStores said hasVersion sharers complete versionIfComplete highestComplete isVoid settled rankOf ordered chainOf reuseOf clashes sharersFault isRecord isBroken keyIn weight nextVersion decider decidingPut live spare liveCount brokenCount brokenLimit manyBroken allLive validVersion highestValid isRemove older mayTake firstOf lastOf after nextIn chained takeFirst linkNew append insertAt replaceAt removeAt keyFault isFound setNext setStart setLast link withTaken atEnd takeWalk takeFrom endsFault linkFault fewFault reuseFault roomFault walk search chainFault takingOf voidSlots openingsOf storesIn noState settledFault slotsFault slotsNamed recoverFault recoverSlot chainsOf placeOf recoveredIndex recoveredState recovered recoverResult unchanged storeFault changed writeLentFault insertsOf writeLaterFault writeFaultBy takingBy writeDone writeUnless writeResultBy removeLaterFault removeFaultBy removeDone removeUnless removeResultBy formatted lengthFault getLaterFault getFault getDone getResult locateFault locateDone locateResult calledChange calledGet calledLocate called calledBy worldAfter afterRound afterRounds openedWorld restarted imageCut stepBy takeableIf anyIn allStand requestLeaves isAmong seen notStanding writtenBack cutOff afterStore afterFlush afterFence noneFlushed allMade decide Option·elim started asked continued stepped moved movedBy atRest plainOf storeLines linesTo allLines eachLine requestFault requestUpdates updates updated plainNext plainStep roomRule ruleFault refuses isHeld mapOf valueAt takeableCount nextSteps eightBytes startWith insertOf replaceOf answerIn outIn getAnswer getOutput plainValue noStartFlush noRequestFence oneLineFlushed blankTwo insertAnswered insertAfterCut replaceKilled replaceLost replaceTorn
+one-line-flushed = (fitting, refl, refl, refl)
 
 -- THE PROGRAM THAT DOES ITS DUTIES keeps what it showed in the same histories
-pub each-line-keeps : (getOutput 7 (replaceKilled eachLine 10) ≡ eightBytes 101) × (getOutput 7 (replaceLost eachLine 10) ≡ eightBytes 101)
-    × (getOutput 7 (replaceTorn eachLine 10) ≡ eightBytes 101) × (getOutput 7 (insertAfterCut eachLine 10 20) ≡ eightBytes 100)
-unfolding word setBytes setWord filter slotNumbers anyOf tabulate greatest topmost lowest atLowest count say orElse unlessRefused made contentBy contentOf content top topOf markFault kindFault kindLimit bitsFault wordFault tailFault faultOf recordFault headerWord headerFault imageFault indexFault lentFault lineTop versionFault keyFrom keyOf valuePlace slotWord valueWord valueByte valueFront valueOf slotsOf paired slotTop verdictOf lineVerdict isValid insert sorted openingStore openingStores wordNumbers values zipped played less standing marked placedWord bodyA bodyB run lineStores recordStores said hasVersion sharers complete versionIfComplete highestComplete isVoid settled rankOf ordered chainOf reuseOf clashes sharersFault isRecord isBroken keyIn weight nextVersion decider decidingPut live spare liveCount brokenCount brokenLimit manyBroken allLive validVersion highestValid isRemove older mayTake firstOf lastOf after nextIn chained takeFirst linkNew append insertAt replaceAt removeAt keyFault isFound setNext setStart setLast link withTaken atEnd takeWalk takeFrom endsFault linkFault fewFault reuseFault roomFault walk search chainFault takingOf voidSlots openingsOf storesIn noState settledFault slotsFault slotsNamed recoverFault recoverSlot chainsOf placeOf recoveredIndex recoveredState recovered recoverResult unchanged storeFault changed writeLentFault insertsOf writeLaterFault writeFault writeDone writeBy writeResult removeLaterFault removeFault removeDone removeBy removeResult formatted lengthFault getLaterFault getFault getDone getResult locateFault locateDone locateResult calledChange calledGet calledLocate called worldAfter afterRound afterRounds openedWorld restarted imageCut stepBy takeableIf anyIn allStand requestLeaves isAmong seen notStanding writtenBack cutOff afterStore afterFlush afterFence afterKill allMade decide ended stillUndecided killed started asked continued stepped moved movedBy atRest plainOf stands storeLines linesTo allLines eachLine requestFault requestUpdates updates updated plainNext plainStep roomRule ruleFault refuses isHeld mapOf valueAt takeableCount nextSteps eightBytes startWith insertOf replaceOf answerIn outIn getAnswer getOutput plainValue noStartFlush noRequestFence oneLineFlushed blankTwo insertAnswered insertAfterCut replaceKilled replaceLost replaceTorn
-each-line-keeps = (refl, refl, refl, refl)
+pub each-line-keeps : (fit : Fitting) × (getOutput 7 (replaceKilled fit eachLine 10) ≡ eightBytes 101)
+    × (getOutput 7 (replaceLost fit eachLine 10) ≡ eightBytes 101)
+    × (getOutput 7 (replaceTorn fit eachLine 10) ≡ eightBytes 101) × (getOutput 7 (insertAfterCut fit eachLine 10 20) ≡ eightBytes 100)
+unfolding word setBytes setWord filter slotNumbers anyOf tabulate greatest topmost lowest atLowest count say orElse unlessRefused made contentBy contentOf content top topOf markFault kindFault kindLimit bitsFault wordFault tailFault faultOf recordFault headerWord headerFault imageFault indexFault lentFault lineTop versionFault keyFrom keyOf valuePlace slotWord valueWord valueByte valueFront valueOf slotsOf paired slotTop verdictOf lineVerdict isValid insert sorted openingStore openingStores wordNumbers values zipped played less standing marked placedWord bodyA bodyB run lineStores recordStores said hasVersion sharers complete versionIfComplete highestComplete isVoid settled rankOf ordered chainOf reuseOf clashes sharersFault isRecord isBroken keyIn weight nextVersion decider decidingPut live spare liveCount brokenCount brokenLimit manyBroken allLive validVersion highestValid isRemove older mayTake firstOf lastOf after nextIn chained takeFirst linkNew append insertAt replaceAt removeAt keyFault isFound setNext setStart setLast link withTaken atEnd takeWalk takeFrom endsFault linkFault fewFault reuseFault roomFault walk search chainFault takingOf voidSlots openingsOf storesIn noState settledFault slotsFault slotsNamed recoverFault recoverSlot chainsOf placeOf recoveredIndex recoveredState recovered recoverResult unchanged storeFault changed writeLentFault insertsOf writeLaterFault writeFaultBy takingBy writeDone writeUnless writeResultBy removeLaterFault removeFaultBy removeDone removeUnless removeResultBy formatted lengthFault getLaterFault getFault getDone getResult locateFault locateDone locateResult calledChange calledGet calledLocate called calledBy worldAfter afterRound afterRounds openedWorld restarted imageCut stepBy takeableIf anyIn allStand requestLeaves isAmong seen notStanding writtenBack cutOff afterStore afterFlush afterFence noneFlushed allMade decide Option·elim started asked continued stepped moved movedBy atRest plainOf storeLines linesTo allLines eachLine requestFault requestUpdates updates updated plainNext plainStep roomRule ruleFault refuses isHeld mapOf valueAt takeableCount nextSteps eightBytes startWith insertOf replaceOf answerIn outIn getAnswer getOutput plainValue noStartFlush noRequestFence oneLineFlushed blankTwo insertAnswered insertAfterCut replaceKilled replaceLost replaceTorn
+each-line-keeps = (fitting, refl, refl, refl, refl)

@@ -1,11 +1,11 @@
 -- A program that does not fence recovery's opening stores shows part of a basket: computed. Assumes nothing.
 use mathlib.Core.Path.{_≡_, refl}
-use mathlib.Core.Option.{none, some}
+use mathlib.Core.Option.{none, some, Option·elim}
 use Rattle.words.specs.Word.{word, setBytes, setWord}
 use Rattle.prelude.specs.Members.{slotNumbers}
 use Rattle.prelude.specs.Refusal.{say, orElse, unlessRefused}
 use Rattle.prelude.specs.Range.{anyOf, tabulate, greatest, topmost, lowest, atLowest, count}
-use Rattle.prelude.specs.Filter.{filter, anyIn}
+use Rattle.prelude.specs.Filter.{filter, anyIn, isAmong}
 use Rattle.layout.specs.Size.{slotsOf}
 use Rattle.layout.specs.Line.{lineTop, versionFault}
 use Rattle.layout.specs.Slot.{paired, slotTop, verdictOf, lineVerdict, isValid}
@@ -13,7 +13,7 @@ use Rattle.layout.specs.Record.{keyFrom, keyOf, valuePlace, slotWord, valueWord
 use Rattle.layout.specs.Content.{made, contentBy, contentOf, content, topOf, top}
 use Rattle.layout.specs.Header.{headerWord, headerFault, imageFault, indexFault, lentFault}
 use Rattle.layout.specs.Fault.{markFault, kindFault, kindLimit, wordFault, tailFault, faultOf, recordFault, bitsFault}
-use Rattle.stores.specs.Store.{zipped, played, less, standing, allStand}
+use Rattle.stores.specs.Store.{zipped, played, less, standing, allStand, notStanding}
 use Rattle.stores.specs.Written.{marked, placedWord, bodyA, bodyB, run, lineStores, recordStores}
 use Rattle.stores.specs.Play.{wordNumbers, values}
 use Rattle.stores.specs.Opening.{openingStore, openingStores}
@@ -28,37 +28,38 @@ use Rattle.index.specs.Chained.{firstOf, lastOf, after, nextIn, chained}
 use Rattle.index.specs.Change.{takeFirst, linkNew, append, keyFault, isFound, insertAt, replaceAt, removeAt}
 use Rattle.index.specs.Walk.{walk, search, chainFault}
 use Rattle.index.specs.Taking.{withTaken, atEnd, takeWalk, takeFrom, endsFault, linkFault, fewFault, reuseFault, roomFault}
-use Rattle.taking.specs.Taking.{takingOf}
+use Rattle.taking.specs.Taking.{takingOf, takingBy}
 use Rattle.recovery.specs.Recover.{slotsFault, recoverFault, chainsOf, placeOf, recoveredIndex, recoveredState, recovered, recoverResult, noState, settledFault, slotsNamed, recoverSlot}
 use Rattle.recovery.specs.Opening.{voidSlots, openingsOf, storesIn}
 use Rattle.calls.specs.Format.{formatted}
-use Rattle.calls.specs.Change.{unchanged, changed, writeLentFault, writeLaterFault, writeFault, writeDone, writeBy, writeResult, removeLaterFault, removeFault, removeDone, removeBy, removeResult, storeFault, insertsOf}
+use Rattle.calls.specs.Change.{unchanged, changed, writeLentFault, writeLaterFault, writeFault, writeDone, writeUnless, writeResult, removeLaterFault, removeFault, removeDone, removeUnless, removeResult, storeFault, insertsOf, removeFaultBy, removeResultBy, writeFaultBy, writeResultBy}
 use Rattle.calls.specs.Get.{lengthFault, getLaterFault, getFault, getDone, getResult}
 use Rattle.calls.specs.Locate.{locateFault, locateDone, locateResult}
-use Rattle.plainmap.specs.World.{calledChange, calledGet, called, worldAfter, calledLocate, afterRound, afterRounds, openedWorld, restarted}
+use Rattle.plainmap.specs.World.{calledChange, calledGet, called, calledBy, worldAfter, calledLocate, afterRound, afterRounds, openedWorld, restarted}
 use Rattle.face.specs.Event.{stepBy, imageCut}
 use Rattle.prelude.specs.Answer.{absent, refuses}
 use Rattle.cutrule.specs.Request.{requestLeaves, requestFault, requestUpdates}
 use Rattle.plainmap.specs.Plain.{updates, updated, plainNext, plainStep, roomRule, ruleFault}
-use Rattle.restart_machine.specs.Machine.{isAmong, seen, notStanding, writtenBack, cutOff, afterStore, afterFlush, afterFence, afterKill, allMade, decide, ended, stillUndecided, killed, started, asked, continued, stepped, moved, movedBy, atRest}
-use Rattle.restart_machine.specs.Rule.{stands, plainOf}
+use Rattle.restart_machine.specs.Machine.{seen, writtenBack, cutOff, afterStore, afterFlush, afterFence, noneFlushed, allMade, decide, started, asked, continued, stepped, moved, movedBy, atRest}
+use Rattle.restart_machine.specs.Rule.{plainOf}
 use Rattle.restart_machine.specs.EachLine.{storeLines, linesTo, allLines, eachLine}
-use Rattle.restart_examples.specs.Wrong.{noOpeningFence, nextSteps, eightBytes, startWith, insertOf, replaceOf, answerIn, outIn, getAnswer, getOutput, plainValue, blankFour, tornBasketImage, basketOpened, insertCut}
+use Rattle.restart_examples.specs.Wrong.{Fitting, noOpeningFence, nextSteps, eightBytes, startWith, insertOf, replaceOf, answerIn, outIn, getAnswer, getOutput, plainValue, blankFour, tornBasketImage, basketOpened, insertCut}
+use Rattle.restart_examples.proofs.Fitting.{fitting}
 
 -- THE OPENING STORES ARE NOT FENCED: a key of the torn basket is absent, and after a cut in the insert of another key it is there
-pub opening-absent : getAnswer 8 (basketOpened noOpeningFence 17) ≡ absent
-unfolding word setBytes setWord filter slotNumbers anyOf tabulate greatest topmost lowest atLowest count say orElse unlessRefused made contentBy contentOf content top topOf markFault kindFault kindLimit bitsFault wordFault tailFault faultOf recordFault headerWord headerFault imageFault indexFault lentFault lineTop versionFault keyFrom keyOf valuePlace slotWord valueWord valueByte valueFront valueOf slotsOf paired slotTop verdictOf lineVerdict isValid insert sorted openingStore openingStores wordNumbers values zipped played less standing marked placedWord bodyA bodyB run lineStores recordStores said hasVersion sharers complete versionIfComplete highestComplete isVoid settled rankOf ordered chainOf reuseOf clashes sharersFault isRecord isBroken keyIn weight nextVersion decider decidingPut live spare liveCount brokenCount brokenLimit manyBroken allLive validVersion highestValid isRemove older mayTake firstOf lastOf after nextIn chained takeFirst linkNew append insertAt replaceAt removeAt keyFault isFound setNext setStart setLast link withTaken atEnd takeWalk takeFrom endsFault linkFault fewFault reuseFault roomFault walk search chainFault takingOf voidSlots openingsOf storesIn noState settledFault slotsFault slotsNamed recoverFault recoverSlot chainsOf placeOf recoveredIndex recoveredState recovered recoverResult unchanged storeFault changed writeLentFault insertsOf writeLaterFault writeFault writeDone writeBy writeResult removeLaterFault removeFault removeDone removeBy removeResult formatted lengthFault getLaterFault getFault getDone getResult locateFault locateDone locateResult calledChange calledGet calledLocate called worldAfter afterRound afterRounds openedWorld restarted imageCut stepBy takeableIf anyIn allStand requestLeaves isAmong seen notStanding writtenBack cutOff afterStore afterFlush afterFence afterKill allMade decide ended stillUndecided killed started asked continued stepped moved movedBy atRest plainOf stands storeLines linesTo allLines eachLine requestFault requestUpdates updates updated plainNext plainStep roomRule ruleFault refuses isHeld mapOf valueAt takeableCount nextSteps eightBytes startWith insertOf replaceOf answerIn outIn getAnswer getOutput plainValue noOpeningFence blankFour tornBasketImage basketOpened insertCut
-opening-absent = refl
+pub opening-absent : (fit : Fitting) × (getAnswer 8 (basketOpened fit noOpeningFence 17) ≡ absent)
+unfolding word setBytes setWord filter slotNumbers anyOf tabulate greatest topmost lowest atLowest count say orElse unlessRefused made contentBy contentOf content top topOf markFault kindFault kindLimit bitsFault wordFault tailFault faultOf recordFault headerWord headerFault imageFault indexFault lentFault lineTop versionFault keyFrom keyOf valuePlace slotWord valueWord valueByte valueFront valueOf slotsOf paired slotTop verdictOf lineVerdict isValid insert sorted openingStore openingStores wordNumbers values zipped played less standing marked placedWord bodyA bodyB run lineStores recordStores said hasVersion sharers complete versionIfComplete highestComplete isVoid settled rankOf ordered chainOf reuseOf clashes sharersFault isRecord isBroken keyIn weight nextVersion decider decidingPut live spare liveCount brokenCount brokenLimit manyBroken allLive validVersion highestValid isRemove older mayTake firstOf lastOf after nextIn chained takeFirst linkNew append insertAt replaceAt removeAt keyFault isFound setNext setStart setLast link withTaken atEnd takeWalk takeFrom endsFault linkFault fewFault reuseFault roomFault walk search chainFault takingOf voidSlots openingsOf storesIn noState settledFault slotsFault slotsNamed recoverFault recoverSlot chainsOf placeOf recoveredIndex recoveredState recovered recoverResult unchanged storeFault changed writeLentFault insertsOf writeLaterFault writeFaultBy takingBy writeDone writeUnless writeResultBy removeLaterFault removeFaultBy removeDone removeUnless removeResultBy formatted lengthFault getLaterFault getFault getDone getResult locateFault locateDone locateResult calledChange calledGet calledLocate called calledBy worldAfter afterRound afterRounds openedWorld restarted imageCut stepBy takeableIf anyIn allStand requestLeaves isAmong seen notStanding writtenBack cutOff afterStore afterFlush afterFence noneFlushed allMade decide Option·elim started asked continued stepped moved movedBy atRest plainOf storeLines linesTo allLines eachLine requestFault requestUpdates updates updated plainNext plainStep roomRule ruleFault refuses isHeld mapOf valueAt takeableCount nextSteps eightBytes startWith insertOf replaceOf answerIn outIn getAnswer getOutput plainValue noOpeningFence blankFour tornBasketImage basketOpened insertCut
+opening-absent = (fitting, refl)
 
-pub opening-lost : getOutput 8 (insertCut noOpeningFence 17 13) ≡ eightBytes 2
-unfolding word setBytes setWord filter slotNumbers anyOf tabulate greatest topmost lowest atLowest count say orElse unlessRefused made contentBy contentOf content top topOf markFault kindFault kindLimit bitsFault wordFault tailFault faultOf recordFault headerWord headerFault imageFault indexFault lentFault lineTop versionFault keyFrom keyOf valuePlace slotWord valueWord valueByte valueFront valueOf slotsOf paired slotTop verdictOf lineVerdict isValid insert sorted openingStore openingStores wordNumbers values zipped played less standing marked placedWord bodyA bodyB run lineStores recordStores said hasVersion sharers complete versionIfComplete highestComplete isVoid settled rankOf ordered chainOf reuseOf clashes sharersFault isRecord isBroken keyIn weight nextVersion decider decidingPut live spare liveCount brokenCount brokenLimit manyBroken allLive validVersion highestValid isRemove older mayTake firstOf lastOf after nextIn chained takeFirst linkNew append insertAt replaceAt removeAt keyFault isFound setNext setStart setLast link withTaken atEnd takeWalk takeFrom endsFault linkFault fewFault reuseFault roomFault walk search chainFault takingOf voidSlots openingsOf storesIn noState settledFault slotsFault slotsNamed recoverFault recoverSlot chainsOf placeOf recoveredIndex recoveredState recovered recoverResult unchanged storeFault changed writeLentFault insertsOf writeLaterFault writeFault writeDone writeBy writeResult removeLaterFault removeFault removeDone removeBy removeResult formatted lengthFault getLaterFault getFault getDone getResult locateFault locateDone locateResult calledChange calledGet calledLocate called worldAfter afterRound afterRounds openedWorld restarted imageCut stepBy takeableIf anyIn allStand requestLeaves isAmong seen notStanding writtenBack cutOff afterStore afterFlush afterFence afterKill allMade decide ended stillUndecided killed started asked continued stepped moved movedBy atRest plainOf stands storeLines linesTo allLines eachLine requestFault requestUpdates updates updated plainNext plainStep roomRule ruleFault refuses isHeld mapOf valueAt takeableCount nextSteps eightBytes startWith insertOf replaceOf answerIn outIn getAnswer getOutput plainValue noOpeningFence blankFour tornBasketImage basketOpened insertCut
-opening-lost = refl
+pub opening-lost : (fit : Fitting) × (getOutput 8 (insertCut fit noOpeningFence 17 13) ≡ eightBytes 2)
+unfolding word setBytes setWord filter slotNumbers anyOf tabulate greatest topmost lowest atLowest count say orElse unlessRefused made contentBy contentOf content top topOf markFault kindFault kindLimit bitsFault wordFault tailFault faultOf recordFault headerWord headerFault imageFault indexFault lentFault lineTop versionFault keyFrom keyOf valuePlace slotWord valueWord valueByte valueFront valueOf slotsOf paired slotTop verdictOf lineVerdict isValid insert sorted openingStore openingStores wordNumbers values zipped played less standing marked placedWord bodyA bodyB run lineStores recordStores said hasVersion sharers complete versionIfComplete highestComplete isVoid settled rankOf ordered chainOf reuseOf clashes sharersFault isRecord isBroken keyIn weight nextVersion decider decidingPut live spare liveCount brokenCount brokenLimit manyBroken allLive validVersion highestValid isRemove older mayTake firstOf lastOf after nextIn chained takeFirst linkNew append insertAt replaceAt removeAt keyFault isFound setNext setStart setLast link withTaken atEnd takeWalk takeFrom endsFault linkFault fewFault reuseFault roomFault walk search chainFault takingOf voidSlots openingsOf storesIn noState settledFault slotsFault slotsNamed recoverFault recoverSlot chainsOf placeOf recoveredIndex recoveredState recovered recoverResult unchanged storeFault changed writeLentFault insertsOf writeLaterFault writeFaultBy takingBy writeDone writeUnless writeResultBy removeLaterFault removeFaultBy removeDone removeUnless removeResultBy formatted lengthFault getLaterFault getFault getDone getResult locateFault locateDone locateResult calledChange calledGet calledLocate called calledBy worldAfter afterRound afterRounds openedWorld restarted imageCut stepBy takeableIf anyIn allStand requestLeaves isAmong seen notStanding writtenBack cutOff afterStore afterFlush afterFence noneFlushed allMade decide Option·elim started asked continued stepped moved movedBy atRest plainOf storeLines linesTo allLines eachLine requestFault requestUpdates updates updated plainNext plainStep roomRule ruleFault refuses isHeld mapOf valueAt takeableCount nextSteps eightBytes startWith insertOf replaceOf answerIn outIn getAnswer getOutput plainValue noOpeningFence blankFour tornBasketImage basketOpened insertCut
+opening-lost = (fitting, refl)
 
-pub opening-plain : plainValue tornBasketImage 4 8 (insertCut noOpeningFence 17 13) ≡ none
-unfolding word setBytes setWord filter slotNumbers anyOf tabulate greatest topmost lowest atLowest count say orElse unlessRefused made contentBy contentOf content top topOf markFault kindFault kindLimit bitsFault wordFault tailFault faultOf recordFault headerWord headerFault imageFault indexFault lentFault lineTop versionFault keyFrom keyOf valuePlace slotWord valueWord valueByte valueFront valueOf slotsOf paired slotTop verdictOf lineVerdict isValid insert sorted openingStore openingStores wordNumbers values zipped played less standing marked placedWord bodyA bodyB run lineStores recordStores said hasVersion sharers complete versionIfComplete highestComplete isVoid settled rankOf ordered chainOf reuseOf clashes sharersFault isRecord isBroken keyIn weight nextVersion decider decidingPut live spare liveCount brokenCount brokenLimit manyBroken allLive validVersion highestValid isRemove older mayTake firstOf lastOf after nextIn chained takeFirst linkNew append insertAt replaceAt removeAt keyFault isFound setNext setStart setLast link withTaken atEnd takeWalk takeFrom endsFault linkFault fewFault reuseFault roomFault walk search chainFault takingOf voidSlots openingsOf storesIn noState settledFault slotsFault slotsNamed recoverFault recoverSlot chainsOf placeOf recoveredIndex recoveredState recovered recoverResult unchanged storeFault changed writeLentFault insertsOf writeLaterFault writeFault writeDone writeBy writeResult removeLaterFault removeFault removeDone removeBy removeResult formatted lengthFault getLaterFault getFault getDone getResult locateFault locateDone locateResult calledChange calledGet calledLocate called worldAfter afterRound afterRounds openedWorld restarted imageCut stepBy takeableIf anyIn allStand requestLeaves isAmong seen notStanding writtenBack cutOff afterStore afterFlush afterFence afterKill allMade decide ended stillUndecided killed started asked continued stepped moved movedBy atRest plainOf stands storeLines linesTo allLines eachLine requestFault requestUpdates updates updated plainNext plainStep roomRule ruleFault refuses isHeld mapOf valueAt takeableCount nextSteps eightBytes startWith insertOf replaceOf answerIn outIn getAnswer getOutput plainValue noOpeningFence blankFour tornBasketImage basketOpened insertCut
-opening-plain = refl
+pub opening-plain : (fit : Fitting) × (plainValue tornBasketImage 8 (insertCut fit noOpeningFence 17 13) ≡ none)
+unfolding word setBytes setWord filter slotNumbers anyOf tabulate greatest topmost lowest atLowest count say orElse unlessRefused made contentBy contentOf content top topOf markFault kindFault kindLimit bitsFault wordFault tailFault faultOf recordFault headerWord headerFault imageFault indexFault lentFault lineTop versionFault keyFrom keyOf valuePlace slotWord valueWord valueByte valueFront valueOf slotsOf paired slotTop verdictOf lineVerdict isValid insert sorted openingStore openingStores wordNumbers values zipped played less standing marked placedWord bodyA bodyB run lineStores recordStores said hasVersion sharers complete versionIfComplete highestComplete isVoid settled rankOf ordered chainOf reuseOf clashes sharersFault isRecord isBroken keyIn weight nextVersion decider decidingPut live spare liveCount brokenCount brokenLimit manyBroken allLive validVersion highestValid isRemove older mayTake firstOf lastOf after nextIn chained takeFirst linkNew append insertAt replaceAt removeAt keyFault isFound setNext setStart setLast link withTaken atEnd takeWalk takeFrom endsFault linkFault fewFault reuseFault roomFault walk search chainFault takingOf voidSlots openingsOf storesIn noState settledFault slotsFault slotsNamed recoverFault recoverSlot chainsOf placeOf recoveredIndex recoveredState recovered recoverResult unchanged storeFault changed writeLentFault insertsOf writeLaterFault writeFaultBy takingBy writeDone writeUnless writeResultBy removeLaterFault removeFaultBy removeDone removeUnless removeResultBy formatted lengthFault getLaterFault getFault getDone getResult locateFault locateDone locateResult calledChange calledGet calledLocate called calledBy worldAfter afterRound afterRounds openedWorld restarted imageCut stepBy takeableIf anyIn allStand requestLeaves isAmong seen notStanding writtenBack cutOff afterStore afterFlush afterFence noneFlushed allMade decide Option·elim started asked continued stepped moved movedBy atRest plainOf storeLines linesTo allLines eachLine requestFault requestUpdates updates updated plainNext plainStep roomRule ruleFault refuses isHeld mapOf valueAt takeableCount nextSteps eightBytes startWith insertOf replaceOf answerIn outIn getAnswer getOutput plainValue noOpeningFence blankFour tornBasketImage basketOpened insertCut
+opening-plain = (fitting, refl)
 
 -- THE PROGRAM THAT DOES ITS DUTIES keeps it absent in the same history
-pub each-line-hides : getAnswer 8 (insertCut eachLine 18 14) ≡ absent
-unfolding word setBytes setWord filter slotNumbers anyOf tabulate greatest topmost lowest atLowest count say orElse unlessRefused made contentBy contentOf content top topOf markFault kindFault kindLimit bitsFault wordFault tailFault faultOf recordFault headerWord headerFault imageFault indexFault lentFault lineTop versionFault keyFrom keyOf valuePlace slotWord valueWord valueByte valueFront valueOf slotsOf paired slotTop verdictOf lineVerdict isValid insert sorted openingStore openingStores wordNumbers values zipped played less standing marked placedWord bodyA bodyB run lineStores recordStores said hasVersion sharers complete versionIfComplete highestComplete isVoid settled rankOf ordered chainOf reuseOf clashes sharersFault isRecord isBroken keyIn weight nextVersion decider decidingPut live spare liveCount brokenCount brokenLimit manyBroken allLive validVersion highestValid isRemove older mayTake firstOf lastOf after nextIn chained takeFirst linkNew append insertAt replaceAt removeAt keyFault isFound setNext setStart setLast link withTaken atEnd takeWalk takeFrom endsFault linkFault fewFault reuseFault roomFault walk search chainFault takingOf voidSlots openingsOf storesIn noState settledFault slotsFault slotsNamed recoverFault recoverSlot chainsOf placeOf recoveredIndex recoveredState recovered recoverResult unchanged storeFault changed writeLentFault insertsOf writeLaterFault writeFault writeDone writeBy writeResult removeLaterFault removeFault removeDone removeBy removeResult formatted lengthFault getLaterFault getFault getDone getResult locateFault locateDone locateResult calledChange calledGet calledLocate called worldAfter afterRound afterRounds openedWorld restarted imageCut stepBy takeableIf anyIn allStand requestLeaves isAmong seen notStanding writtenBack cutOff afterStore afterFlush afterFence afterKill allMade decide ended stillUndecided killed started asked continued stepped moved movedBy atRest plainOf stands storeLines linesTo allLines eachLine requestFault requestUpdates updates updated plainNext plainStep roomRule ruleFault refuses isHeld mapOf valueAt takeableCount nextSteps eightBytes startWith insertOf replaceOf answerIn outIn getAnswer getOutput plainValue noOpeningFence blankFour tornBasketImage basketOpened insertCut
-each-line-hides = refl
+pub each-line-hides : (fit : Fitting) × (getAnswer 8 (insertCut fit eachLine 18 14) ≡ absent)
+unfolding word setBytes setWord filter slotNumbers anyOf tabulate greatest topmost lowest atLowest count say orElse unlessRefused made contentBy contentOf content top topOf markFault kindFault kindLimit bitsFault wordFault tailFault faultOf recordFault headerWord headerFault imageFault indexFault lentFault lineTop versionFault keyFrom keyOf valuePlace slotWord valueWord valueByte valueFront valueOf slotsOf paired slotTop verdictOf lineVerdict isValid insert sorted openingStore openingStores wordNumbers values zipped played less standing marked placedWord bodyA bodyB run lineStores recordStores said hasVersion sharers complete versionIfComplete highestComplete isVoid settled rankOf ordered chainOf reuseOf clashes sharersFault isRecord isBroken keyIn weight nextVersion decider decidingPut live spare liveCount brokenCount brokenLimit manyBroken allLive validVersion highestValid isRemove older mayTake firstOf lastOf after nextIn chained takeFirst linkNew append insertAt replaceAt removeAt keyFault isFound setNext setStart setLast link withTaken atEnd takeWalk takeFrom endsFault linkFault fewFault reuseFault roomFault walk search chainFault takingOf voidSlots openingsOf storesIn noState settledFault slotsFault slotsNamed recoverFault recoverSlot chainsOf placeOf recoveredIndex recoveredState recovered recoverResult unchanged storeFault changed writeLentFault insertsOf writeLaterFault writeFaultBy takingBy writeDone writeUnless writeResultBy removeLaterFault removeFaultBy removeDone removeUnless removeResultBy formatted lengthFault getLaterFault getFault getDone getResult locateFault locateDone locateResult calledChange calledGet calledLocate called calledBy worldAfter afterRound afterRounds openedWorld restarted imageCut stepBy takeableIf anyIn allStand requestLeaves isAmong seen notStanding writtenBack cutOff afterStore afterFlush afterFence noneFlushed allMade decide Option·elim started asked continued stepped moved movedBy atRest plainOf storeLines linesTo allLines eachLine requestFault requestUpdates updates updated plainNext plainStep roomRule ruleFault refuses isHeld mapOf valueAt takeableCount nextSteps eightBytes startWith insertOf replaceOf answerIn outIn getAnswer getOutput plainValue noOpeningFence blankFour tornBasketImage basketOpened insertCut
+each-line-hides = (fitting, refl)

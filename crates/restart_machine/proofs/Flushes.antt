@@ -10,11 +10,11 @@ use lib.ListN.{length}
 use lib.Dec.{eqb}
 use borrow.Author.Tests.{eqb-true, eq-eqb}
 use Rattle.prelude.specs.Members.{All, none-left, one-more}
-use Rattle.prelude.specs.Filter.{anyIn}
+use Rattle.prelude.specs.Filter.{anyIn, isAmong}
 use Rattle.prelude.proofs.Choice.{pick-true, true-false}
-use Rattle.stores.specs.Store.{Store, played, less, onLine}
+use Rattle.stores.specs.Store.{Store, played, less, onLine, notStanding}
 use Rattle.stores.proofs.StandingStores.{on-miss, on-few, all-stand}
-use Rattle.restart_machine.specs.Machine.{Memory, isAmong, seen, notStanding, writtenBack, afterFence, Sufficient}
+use Rattle.restart_machine.specs.Machine.{Memory, seen, writtenBack, noneFlushed, afterFence, Sufficient}
 use Rattle.restart_machine.specs.EachLine.{storeLines, linesTo, allLines, eachLine}
 use Rattle.restart_machine.proofs.WrittenBack.{all-gone}
 
@@ -77,17 +77,19 @@ lines-to (suc k) i h =
     (λ e. subst (λ (x : ℕ). isAmong i (x ∷ linesTo k) ≡ true) (sym e) (among-first i (linesTo k)))
     (λ ne. among-more i k (linesTo k) (lines-to k i (omega arith)))
 
+-- each store inside the image is on one of its lines
+all-lines : (len : ℕ) (s : Store) → 8 * s .word + 8 ≤ len → isAmong (s .word / 8) (allLines len) ≡ true
+unfolding allLines
+all-lines len s h = lines-to _ (s .word / 8) (omega arith)
+
 -- THE DUTIES ARE DONE by the program that flushes each line
 pub each-line : Sufficient eachLine
-unfolding eachLine allLines
+unfolding eachLine
 each-line =
     record {
-      start-lines = λ len s inside. lines-to _ (s .word / 8) (omega arith);
-      start-fence = refl;
-      opening-lines = lines-all;
-      opening-fence = refl;
-      request-lines = lines-all;
-      request-fence = refl;
+      before-recovery = λ len ss inside. (all-map (all-lines len) inside, refl);
+      after-recovery = λ ss. (lines-all ss, refl);
+      after-request = λ ss. (lines-all ss, refl);
     }
 
 -- ---- what is left of stores has what they all have
@@ -129,7 +131,7 @@ enough flushed ss a n = go (isAmong n flushed) refl
 
 fenced : (mem : Memory) → All (λ (s : Store). isAmong (s .word / 8) (mem .flushed) ≡ true) (mem .pending)
     → (afterFence mem .durable ≡ seen mem) × (afterFence mem .pending ≡ [])
-unfolding afterFence writtenBack seen
+unfolding afterFence noneFlushed writtenBack seen
 fenced mem a = (
   ap (λ (t : List Store). played t (mem .durable)) (all-stand (mem .pending) _ (enough (mem .flushed) (mem .pending) a)),
   all-gone (mem .pending) _ (enough (mem .flushed) (mem .pending) a),

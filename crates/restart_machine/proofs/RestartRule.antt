@@ -1,63 +1,60 @@
 -- THE RESTART RULE, proved from the laws of a library by one induction over the moves. Assumes nothing.
 use mathlib.Core.Path.{_≡_, refl, sym, ap, _∙_, subst}
 use mathlib.Core.Bool.{Bool, true, false, cond, _&&_}
-use mathlib.Core.List.{List, [], _∷_}
+use mathlib.Core.Option.{Option, none, some, Option·elim}
+use mathlib.Core.List.{List, [], _∷_, map}
 use Prim.Native.Nat.{ℕ, _+_, _*_, _/_, _≤_}
 use native.Mathlib.Omega.{arith}
 use lib.ListN.{length}
-use Rattle.prelude.specs.Members.{All, none-left, one-more}
-use Rattle.stores.specs.Store.{Store, played, standing, allStand}
+use Rattle.prelude.specs.Members.{All}
+use Rattle.stores.specs.Store.{Store, played, standing, allStand, notStanding}
 use Rattle.stores.proofs.Bytes.{played-length}
-use Rattle.restart_machine.specs.Machine.{Memory, isAmong, seen, notStanding, writtenBack, cutOff, afterFlush, afterFence, afterKill, Effect, Library, Duties, Sufficient, Continuation, recovering, opened, answering, Program, off, busy, idle, allMade, TakenRequest, answered, unanswered, HistoryEntry, Undecided, none, one, History, decide, ended, stillUndecided, killed, Move, start, ask, next-step, write-back, kill, cut, Machine, started, asked, continued, stepped, moved, movedBy, atRest}
-use Rattle.restart_machine.specs.Rule.{Promise, stands, FitsMove, start-fits, ask-fits, step-fits, write-back-fits, kill-fits, cut-fits, plainOf, HoldsNow, RestartRule}
-use Rattle.restart_machine.specs.Requests.{decidedRequests, requestsWith, requestTaken, takenBy, tookBy, RequestsKept}
+use Rattle.prelude.specs.Filter.{isAmong}
+use Rattle.restart_machine.specs.Machine.{Memory, seen, writtenBack, cutOff, afterFlush, afterFence, noneFlushed, Effect, Library, Flushing, Duties, Covers, Sufficient, Continuation, recovering, opened, answering, Program, off, busy, idle, allMade, TakenRequest, Outcome, answered, unanswered, History, decide, Move, start, ask, next-step, write-back, kill, cut, Machine, machine, started, asked, continued, stepped, moved, movedBy, atRest}
+use Rattle.restart_machine.specs.Rule.{Promise, plainOf, HoldsNow, RestartRule}
 use Rattle.restart_machine.proofs.defs.Laws.{Inside, Laws}
 use Rattle.restart_machine.proofs.WrittenBack.{seen-same}
-use Rattle.restart_machine.proofs.Flushes.{Covered, to-be-flushed, covered-flush, covered-fence, all-map, all-left}
+use Rattle.restart_machine.proofs.Flushes.{Covered, to-be-flushed, covered-flush, covered-fence, all-left}
 use Rattle.restart_machine.proofs.Working.{Left, Safe, left-written-back, left-flush, left-kill, left-cut, left-seen, bare, seen-bare, to-flush, Working, working-store, working-flush, working-fence, working-written-back, working-left, working-none, working-done}
 
 module _ {Lent Held Request M : Type 0} (promise : Promise Lent Held Request M) where
   -- the plain machine once the program has ended, where the stores that it made all stand or not
-  abbrev fate : (made : Bool) → Undecided Held Request → M → Bool → M
+  abbrev fate : (made : Bool) → Option (TakenRequest Held Request) → M → Bool → M
   fate made none m b = m
-  fate made (one taken before) m b = cond (before && (made && b)) (promise .after taken m) m
+  fate made (some taken) m b = cond (made && b) (promise .after taken m) m
 
   -- it is that of the requests decided then
-  fate-ended : (first : M) (b made : Bool) (o : Undecided Held Request) (es : List (HistoryEntry Held Request))
-      → fate made o (plainOf promise first es) b ≡ plainOf promise first (ended (made && b) (record { decided = es; undecided = o }) .decided)
-  unfolding plainOf ended decide stands
-  fate-ended first b made none es = refl
-  fate-ended first b made (one taken before) es = refl
+  fate-ended : (first : M) (b made : Bool) (rs : List Request) (o : Option (TakenRequest Held Request)) (es : List (TakenRequest Held Request × Outcome))
+      → fate made o (plainOf promise first es) b ≡
+      plainOf promise first (decide (unanswered (made && b)) (record { requests = rs; decided = es; undecided = o }) .decided)
+  unfolding plainOf decide Option·elim
+  fate-ended first b made rs none es = refl
+  fate-ended first b made rs (some taken) es = refl
 
-  fate-seen : (first : M) (made : Bool) (o : Undecided Held Request) (es : List (HistoryEntry Held Request))
-      → fate made o (plainOf promise first es) true ≡ plainOf promise first (ended made (record { decided = es; undecided = o }) .decided)
-  fate-seen first true o es = fate-ended first true true o es
-  fate-seen first false o es = fate-ended first true false o es
-
-  killed-fate : (made : Bool) (o : Undecided Held Request) (m : M) → fate made o m ≡ fate true (stillUndecided made o) m
-  unfolding stillUndecided
-  killed-fate made none m = refl
-  killed-fate made (one taken true) m = refl
-  killed-fate made (one taken false) m = refl
+  fate-seen : (first : M) (made : Bool) (rs : List Request) (o : Option (TakenRequest Held Request)) (es : List (TakenRequest Held Request × Outcome))
+      → fate made o (plainOf promise first es) true ≡
+      plainOf promise first (decide (unanswered made) (record { requests = rs; decided = es; undecided = o }) .decided)
+  fate-seen first true rs o es = fate-ended first true true rs o es
+  fate-seen first false rs o es = fate-ended first true false rs o es
 
 -- THE INVARIANT, by what the program is at; m is the plain machine of the decided requests
 data Good {Lent Held Request M : Type 0} (promise : Promise Lent Held Request M) (Ready : List ℕ → M → Type 0) (InUse : List ℕ → Held → M → Type 0)
-    (mem : Memory) (m : M) : Program Lent Held → Undecided Held Request → Type 0 where
-  is-off : {o : Undecided Held Request} → Left Ready mem (fate promise true o m) → Good promise Ready InUse mem m off o
-  is-starting : {o : Undecided Held Request} {lines : List ℕ} {lent : Lent} → promise .FitsLent lent → Left Ready mem (fate promise true o m)
-      → Covered (mem .flushed) lines (mem .pending) → Good promise Ready InUse mem m (busy [] lines true (recovering lent)) o
-  is-ready : {o : Undecided Held Request} {lines : List ℕ} {lent : Lent} → promise .FitsLent lent → mem .pending ≡ []
-      → Ready (seen mem) (fate promise true o m true) → Good promise Ready InUse mem m (busy [] lines false (recovering lent)) o
+    (mem : Memory) (m : M) : Program Lent Held → Option (TakenRequest Held Request) → Type 0 where
+  is-off : {o : Option (TakenRequest Held Request)} → Left Ready mem (fate promise true o m) → Good promise Ready InUse mem m off o
+  is-starting : {o : Option (TakenRequest Held Request)} {lines : List ℕ} {lent : Lent} → Left Ready mem (fate promise true o m)
+      → Covered (mem .flushed) lines (mem .pending) → Good promise Ready InUse mem m (busy [] (lines, true) (recovering lent)) o
+  is-ready : {o : Option (TakenRequest Held Request)} {lines : List ℕ} {lent : Lent} → mem .pending ≡ []
+      → Ready (seen mem) (fate promise true o m true) → Good promise Ready InUse mem m (busy [] (lines, false) (recovering lent)) o
   is-opening : {rest : List Store} {lines : List ℕ} {fence : Bool} {held : Held} → Working Ready InUse mem rest lines fence held (λ b. m)
-      → Good promise Ready InUse mem m (busy rest lines fence (opened held)) none
+      → Good promise Ready InUse mem m (busy rest (lines, fence) (opened held)) none
   is-in-flight : {rest : List Store} {lines : List ℕ} {fence : Bool} {held : Held} {taken : TakenRequest Held Request}
       → Working Ready InUse mem rest lines fence held (λ b. cond b (promise .after taken m) m)
-      → Good promise Ready InUse mem m (busy rest lines fence (answering held)) (one taken true)
+      → Good promise Ready InUse mem m (busy rest (lines, fence) (answering held)) (some taken)
   is-idle : {held : Held} → mem .pending ≡ [] → InUse (seen mem) held m → Good promise Ready InUse mem m (idle held) none
 
 module _ {Lent Held Request M : Type 0} (promise : Promise Lent Held Request M) (library : Library Lent Held Request)
     (Ready : List ℕ → M → Type 0) (InUse : List ℕ → Held → M → Type 0) (laws : Laws library promise Ready InUse) where
-  abbrev GoodAt : Memory → M → Program Lent Held → Undecided Held Request → Type 0
+  abbrev GoodAt : Memory → M → Program Lent Held → Option (TakenRequest Held Request) → Type 0
   GoodAt mem m prog o = Good promise Ready InUse mem m prog o
 
   -- what is seen stays
@@ -71,14 +68,15 @@ module _ {Lent Held Request M : Type 0} (promise : Promise Lent Held Request M) 
   quiet mem P e r = bare Ready mem P e (subst (λ (x : List ℕ). Ready x (P true)) (seen-bare Ready mem e) r)
 
   left-by : {mem : Memory} {rest : List Store} {lines : List ℕ} {fence : Bool} {held : Held} (P : Bool → M) (c : Continuation Lent Held)
-      → Working Ready InUse mem rest lines fence held P → Left Ready mem (λ b. P (allMade (busy rest lines fence c) && b))
+      → Working Ready InUse mem rest lines fence held P → Left Ready mem (λ b. P (allMade (busy rest (lines, fence) c) && b))
   left-by {mem} {rest} {lines} {fence} {held} P c w = working-left Ready InUse held P mem rest lines fence c w
 
-  good-left : {prog : Program Lent Held} {o : Undecided Held Request} (mem : Memory) (m : M) → GoodAt mem m prog o → Left Ready mem (fate promise (allMade prog) o m)
+  good-left : {prog : Program Lent Held} {o : Option (TakenRequest Held Request)} (mem : Memory) (m : M) → GoodAt mem m prog o
+      → Left Ready mem (fate promise (allMade prog) o m)
   unfolding allMade
   good-left mem m (is-off left) = left
-  good-left mem m (is-starting f left cover) = left
-  good-left mem m (is-ready {o = o} f e r) = quiet mem (fate promise true o m) e r
+  good-left mem m (is-starting left cover) = left
+  good-left mem m (is-ready {o = o} e r) = quiet mem (fate promise true o m) e r
   good-left mem m (is-opening {held = held} w) = left-by (λ b. m) (opened held) w
   good-left mem m (is-in-flight {held = held} {taken = taken} w) =
       left-by (λ b. cond b (promise .after taken m) m) (answering held) w
@@ -89,27 +87,35 @@ module _ {Lent Held Request M : Type 0} (promise : Promise Lent Held Request M) 
   abbrev GoodOf : M → Machine Lent Held Request → Type 0
   GoodOf first s = GoodAt (s .memory) (plainOf promise first (s .history .decided)) (s .program) (s .history .undecided)
 
-  -- a kill
-  good-kill : {prog : Program Lent Held} {o : Undecided Held Request} (mem : Memory) (m : M) → GoodAt mem m prog o → GoodAt (afterKill mem) m off (stillUndecided (allMade prog) o)
-  good-kill {prog} {o} mem m g =
-      is-off (left-kill Ready mem _ (subst (Left Ready mem) (killed-fate promise (allMade prog) o m) (good-left mem m g)))
+  -- a kill: a request whose stores were not all made does not stand
+  killed-good : (first : M) (made : Bool) (rs : List Request) (o : Option (TakenRequest Held Request))
+      (es : List (TakenRequest Held Request × Outcome)) (mem : Memory) → Left Ready mem (fate promise made o (plainOf promise first es))
+      → GoodOf first
+      (machine (noneFlushed mem) off
+      (cond made (record { requests = rs; decided = es; undecided = o }) (decide (unanswered false) (record { requests = rs; decided = es; undecided = o }))))
+  unfolding plainOf decide Option·elim
+  killed-good first true rs o es mem left = is-off (left-kill Ready mem _ left)
+  killed-good first false rs none es mem left = is-off (left-kill Ready mem _ left)
+  killed-good first false rs (some taken) es mem left = is-off (left-kill Ready mem _ left)
 
   -- a cut
-  good-cut : {prog : Program Lent Held} (o : Undecided Held Request) (mem : Memory) (first : M) (es : List (HistoryEntry Held Request)) (c : ℕ → ℕ)
-      → GoodAt mem (plainOf promise first es) prog o
-      → GoodAt (cutOff c mem) (plainOf promise first (ended (allMade prog && allStand c (mem .pending)) (record { decided = es; undecided = o }) .decided)) off
-      (ended (allMade prog && allStand c (mem .pending)) (record { decided = es; undecided = o }) .undecided)
-  unfolding cutOff ended decide plainOf stands
-  good-cut none mem first es c g = is-off (bare Ready (cutOff c mem) _ refl (left-cut Ready mem _ (good-left mem _ g) c))
-  good-cut (one taken before) mem first es c g = is-off (bare Ready (cutOff c mem) _ refl (left-cut Ready mem _ (good-left mem _ g) c))
+  good-cut : {prog : Program Lent Held} (rs : List Request) (o : Option (TakenRequest Held Request)) (mem : Memory) (first : M)
+      (es : List (TakenRequest Held Request × Outcome)) (c : ℕ → ℕ) → GoodAt mem (plainOf promise first es) prog o
+      → GoodOf first
+      (machine (cutOff c mem) off
+      (decide (unanswered (allMade prog && allStand c (mem .pending))) (record { requests = rs; decided = es; undecided = o })))
+  unfolding cutOff decide plainOf Option·elim
+  good-cut rs none mem first es c g = is-off (bare Ready (cutOff c mem) _ refl (left-cut Ready mem _ (good-left mem _ g) c))
+  good-cut rs (some taken) mem first es c g = is-off (bare Ready (cutOff c mem) _ refl (left-cut Ready mem _ (good-left mem _ g) c))
 
   -- the cache
-  good-write-back : {prog : Program Lent Held} {o : Undecided Held Request} (mem : Memory) (m : M) (c : ℕ → ℕ) → GoodAt mem m prog o → GoodAt (writtenBack c mem) m prog o
+  good-write-back : {prog : Program Lent Held} {o : Option (TakenRequest Held Request)} (mem : Memory) (m : M) (c : ℕ → ℕ) → GoodAt mem m prog o
+      → GoodAt (writtenBack c mem) m prog o
   unfolding writtenBack notStanding standing played
   good-write-back mem m c (is-off left) = is-off (left-written-back Ready mem _ left c)
-  good-write-back mem m c (is-starting f left cover) = is-starting f (left-written-back Ready mem _ left c) (all-left (mem .pending) c cover)
-  good-write-back mem m c (is-ready {o = o} f e r) =
-      is-ready f (ap (notStanding c) e) (subst (λ (x : List ℕ). Ready x (fate promise true o m true)) (sym (seen-written-back mem c)) r)
+  good-write-back mem m c (is-starting left cover) = is-starting (left-written-back Ready mem _ left c) (all-left (mem .pending) c cover)
+  good-write-back mem m c (is-ready {o = o} e r) =
+      is-ready (ap (notStanding c) e) (subst (λ (x : List ℕ). Ready x (fate promise true o m true)) (sym (seen-written-back mem c)) r)
   good-write-back mem m c (is-opening {held = held} w) = is-opening (working-written-back Ready InUse held (λ b. m) mem _ _ _ c w)
   good-write-back mem m c (is-in-flight {held = held} {taken = taken} w) =
       is-in-flight (working-written-back Ready InUse held (λ b. cond b (promise .after taken m) m) mem _ _ _ c w)
@@ -118,35 +124,33 @@ module _ {Lent Held Request M : Type 0} (promise : Promise Lent Held Request M) 
 
   module _ (d : Duties) (done : Sufficient d) where
     -- a start
-    good-start : {prog : Program Lent Held} {o : Undecided Held Request} (mem : Memory) (m : M) (lent : Lent) → promise .FitsLent lent
+    good-start : {prog : Program Lent Held} {o : Option (TakenRequest Held Request)} (mem : Memory) (m : M) (lent : Lent)
         → GoodAt mem m prog o → GoodAt mem m (started d library mem prog lent) o
     unfolding started
-    good-start {o = o} mem m lent f (is-off left) =
-        subst (λ (b : Bool). GoodAt mem m (busy [] (d .startLines (length (mem .durable))) b (recovering lent)) o) (sym (done .start-fence))
-        (is-starting f left (to-be-flushed (mem .flushed) _ (mem .pending) covered))
+    good-start {o = o} mem m lent (is-off left) =
+        subst (λ (b : Bool). GoodAt mem m (busy [] (d .beforeRecovery (length (mem .durable)) .0, b) (recovering lent)) o) (sym (covers .1))
+        (is-starting left (to-be-flushed (mem .flushed) _ (mem .pending) (covers .0)))
       where
         long : length (mem .durable) ≡ length (left .image)
         long = ap length (left .durable) ∙ played-length _ (left .image)
 
-        covered : All (λ (s : Store). isAmong (s .word / 8) (d .startLines (length (mem .durable))) ≡ true) (mem .pending)
-        covered =
-            subst (All (λ (s : Store). isAmong (s .word / 8) (d .startLines (length (mem .durable))) ≡ true)) (sym (left .pending))
-            (all-left (left .made) (left .stand)
-            (all-map (λ s h. done .start-lines (length (mem .durable)) s h)
-            (subst (λ (k : ℕ). Inside k (left .made)) (sym long) (left .inside))))
-    good-start mem m lent f (is-starting g left cover) = is-starting g left cover
-    good-start mem m lent f (is-ready g e r) = is-ready g e r
-    good-start mem m lent f (is-opening w) = is-opening w
-    good-start mem m lent f (is-in-flight w) = is-in-flight w
-    good-start mem m lent f (is-idle e i) = is-idle e i
+        covers : Covers (d .beforeRecovery (length (mem .durable))) (mem .pending)
+        covers =
+            done .before-recovery (length (mem .durable)) (mem .pending)
+            (subst (Inside (length (mem .durable))) (sym (left .pending))
+            (all-left (left .made) (left .stand) (subst (λ (k : ℕ). Inside k (left .made)) (sym long) (left .inside))))
+    good-start mem m lent (is-starting left cover) = is-starting left cover
+    good-start mem m lent (is-ready e r) = is-ready e r
+    good-start mem m lent (is-opening w) = is-opening w
+    good-start mem m lent (is-in-flight w) = is-in-flight w
+    good-start mem m lent (is-idle e i) = is-idle e i
 
     -- stores about to be made
-    begins : (mem : Memory) (ss : List Store) (lines : List ℕ) (fence : Bool) (held : Held) (P : Bool → M) → mem .pending ≡ []
+    begins : (mem : Memory) (ss : List Store) (flushing : Flushing) (held : Held) (P : Bool → M) → mem .pending ≡ []
         → Inside (length (seen mem)) ss → ((c : ℕ → ℕ) → Ready (played (standing c ss) (seen mem)) (P (allStand c ss)))
-        → InUse (played ss (seen mem)) held (P true) → All (λ (s : Store). isAmong (s .word / 8) lines ≡ true) ss → fence ≡ true
-        → Working Ready InUse mem ss lines fence held P
+        → InUse (played ss (seen mem)) held (P true) → Covers flushing ss → Working Ready InUse mem ss (flushing .0) (flushing .1) held P
     unfolding standing notStanding played
-    begins mem ss lines fence held P e inside ready after flushes fences =
+    begins mem ss flushing held P e inside ready after covers =
         record {
           image = seen mem;
           all = ss;
@@ -159,127 +163,190 @@ module _ {Lent Held Request M : Type 0} (promise : Promise Lent Held Request M) 
           inside = inside;
           ready = ready;
           after = after;
-          safe = subst (λ (b : Bool). Safe (mem .flushed) lines ss (mem .pending) ss b) (sym fences) (to-flush flushes);
+          safe = subst (λ (b : Bool). Safe (mem .flushed) (flushing .0) ss (mem .pending) ss b) (sym (covers .1)) (to-flush (covers .0));
         }
 
     -- a request
-    good-ask : {prog : Program Lent Held} {o : Undecided Held Request} (mem : Memory) (first : M) (es : List (HistoryEntry Held Request)) (request : Request)
-        → promise .FitsRequest request → GoodAt mem (plainOf promise first es) prog o
-        → GoodOf first (asked d library mem prog (record { decided = es; undecided = o }) request)
+    good-ask : {prog : Program Lent Held} {o : Option (TakenRequest Held Request)} (mem : Memory) (first : M) (rs : List Request)
+        (es : List (TakenRequest Held Request × Outcome)) (request : Request) → GoodAt mem (plainOf promise first es) prog o
+        → GoodOf first (asked d library mem prog (record { requests = rs; decided = es; undecided = o }) request)
     unfolding asked
-    good-ask mem first es request t (is-off left) = is-off left
-    good-ask mem first es request t (is-starting g left cover) = is-starting g left cover
-    good-ask mem first es request t (is-ready g e r) = is-ready g e r
-    good-ask mem first es request t (is-opening w) = is-opening w
-    good-ask mem first es request t (is-in-flight w) = is-in-flight w
-    good-ask mem first es request t (is-idle {held = held} e i) =
+    good-ask mem first rs es request (is-off left) = is-off left
+    good-ask mem first rs es request (is-starting left cover) = is-starting left cover
+    good-ask mem first rs es request (is-ready e r) = is-ready e r
+    good-ask mem first rs es request (is-opening w) = is-opening w
+    good-ask mem first rs es request (is-in-flight w) = is-in-flight w
+    good-ask mem first rs es request (is-idle {held = held} e i) =
         let m : M = plainOf promise first es in
         let effect : Effect Held = library .call (seen mem) held request in
         is-in-flight
-        (begins mem (effect .stores) (d .requestLines (effect .stores)) (d .requestFence) (effect .held)
+        (begins mem (effect .stores) (d .afterRequest (effect .stores)) (effect .held)
         (λ b. cond b (promise .after (record { request = request; image = seen mem; held = held }) m) m) e
-        (laws .request-inside (seen mem) held m i request t) (laws .request-part (seen mem) held m i request t) (laws .request-done (seen mem) held m i request t)
-        (done .request-lines (effect .stores)) (done .request-fence))
+        (laws .request-inside (seen mem) held m i request) (laws .request-part (seen mem) held m i request) (laws .request-done (seen mem) held m i request)
+        (done .after-request (effect .stores)))
 
     -- recovery
-    opening-now : (mem : Memory) (m : M) (lent : Lent) → promise .FitsLent lent → mem .pending ≡ [] → Ready (seen mem) m
+    opening-now : (mem : Memory) (m : M) (lent : Lent) → mem .pending ≡ [] → Ready (seen mem) m
         → GoodAt mem m
-        (busy (library .recovery (seen mem) lent .stores) (d .openingLines (library .recovery (seen mem) lent .stores)) (d .openingFence)
+        (busy (library .recovery (seen mem) lent .stores) (d .afterRecovery (library .recovery (seen mem) lent .stores))
         (opened (library .recovery (seen mem) lent .held)))
         none
-    opening-now mem m lent f e r =
+    opening-now mem m lent e r =
         let effect : Effect Held = library .recovery (seen mem) lent in
         is-opening
-        (begins mem (effect .stores) (d .openingLines (effect .stores)) (d .openingFence) (effect .held) (λ b. m) e
-        (laws .recovery-inside (seen mem) m r lent f) (laws .recovery-part (seen mem) m r lent f) (laws .recovery-done (seen mem) m r lent f)
-        (done .opening-lines (effect .stores)) (done .opening-fence))
+        (begins mem (effect .stores) (d .afterRecovery (effect .stores)) (effect .held) (λ b. m) e
+        (laws .recovery-inside (seen mem) m r lent) (laws .recovery-part (seen mem) m r lent) (laws .recovery-done (seen mem) m r lent)
+        (done .after-recovery (effect .stores)))
 
-    good-recovery : (o : Undecided Held Request) (mem : Memory) (first : M) (es : List (HistoryEntry Held Request)) (lent : Lent) → promise .FitsLent lent → mem .pending ≡ []
-        → Ready (seen mem) (fate promise true o (plainOf promise first es) true)
-        → GoodOf first (continued d library mem (recovering lent) (record { decided = es; undecided = o }))
-    unfolding continued ended decide plainOf stands
-    good-recovery none mem first es lent f e r = opening-now mem _ lent f e r
-    good-recovery (one taken before) mem first es lent f e r = opening-now mem _ lent f e r
+    good-recovery : (rs : List Request) (o : Option (TakenRequest Held Request)) (mem : Memory) (first : M) (es : List (TakenRequest Held Request × Outcome))
+        (lent : Lent) → mem .pending ≡ [] → Ready (seen mem) (fate promise true o (plainOf promise first es) true)
+        → GoodOf first (continued d library mem (recovering lent) (record { requests = rs; decided = es; undecided = o }))
+    unfolding continued decide plainOf Option·elim
+    good-recovery rs none mem first es lent e r = opening-now mem _ lent e r
+    good-recovery rs (some taken) mem first es lent e r = opening-now mem _ lent e r
 
     -- the fence of a start
-    started-fence : (mem : Memory) (m : M) (o : Undecided Held Request) (lent : Lent) → promise .FitsLent lent → Left Ready mem (fate promise true o m)
-        → Covered (mem .flushed) [] (mem .pending) → GoodAt (afterFence mem) m (busy [] [] false (recovering lent)) o
-    started-fence mem m o lent f left cover =
+    started-fence : (mem : Memory) (m : M) (o : Option (TakenRequest Held Request)) (lent : Lent) → Left Ready mem (fate promise true o m)
+        → Covered (mem .flushed) [] (mem .pending) → GoodAt (afterFence mem) m (busy [] ([], false) (recovering lent)) o
+    started-fence mem m o lent left cover =
         let q = covered-fence mem cover in
-        is-ready f (q .1)
+        is-ready (q .1)
         (subst (λ (x : List ℕ). Ready x (fate promise true o m true)) (sym (seen-bare Ready (afterFence mem) (q .1) ∙ q .0)) (left-seen Ready mem _ left))
 
     -- the end of a list of stores
     idle-now : (mem : Memory) (held : Held) (P : Bool → M) → Working Ready InUse mem [] [] false held P → GoodAt mem (P true) (idle held) none
     idle-now mem held P w = is-idle (working-none Ready InUse held P mem w) (working-done Ready InUse held P mem w)
 
-    good-step : {prog : Program Lent Held} {o : Undecided Held Request} (mem : Memory) (first : M) (es : List (HistoryEntry Held Request))
-        → GoodAt mem (plainOf promise first es) prog o → GoodOf first (stepped d library mem prog (record { decided = es; undecided = o }))
-    unfolding stepped continued afterFlush decide plainOf stands seen
-    good-step mem first es (is-off left) = is-off left
-    good-step {o = o} mem first es (is-starting {lines = []} {lent = lent} f left cover) = started-fence mem (plainOf promise first es) o lent f left cover
-    good-step mem first es (is-starting {lines = k ∷ lines} f left cover) =
-        is-starting f (left-flush Ready mem _ left k) (covered-flush (mem .flushed) k lines (mem .pending) cover)
-    good-step {o = o} mem first es (is-ready {lines = []} {lent = lent} f e r) = good-recovery o mem first es lent f e r
-    good-step mem first es (is-ready {lines = k ∷ lines} f e r) = is-ready f e r
-    good-step mem first es (is-opening {rest = s ∷ rest} {held = held} w) = is-opening (working-store Ready InUse held (λ b. plainOf promise first es) mem s rest _ _ w)
-    good-step mem first es (is-opening {rest = []} {lines = k ∷ lines} {held = held} w) =
+    good-step : {prog : Program Lent Held} {o : Option (TakenRequest Held Request)} (mem : Memory) (first : M) (rs : List Request)
+        (es : List (TakenRequest Held Request × Outcome))
+        → GoodAt mem (plainOf promise first es) prog o → GoodOf first (stepped d library mem prog (record { requests = rs; decided = es; undecided = o }))
+    unfolding stepped continued afterFlush decide plainOf Option·elim seen
+    good-step mem first rs es (is-off left) = is-off left
+    good-step {o = o} mem first rs es (is-starting {lines = []} {lent = lent} left cover) = started-fence mem (plainOf promise first es) o lent left cover
+    good-step mem first rs es (is-starting {lines = k ∷ lines} left cover) =
+        is-starting (left-flush Ready mem _ left k) (covered-flush (mem .flushed) k lines (mem .pending) cover)
+    good-step {o = o} mem first rs es (is-ready {lines = []} {lent = lent} e r) = good-recovery rs o mem first es lent e r
+    good-step mem first rs es (is-ready {lines = k ∷ lines} e r) = is-ready e r
+    good-step mem first rs es (is-opening {rest = s ∷ rest} {held = held} w) =
+        is-opening (working-store Ready InUse held (λ b. plainOf promise first es) mem s rest _ _ w)
+    good-step mem first rs es (is-opening {rest = []} {lines = k ∷ lines} {held = held} w) =
         is-opening (working-flush Ready InUse held (λ b. plainOf promise first es) mem k lines _ w)
-    good-step mem first es (is-opening {rest = []} {lines = []} {fence = true} {held = held} w) =
+    good-step mem first rs es (is-opening {rest = []} {lines = []} {fence = true} {held = held} w) =
         is-opening (working-fence Ready InUse held (λ b. plainOf promise first es) mem w)
-    good-step mem first es (is-opening {rest = []} {lines = []} {fence = false} {held = held} w) = idle-now mem held (λ b. plainOf promise first es) w
-    good-step mem first es (is-in-flight {rest = s ∷ rest} {held = held} {taken = taken} w) =
-        is-in-flight (working-store Ready InUse held (λ b. cond b (promise .after taken (plainOf promise first es)) (plainOf promise first es)) mem s rest _ _ w)
-    good-step mem first es (is-in-flight {rest = []} {lines = k ∷ lines} {held = held} {taken = taken} w) =
+    good-step mem first rs es (is-opening {rest = []} {lines = []} {fence = false} {held = held} w) = idle-now mem held (λ b. plainOf promise first es) w
+    good-step mem first rs es (is-in-flight {rest = s ∷ rest} {held = held} {taken = taken} w) =
+        is-in-flight
+        (working-store Ready InUse held (λ b. cond b (promise .after taken (plainOf promise first es)) (plainOf promise first es)) mem s rest _ _ w)
+    good-step mem first rs es (is-in-flight {rest = []} {lines = k ∷ lines} {held = held} {taken = taken} w) =
         is-in-flight (working-flush Ready InUse held (λ b. cond b (promise .after taken (plainOf promise first es)) (plainOf promise first es)) mem k lines _ w)
-    good-step mem first es (is-in-flight {rest = []} {lines = []} {fence = true} {held = held} {taken = taken} w) =
+    good-step mem first rs es (is-in-flight {rest = []} {lines = []} {fence = true} {held = held} {taken = taken} w) =
         is-in-flight (working-fence Ready InUse held (λ b. cond b (promise .after taken (plainOf promise first es)) (plainOf promise first es)) mem w)
-    good-step mem first es (is-in-flight {rest = []} {lines = []} {fence = false} {held = held} {taken = taken} w) =
+    good-step mem first rs es (is-in-flight {rest = []} {lines = []} {fence = false} {held = held} {taken = taken} w) =
         idle-now mem held (λ b. cond b (promise .after taken (plainOf promise first es)) (plainOf promise first es)) w
-    good-step mem first es (is-idle e i) = is-idle e i
+    good-step mem first rs es (is-idle e i) = is-idle e i
 
     -- EVERY MOVE keeps the invariant
-    good-moved : (first : M) (s : Machine Lent Held Request) → GoodOf first s → (move : Move Lent Request) → FitsMove promise move
-        → GoodOf first (moved d library s move)
-    unfolding moved killed
-    good-moved first s g (start lent) (start-fits f) = good-start (s .memory) _ lent f g
-    good-moved first s g (ask request) (ask-fits t) = good-ask (s .memory) first (s .history .decided) request t g
-    good-moved first s g next-step step-fits = good-step (s .memory) first (s .history .decided) g
-    good-moved first s g (write-back counts) write-back-fits = good-write-back (s .memory) _ counts g
-    good-moved first s g kill kill-fits = good-kill (s .memory) _ g
-    good-moved first s g (cut counts) cut-fits = good-cut (s .history .undecided) (s .memory) first (s .history .decided) counts g
+    good-moved : (first : M) (s : Machine Lent Held Request) → GoodOf first s → (move : Move Lent Request) → GoodOf first (moved d library s move)
+    unfolding moved
+    good-moved first s g (start lent) = good-start (s .memory) _ lent g
+    good-moved first s g (ask request) = good-ask (s .memory) first (s .history .requests) (s .history .decided) request g
+    good-moved first s g next-step = good-step (s .memory) first (s .history .requests) (s .history .decided) g
+    good-moved first s g (write-back counts) = good-write-back (s .memory) _ counts g
+    good-moved first s g kill =
+        killed-good first (allMade (s .program)) (s .history .requests) (s .history .undecided) (s .history .decided) (s .memory) (good-left (s .memory) _ g)
+    good-moved first s g (cut counts) = good-cut (s .history .requests) (s .history .undecided) (s .memory) first (s .history .decided) counts g
 
     -- ---- what it says
 
-    at-recovery-good : {o : Undecided Held Request} (mem : Memory) (m : M) (lent : Lent) → GoodAt mem m (busy [] [] false (recovering lent)) o
+    at-recovery-good : {o : Option (TakenRequest Held Request)} (mem : Memory) (m : M) (lent : Lent) → GoodAt mem m (busy [] ([], false) (recovering lent)) o
         → (mem .pending ≡ []) × promise .RecoveryRight (seen mem) lent (fate promise true o m true)
-    at-recovery-good {o} mem m lent (is-ready f e r) = (e, laws .recovery-right (seen mem) (fate promise true o m true) r lent f)
+    at-recovery-good {o} mem m lent (is-ready e r) = (e, laws .recovery-right (seen mem) (fate promise true o m true) r lent)
 
-    at-request-good : {o : Undecided Held Request} (mem : Memory) (m : M) (held : Held) → GoodAt mem m (idle held) o
-        → (mem .pending ≡ []) × (o ≡ none) × ((request : Request) → promise .FitsRequest request → promise .RequestRight (seen mem) held m request)
+    at-request-good : {o : Option (TakenRequest Held Request)} (mem : Memory) (m : M) (held : Held) → GoodAt mem m (idle held) o
+        → (mem .pending ≡ []) × (o ≡ none) × ((request : Request) → promise .RequestRight (seen mem) held m request)
     at-request-good mem m held (is-idle e i) = (e, refl, laws .request-right (seen mem) held m i)
 
-    at-answer-good : {o : Undecided Held Request} (mem : Memory) (m : M) (held : Held) → GoodAt mem m (busy [] [] false (answering held)) o
-        → (mem .pending ≡ []) × ((taken : TakenRequest Held Request) × (o ≡ one taken true))
+    at-answer-good : {o : Option (TakenRequest Held Request)} (mem : Memory) (m : M) (held : Held) → GoodAt mem m (busy [] ([], false) (answering held)) o
+        → (mem .pending ≡ []) × ((taken : TakenRequest Held Request) × (o ≡ some taken))
     at-answer-good mem m held (is-in-flight {taken = taken} w) =
         (working-none Ready InUse held (λ b. cond b (promise .after taken m) m) mem w, (taken, refl))
 
-    good-shows : (first : M) (s : Machine Lent Held Request) → GoodOf first s → HoldsNow promise first s
-    good-shows first s g =
+    -- ---- the requests
+
+    -- those of the history are those that came
+    abbrev Kept : History Held Request → Type 0
+    Kept h = map (λ (e : TakenRequest Held Request × Outcome). e .0 .request) (decide answered h .decided) ≡ h .requests
+
+    decide-keeps : (outcome : Outcome) (rs : List Request) (o : Option (TakenRequest Held Request)) (es : List (TakenRequest Held Request × Outcome))
+        → Kept (record { requests = rs; decided = es; undecided = o }) → Kept (decide outcome (record { requests = rs; decided = es; undecided = o }))
+    unfolding decide Option·elim
+    decide-keeps outcome rs none es k = k
+    decide-keeps outcome rs (some taken) es k = k
+
+    ask-keeps : {prog : Program Lent Held} {o : Option (TakenRequest Held Request)} (mem : Memory) (m : M) (rs : List Request)
+        (es : List (TakenRequest Held Request × Outcome)) (request : Request) → GoodAt mem m prog o
+        → Kept (record { requests = rs; decided = es; undecided = o })
+        → Kept (asked d library mem prog (record { requests = rs; decided = es; undecided = o }) request .history)
+    unfolding asked decide Option·elim
+    ask-keeps mem m rs es request (is-off left) k = k
+    ask-keeps mem m rs es request (is-starting left cover) k = k
+    ask-keeps mem m rs es request (is-ready e r) k = k
+    ask-keeps mem m rs es request (is-opening w) k = k
+    ask-keeps mem m rs es request (is-in-flight w) k = k
+    ask-keeps mem m rs es request (is-idle e i) k = ap (λ (l : List Request). request ∷ l) k
+
+    continued-keeps : (mem : Memory) (c : Continuation Lent Held) (h : History Held Request) → Kept h → Kept (continued d library mem c h .history)
+    unfolding continued
+    continued-keeps mem (recovering lent) h k = decide-keeps _ (h .requests) (h .undecided) (h .decided) k
+    continued-keeps mem (opened held) h k = k
+    continued-keeps mem (answering held) h k = decide-keeps answered (h .requests) (h .undecided) (h .decided) k
+
+    step-keeps : (mem : Memory) (prog : Program Lent Held) (h : History Held Request) → Kept h → Kept (stepped d library mem prog h .history)
+    unfolding stepped
+    step-keeps mem off h k = k
+    step-keeps mem (busy (s ∷ ss) flushing c) h k = k
+    step-keeps mem (busy [] (n ∷ lines, fence) c) h k = k
+    step-keeps mem (busy [] ([], true) c) h k = k
+    step-keeps mem (busy [] ([], false) c) h k = continued-keeps mem c h k
+    step-keeps mem (idle held) h k = k
+
+    kill-keeps : (made : Bool) (h : History Held Request) → Kept h → Kept (cond made h (decide (unanswered false) h))
+    kill-keeps true h k = k
+    kill-keeps false h k = decide-keeps (unanswered false) (h .requests) (h .undecided) (h .decided) k
+
+    moved-keeps : (first : M) (s : Machine Lent Held Request) → GoodOf first s → Kept (s .history) → (move : Move Lent Request)
+        → Kept (moved d library s move .history)
+    unfolding moved
+    moved-keeps first s g k (start lent) = k
+    moved-keeps first s g k (ask request) = ask-keeps (s .memory) _ (s .history .requests) (s .history .decided) request g k
+    moved-keeps first s g k next-step = step-keeps (s .memory) (s .program) (s .history) k
+    moved-keeps first s g k (write-back counts) = k
+    moved-keeps first s g k kill = kill-keeps (allMade (s .program)) (s .history) k
+    moved-keeps first s g k (cut counts) = decide-keeps _ (s .history .requests) (s .history .undecided) (s .history .decided) k
+
+    -- ---- the rule
+
+    good-shows : (first : M) (s : Machine Lent Held Request) → GoodOf first s → Kept (s .history) → HoldsNow promise first s
+    good-shows first s g kept =
         record {
           if-cut = λ counts.
               subst (promise .Recovers (cutOff counts (s .memory) .durable))
-              (fate-ended promise first (allStand counts (s .memory .pending)) (allMade (s .program)) (s .history .undecided) (s .history .decided))
+              (fate-ended promise first (allStand counts (s .memory .pending)) (allMade (s .program)) (s .history .requests) (s .history .undecided)
+              (s .history .decided))
               (laws .recovers _ _ (left-cut Ready (s .memory) _ left counts));
           if-killed =
               subst (promise .Recovers (seen (s .memory)))
-              (fate-seen promise first (allMade (s .program)) (s .history .undecided) (s .history .decided))
+              (fate-seen promise first (allMade (s .program)) (s .history .requests) (s .history .undecided) (s .history .decided))
               (laws .recovers _ _ (left-seen Ready (s .memory) _ left));
           at-recovery = λ lent e.
-              let r = at-recovery-good (s .memory) m lent (at _ e) in
-              (r .0, subst (promise .RecoveryRight (seen (s .memory)) lent) (fate-seen promise first true (s .history .undecided) (s .history .decided)) (r .1));
+              let r = at-recovery-good (s .memory) m lent (at _ e) in (
+                r .0,
+                subst (promise .RecoveryRight (seen (s .memory)) lent)
+                    (fate-seen promise first true (s .history .requests) (s .history .undecided) (s .history .decided)) (r .1),
+              );
           at-request = λ held e. at-request-good (s .memory) m held (at _ e);
           at-answer = λ held e. at-answer-good (s .memory) m held (at _ e);
+          requests-kept = kept;
         }
       where
         m : M
@@ -291,87 +358,14 @@ module _ {Lent Held Request M : Type 0} (promise : Promise Lent Held Request M) 
         at : (prog : Program Lent Held) → s .program ≡ prog → GoodAt (s .memory) (plainOf promise first (s .history .decided)) prog (s .history .undecided)
         at prog e = subst (λ (x : Program Lent Held). GoodAt (s .memory) (plainOf promise first (s .history .decided)) x (s .history .undecided)) e g
 
-    shows-after : (first : M) (s : Machine Lent Held Request) (moves : List (Move Lent Request)) → GoodOf first s → All (FitsMove promise) moves
+    shows-after : (first : M) (s : Machine Lent Held Request) (moves : List (Move Lent Request)) → GoodOf first s → Kept (s .history)
         → HoldsNow promise first (movedBy d library s moves)
     unfolding movedBy
-    shows-after first s [] g none-left = good-shows first s g
-    shows-after first s (move ∷ moves) g (one-more f fits) = shows-after first (moved d library s move) moves (good-moved first s g move f) fits
+    shows-after first s [] g k = good-shows first s g k
+    shows-after first s (move ∷ moves) g k = shows-after first (moved d library s move) moves (good-moved first s g move) (moved-keeps first s g k move)
 
     -- THE RESTART RULE, from a durable image that is ready
     pub restart-rule : (image : List ℕ) (m : M) → Ready image m → RestartRule promise d library image m
-    unfolding atRest plainOf
-    restart-rule image m r moves fits = shows-after m (atRest image) moves (is-off (bare Ready (record { durable = image; pending = []; flushed = [] }) _ refl r)) fits
-
-    -- ---- the requests
-
-    ended-requests : (b : Bool) (o : Undecided Held Request) (es : List (HistoryEntry Held Request))
-        → requestsWith (ended b (record { decided = es; undecided = o }) .undecided) (ended b (record { decided = es; undecided = o }) .decided) ≡ requestsWith o es
-    unfolding ended decide requestsWith decidedRequests
-    ended-requests b none es = refl
-    ended-requests b (one taken made) es = refl
-
-    killed-requests : (made : Bool) (o : Undecided Held Request) (es : List (HistoryEntry Held Request))
-        → requestsWith (stillUndecided made o) es ≡ requestsWith o es
-    unfolding stillUndecided requestsWith
-    killed-requests made none es = refl
-    killed-requests made (one taken before) es = refl
-
-    ask-requests : {prog : Program Lent Held} {o : Undecided Held Request} (mem : Memory) (m : M) (es : List (HistoryEntry Held Request)) (request : Request)
-        → GoodAt mem m prog o
-        → requestsWith (asked d library mem prog (record { decided = es; undecided = o }) request .history .undecided)
-        (asked d library mem prog (record { decided = es; undecided = o }) request .history .decided) ≡
-        requestTaken prog request (requestsWith o es)
-    unfolding asked requestTaken requestsWith
-    ask-requests mem m es request (is-off left) = refl
-    ask-requests mem m es request (is-starting f left cover) = refl
-    ask-requests mem m es request (is-ready f e r) = refl
-    ask-requests mem m es request (is-opening w) = refl
-    ask-requests mem m es request (is-in-flight w) = refl
-    ask-requests mem m es request (is-idle e i) = refl
-
-    step-requests : {prog : Program Lent Held} {o : Undecided Held Request} (mem : Memory) (m : M) (es : List (HistoryEntry Held Request)) → GoodAt mem m prog o
-        → requestsWith (stepped d library mem prog (record { decided = es; undecided = o }) .history .undecided)
-        (stepped d library mem prog (record { decided = es; undecided = o }) .history .decided) ≡
-        requestsWith o es
-    unfolding stepped continued decide requestsWith decidedRequests
-    step-requests mem m es (is-off left) = refl
-    step-requests mem m es (is-starting {lines = []} f left cover) = refl
-    step-requests mem m es (is-starting {lines = k ∷ lines} f left cover) = refl
-    step-requests {o = o} mem m es (is-ready {lines = []} f e r) = ended-requests true o es
-    step-requests mem m es (is-ready {lines = k ∷ lines} f e r) = refl
-    step-requests mem m es (is-opening {rest = s ∷ rest} w) = refl
-    step-requests mem m es (is-opening {rest = []} {lines = k ∷ lines} w) = refl
-    step-requests mem m es (is-opening {rest = []} {lines = []} {fence = true} w) = refl
-    step-requests mem m es (is-opening {rest = []} {lines = []} {fence = false} w) = refl
-    step-requests mem m es (is-in-flight {rest = s ∷ rest} w) = refl
-    step-requests mem m es (is-in-flight {rest = []} {lines = k ∷ lines} w) = refl
-    step-requests mem m es (is-in-flight {rest = []} {lines = []} {fence = true} w) = refl
-    step-requests mem m es (is-in-flight {rest = []} {lines = []} {fence = false} w) = refl
-    step-requests mem m es (is-idle e i) = refl
-
-    move-requests : (first : M) (s : Machine Lent Held Request) → GoodOf first s → (move : Move Lent Request)
-        → requestsWith (moved d library s move .history .undecided) (moved d library s move .history .decided) ≡
-        takenBy (s .program) move (requestsWith (s .history .undecided) (s .history .decided))
-    unfolding moved killed takenBy
-    move-requests first s g (start lent) = refl
-    move-requests first s g (ask request) = ask-requests (s .memory) _ (s .history .decided) request g
-    move-requests first s g next-step = step-requests (s .memory) _ (s .history .decided) g
-    move-requests first s g (write-back counts) = refl
-    move-requests first s g kill = killed-requests (allMade (s .program)) (s .history .undecided) (s .history .decided)
-    move-requests first s g (cut counts) =
-        ended-requests (allMade (s .program) && allStand counts (s .memory .pending)) (s .history .undecided) (s .history .decided)
-
-    requests-after : (first : M) (s : Machine Lent Held Request) (moves : List (Move Lent Request)) → GoodOf first s → All (FitsMove promise) moves
-        → requestsWith (movedBy d library s moves .history .undecided) (movedBy d library s moves .history .decided) ≡
-        tookBy d library s moves (requestsWith (s .history .undecided) (s .history .decided))
-    unfolding movedBy tookBy
-    requests-after first s [] g none-left = refl
-    requests-after first s (move ∷ moves) g (one-more f fits) =
-        requests-after first (moved d library s move) moves (good-moved first s g move f) fits
-        ∙ ap (tookBy d library (moved d library s move) moves) (move-requests first s g move)
-
-    -- THE REQUESTS of every history
-    pub requests-kept : (image : List ℕ) (m : M) → Ready image m → RequestsKept promise d library image
-    unfolding atRest plainOf requestsWith decidedRequests
-    requests-kept image m r moves fits =
-        requests-after m (atRest image) moves (is-off (bare Ready (record { durable = image; pending = []; flushed = [] }) _ refl r)) fits
+    unfolding atRest plainOf decide Option·elim
+    restart-rule image m r moves =
+        shows-after m (atRest image) moves (is-off (bare Ready (record { durable = image; pending = []; flushed = [] }) _ refl r)) refl

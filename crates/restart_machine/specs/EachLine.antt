@@ -3,7 +3,8 @@ use mathlib.Core.Bool.{true, cond}
 use mathlib.Core.List.{List, [], _∷_}
 use Prim.Native.Nat.{ℕ, zero, suc, _+_, _/_}
 use Rattle.stores.specs.Store.{Store}
-use Rattle.restart_machine.specs.Machine.{isAmong, Duties}
+use Rattle.prelude.specs.Filter.{isAmong}
+use Rattle.restart_machine.specs.Machine.{Duties}
 
 -- the lines of these stores, each once
 unfoldable pub storeLines : List Store → List ℕ
@@ -22,10 +23,7 @@ allLines len = linesTo ((len + 63) / 64)
 unfoldable pub eachLine : Duties
 eachLine =
     record {
-      startLines = allLines;
-      startFence = true;
-      openingLines = storeLines;
-      openingFence = true;
-      requestLines = storeLines;
-      requestFence = true;
+      beforeRecovery = λ len. (allLines len, true);
+      afterRecovery = λ ss. (storeLines ss, true);
+      afterRequest = λ ss. (storeLines ss, true);
     }

@@ -157,6 +157,6 @@ module _ (l : ℕ) (Inv : World → PlainMap → Type 0) (laws : SetLaws l Inv) 
 
     pub request-inside : (w : World) (m : PlainMap) → Inv w m → (request : Request) → TypedRequest l request
         → Inside (length (w .image)) (requestLeaves l w request .stores)
-    request-inside w m i (a-call call) t = played-inside (w .image) _ _ (plays w m i (a-call call) t .0)
-    request-inside w m i (a-basket b) t = played-inside (w .image) _ _ (plays w m i (a-basket b) t)
-    request-inside w m i (a-step step) t = played-inside (w .image) _ _ (plays w m i (a-step step) t .0)
+    request-inside w m i (a-call own call) t = played-inside (w .image) _ _ (plays w m i (a-call own call) t .0)
+    request-inside w m i (a-basket own b) t = played-inside (w .image) _ _ (plays w m i (a-basket own b) t)
+    request-inside w m i (a-step own step) t = played-inside (w .image) _ _ (plays w m i (a-step own step) t .0)

@@ -7,10 +7,10 @@ ghost use Rattle.index.specs.Walk.{search, comparedIn};
 ghost use Rattle.index.specs.declared.Lookup.the-variants.{Refused, Allowed};
 ghost use Rattle.index.specs.inner.Lookup.{lookupBy};
 use crate::head::head_of;
+use fields_code::fields::has_key;
 use index::Found;
 use index::Lookup;
 use index::Place;
-use layout_code::fields::has_key;
 
 // Follows the chain of the key's head, up to the first slot with that key or the end.
 pub fn find(

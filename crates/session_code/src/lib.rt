@@ -1,5 +1,4 @@
 // The steps of the trial session.
 pub mod lines;
-pub mod refusal;
 pub mod start;
 pub mod step;

@@ -6,11 +6,11 @@ use crate::lines::get_word;
 use crate::lines::make;
 use crate::lines::remove_line;
 use crate::lines::write_line;
-use crate::refusal::line_fault;
-use crate::refusal::slots_for;
 use session::Session;
 use session::Stepped;
 use session::Waiting;
+use session_refusal_code::refusal::line_fault;
+use session_refusal_code::refusal::slots_for;
 use text::Line;
 use text::Reply;
 

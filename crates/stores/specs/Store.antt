@@ -41,6 +41,12 @@ standing counts [] = []
 standing counts (s ∷ ss) =
     cond (eqb (counts (s .word / 8)) 0) (standing counts ss) (s ∷ standing (less (s .word / 8) counts) ss)
 
+-- the others, which do not stand
+unfoldable pub notStanding : (counts : ℕ → ℕ) → List Store → List Store
+notStanding counts [] = []
+notStanding counts (s ∷ ss) =
+    cond (eqb (counts (s .word / 8)) 0) (s ∷ notStanding counts ss) (notStanding (less (s .word / 8) counts) ss)
+
 -- do all of them stand?
 unfoldable pub allStand : (counts : ℕ → ℕ) → List Store → Bool
 allStand counts [] = true

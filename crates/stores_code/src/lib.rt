@@ -1,5 +1,3 @@
 // The 16 stores of a record, the making of stores, and what play refuses.
 pub mod make;
 pub mod play;
-pub mod record;
-pub mod value;

@@ -13,7 +13,7 @@ use Rattle.prelude.proofs.Any.{any-same}
 use Rattle.prelude.proofs.Most.{greatest-same, topmost-same, First, nowhere, there, first-is}
 use Rattle.layout.specs.Content.{Content, broken, empty, putRecord, removeRecord, topOf, Table}
 use Rattle.table.specs.Table.{isRecord, keyIn, weight, decider, valueIn, valueAt, mapOf, decidingPut, live, spare, liveCount, nextVersion}
-use Rattle.table.specs.Taking.{validVersion, highestValid, isRemove, older, mayTake, takeableCount, takeableIf}
+use Rattle.table.specs.Taking.{validVersion, highestValid, isRemove, older, mayTake, takeableCount, takeableIf, IsNewest}
 use Rattle.table.specs.Reuse.{OlderFirst, HighestLast}
 
 module _ (f g : Table) (n : ℕ) (same : (t : ℕ) → Slot n t → g t ≡ f t) where
@@ -53,6 +53,10 @@ module _ (f g : Table) (n : ℕ) (same : (t : ℕ) → Slot n t → g t ≡ f t)
   pub alike-highest : highestValid g n ≡ highestValid f n
   unfolding highestValid
   alike-highest = greatest-same (λ s. validVersion (g s)) (λ s. validVersion (f s)) n (λ t i. ap validVersion (same t i))
+
+  pub alike-newest : (s : ℕ) → IsNewest f n s → IsNewest g n s
+  alike-newest s h some =
+      let z = h (omega (arith, alike-highest)) in (z .0, ap validVersion (same s (z .0)) ∙ z .1 ∙ sym alike-highest)
 
   pub alike-older : (s t : ℕ) → Slot n s → Slot n t → older g s t ≡ older f s t
   unfolding older

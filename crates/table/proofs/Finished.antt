@@ -11,13 +11,13 @@ use Rattle.layout.specs.Content.{Table, topOf}
 use Rattle.prelude.specs.Members.{In, Slot}
 use Rattle.prelude.proofs.defs.Among.{member}
 use Rattle.prelude.proofs.Among.{in-member, member-in, count-member, not-member, out-member}
-use Rattle.prelude.proofs.Choice.{true-false, same-test}
+use Rattle.prelude.proofs.Choice.{true-false, same-test, pick-true}
 use Rattle.prelude.proofs.Count.{count-same}
 use Rattle.prelude.proofs.Lists.{some-element}
 use Rattle.prelude.proofs.Most.{greatest-above, greatest-least}
 use Rattle.table.specs.Complete.{Numbers, numberFor, hasVersion, sharers, complete, said, highestComplete, NoneVoid, settled}
 use Rattle.table.specs.Table.{isRecord, keyIn, weight, decider, mapOf, valueIn, live, nextVersion}
-use Rattle.table.specs.Taking.{highestValid}
+use Rattle.table.specs.Taking.{validVersion, highestValid, IsNewest}
 use Rattle.table.proofs.defs.Basket.{Basket, changes}
 use Rattle.table.proofs.defs.Struck.{Struck, Finished, Unfinished, SlotAfter, kept, unfinished, lost, done}
 use Rattle.table.proofs.defs.Write.{Outside, Free}
@@ -172,3 +172,11 @@ module _ {f f′ : Table} {num num′ : Numbers} {n w : ℕ} {taken : List ℕ} 
         new-top (s .0) (s .1),
         highest-valid-least f′ n w (version-most b st),
       )
+
+  -- and so is that of each of its slots
+  pub finished-newest : (t : ℕ) → In t taken → IsNewest f′ n t
+  unfolding validVersion
+  finished-newest t j some = (
+    b .slot t j,
+    pick-true (isRecord (f′ t)) (topOf (f′ t)) 0 (ap isRecord (z t j .0) ∙ b .records t j .counted) ∙ new-top t j ∙ sym finished-highest-valid,
+  )

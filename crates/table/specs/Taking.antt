@@ -1,12 +1,14 @@
 -- Which slots a call may take. Document 02, A.7: "No call, single ones included, takes a slot of the highest valid version, or a remove record while an older valid
 -- record of its key remains in the image the call is given, even in a slot that the same call takes; it takes the first others in the reuse chain."
+use mathlib.Core.Path.{_≡_}
 use mathlib.Core.Bool.{Bool, true, false, cond, not, _&&_}
 use mathlib.Core.List.{List}
-use Prim.Native.Nat.{ℕ}
+use Prim.Native.Nat.{ℕ, _<_}
 use lib.Dec.{eqb, ltb}
 use lib.ListN.{take}
 use Rattle.prelude.specs.Range.{anyOf, greatest, count}
 use Rattle.prelude.specs.Filter.{filter, anyIn}
+use Rattle.prelude.specs.Members.{Slot}
 use Rattle.layout.specs.Content.{Content, broken, empty, putRecord, removeRecord, topOf, Table}
 use Rattle.table.specs.Table.{isRecord, keyIn, spare}
 
@@ -17,6 +19,10 @@ validVersion c = cond (isRecord c) (topOf c) 0
 -- the highest valid version, 0 if no slot is valid
 unfoldable pub highestValid : Table → (n : ℕ) → ℕ
 highestValid f n = greatest (λ s. validVersion (f s)) n
+
+-- slot s is valid and has the highest valid version, where any slot is valid
+abbrev pub IsNewest : Table → (n s : ℕ) → Type 0
+IsNewest f n s = 0 < highestValid f n → Slot n s × (validVersion (f s) ≡ highestValid f n)
 
 unfoldable pub isRemove : Content → Bool
 isRemove (broken top) = false

@@ -30,13 +30,14 @@ use Rattle.table.proofs.defs.Reuse.{Spares}
 use Rattle.table.proofs.Taking.{older-below, older-idle}
 use Rattle.table.proofs.ReuseOrder.{remove-is-record}
 use Rattle.table.proofs.TakingAfter.{after-same}
-use Rattle.taking.specs.Taking.{takingOf, choiceOf}
-use Rattle.taking.specs.inner.Walk.{takeFault}
+use Rattle.taking.specs.Taking.{takingOf, choiceOf, mayTakeBelow, namedVersion, ownTaking}
+use Rattle.taking.specs.inner.Walk.{takeFault, endFault}
 use Rattle.taking.specs.inner.Takeable.{slotVersion}
-use Rattle.taking.specs.inner.Choice.{KnownTop, Decided, chosenOf, Meetable, withSlot, pastSlot, Met, Chosen}
+use Rattle.taking.specs.inner.Choice.{KnownTop, Decided, chosenOf, Meetable, withSlot, pastSlot, MetBy, metBelow, Met, Chosen}
 use Rattle.taking.specs.declared.Progress.{Progress}
+use Rattle.taking.specs.declared.Choice.{Choice}
 use Rattle.taking.proofs.Contents.{Holds, holds-none, holds-put, holds-remove, slot-holds, if-none}
-use Rattle.taking.proofs.Walks.{take-ended, take-above, take-over, take-turn, with-fault}
+use Rattle.taking.proofs.Walks.{take-ended, take-above, take-over, take-turn, with-fault, end-fault}
 use Rattle.taking.proofs.Takes.{highest-is}
 
 -- ---- when a version tells
@@ -133,16 +134,14 @@ chosen-more slots k x h =
 
 -- ---- the loop: what is left of the walk answers for the whole
 
-pub record Choosing (l : ℕ) (image next : List ℕ) (n first wanted : ℕ) (p : Progress) : Type 0 where
+pub record Choosing (may : List ℕ → ℕ → Bool) (next : List ℕ) (n first wanted : ℕ) (p : Progress) : Type 0 where
   pub place : p .at < 2 ^ 32
   pub within : p .got ≤ wanted
   pub slots-size : length (p .slots) ≡ 8
   pub prevs-size : length (p .prevs) ≡ 8
-  pub known : KnownTop (word image) n (p .top) (p .exact)
   pub chosen-in : (j : ℕ) → j < p .got → Slot n (getD (p .slots) j 0)
   pub rest : withAll (takensFrom (p .slots) (p .prevs) 0 (p .got))
-      (takeWalk (mayTakeAfter (contentsOf l image) n) next n (p .left) (wanted - p .got) (p .prev) (p .at) (chosenOf (p .slots) (p .got)))
-      ≡ choiceOf l image next n first wanted
+      (takeWalk may next n (p .left) (wanted - p .got) (p .prev) (p .at) (chosenOf (p .slots) (p .got))) ≡ takeFrom may next n first wanted
   pub zeros : (j : ℕ) → p .got ≤ j → getD (p .slots) j 0 ≡ 0
 
 all-zero : (n j : ℕ) → _≡_ {A = ℕ} (getD (replicate n 0) j 0) 0
@@ -150,37 +149,45 @@ all-zero zero j = refl
 all-zero (suc n) zero = refl
 all-zero (suc n) (suc j) = all-zero n j
 
-module _ (l : ℕ) (image next : List ℕ) (n first wanted : ℕ) where
-  abbrev may : List ℕ → ℕ → Bool
-  may = mayTakeAfter (contentsOf l image) n
+-- no choice
+refused-choice : (t c : Taking) (wanted : ℕ) (r : Choice) (k : ℕ) → r .fault ≡ k → (k ≡ 0 → ⊥) → k ≡ takeFault t → Chosen t c wanted r
+refused-choice t c wanted r k e ne f =
+    record { fault-is = e ∙ f; slots-are = λ z. absurd (ne (sym e ∙ z)); zeros = λ z. absurd (ne (sym e ∙ z)) }
 
-  pub choosing-starts : (top : ℕ) → first < 2 ^ 32 → top ≤ greatest (slotVersion (word image)) n
-      → Choosing l image next n first wanted
+positive : (x : ℕ) → (x ≡ 0 → ⊥) → 0 < x
+positive zero ne = absurd (ne refl)
+positive (suc x) ne = omega arith
+
+module _ (may : List ℕ → ℕ → Bool) (next : List ℕ) (n first wanted : ℕ) where
+  abbrev whole : Taking
+  whole = takeFrom may next n first wanted
+
+  pub choosing-starts : (top : ℕ) (exact : Bool) → first < 2 ^ 32
+      → Choosing may next n first wanted
       (record {
         at = first;
         prev = 0;
         left = n;
         got = 0;
         top = top;
-        exact = false;
+        exact = exact;
         slots = replicate 8 0;
         prevs = replicate 8 0;
       })
-  unfolding choiceOf takeFrom takensFrom chosenOf
-  choosing-starts top h b =
+  unfolding takeFrom takensFrom chosenOf
+  choosing-starts top exact h =
       let d : wanted - 0 ≡ wanted = omega arith in
       record {
         place = h;
         within = omega arith;
         slots-size = refl;
         prevs-size = refl;
-        known = record { bounded = b; exactly = λ q. absurd (true≢false (sym q)) };
         chosen-in = λ j q. absurd (omega arith);
         rest = ap (λ (k : ℕ). takeWalk may next n n k 0 first []) d;
         zeros = λ j q. all-zero 8 j;
       }
 
-  module _ (p : Progress) (w : Choosing l image next n first wanted p) where
+  module _ (p : Progress) (w : Choosing may next n first wanted p) where
     abbrev taken-so-far : List Taken
     taken-so-far = takensFrom (p .slots) (p .prevs) 0 (p .got)
 
@@ -188,7 +195,7 @@ module _ (l : ℕ) (image next : List ℕ) (n first wanted : ℕ) where
     chosen = chosenOf (p .slots) (p .got)
 
     -- the whole choice is not refused, so neither is what is left of it
-    module _ (fine : takeFault (choiceOf l image next n first wanted) ≡ 0) where
+    module _ (fine : takeFault whole ≡ 0) where
       left-fine : takeFault (takeWalk may next n (p .left) (wanted - p .got) (p .prev) (p .at) chosen) ≡ 0
       left-fine = sym (all-fault taken-so-far _) ∙ ap takeFault (w .rest) ∙ fine
 
@@ -207,10 +214,6 @@ module _ (l : ℕ) (image next : List ℕ) (n first wanted : ℕ) where
             chosen-in = w .chosen-in;
           }
         where
-          positive : (x : ℕ) → (x ≡ 0 → ⊥) → 0 < x
-          positive zero ne = absurd (ne refl)
-          positive (suc x) ne = omega arith
-
           on-chain : p .at ≡ 0 → ⊥
           on-chain z = omega (arith, refuses tooFew (take-ended may next n (p .left) (wanted - p .got) (p .prev) (p .at) chosen z (omega arith)))
 
@@ -221,7 +224,7 @@ module _ (l : ℕ) (image next : List ℕ) (n first wanted : ℕ) where
 
       -- as many as are wanted
       pub choice-ends : (t : Taking) → takeFault t ≡ 0 → wanted ≤ p .got
-          → Chosen t (choiceOf l image next n first wanted) wanted (record { fault = 0; slots = p .slots; prevs = p .prevs })
+          → Chosen t whole wanted (record { fault = 0; slots = p .slots; prevs = p .prevs })
       choice-ends t z h =
           let d : wanted - p .got ≡ 0 = omega (arith, w .within) in
           let g : p .got ≡ wanted = omega (arith, w .within) in
@@ -237,6 +240,49 @@ module _ (l : ℕ) (image next : List ℕ) (n first wanted : ℕ) where
             zeros = λ q j i. w .zeros j (omega (arith, g));
           }
 
+    -- or the choice finds its refusal by itself
+    left-says : (t : Taking) → takeWalk may next n (p .left) (wanted - p .got) (p .prev) (p .at) chosen ≡ t → takeFault t ≡ takeFault whole
+    left-says t e = sym (all-fault taken-so-far t) ∙ ap (λ (x : Taking). takeFault (withAll taken-so-far x)) (sym e) ∙ ap takeFault (w .rest)
+
+    module _ (more : p .got < wanted) (r : Choice) where
+      pub choice-at-end : p .at ≡ 0 → r .fault ≡ 28 → Chosen whole whole wanted r
+      unfolding takeFault linkFault fewFault orElse
+      choice-at-end z e =
+          refused-choice whole whole wanted r 28 e (λ q. omega arith)
+          (left-says tooFew (take-ended may next n (p .left) (wanted - p .got) (p .prev) (p .at) chosen z (omega arith)))
+
+      pub choice-above : n < p .at → r .fault ≡ 11 → Chosen whole whole wanted r
+      unfolding takeFault linkFault fewFault orElse
+      choice-above h e =
+          refused-choice whole whole wanted r 11 e (λ q. omega arith)
+          (left-says badLink (take-above may next n (p .left) (wanted - p .got) (p .prev) (p .at) chosen h))
+
+      pub choice-over : (p .at ≡ 0 → ⊥) → p .left ≡ 0 → r .fault ≡ 11 → Chosen whole whole wanted r
+      unfolding takeFault linkFault fewFault orElse
+      choice-over ne z e =
+          refused-choice whole whole wanted r 11 e (λ q. omega arith)
+          (left-says badLink (take-over may next n (p .left) (wanted - p .got) (p .prev) (p .at) chosen z ne))
+
+    pub meetable-here : wanted ≤ 8 → p .got < wanted → (p .at ≡ 0 → ⊥) → p .at ≤ n → (p .left ≡ 0 → ⊥) → Meetable n p
+    meetable-here few more low high some =
+        record { low = positive (p .at) low; high = high; some = positive (p .left) some; few = omega arith; chosen-in = w .chosen-in }
+
+    module _ (h : wanted ≤ p .got) (k : ℕ) (e : k ≡ endFault n (p .left) (p .at)) where
+      got-all : wanted - p .got ≡ 0
+      got-all = omega (arith, w .within)
+
+      last : takeWalk may next n (p .left) (wanted - p .got) (p .prev) (p .at) chosen ≡ takeWalk may next n (p .left) 0 (p .prev) (p .at) chosen
+      last = ap (λ (x : ℕ). takeWalk may next n (p .left) x (p .prev) (p .at) chosen) got-all
+
+      told : k ≡ takeFault whole
+      told = e ∙ sym (end-fault may next n (p .left) (p .prev) (p .at) chosen) ∙ left-says _ last
+
+      pub choice-end-refused : (r : Choice) → r .fault ≡ k → (k ≡ 0 → ⊥) → Chosen whole whole wanted r
+      choice-end-refused r q ne = refused-choice whole whole wanted r k q ne told
+
+      pub choice-done : k ≡ 0 → Chosen whole whole wanted (record { fault = 0; slots = p .slots; prevs = p .prevs })
+      choice-done z = choice-ends (sym told ∙ z) whole (sym told ∙ z) h
+
     -- one slot was met
     module _ (few : wanted ≤ 8) (more : p .got < wanted) (m : Meetable n p) (fits : getD next (p .at) 0 < 2 ^ 32) where
       turn : takeWalk may next n (p .left) (wanted - p .got) (p .prev) (p .at) chosen
@@ -244,17 +290,15 @@ module _ (l : ℕ) (image next : List ℕ) (n first wanted : ℕ) where
           (takeWalk may next n (p .left - 1) (wanted - p .got) (p .at) (getD next (p .at) 0) chosen)
       turn = take-turn may next n (p .left) (wanted - p .got) (p .prev) (p .at) chosen (m .some) (m .low) (m .high) (omega arith)
 
-      took : may chosen (p .at) ≡ true → (top : ℕ) (exact : Bool) → KnownTop (word image) n top exact
-          → Choosing l image next n first wanted (withSlot next p top exact)
+      took : may chosen (p .at) ≡ true → (top : ℕ) (exact : Bool) → Choosing may next n first wanted (withSlot next p top exact)
       unfolding withSlot
-      took b top exact k =
+      took b top exact =
           let d : wanted - p .got - 1 ≡ wanted - (p .got + 1) = omega arith in
           record {
             place = fits;
             within = omega arith;
             slots-size = length-set (p .slots) (p .got) (p .at) ∙ w .slots-size;
             prevs-size = length-set (p .prevs) (p .got) (p .prev) ∙ w .prevs-size;
-            known = k;
             chosen-in = λ j q. slot-at j q (eqb j (p .got)) refl;
             rest =
                 ap₂ withAll
@@ -277,53 +321,117 @@ module _ (l : ℕ) (image next : List ℕ) (n first wanted : ℕ) where
               let ne = eqb-false j (p .got) e in
               subst (Slot n) (sym (getD-set-other (p .slots) (p .got) j (p .at) 0 (λ z. ne z))) (w .chosen-in j (omega (arith, ne)))
 
-      passed : may chosen (p .at) ≡ false → (top : ℕ) (exact : Bool) → KnownTop (word image) n top exact
-          → Choosing l image next n first wanted (pastSlot next p top exact)
+      passed : may chosen (p .at) ≡ false → (top : ℕ) (exact : Bool) → Choosing may next n first wanted (pastSlot next p top exact)
       unfolding pastSlot
-      passed b top exact k =
+      passed b top exact =
           record {
             place = fits;
             within = w .within;
             slots-size = w .slots-size;
             prevs-size = w .prevs-size;
-            known = k;
             chosen-in = w .chosen-in;
             rest = ap (withAll taken-so-far) (sym (turn ∙ pick-false (may chosen (p .at)) _ _ b)) ∙ w .rest;
             zeros = w .zeros;
           }
 
-      pub choosing-on : (r : Progress) → Met l image next n p r → Choosing l image next n first wanted r
-      choosing-on r t = subst (Choosing l image next n first wanted) (sym (t .is)) (go (may chosen (p .at)) refl)
+      pub choosing-on : (r : Progress) → MetBy may next p r → Choosing may next n first wanted r
+      choosing-on r t = subst (Choosing may next n first wanted) (sym t) (go (may chosen (p .at)) refl)
         where
           go : (b : Bool) → may chosen (p .at) ≡ b
-              → Choosing l image next n first wanted (cond b (withSlot next p (r .top) (r .exact)) (pastSlot next p (r .top) (r .exact)))
-          go true e = took e (r .top) (r .exact) (t .known)
-          go false e = passed e (r .top) (r .exact) (t .known)
+              → Choosing may next n first wanted (cond b (withSlot next p (r .top) (r .exact)) (pastSlot next p (r .top) (r .exact)))
+          go true e = took e (r .top) (r .exact)
+          go false e = passed e (r .top) (r .exact)
 
--- ---- one slot is met: b tells whether it may be taken
+-- ---- one slot is met
 
-module _ (l : ℕ) (image next : List ℕ) (n : ℕ) (p : Progress) (top : ℕ) (exact b : Bool) (known : KnownTop (word image) n top exact)
-    (told : Decided image n top (p .at))
-    (e : b ≡ takeableIf top (anyIn (older (contentsOf l image) (p .at)) (chosenOf (p .slots) (p .got))) (contentsOf l image (p .at))) where
-  tells : b ≡ mayTakeAfter (contentsOf l image) n (chosenOf (p .slots) (p .got)) (p .at)
-  unfolding mayTakeAfter takeableIf
-  tells = e ∙ told l _
+-- b tells whether it may be taken by the version that p has
+module _ (l : ℕ) (image next : List ℕ) (p : Progress) (b : Bool) (e : b ≡ mayTakeBelow l image (p .top) (chosenOf (p .slots) (p .got)) (p .at)) where
+  pub below-taken : b ≡ true → withSlot next p (p .top) (p .exact) ≡ metBelow l image next p
+  unfolding metBelow
+  below-taken q = sym (pick-true _ _ _ (sym e ∙ q))
 
-  pub met-taken : b ≡ true → Met l image next n p (withSlot next p top exact)
-  unfolding withSlot
-  met-taken q = record { known = known; is = sym (pick-true _ _ _ (sym tells ∙ q)) }
+  pub below-passed : b ≡ false → pastSlot next p (p .top) (p .exact) ≡ metBelow l image next p
+  unfolding metBelow
+  below-passed q = sym (pick-false _ _ _ (sym e ∙ q))
 
-  pub met-passed : b ≡ false → Met l image next n p (pastSlot next p top exact)
-  unfolding pastSlot
-  met-passed q = record { known = known; is = sym (pick-false _ _ _ (sym tells ∙ q)) }
+-- what is known stays
+module _ (l : ℕ) (image next : List ℕ) (p r : Progress) (e : r ≡ metBelow l image next p) where
+  same-known : (r .top ≡ p .top) × (r .exact ≡ p .exact)
+  unfolding metBelow withSlot pastSlot
+  same-known = (ap (λ (x : Progress). x .top) e ∙ tops (mayTakeBelow l image (p .top) (chosenOf (p .slots) (p .got)) (p .at)), ap (λ (x : Progress). x .exact) e ∙ exacts (mayTakeBelow l image (p .top) (chosenOf (p .slots) (p .got)) (p .at)))
+    where
+      tops : (b : Bool) → cond b (withSlot next p (p .top) (p .exact)) (pastSlot next p (p .top) (p .exact)) .top ≡ p .top
+      tops true = refl
+      tops false = refl
 
-pub met-left : (l : ℕ) (image next : List ℕ) (n : ℕ) (p r : Progress) → Met l image next n p r → r .left ≡ p .left - 1
+      exacts : (b : Bool) → cond b (withSlot next p (p .top) (p .exact)) (pastSlot next p (p .top) (p .exact)) .exact ≡ p .exact
+      exacts true = refl
+      exacts false = refl
+
+  pub below-met : MetBy (mayTakeBelow l image (p .top)) next p r
+  unfolding metBelow
+  below-met =
+      e ∙ ap₂ (λ (top : ℕ) (exact : Bool). cond (mayTakeBelow l image (p .top) (chosenOf (p .slots) (p .got)) (p .at)) (withSlot next p top exact) (pastSlot next p top exact))
+      (sym (same-known .0)) (sym (same-known .1))
+
+  pub below-top : r .top ≡ p .top
+  below-top = same-known .0
+
+-- p, of which this is known
+abbrev knowing : Progress → (top : ℕ) → (exact : Bool) → Progress
+knowing p top exact =
+    record {
+      at = p .at;
+      prev = p .prev;
+      left = p .left;
+      got = p .got;
+      top = top;
+      exact = exact;
+      slots = p .slots;
+      prevs = p .prevs;
+    }
+
+pub known-meetable : (n : ℕ) (p : Progress) (top : ℕ) (exact : Bool) → Meetable n p → Meetable n (knowing p top exact)
+known-meetable n p top exact m = record { low = m .low; high = m .high; some = m .some; few = m .few; chosen-in = m .chosen-in }
+
+-- the version tells as the highest does
+module _ (l : ℕ) (image next : List ℕ) (n : ℕ) (p : Progress) (top : ℕ) (exact : Bool) (known : KnownTop (word image) n top exact)
+    (told : Decided image n top (p .at)) where
+  pub known-met : (r : Progress) → r ≡ metBelow l image next (knowing p top exact) → Met l image next n p r
+  unfolding mayTakeAfter mayTakeBelow withSlot pastSlot
+  known-met r e =
+      record {
+        known = rw (below-top l image next (knowing p top exact) r e, same-known l image next (knowing p top exact) r e .1) known;
+        is =
+            below-met l image next (knowing p top exact) r e
+            ∙ ap (λ (b : Bool). cond b (withSlot next p (r .top) (r .exact)) (pastSlot next p (r .top) (r .exact)))
+            (told l (anyIn (older (contentsOf l image) (p .at)) (chosenOf (p .slots) (p .got))));
+      }
+
+pub met-left : (may : List ℕ → ℕ → Bool) (next : List ℕ) (p r : Progress) → MetBy may next p r → r .left ≡ p .left - 1
 unfolding withSlot pastSlot
-met-left l image next n p r m = ap (λ (x : Progress). x .left) (m .is) ∙ go (mayTakeAfter (contentsOf l image) n (chosenOf (p .slots) (p .got)) (p .at))
+met-left may next p r m = ap (λ (x : Progress). x .left) m ∙ go (may (chosenOf (p .slots) (p .got)) (p .at))
   where
     go : (b : Bool) → cond b (withSlot next p (r .top) (r .exact)) (pastSlot next p (r .top) (r .exact)) .left ≡ p .left - 1
     go true = refl
     go false = refl
+
+-- ---- the loop of a choice by one version
+
+abbrev pub ChoosingBelow : (l : ℕ) → (image next : List ℕ) → (n first wanted top : ℕ) → Progress → Type 0
+ChoosingBelow l image next n first wanted top p = Choosing (mayTakeBelow l image top) next n first wanted p × (p .top ≡ top)
+
+pub below-left : (l : ℕ) (image next : List ℕ) (p r : Progress) → r ≡ metBelow l image next p → r .left ≡ p .left - 1
+below-left l image next p r e = met-left (mayTakeBelow l image (p .top)) next p r (below-met l image next p r e)
+
+pub below-on : (l : ℕ) (image next : List ℕ) (n first wanted top : ℕ) (p : Progress) → ChoosingBelow l image next n first wanted top p → wanted ≤ 8
+    → p .got < wanted → Meetable n p → getD next (p .at) 0 < 2 ^ 32 → (r : Progress) → r ≡ metBelow l image next p
+    → ChoosingBelow l image next n first wanted top r
+below-on l image next n first wanted top p w few more m fits r e = (
+  choosing-on (mayTakeBelow l image top) next n first wanted p (w .0) few more m fits r
+      (subst (λ (v : ℕ). MetBy (mayTakeBelow l image v) next p r) (w .1) (below-met l image next p r e)),
+  below-top l image next p r e ∙ w .1,
+)
 
 -- ---- the slots of an index that is the image's own
 

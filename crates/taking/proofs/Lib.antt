@@ -3,3 +3,5 @@ pub mod Contents
 pub mod Takes
 pub mod Tested
 pub mod Choices
+pub mod Own
+pub mod Looks

@@ -25,3 +25,10 @@ pub struct Choice {
     pub slots: [u32; 8],
     pub prevs: [u32; 8],
 }
+
+// The refusal of a call by the slots that it takes, 0 for none, and a version that is not above the highest valid one; where exact, it is the highest.
+pub struct Told {
+    pub fault: u32,
+    pub top: u64,
+    pub exact: bool,
+}

@@ -4,23 +4,25 @@ ghost use Prim.Native.Nat.{_+_, _*_, _≤_, _<_};
 ghost use lib.ListN.{length};
 ghost use Rattle.words.specs.Word.{word};
 ghost use Rattle.prelude.specs.Filter.{anyIn};
-ghost use Rattle.prelude.specs.Range.{greatest};
 ghost use Rattle.layout.specs.Record.{Layout, keyWith};
 ghost use Rattle.layout.specs.Content.{contentsOf};
 ghost use Rattle.layout.specs.inner.Inside.{SlotInside};
 ghost use Rattle.table.specs.Taking.{older, takeableIf};
-ghost use Rattle.taking.specs.Taking.{takingOf, choiceOf};
+ghost use Rattle.index.specs.Taking.{takeFrom};
+ghost use Rattle.taking.specs.Taking.{takingOf, choiceOf, mayTakeBelow, takingBy, choiceBy};
 ghost use Rattle.taking.specs.inner.Walk.{takeFault};
-ghost use Rattle.taking.specs.inner.Takeable.{slotVersion, olderThan, Walkable};
-ghost use Rattle.taking.specs.inner.Choice.{KnownTop, Decided, chosenOf, ChosenInside, Meetable, Met, Chosen};
+ghost use Rattle.taking.specs.inner.Takeable.{olderThan, Walkable};
+ghost use Rattle.taking.specs.inner.Choice.{KnownTop, Decided, chosenOf, ChosenInside, Meetable, metBelow, Met, Chosen};
 use crate::slot::highest_valid;
 use crate::slot::is_older;
 use crate::slot::may_take;
 use crate::slot::valid_version;
+use crate::take::end_fault;
+use crate::take::named_version;
 use crate::take::newest_version;
-use crate::take::slots_fault;
-use layout_code::fields::slot_high;
-use layout_code::fields::slot_low;
+use crate::take::slots_told;
+use fields_code::fields::slot_high;
+use fields_code::fields::slot_low;
 use taking::Choice;
 use taking::Known;
 use taking::Progress;
@@ -70,7 +72,7 @@ fn is_older_chosen(
     false
 }
 
-// May slot s be taken after the first `got` slots, by a version below which no valid one is the highest? An older record of its key is looked for in them alone.
+// May slot s be taken after the first `got` slots, where no valid record of version `top` or above may? An older record of its key is looked for in them alone.
 fn may_take_after(
     image: &[u8],
     l: usize,
@@ -95,18 +97,17 @@ fn may_take_after(
     !is_older_chosen(image, l, slots, got, low, high, version)
 }
 
-// The slot is taken or passed over.
-fn meet(image: &[u8], l: usize, next: &[u32], n: usize, p: Progress) -> Progress
-    requires { ⌜ Walkable (now image) (now next) l n × Meetable n p × KnownTop (word (now image)) n (p .top) (p .exact) ⌝ }
-    ensures { λ r. ⌜ Met l (now (image .entry)) (now (next .entry)) n p r ⌝ }
+// The slot is taken or passed over, by the version that p has.
+fn meet_below(image: &[u8], l: usize, next: &[u32], n: usize, p: Progress) -> Progress
+    requires { ⌜ Walkable (now image) (now next) l n × Meetable n p ⌝ }
+    ensures { λ r. ⌜ r ≡ metBelow l (now (image .entry)) (now (next .entry)) p ⌝ }
 {
     let slot = p.at as usize;
-    let known = known_for(image, n, p.top, p.exact, slot);
     let link = next[slot];
     let mut slots = p.slots;
     let mut prevs = p.prevs;
     let got = p.got;
-    if may_take_after(image, l, n, known.top, slots, got, slot) {
+    if may_take_after(image, l, n, p.top, slots, got, slot) {
         slots[got] = p.at;
         prevs[got] = p.prev;
         return Progress {
@@ -114,8 +115,8 @@ fn meet(image: &[u8], l: usize, next: &[u32], n: usize, p: Progress) -> Progress
             prev: p.prev,
             left: p.left - 1,
             got: got + 1,
-            top: known.top,
-            exact: known.exact,
+            top: p.top,
+            exact: p.exact,
             slots,
             prevs,
         };
@@ -125,11 +126,38 @@ fn meet(image: &[u8], l: usize, next: &[u32], n: usize, p: Progress) -> Progress
         prev: p.at,
         left: p.left - 1,
         got,
-        top: known.top,
-        exact: known.exact,
+        top: p.top,
+        exact: p.exact,
         slots,
         prevs,
     }
+}
+
+// The same, by the highest valid version: as much is known of it as has to be.
+fn meet(image: &[u8], l: usize, next: &[u32], n: usize, p: Progress) -> Progress
+    requires { ⌜ Walkable (now image) (now next) l n × Meetable n p × KnownTop (word (now image)) n (p .top) (p .exact) ⌝ }
+    ensures { λ r. ⌜ Met l (now (image .entry)) (now (next .entry)) n p r ⌝ }
+{
+    let slot = p.at as usize;
+    let known = known_for(image, n, p.top, p.exact, slot);
+    let slots = p.slots;
+    let prevs = p.prevs;
+    meet_below(
+        image,
+        l,
+        next,
+        n,
+        Progress {
+            at: p.at,
+            prev: p.prev,
+            left: p.left,
+            got: p.got,
+            top: known.top,
+            exact: known.exact,
+            slots,
+            prevs,
+        },
+    )
 }
 
 // No slots, with this refusal.
@@ -143,6 +171,54 @@ pub fn none_chosen(fault: u32) -> Choice
     }
 }
 
+// The slots by this version, so many as are wanted; or 11 by a link, or 28 where too few may be taken.
+pub fn choose_below(
+    image: &[u8],
+    l: usize,
+    next: &[u32],
+    n: usize,
+    first: u32,
+    wanted: usize,
+    top: u64,
+) -> Choice
+    requires { ⌜ Walkable (now image) (now next) l n × (0 < wanted) × (wanted ≤ 8) ⌝ }
+    ensures { λ r. ⌜ Chosen (takeFrom (mayTakeBelow l (now (image .entry)) top) (now (next .entry)) n first wanted) (takeFrom (mayTakeBelow l (now (image .entry)) top) (now (next .entry)) n first wanted) wanted r ⌝ }
+{
+    let mut p = Progress {
+        at: first,
+        prev: 0,
+        left: n,
+        got: 0,
+        top,
+        exact: true,
+        slots: [0; 8],
+        prevs: [0; 8],
+    };
+    while p.got < wanted {
+        if p.at == 0 {
+            return none_chosen(28);
+        }
+        if n < p.at as usize {
+            return none_chosen(11);
+        }
+        if p.left == 0 {
+            return none_chosen(11);
+        }
+        p = meet_below(image, l, next, n, p);
+    }
+    let fault = end_fault(n, p.left, p.at);
+    if fault != 0 {
+        return none_chosen(fault);
+    }
+    let slots = p.slots;
+    let prevs = p.prevs;
+    Choice {
+        fault: 0,
+        slots,
+        prevs,
+    }
+}
+
 // The slots of a basket that is not refused by them.
 fn choose_unrefused(
     image: &[u8],
@@ -151,9 +227,10 @@ fn choose_unrefused(
     n: usize,
     first: u32,
     wanted: usize,
-    known: u64,
+    top: u64,
+    exact: bool,
 ) -> Choice
-    requires { ⌜ Walkable (now image) (now next) l n × (0 < wanted) × (wanted ≤ 8) × (known ≤ greatest (slotVersion (word (now image))) n) × (takeFault (takingOf l (now image) (now next) n first wanted) ≡ 0) ⌝ }
+    requires { ⌜ Walkable (now image) (now next) l n × (0 < wanted) × (wanted ≤ 8) × KnownTop (word (now image)) n top exact × (takeFault (takingOf l (now image) (now next) n first wanted) ≡ 0) ⌝ }
     ensures { λ r. ⌜ Chosen (takingOf l (now (image .entry)) (now (next .entry)) n first wanted) (choiceOf l (now (image .entry)) (now (next .entry)) n first wanted) wanted r ⌝ }
 {
     let mut p = Progress {
@@ -161,8 +238,8 @@ fn choose_unrefused(
         prev: 0,
         left: n,
         got: 0,
-        top: known,
-        exact: false,
+        top,
+        exact,
         slots: [0; 8],
         prevs: [0; 8],
     };
@@ -178,8 +255,8 @@ fn choose_unrefused(
     }
 }
 
-// The slots that a basket takes, so many as are wanted, by the slot that the last call took; or 11 by a link, or 28 where too few may be taken.
-pub fn choose(
+// The slots that a basket takes, so many as are wanted, by the slot that the state names as the newest; or 11 by a link, or 28 where too few may be taken.
+fn choose(
     image: &[u8],
     l: usize,
     next: &[u32],
@@ -192,9 +269,30 @@ pub fn choose(
     ensures { λ r. ⌜ Chosen (takingOf l (now (image .entry)) (now (next .entry)) n first wanted) (choiceOf l (now (image .entry)) (now (next .entry)) n first wanted) wanted r ⌝ }
 {
     let known = newest_version(image, n, newest);
-    let fault = slots_fault(image, l, next, n, first, wanted, known);
-    if fault != 0 {
-        return none_chosen(fault);
+    let told = slots_told(image, l, next, n, first, wanted, known, true);
+    if told.fault != 0 {
+        return none_chosen(told.fault);
     }
-    choose_unrefused(image, l, next, n, first, wanted, known)
+    choose_unrefused(image, l, next, n, first, wanted, told.top, told.exact)
+}
+
+// The same for a call of either family.
+pub fn choose_by(
+    own: bool,
+    image: &[u8],
+    l: usize,
+    next: &[u32],
+    n: usize,
+    first: u32,
+    newest: u32,
+    wanted: usize,
+) -> Choice
+    requires { ⌜ Walkable (now image) (now next) l n × (0 < wanted) × (wanted ≤ 8) ⌝ }
+    ensures { λ r. ⌜ Chosen (takingBy own l (now (image .entry)) (now (next .entry)) n first newest wanted) (choiceBy own l (now (image .entry)) (now (next .entry)) n first newest wanted) wanted r ⌝ }
+{
+    if own {
+        let top = named_version(image, n, newest);
+        return choose_below(image, l, next, n, first, wanted, top);
+    }
+    choose(image, l, next, n, first, newest, wanted)
 }

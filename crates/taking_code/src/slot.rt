@@ -8,13 +8,13 @@ ghost use Rattle.layout.specs.Record.{Layout, keyWith};
 ghost use Rattle.layout.specs.Content.{contentsOf};
 ghost use Rattle.layout.specs.inner.Inside.{SlotInside};
 ghost use Rattle.taking.specs.inner.Takeable.{slotVersion, olderThan, lowPut, takeable};
+use fields_code::fields::has_key;
+use fields_code::fields::slot_high;
+use fields_code::fields::slot_kind;
+use fields_code::fields::slot_low;
 use layout::Verdict;
-use layout_code::fields::has_key;
-use layout_code::fields::slot_high;
-use layout_code::fields::slot_kind;
-use layout_code::fields::slot_low;
-use layout_code::line::greater;
-use layout_code::slot::slot_verdict;
+use line_code::line::greater;
+use line_code::slot::slot_verdict;
 use words_code::read_word;
 
 // The version of slot s where it is valid, else 0.
@@ -85,7 +85,7 @@ pub fn is_low(image: &[u8], l: usize, s: usize, top: u64) -> bool
     slot_kind(image, l, s) != 2
 }
 
-// May slot s be taken, by a version below which no valid one is the highest? Of a remove record an older record of its key is looked for only where scan says so.
+// May slot s be taken, where no valid record of version `top` or above may? Of a remove record an older record of its key is looked for only where scan says so.
 fn is_takeable(image: &[u8], l: usize, n: usize, top: u64, scan: bool, s: usize) -> bool
     requires { ⌜ SlotInside (now image) l s × (128 * (n + 1) ≤ length (now image)) ⌝ }
     ensures { λ r. ⌜ r ≡ takeable (contentsOf l (now (image .entry))) n top scan s ⌝ }

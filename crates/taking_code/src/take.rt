@@ -6,15 +6,20 @@ ghost use lib.ListN.{length};
 ghost use Rattle.words.specs.Word.{word};
 ghost use Rattle.prelude.specs.Range.{greatest};
 ghost use Rattle.layout.specs.Content.{contentsOf};
-ghost use Rattle.taking.specs.Taking.{takingOf};
-ghost use Rattle.taking.specs.inner.Walk.{takeFault, endFault, walkFault};
+ghost use Rattle.taking.specs.Taking.{takingOf, namedVersion, ownTaking, takingBy};
+ghost use Rattle.taking.specs.inner.Walk.{takeFault, endFault, walkFault, endsWell};
 ghost use Rattle.taking.specs.inner.Takeable.{slotVersion, takeable, OpenFirst, Walkable};
+ghost use Rattle.taking.specs.inner.Choice.{Unrefused, ToldBy};
+use crate::choose::choose_below;
+use crate::look::is_any_left;
 use crate::slot::highest_valid;
 use crate::slot::is_low;
 use crate::slot::may_take;
 use crate::slot::valid_version;
+use taking::Told;
+use words_code::read_word;
 
-// So many slots of a chain of n are met before the whole image is looked through.
+// So many slots of a chain of n are met to see that it ends.
 fn few_of(n: usize) -> usize
     ensures { λ r. ⌜ r ≤ n ⌝ }
 {
@@ -25,7 +30,7 @@ fn few_of(n: usize) -> usize
 }
 
 // 11 by the link of the slot that is taken, else 0; so many slots may still be met.
-fn end_fault(n: usize, left: usize, link: u32) -> u32
+pub fn end_fault(n: usize, left: usize, link: u32) -> u32
     ensures { λ r. ⌜ r ≡ endFault n left link ⌝ }
 {
     if link == 0 {
@@ -81,7 +86,7 @@ fn walk_fault(
     11
 }
 
-// The version of the slot that the last call took, if it is valid, else 0: it is not above the highest.
+// The version of the slot that the state names as the newest, if it is valid, else 0: it is not above the highest.
 pub fn newest_version(image: &[u8], n: usize, newest: u32) -> u64
     requires { ⌜ 128 * (n + 1) ≤ length (now image) ⌝ }
     ensures { λ r. ⌜ r ≤ greatest (slotVersion (word (now (image .entry)))) n ⌝ }
@@ -114,8 +119,34 @@ fn is_open(image: &[u8], l: usize, next: &[u32], n: usize, first: u32, known: u6
     is_low(image, l, s, known)
 }
 
-// 11 or 28 by the slots of the chain that may be taken, else 0: a few slots below this version tell mostly that there are enough; if not, the whole image does.
-pub fn slots_fault(
+// What a step along the chain costs: 1 to a slot nearby, which the processor has at hand, 16 to any other.
+fn step_cost(from: usize, to: usize) -> usize
+    ensures { λ r. ⌜ r ≤ 16 ⌝ }
+{
+    if from < to {
+        if 8 < to - from {
+            return 16;
+        }
+        return 1;
+    }
+    if 8 < from - to {
+        return 16;
+    }
+    1
+}
+
+// So much the look ahead along the chain of n slots may cost: in a large image about half a pass over it. Without a version that is known it finds little.
+fn ahead_cost(n: usize, known: u64) -> usize
+    ensures { λ r. ⌜ r ≤ n + 1024 ⌝ }
+{
+    if known == 0 {
+        return 1024;
+    }
+    n / 2 + 1024
+}
+
+// Are there enough slots ahead that may be taken by this version, and are no remove records? Where the look ahead ends too soon the answer is no.
+fn is_clear_ahead(
     image: &[u8],
     l: usize,
     next: &[u32],
@@ -123,29 +154,218 @@ pub fn slots_fault(
     first: u32,
     wanted: usize,
     known: u64,
-) -> u32
+) -> bool
     requires { ⌜ Walkable (now image) (now next) l n × (0 < wanted) × (known ≤ greatest (slotVersion (word (now image))) n) ⌝ }
+    ensures { λ r. ⌜ (r ≡ true → takeFault (takingOf l (now (image .entry)) (now (next .entry)) n first wanted) ≡ 0) ⌝ }
+{
+    let mut at = first;
+    let mut left = n;
+    let mut need = wanted;
+    let mut budget = ahead_cost(n, known);
+    let mut from = first as usize;
+    while 0 < left {
+        if at == 0 {
+            return false;
+        }
+        let slot = at as usize;
+        if n < slot {
+            return false;
+        }
+        let cost = step_cost(from, slot);
+        if budget < cost {
+            return false;
+        }
+        budget -= cost;
+        from = slot;
+        left -= 1;
+        at = next[slot];
+        if may_take(image, l, n, known, false, slot) {
+            if need == 1 {
+                return end_fault(n, left, at) == 0;
+            }
+            need -= 1;
+        }
+    }
+    false
+}
+
+// Does one pass over the image tell that the slots that are chosen by this version may be taken? Where strict, that it is the highest too.
+fn is_clear_by(
+    image: &[u8],
+    l: usize,
+    next: &[u32],
+    n: usize,
+    first: u32,
+    wanted: usize,
+    known: u64,
+    strict: bool,
+) -> bool
+    requires { ⌜ Walkable (now image) (now next) l n × (0 < wanted) × (wanted ≤ 8) × (known ≤ greatest (slotVersion (word (now image))) n) ⌝ }
+    ensures { λ r. ⌜ (r ≡ true → Unrefused l (now (image .entry)) (now (next .entry)) n first wanted known strict) ⌝ }
+{
+    if known == 0 {
+        return false;
+    }
+    let choice = choose_below(image, l, next, n, first, wanted, known);
+    if choice.fault != 0 {
+        return false;
+    }
+    let slots = choice.slots;
+    !is_any_left(image, l, n, slots, wanted, known, strict)
+}
+
+// 11 or 28 by the slots of the chain that may be taken, else 0, by the highest valid version. Where too few may be taken after those before them, no other
+// pass is needed.
+fn fault_by_all(
+    image: &[u8],
+    l: usize,
+    next: &[u32],
+    n: usize,
+    first: u32,
+    wanted: usize,
+    top: u64,
+) -> u32
+    requires { ⌜ Walkable (now image) (now next) l n × (0 < wanted) × (wanted ≤ 8) × (top ≡ greatest (slotVersion (word (now image))) n) ⌝ }
     ensures { λ r. ⌜ r ≡ takeFault (takingOf l (now (image .entry)) (now (next .entry)) n first wanted) ⌝ }
 {
-    let ahead = walk_fault(image, l, next, n, first, few_of(n), wanted, known, false);
-    if ahead == 0 {
-        return ahead;
+    let choice = choose_below(image, l, next, n, first, wanted, top);
+    if choice.fault == 28 {
+        return 28;
     }
-    let top = highest_valid(image, n);
     walk_fault(image, l, next, n, first, n, wanted, top, true)
 }
 
-// The same of a call that wants one slot, by the slot that the last call took.
-pub fn take_fault(image: &[u8], l: usize, next: &[u32], n: usize, first: u32, newest: u32) -> u32
+// 11 or 28 by the slots of the chain that may be taken, else 0. By the version that is known: mostly the slots ahead tell that there are enough, else one
+// pass over the image does where the index is its own; for any other index the highest version is sought. Where strict, the pass tells of the highest
+// version too.
+pub fn slots_told(
+    image: &[u8],
+    l: usize,
+    next: &[u32],
+    n: usize,
+    first: u32,
+    wanted: usize,
+    known: u64,
+    strict: bool,
+) -> Told
+    requires { ⌜ Walkable (now image) (now next) l n × (0 < wanted) × (wanted ≤ 8) × (known ≤ greatest (slotVersion (word (now image))) n) ⌝ }
+    ensures { λ r. ⌜ ToldBy l (now (image .entry)) (now (next .entry)) n first wanted r ⌝ }
+{
+    if is_clear_ahead(image, l, next, n, first, wanted, known) {
+        return Told {
+            fault: 0,
+            top: known,
+            exact: false,
+        };
+    }
+    if is_clear_by(image, l, next, n, first, wanted, known, strict) {
+        return Told {
+            fault: 0,
+            top: known,
+            exact: strict,
+        };
+    }
+    let top = highest_valid(image, n);
+    let fault = fault_by_all(image, l, next, n, first, wanted, top);
+    Told {
+        fault,
+        top,
+        exact: true,
+    }
+}
+
+// The same of a call that wants one slot, by the slot that the state names as the newest.
+fn take_fault(image: &[u8], l: usize, next: &[u32], n: usize, first: u32, newest: u32) -> u32
     requires { ⌜ Walkable (now image) (now next) l n ⌝ }
     ensures { λ r. ⌜ r ≡ takeFault (takingOf l (now (image .entry)) (now (next .entry)) n first 1) ⌝ }
 {
-    if newest == 0 {
-        return slots_fault(image, l, next, n, first, 1, 0);
-    }
     let known = newest_version(image, n, newest);
     if is_open(image, l, next, n, first, known) {
         return 0;
     }
-    slots_fault(image, l, next, n, first, 1, known)
+    let told = slots_told(image, l, next, n, first, 1, known, false);
+    told.fault
+}
+
+// The version on line A of the slot that the state names as the newest, 0 where the image has no such slot.
+pub fn named_version(image: &[u8], n: usize, newest: u32) -> u64
+    requires { ⌜ 128 * (n + 1) ≤ length (now image) ⌝ }
+    ensures { λ r. ⌜ r ≡ namedVersion (now (image .entry)) n newest ⌝ }
+{
+    let s = newest as usize;
+    if n < s {
+        return 0;
+    }
+    read_word(image, 16 * s + 7) / 2
+}
+
+// 11 or 28 by the slot of a call for the owner of its index that wants one, else 0: mostly line A of the first slot of the chain tells.
+fn own_fault(image: &[u8], l: usize, next: &[u32], n: usize, first: u32, newest: u32) -> u32
+    requires { ⌜ Walkable (now image) (now next) l n × (0 < first) × (first ≤ n) ⌝ }
+    ensures { λ r. ⌜ r ≡ takeFault (ownTaking l (now (image .entry)) (now (next .entry)) n first newest 1) ⌝ }
+{
+    let top = named_version(image, n, newest);
+    let t = first as usize;
+    if next[t] as usize <= n {
+        if read_word(image, 16 * t + 7) / 2 < top {
+            return 0;
+        }
+    }
+    let choice = choose_below(image, l, next, n, first, 1, top);
+    choice.fault
+}
+
+// 11 or 28 by the slot of a call of either family that wants one, else 0.
+pub fn take_fault_by(
+    own: bool,
+    image: &[u8],
+    l: usize,
+    next: &[u32],
+    n: usize,
+    first: u32,
+    newest: u32,
+) -> u32
+    requires { ⌜ Walkable (now image) (now next) l n × (0 < first) × (first ≤ n) ⌝ }
+    ensures { λ r. ⌜ r ≡ takeFault (takingBy own l (now (image .entry)) (now (next .entry)) n first newest 1) ⌝ }
+{
+    if own {
+        return own_fault(image, l, next, n, first, newest);
+    }
+    take_fault(image, l, next, n, first, newest)
+}
+
+// Does the chain end after a few slots, with no link above n before?
+fn is_ending(next: &[u32], n: usize, first: u32) -> bool
+    requires { ⌜ length (now next) ≡ n + 1 ⌝ }
+    ensures { λ r. ⌜ (r ≡ true → endsWell (now (next .entry)) n n first ≡ true) ⌝ }
+{
+    let mut at = first;
+    let mut left = few_of(n);
+    while 0 < left {
+        if at == 0 {
+            return true;
+        }
+        let slot = at as usize;
+        if n < slot {
+            return false;
+        }
+        left -= 1;
+        at = next[slot];
+    }
+    at == 0
+}
+
+// The refusal `room` of a call for which the live count leaves no room, where the links of a chain that soon ends tell that it is no other; else 0, and
+// the slots have to tell.
+pub fn full_fault(next: &[u32], n: usize, first: u32, room: u32) -> u32
+    requires { ⌜ length (now next) ≡ n + 1 ⌝ }
+    ensures { λ r. ⌜ ((r ≡ 0 → ⊥) → (r ≡ room) × (endsWell (now (next .entry)) n n first ≡ true)) ⌝ }
+{
+    if room == 0 {
+        return 0;
+    }
+    if is_ending(next, n, first) {
+        return room;
+    }
+    0
 }

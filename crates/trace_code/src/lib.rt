@@ -1,3 +1,2 @@
-// The lines of a release trace, and its input byte by byte.
-pub mod step;
+// The input of a release trace byte by byte.
 pub mod stream;

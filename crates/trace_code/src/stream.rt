@@ -3,12 +3,12 @@ ghost use mathlib.Core.Path.{_≡_};
 ghost use lib.ListN.{length};
 ghost use Rattle.session.specs.Stream.{streamEnd, answerResult, byteResult, endResult};
 ghost use Rattle.trace.specs.Step.{traceResult};
-use crate::step::trace_step;
 use session::Progress;
 use stream_code::stream::add_byte;
 use text::Parse;
 use text_code::input::finish;
 use text_code::output::render;
+use trace_step_code::step::trace_step;
 
 // A line ends: it is carried out, and its counts are stored.
 fn trace_answer(

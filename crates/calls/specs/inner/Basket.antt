@@ -1,7 +1,7 @@
 -- A basket as the functions have it: its keys, the slots of their old records and the slots taken stand in arrays. What is asked of the bytes of its values is their
 -- count alone, so what is read before the writes holds for any `values`.
 use mathlib.Core.Path.{_≡_}
-use mathlib.Core.Bool.{not, cond}
+use mathlib.Core.Bool.{Bool, not, cond}
 use mathlib.Core.List.{List, [], _∷_}
 use Prim.Native.Nat.{ℕ, zero, suc, _+_, _*_, _^_, _≤_, _<_}
 use lib.Dec.{eqb, ltb}
@@ -21,10 +21,10 @@ use Rattle.index.specs.declared.State.{State}
 use Rattle.index.specs.declared.Action.{Action}
 use Rattle.index.specs.declared.Action.the-variants.{Insert, Replace, Remove}
 use Rattle.index.specs.declared.Found.{Found}
-use Rattle.taking.specs.Taking.{takingOf, choiceOf}
+use Rattle.taking.specs.Taking.{takingBy, choiceBy}
 use Rattle.taking.specs.declared.Choice.{Choice}
 use Rattle.calls.specs.Change.{ChangeResult, storeFault}
-use Rattle.calls.specs.Basket.{itemKey, itemAt, itemValue, changesOf, firstFault, actionFault, keysFault, basketFault, kindBy, oldIn, sumOver, insertsBy, removesBy, BasketListLeft, basketListEnd, leftWith}
+use Rattle.calls.specs.Basket.{itemKey, itemAt, itemValue, changesOf, firstFault, actionFault, keysFault, basketFaultBy, kindBy, oldIn, sumOver, insertsBy, removesBy, BasketListLeft, basketListEnd, leftWith}
 use Rattle.calls.specs.declared.BasketItem.{BasketItem}
 use Rattle.calls.specs.declared.Olds.{Olds}
 use Rattle.calls.specs.declared.Totals.{Totals}
@@ -95,17 +95,17 @@ pub record StoreChoice (taking choice : Taking) (n : ℕ) (s : State) (wanted in
   pub zeros : c .fault ≡ 0 → (j : ℕ) → wanted ≤ j → getD (c .slots) j 0 ≡ 0
 
 -- p is what a basket reads that is not refused by what is given and lent
-pub record KeysPlanned (l : ℕ) (image heads next : List ℕ) (n : ℕ) (s : State) (count : ℕ) (items : List BasketItem) (p : Plan) : Type 0 where
+pub record KeysPlanned (own : Bool) (l : ℕ) (image heads next : List ℕ) (n : ℕ) (s : State) (count : ℕ) (items : List BasketItem) (p : Plan) : Type 0 where
   pub fault-is : (values : List ℕ) → p .fault
       ≡ orElse (keysFault (search l image heads next) (changesOf l count items values))
-      (storeFault (takingOf l image next n (s .first) count) n s (sumOver insertsBy (changesOf l count items values))
+      (storeFault (takingBy own l image next n (s .first) (s .newest) count) n s (sumOver insertsBy (changesOf l count items values))
       (sumOver removesBy (changesOf l count items values)))
   pub olds-are : p .fault ≡ 0 → (j : ℕ) → j < count → getD (p .olds) j 0 ≡ oldIn (search l image heads next (itemKeyAt l items j))
-  pub choice-is : p .fault ≡ 0 → choiceOf l image next n (s .first) count ≡ taken (takensFrom (p .slots) (p .prevs) 0 count)
+  pub choice-is : p .fault ≡ 0 → choiceBy own l image next n (s .first) (s .newest) count ≡ taken (takensFrom (p .slots) (p .prevs) 0 count)
   pub zeros : p .fault ≡ 0 → (j : ℕ) → count ≤ j → getD (p .slots) j 0 ≡ 0
 
 -- a basket that is not refused can be written by p; at and words are the lengths of the lent lists
-pub record BasketReady (l : ℕ) (image heads next : List ℕ) (n : ℕ) (s : State) (count : ℕ) (items : List BasketItem) (at words : ℕ) (p : Plan) : Type 0 where
+pub record BasketReady (own : Bool) (l : ℕ) (image heads next : List ℕ) (n : ℕ) (s : State) (count : ℕ) (items : List BasketItem) (at words : ℕ) (p : Plan) : Type 0 where
   pub sized : Sized image heads next n
   pub some : 0 < count
   pub few : count ≤ 8
@@ -113,7 +113,7 @@ pub record BasketReady (l : ℕ) (image heads next : List ℕ) (n : ℕ) (s : St
   pub words-room : 16 * count ≤ words
   pub size-fits : (j : ℕ) → j < count → sizeAt items j ≤ limit l
   pub olds-are : (j : ℕ) → j < count → getD (p .olds) j 0 ≡ oldIn (search l image heads next (itemKeyAt l items j))
-  pub choice-is : choiceOf l image next n (s .first) count ≡ taken (takensFrom (p .slots) (p .prevs) 0 count)
+  pub choice-is : choiceBy own l image next n (s .first) (s .newest) count ≡ taken (takensFrom (p .slots) (p .prevs) 0 count)
   pub zeros : (j : ℕ) → count ≤ j → getD (p .slots) j 0 ≡ 0
   pub last-in : s .last ≤ n
   pub version-fits : s .version < 2 ^ 63
@@ -121,9 +121,9 @@ pub record BasketReady (l : ℕ) (image heads next : List ℕ) (n : ℕ) (s : St
   pub live-left : (values : List ℕ) → sumOver removesBy (changesOf l count items values) ≤ s .live
 
 -- p is what a basket reads
-pub record Planned (l : ℕ) (image heads next : List ℕ) (n : ℕ) (s : State) (count : ℕ) (items : List BasketItem) (at words : ℕ) (p : Plan) : Type 0 where
-  pub fault-is : (values : List ℕ) → p .fault ≡ basketFault l image heads next s (changesOf l count items values) at words
-  pub ready : p .fault ≡ 0 → BasketReady l image heads next n s count items at words p
+pub record Planned (own : Bool) (l : ℕ) (image heads next : List ℕ) (n : ℕ) (s : State) (count : ℕ) (items : List BasketItem) (at words : ℕ) (p : Plan) : Type 0 where
+  pub fault-is : (values : List ℕ) → p .fault ≡ basketFaultBy own l image heads next s (changesOf l count items values) at words
+  pub ready : p .fault ≡ 0 → BasketReady own l image heads next n s count items at words p
 
 -- ---- what the writes ask
 

@@ -1,5 +1,6 @@
 -- What a call reads before it writes: its refusal, or what following the key's chain found; and what its writes need.
 use mathlib.Core.Path.{_≡_}
+use mathlib.Core.Bool.{Bool}
 use mathlib.Core.List.{List}
 use Prim.Native.Nat.{ℕ, _+_, _*_, _^_, _≤_, _<_}
 use lib.ListN.{length}
@@ -19,7 +20,7 @@ use Rattle.index.specs.declared.Place.{Place}
 use Rattle.index.specs.declared.Place.the-variants.{Held, NotHeld}
 use Rattle.index.specs.declared.Lookup.{Lookup}
 use Rattle.index.specs.declared.Lookup.the-variants.{Refused, Allowed}
-use Rattle.calls.specs.Change.{writeLentFault, writeFault, removeFault}
+use Rattle.calls.specs.Change.{writeLentFault, writeFaultBy, removeFaultBy}
 use Rattle.calls.specs.Get.{slotLength, getFault}
 
 -- the lookup of a call by what following the key's chain found; `lent` is the refusal before it is followed: no slot is compared then
@@ -57,14 +58,14 @@ RemoveReady image heads next s key (Allowed (Held old prev) compared) = Writable
 RemoveReady image heads next s key (Allowed (NotHeld prev) compared) = Unit
 
 -- what the lookups of these calls answer
-abbrev pub WriteLookup : (l : ℕ) → (image heads next : List ℕ) → State → Mode → (key size : ℕ) → Lookup → Type 0
-WriteLookup l image heads next s mode key size r =
-    LooksUp (writeFault l image heads next s mode key size) (writeLentFault l image (length heads) (length next) size)
+abbrev pub WriteLookup : (own : Bool) → (l : ℕ) → (image heads next : List ℕ) → State → Mode → (key size : ℕ) → Lookup → Type 0
+WriteLookup own l image heads next s mode key size r =
+    LooksUp (writeFaultBy own l image heads next s mode key size) (writeLentFault l image (length heads) (length next) size)
     (search l image heads next key) (WriteReady l image heads next s key size) r
 
-abbrev pub RemoveLookup : (l : ℕ) → (image heads next : List ℕ) → State → (key : ℕ) → Lookup → Type 0
-RemoveLookup l image heads next s key r =
-    LooksUp (removeFault l image heads next s key) (lentFault l image (length heads) (length next))
+abbrev pub RemoveLookup : (own : Bool) → (l : ℕ) → (image heads next : List ℕ) → State → (key : ℕ) → Lookup → Type 0
+RemoveLookup own l image heads next s key r =
+    LooksUp (removeFaultBy own l image heads next s key) (lentFault l image (length heads) (length next))
     (search l image heads next key) (RemoveReady image heads next s key) r
 
 -- ---- get

@@ -45,7 +45,7 @@ unfoldable pub liveAt : (live : ℕ) → Place → ℕ
 liveAt live (Held slot prev) = live
 liveAt live (NotHeld prev) = live + 1
 
--- heads, next and the state r are those of index i, with this live count, this next version and this first slot that the last call took
+-- heads, next and the state r are those of index i, with this live count, this next version and this newest slot
 pub record PartsOf (heads next : List ℕ) (r : State) (i : Index) (live version newest : ℕ) : Type 0 where
   pub index : indexOf heads next r ≡ i
   pub live-count : r .live ≡ live

@@ -12,6 +12,7 @@ use Rattle.layout.specs.Content.{content, numberIn, Table}
 use Rattle.layout.specs.Header.{lentFault}
 use Rattle.layout.specs.Record.{Layout}
 use Rattle.layout.specs.inner.Sized.{Sized}
+use Rattle.index.specs.Chained.{lastOf}
 use Rattle.index.specs.inner.Parts.{PartsOf}
 use Rattle.index.specs.inner.Build.{build, placeIn, unbuilt}
 use Rattle.index.specs.declared.State.{State}
@@ -144,7 +145,7 @@ pub record Judgement (l : ℕ) (m : ℕ → ℕ) (n b : ℕ) (order places : Lis
 -- what is left of the lent heads and next: the chains of the order and the state r beside them, or with a refusal what was lent
 pub record Left (fault : ℕ) (heads next order places : List ℕ) (live top : ℕ) (heads′ next′ : List ℕ) (r : State) : Type 0 where
   pub rebuilt : fault ≡ 0
-      → PartsOf heads′ next′ r (build (placeIn places) (unbuilt (replicate (length heads) 0) (replicate (length next) 0)) order) live (top + 1) 0
+      → PartsOf heads′ next′ r (build (placeIn places) (unbuilt (replicate (length heads) 0) (replicate (length next) 0)) order) live (top + 1) (lastOf order)
   pub kept : (fault ≡ 0 → ⊥) → (heads′ ≡ heads) × (next′ ≡ next)
 
 -- opening stores with one more of them; past the eighth it is only counted

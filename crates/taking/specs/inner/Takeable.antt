@@ -13,7 +13,7 @@ use Rattle.layout.specs.Content.{topOf, Table}
 use Rattle.layout.specs.declared.Verdict.{Verdict}
 use Rattle.layout.specs.declared.Verdict.the-variants.{Valid, Empty, Broken}
 use Rattle.table.specs.Table.{isRecord, keyIn}
-use Rattle.table.specs.Taking.{takeableIf, older}
+use Rattle.table.specs.Taking.{takeableIf, isRemove, older}
 
 -- the image and next are those of n slots, in layout l
 pub record Walkable (image next : List ℕ) (l n : ℕ) : Type 0 where
@@ -36,6 +36,10 @@ slotVersion m s = versionIn (slotVerdict m s)
 -- slot t has a valid record of this key, older than this version
 unfoldable pub olderThan : Table → (key version t : ℕ) → Bool
 olderThan f key version t = isRecord (f t) && (eqb (keyIn (f t)) key && ltb (topOf (f t)) version)
+
+-- slot s has a remove record while slot t has an older valid record of its key
+unfoldable pub olderLeft : Table → (s t : ℕ) → Bool
+olderLeft f s t = isRemove (f s) && older f s t
 
 -- may slot s be taken? An older record of its key may remain unless `scan` says that the image is looked through, and none is found
 unfoldable pub takeable : Table → (n top : ℕ) → (scan : Bool) → (s : ℕ) → Bool

@@ -1,5 +1,5 @@
 -- The refusal of a call by the links and by a test that tells which slots may be taken; 0 for none.
-use mathlib.Core.Bool.{Bool, cond}
+use mathlib.Core.Bool.{Bool, true, false, cond}
 use mathlib.Core.List.{List}
 use Prim.Native.Nat.{ℕ, zero, suc, _-_}
 use lib.Dec.{eqb, ltb}
@@ -23,3 +23,8 @@ walkFault may next n (suc left) wanted at =
     (say (ltb n at) 11
     (cond (may at) (cond (eqb wanted 1) (endFault n left (getD next at 0)) (walkFault may next n left (wanted - 1) (getD next at 0)))
     (walkFault may next n left wanted (getD next at 0))))
+
+-- the chain from the link `at` on has its end within `left` slots, and no link above n before it
+unfoldable pub endsWell : (next : List ℕ) → (n left at : ℕ) → Bool
+endsWell next n zero at = eqb at 0
+endsWell next n (suc left) at = cond (eqb at 0) true (cond (ltb n at) false (endsWell next n left (getD next at 0)))

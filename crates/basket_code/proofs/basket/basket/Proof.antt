@@ -1,5 +1,6 @@
 -- `basket_code::basket::basket` meets its contract. Assumes nothing.
 use borrow.Author.Needs.{needs}
+use Rattle.calls.specs.Basket.{basketResult}
 use Rattle.basket_code.proofs.basket.basket.Statement.{statement}
 use Rattle.basket_code.proofs.basket.basket.Tie as tie
 

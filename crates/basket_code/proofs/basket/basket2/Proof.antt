@@ -1,5 +1,6 @@
 -- `basket_code::basket::basket2` meets its contract. Assumes nothing.
 use borrow.Author.Needs.{needs}
+use Rattle.calls.specs.Basket.{basketResult}
 use Rattle.basket_code.proofs.basket.basket2.Statement.{statement}
 use Rattle.basket_code.proofs.basket.basket2.Tie as tie
 

@@ -7,24 +7,24 @@ use Rattle.basket_code.proofs.basket.store_basket.Tie as tie
 
 change-index-requires : tie.Need-change-index-requires
 change-index-requires c κs =
-    let w = ready-at _ _ _ _ (c .before .before .before .before .before .before .before .before .before .args .state) _ _ _ _ _ _ (c .before .before .before .slot-count .ensures) (c .before .before .before .before .before .before .before .before .before .pre .1) in
-    (takens-inside _ _ _ _ _ (c .before .before .before .before .before .before .before .before .before .args .state) _ _ _ _ _ w, items-inside _ _ _ _ _ (c .before .before .before .before .before .before .before .before .before .args .state) _ _ _ _ _ w)
+    let w = ready-at _ _ _ _ _ (c .before .before .before .before .before .before .before .before .before .args .state) _ _ _ _ _ _ (c .before .before .before .slot-count .ensures) (c .before .before .before .before .before .before .before .before .before .pre .1) in
+    (takens-inside _ _ _ _ _ _ (c .before .before .before .before .before .before .before .before .before .args .state) _ _ _ _ _ w, items-inside _ _ _ _ _ _ (c .before .before .before .before .before .before .before .before .before .args .state) _ _ _ _ _ w)
 
 put-stores-requires : tie.Need-put-stores-requires
-put-stores-requires c κs = stores-inside _ _ _ _ _ (c .before .before .before .before .before .before .before .before .before .before .before .before .before .before .before .before .args .state) _ _ _ _ _ (c .before .before .before .before .before .before .before .before .before .before .before .before .before .before .before .before .pre .1) (c .before .before .before .before .before .before .before .before .before .before .before .before .before .before .before .before .pre .0)
+put-stores-requires c κs = stores-inside _ _ _ _ _ _ (c .before .before .before .before .before .before .before .before .before .before .before .before .before .before .before .before .args .state) _ _ _ _ _ (c .before .before .before .before .before .before .before .before .before .before .before .before .before .before .before .before .pre .1) (c .before .before .before .before .before .before .before .before .before .before .before .before .before .before .before .before .pre .0)
 
-add-t30 : tie.Need-add-t30
-add-t30 c = omega (arith, fits-live _ _ _ _ _ (c .before .before .before .before .before .before .before .before .before .before .before .before .before .before .before .before .before .before .before .before .before .before .before .args .state) _ _ _ _ _ (c .before .before .before .before .before .before .before .before .before .before .before .before .before .before .before .before .before .before .before .before .before .before .before .pre .1) _ (c .before .before .before .before .before .before .before .before .before .before .before .before .before .before .before .before .totals-of .ensures _))
+add-t31 : tie.Need-add-t31
+add-t31 c = omega (arith, fits-live _ _ _ _ _ _ (c .before .before .before .before .before .before .before .before .before .before .before .before .before .before .before .before .before .before .before .before .before .before .before .args .state) _ _ _ _ _ (c .before .before .before .before .before .before .before .before .before .before .before .before .before .before .before .before .before .before .before .before .before .before .before .pre .1) _ (c .before .before .before .before .before .before .before .before .before .before .before .before .before .before .before .before .totals-of .ensures _))
 
-sub-t31 : tie.Need-sub-t31
-sub-t31 c = omega (arith, fits-removes _ _ _ _ _ (c .before .before .before .before .before .before .before .before .before .before .before .before .before .before .before .before .before .before .before .before .before .before .before .before .args .state) _ _ _ _ _ (c .before .before .before .before .before .before .before .before .before .before .before .before .before .before .before .before .before .before .before .before .before .before .before .before .pre .1) _ (c .before .before .before .before .before .before .before .before .before .before .before .before .before .before .before .before .before .totals-of .ensures _))
+sub-t32 : tie.Need-sub-t32
+sub-t32 c = omega (arith, fits-removes _ _ _ _ _ _ (c .before .before .before .before .before .before .before .before .before .before .before .before .before .before .before .before .before .before .before .before .before .before .before .before .args .state) _ _ _ _ _ (c .before .before .before .before .before .before .before .before .before .before .before .before .before .before .before .before .before .before .before .before .before .before .before .before .pre .1) _ (c .before .before .before .before .before .before .before .before .before .before .before .before .before .before .before .before .before .totals-of .ensures _))
 
-add-t32 : tie.Need-add-t32
-add-t32 c = omega (arith, c .before .before .before .before .before .before .before .before .before .before .before .before .before .before .before .before .before .before .before .before .before .before .before .before .before .pre .1 .version-fits)
+add-t33 : tie.Need-add-t33
+add-t33 c = omega (arith, c .before .before .before .before .before .before .before .before .before .before .before .before .before .before .before .before .before .before .before .before .before .before .before .before .before .pre .1 .version-fits)
 
 returns : tie.Need-returns
 returns c =
-    basket-written _ _ _ _ _ (c .before .before .before .before .before .before .before .before .before .before .before .before .before .before .before .before .before .before .before .before .before .before .before .before .before .args .state) _ _ _ _ _ (ready-at _ _ _ _ (c .before .before .before .before .before .before .before .before .before .before .before .before .before .before .before .before .before .before .before .before .before .before .before .before .before .args .state) _ _ _ _ _ _ (c .before .before .before .before .before .before .before .before .before .before .before .before .before .before .before .before .before .before .before .slot-count .ensures) (c .before .before .before .before .before .before .before .before .before .before .before .before .before .before .before .before .before .before .before .before .before .before .before .before .before .pre .1)) _ _ _ _ _ _ _ _ _ (c .before .before .before .before .before .before .before .before .before .before .before .before .before .before .before .before .before .before .before .before .before .before .before .before .before .good .1 .1 .1 .1 .1 .1 .1 .1 .1 .0 .1 .0 .1) (c .before .before .before .before .before .before .before .before .before .before .before .before .before .before .before .before .before .before .before .slot-count .ensures) (c .before .before .before .before .before .before .before .before .before .before .before .before .before .before .before .change-index .ensures _) (c .before .before .before .before .before .before .before .before .put-stores .ensures .0)
+    basket-written _ _ _ _ _ _ (c .before .before .before .before .before .before .before .before .before .before .before .before .before .before .before .before .before .before .before .before .before .before .before .before .before .args .state) _ _ _ _ _ (ready-at _ _ _ _ _ (c .before .before .before .before .before .before .before .before .before .before .before .before .before .before .before .before .before .before .before .before .before .before .before .before .before .args .state) _ _ _ _ _ _ (c .before .before .before .before .before .before .before .before .before .before .before .before .before .before .before .before .before .before .before .slot-count .ensures) (c .before .before .before .before .before .before .before .before .before .before .before .before .before .before .before .before .before .before .before .before .before .before .before .before .before .pre .1)) _ _ _ _ _ _ _ _ _ (c .before .before .before .before .before .before .before .before .before .before .before .before .before .before .before .before .before .before .before .before .before .before .before .before .before .good .1 .1 .1 .1 .1 .1 .1 .1 .1 .0 .1 .0 .1) (c .before .before .before .before .before .before .before .before .before .before .before .before .before .before .before .before .before .before .before .slot-count .ensures) (c .before .before .before .before .before .before .before .before .before .before .before .before .before .before .before .change-index .ensures _) (c .before .before .before .before .before .before .before .before .put-stores .ensures .0)
     (c .before .before .before .before .before .before .before .before .put-stores .ensures .1) (c .before .before .before .before .before .before .before .before .before .before .before .before .before .before .before .before .before .before .totals-of .ensures _)
 
 pub store-basket-spec : {M : Type 1} → statement M
@@ -34,8 +34,8 @@ store-basket-spec =
     (λ c κs. search needs) (λ c κs. search needs)
     change-index-requires
     put-stores-requires
-    add-t30
-    sub-t31
-    add-t32
+    add-t31
+    sub-t32
+    add-t33
     (λ c. search needs) (λ c. search needs) (λ c. search needs) (λ c. search needs) (λ c. search needs)
     returns)

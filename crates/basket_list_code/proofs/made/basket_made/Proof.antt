@@ -1,6 +1,7 @@
 -- `basket_list_code::made::basket_made` meets its contract. Assumes nothing.
 use mathlib.Core.Path.{sym, _∙_}
 use native.Mathlib.Omega.{arith}
+use lib.Dec.{eqb}
 use borrow.Author.Needs.{needs}
 use Rattle.prelude.proofs.Lists.{front-length}
 use Rattle.calls.proofs.BasketLists.{made}
@@ -15,7 +16,7 @@ slice-aggregate-basket-in-2 c = front-length _ _ (omega (arith, c .before .befor
 
 returns : tie.Need-returns
 returns c =
-    made _ _ _ _ (c .before .before .before .before .before .before .before .before .before .before .before .before .before .before .before .before .args .state) _ _ _ _ _ _ _ _ _ _ _ _ _ _ (sym (front-length _ _ (omega (arith, c .before .before .before .before .before .before .before .before .before .before .before .before .lesser .ensures))) ∙ c .before .before .before .before .before .before .before .before .before .before .before .before .lesser .ensures)
+    made (eqb (c .before .before .before .before .before .before .before .before .before .before .before .before .before .before .before .before .args .family) 1) _ _ _ _ (c .before .before .before .before .before .before .before .before .before .before .before .before .before .before .before .before .args .state) _ _ _ _ _ _ _ _ _ _ _ _ _ _ (sym (front-length _ _ (omega (arith, c .before .before .before .before .before .before .before .before .before .before .before .before .lesser .ensures))) ∙ c .before .before .before .before .before .before .before .before .before .before .before .before .lesser .ensures)
     (sym (front-length _ _ (omega (arith, c .before .before .before .before .before .before .before .before .before .before .before .before .lesser .ensures))) ∙ c .before .before .before .before .before .before .before .before .before .before .before .before .lesser .ensures) (c .store-count .ensures .0) (c .before .before .before .before .before .before .before .basket-in .ensures) (c .store-count .ensures .1)
 
 pub basket-made-spec : {M : Type 1} → statement M

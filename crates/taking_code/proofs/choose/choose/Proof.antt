@@ -11,13 +11,13 @@ newest-version-requires c κs = omega (arith, c .before .before .pre .0 .image-s
 returns : tie.Need-returns
 returns c =
     record {
-      fault-is = c .none-chosen .ensures ∙ c .before .before .slots-fault .ensures;
+      fault-is = c .none-chosen .ensures ∙ c .before .before .before .slots-told .ensures .fault-is;
       slots-are = λ z. absurd (c .before .if1 .taken (sym (c .none-chosen .ensures) ∙ z));
       zeros = λ z. absurd (c .before .if1 .taken (sym (c .none-chosen .ensures) ∙ z));
     }
 
 choose-unrefused-requires : tie.Need-choose-unrefused-requires
-choose-unrefused-requires c κs = (c .before .before .before .before .before .pre .0, c .before .before .before .before .before .pre .1, c .before .before .before .before .before .pre .2, c .before .before .newest-version .ensures, sym (c .before .slots-fault .ensures) ∙ c .if1 .left)
+choose-unrefused-requires c κs = (c .before .before .before .before .before .before .pre .0, c .before .before .before .before .before .before .pre .1, c .before .before .before .before .before .before .pre .2, c .before .before .slots-told .ensures .known, sym (c .before .before .slots-told .ensures .fault-is) ∙ c .if1 .left)
 
 pub choose-spec : {M : Type 1} → statement M
 choose-spec =

@@ -1,0 +1,13 @@
+-- `basket_plan_code::given::count_fault` meets its contract. Assumes nothing.
+use Rattle.prelude.proofs.Tests.{tests}
+use Rattle.prelude.specs.Refusal.{say}
+use Rattle.calls.specs.Basket.{keyCountFault}
+use Rattle.basket_plan_code.proofs.given.count_fault.Statement.{statement}
+use Rattle.basket_plan_code.proofs.given.count_fault.Tie as tie
+
+pub count-fault-spec : {M : Type 1} → statement M
+unfolding keyCountFault say
+count-fault-spec =
+    tie.close
+    (tie.spec
+    (λ c. search tests) (λ c. search tests) (λ c. search tests))

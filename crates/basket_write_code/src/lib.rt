@@ -1,0 +1,3 @@
+// What a basket writes: its stores and the index.
+pub mod links;
+pub mod records;

@@ -1,0 +1,2 @@
+// What a step of the order book writes.
+pub mod change;

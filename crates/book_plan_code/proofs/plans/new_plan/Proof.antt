@@ -1,0 +1,14 @@
+-- `book_plan_code::plans::new_plan` meets its contract. Assumes nothing.
+use mathlib.Core.Path.{ap, _∙_}
+use borrow.Author.Needs.{needs}
+use Rattle.prelude.specs.Answer.{Answer}
+use Rattle.face.specs.Set.{Reported}
+use Rattle.book.specs.inner.Courses.{newCourse}
+use Rattle.book_plan_code.proofs.plans.new_plan.Statement.{statement}
+use Rattle.book_plan_code.proofs.plans.new_plan.Tie as tie
+
+returns : tie.Need-returns
+returns c = (c .new-located .ensures) ∙ ap (newCourse _) (ap (λ (x : Reported Answer). x .left) (c .before .locate-in-layout .ensures))
+
+pub new-plan-spec : {M : Type 1} → statement M
+new-plan-spec = tie.close (tie.spec (λ c κs. search needs) (λ c κs. search needs) returns)

@@ -1,0 +1,78 @@
+-- `change_layout_code::remove::remove_in` meets its contract. Assumes nothing.
+use mathlib.Core.Path.{refl, ap, ap₂, _∙_}
+use Prim.Native.Nat.{ℕ}
+use native.Mathlib.Omega.{arith}
+use borrow.Author.Needs.{needs}
+use Rattle.index.proofs.LookedUp.{allowed-at}
+use Rattle.calls.specs.Compared.{reported, keyCompared}
+use Rattle.calls.specs.Change.{ChangeResult, changeSays, handedOut, leftIn, unchanged}
+use Rattle.calls.proofs.Changes.{inside, some-head, changed-end}
+use Rattle.calls.proofs.Results.{refused-count, allowed-count, remove-refused, remove-held, remove-not-held}
+use Rattle.change_layout_code.proofs.remove.remove_in.Statement.{statement}
+use Rattle.change_layout_code.proofs.remove.remove_in.Tie as tie
+
+head-of-requires : tie.Need-head-of-requires
+head-of-requires c κs =
+    some-head (c .before .before .before .before .before .before .before .before .before .before .before .before .args .image .now) (c .before .before .before .before .before .before .before .before .before .before .before .before .args .heads .now) (c .before .before .before .before .before .before .before .before .before .before .before .before .args .next .now) (c .before .before .before .before .before .before .before .before .before .before .before .before .args .state) _ _ _
+    ((rw (allowed-at (c .before .before .before .before .lookup2 .given .1) (c .before .place .given .1)) at (c .before .before .before .before .before .before .remove-lookup .ensures .ready)) .0)
+
+remove-held-requires : tie.Need-remove-held-requires
+remove-held-requires c κs =
+    let ready = rw (allowed-at (c .before .before .before .before .before .before .before .lookup2 .given .1) (c .before .before .before .before .place .given .1)) at (c .before .before .before .before .before .before .before .before .before .remove-lookup .ensures .ready) in
+    (inside (c .before .before .before .before .before .before .before .before .before .before .before .before .before .before .before .args .image .now) (c .before .before .before .before .before .before .before .before .before .before .before .before .before .before .before .args .heads .now) (c .before .before .before .before .before .before .before .before .before .before .before .before .before .before .before .args .next .now) (c .before .before .before .before .before .before .before .before .before .before .before .before .before .before .before .args .state) _ _ _ _ (c .before .before .head-of .ensures .1 (c .before .before .before .before .before .before .before .before .before .before .before .before .before .before .before .args .high)) (ready .0), ready .1)
+
+remove-stores-requires : tie.Need-remove-stores-requires
+remove-stores-requires c κs =
+    let w = (rw (allowed-at (c .before .before .before .before .before .before .before .before .before .before .before .before .before .before .lookup2 .given .1) (c .before .before .before .before .before .before .before .before .before .before .before .place .given .1)) at (c .before .before .before .before .before .before .before .before .before .before .before .before .before .before .before .before .remove-lookup .ensures .ready)) .0 in
+    (c .before .before .before .before .before .before .before .before .before .before .before .before .before .before .before .before .before .before .before .before .before .before .pre, omega arith, w .index .version-fits, w .slot-fits, w .slot-in)
+
+returns : tie.Need-returns
+unfolding changeSays handedOut leftIn unchanged keyCompared
+returns c = (
+  ap₂ (λ (x : ChangeResult) (k : ℕ). reported x k)
+      (ap (leftIn _) (remove-refused _ _ _ _ _ _ _ _ (c .before .before .before .remove-lookup .ensures) _ _ (c .before .lookup .given .1)))
+      (refused-count (c .before .before .before .remove-lookup .ensures) _ _ (c .before .lookup .given .1)),
+  refl,
+)
+
+returns-2 : tie.Need-returns-2
+unfolding changeSays handedOut leftIn unchanged keyCompared
+returns-2 c = (
+  ap₂ (λ (x : ChangeResult) (k : ℕ). reported x k)
+      (ap (leftIn _) (remove-not-held _ _ _ _ _ _ _ _ (c .before .before .before .before .before .remove-lookup .ensures) _ _ (allowed-at (c .before .before .before .lookup2 .given .1) (c .enum-told .given .1))))
+      (allowed-count (c .before .before .before .before .before .remove-lookup .ensures) _ _ (c .before .before .before .lookup2 .given .1)),
+  refl,
+)
+
+same-length-5 : tie.Need-same-length-5
+same-length-5 c = c .before .before .before .before .before .before .before .remove-held .kept .0
+
+same-length-6 : tie.Need-same-length-6
+same-length-6 c = c .before .before .before .before .before .before .before .remove-held .kept .1 .0
+
+returns-3 : tie.Need-returns-3
+unfolding changeSays keyCompared
+returns-3 c = (
+  ap₂ (λ (x : ChangeResult) (k : ℕ). reported x k)
+      (changed-end _ _ _ _ _ _ _ _ _ _ (c .remove-stores .ensures) _ _ _ _ (c .before .before .before .before .before .before .before .remove-held .ensures)
+      ∙ ap (leftIn _)
+      (remove-held _ _ _ _ _ _ _ _ (c .before .before .before .before .before .before .before .before .before .before .before .before .before .before .before .before .before .remove-lookup .ensures) _ _ _ _ (allowed-at (c .before .before .before .before .before .before .before .before .before .before .before .before .before .before .before .lookup2 .given .1) (c .before .before .before .before .before .before .before .before .before .before .before .before .place .given .1)) (c .before .before .before .before .before .before .before .before .before .before .head-of .ensures .1 (c .before .before .before .before .before .before .before .before .before .before .before .before .before .before .before .before .before .before .before .before .before .before .before .args .high))))
+      (allowed-count (c .before .before .before .before .before .before .before .before .before .before .before .before .before .before .before .before .before .remove-lookup .ensures) _ _ (c .before .before .before .before .before .before .before .before .before .before .before .before .before .before .before .lookup2 .given .1)),
+  refl,
+)
+
+pub remove-in-spec : {M : Type 1} → statement M
+remove-in-spec =
+    tie.close
+    (tie.spec
+    (λ c κs. search needs) (λ c. search needs) (λ c. search needs) (λ c. search needs) (λ c. search needs)
+    head-of-requires
+    remove-held-requires
+    remove-stores-requires
+    (λ c. refl) (λ c. refl)
+    returns
+    (λ c. refl) (λ c. refl)
+    returns-2
+    same-length-5
+    same-length-6
+    returns-3)

@@ -1,0 +1,2 @@
+// The cuts counted with the lists that three indexes take.
+pub mod scratch;

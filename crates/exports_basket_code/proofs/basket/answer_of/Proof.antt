@@ -1,0 +1,23 @@
+-- `exports_basket_code::basket::answer_of` meets its contract. Assumes nothing.
+use mathlib.Core.Path.{_∙_, ap}
+use mathlib.Core.List.{List, _∷_}
+use Prim.Native.Nat.{ℕ}
+use borrow.Author.Needs.{needs}
+use Rattle.exports.proofs.Basket.{eight-listed}
+use Rattle.exports_basket_code.proofs.basket.answer_of.Statement.{statement}
+use Rattle.exports_basket_code.proofs.basket.answer_of.Tie as tie
+
+returns : tie.Need-returns
+returns c =
+    rw (c .before .before .before .before .before .before .before .wide .ensures, c .before .before .before .before .before .before .wide2 .ensures, c .before .before .before .before .before .wide3 .ensures, c .before .before .before .before .wide4 .ensures, c .before .before .before .wide5 .ensures, c .before .before .wide6 .ensures, c .before .wide7 .ensures, c .wide8 .ensures)
+    (ap (λ (xs : List ℕ). c .before .before .before .before .before .before .before .before .args .version ∷ xs) (eight-listed (c .before .before .before .before .before .before .before .before .args .t2) (search (needs, c .before .before .before .before .before .before .before .before .good .1 .0))))
+
+pub answer-of-spec : {M : Type 1} → statement M
+answer-of-spec =
+    tie.close
+    (tie.spec
+    (λ c. search needs) (λ c κs. search needs) (λ c. search needs) (λ c κs. search needs) (λ c. search needs)
+    (λ c κs. search needs) (λ c. search needs) (λ c κs. search needs) (λ c. search needs) (λ c κs. search needs)
+    (λ c. search needs) (λ c κs. search needs) (λ c. search needs) (λ c κs. search needs) (λ c. search needs)
+    (λ c κs. search needs)
+    returns)

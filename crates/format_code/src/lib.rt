@@ -1,0 +1,2 @@
+// The public call that makes an empty set: format.
+pub mod format;

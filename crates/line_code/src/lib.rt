@@ -1,0 +1,3 @@
+// Lines and slots.
+pub mod line;
+pub mod slot;

@@ -1,0 +1,2 @@
+// The public call that says where a key is: locate.
+pub mod locate;

@@ -1,0 +1,73 @@
+// Basket for the owner of an index.
+ghost use mathlib.Core.Path.{_≡_};
+ghost use lib.ListN.{length};
+ghost use mathlib.Core.Bool.{true};
+ghost use Rattle.calls.specs.Basket.{changesOf, basketResultBy, basketEnd, leftInLists};
+use basket_code::basket::basket_in;
+use calls::BasketAnswer;
+use calls::BasketItem;
+use index::State;
+
+// The basket for the owner of its index; it is no call of document 02, whose refusals hold for any index.
+pub fn own_basket(
+    image: &[u8],
+    heads: &mut [u32],
+    next: &mut [u32],
+    state: State,
+    count: usize,
+    items: [BasketItem; 8],
+    values: [u8; 640],
+    at: &mut [u32],
+    words: &mut [u64],
+) -> BasketAnswer
+    ensures result { λ r. ⌜ basketEnd count r (now (at .exit)) (now (words .exit)) (now (heads .exit)) (now (next .exit))
+        ≡ leftInLists (now (at .entry)) (now (words .entry))
+        (basketResultBy true 1 (now (image .entry)) (now (heads .entry)) (now (next .entry)) state (changesOf 1 count items values) (length (now (at .entry)))
+        (length (now (words .entry)))) ⌝ }
+{
+    basket_in(
+        image,
+        1,
+        heads,
+        next,
+        state,
+        count,
+        items,
+        values,
+        at,
+        words,
+        true,
+    )
+}
+
+// The same in layout 2.
+pub fn own_basket2(
+    image: &[u8],
+    heads: &mut [u32],
+    next: &mut [u32],
+    state: State,
+    count: usize,
+    items: [BasketItem; 8],
+    values: [u8; 640],
+    at: &mut [u32],
+    words: &mut [u64],
+) -> BasketAnswer
+    ensures result { λ r. ⌜ basketEnd count r (now (at .exit)) (now (words .exit)) (now (heads .exit)) (now (next .exit))
+        ≡ leftInLists (now (at .entry)) (now (words .entry))
+        (basketResultBy true 2 (now (image .entry)) (now (heads .entry)) (now (next .entry)) state (changesOf 2 count items values) (length (now (at .entry)))
+        (length (now (words .entry)))) ⌝ }
+{
+    basket_in(
+        image,
+        2,
+        heads,
+        next,
+        state,
+        count,
+        items,
+        values,
+        at,
+        words,
+        true,
+    )
+}

@@ -1,0 +1,2 @@
+// The public call that changes up to eight keys, for the owner of an index.
+pub mod basket;

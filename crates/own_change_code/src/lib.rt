@@ -1,0 +1,2 @@
+// The public calls that write for the owner of an index.
+pub mod own;

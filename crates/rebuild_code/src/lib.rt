@@ -1,0 +1,2 @@
+// The last step of recovery: rebuilding.
+pub mod rebuilding;

@@ -1,0 +1,3 @@
+// The stores of a record.
+pub mod record;
+pub mod value;

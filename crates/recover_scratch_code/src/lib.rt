@@ -1,0 +1,2 @@
+// Recovery with the scratch lists of each size.
+pub mod scratch;

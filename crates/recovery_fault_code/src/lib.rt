@@ -1,0 +1,2 @@
+// The refusals of recovery, by what it found.
+pub mod fault;

@@ -1,0 +1,2 @@
+// The refusals of the lines of the trial session.
+pub mod refusal;

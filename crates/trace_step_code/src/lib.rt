@@ -1,0 +1,2 @@
+// The lines of a release trace, on any image and index.
+pub mod step;
