@@ -35,7 +35,7 @@ CRATES := crates.txt $(shell find crates -name '*.rt' -o -name '*.antt')
 
 .PHONY: test planted gateway recorder heads bench archive run-names run-header run-persist run-guard run-storm run-lock \
 	run-guard2 run-storm2 run-kills2 run-report2 run-differential2 run-watch run-kills run-heads run-report run-plug \
-	run-differential run-log_header run-log_storm run-log_guard run-log_kills run-log_differential
+	run-differential run-reads run-reads2 run-log_header run-log_storm run-log_guard run-log_kills run-log_differential
 archive: $(ARCHIVE) $(ARCHIVE2) $(LOG_ARCHIVE)
 
 $(ARCHIVE): $(CRATES)
@@ -57,13 +57,14 @@ $(OUT):
 	mkdir -p $(OUT)
 
 # the tests: docs/TESTS.md; SEED=... repeats a run, and run-storm and the like run one of them
-TESTS := persist guard storm lock kills heads watch report plug differential
+TESTS := persist guard storm lock kills heads watch report plug differential reads
 # built for layout 2 too, under these names
-TESTS2 := guard2 storm2 kills2 report2 differential2
+TESTS2 := guard2 storm2 kills2 report2 differential2 reads2
 LOG_TESTS := log_storm log_guard log_kills log_differential
 $(OUT)/persist: tests/persist.c tests/chance.c $(LOG_ARCHIVE)
 $(OUT)/guard $(OUT)/guard2: tests/guard.c tests/pieces.c tests/images.c tests/model.c tests/chance.c
 $(OUT)/differential $(OUT)/differential2: tests/differential.c tests/images.c tests/model.c tests/chance.c
+$(OUT)/reads $(OUT)/reads2: tests/reads.c tests/chance.c
 $(OUT)/plug: tests/plug.c tests/model.c tests/child.c tests/chance.c
 $(OUT)/storm $(OUT)/storm2: tests/storm.c tests/cache.c tests/model.c tests/chance.c
 $(OUT)/lock $(OUT)/heads $(OUT)/kills: $(OUT)/%: tests/%.c tests/child.c tests/chance.c
@@ -98,13 +99,13 @@ $(OUT)/gateway_on_disk: examples/gateway.c tests/disk.c $(HEADERS) $(ARCHIVE2) $
 
 .NOTPARALLEL:
 test: run-names run-header run-persist run-lock run-watch run-heads run-report run-report2 run-plug run-storm run-storm2 \
-	run-kills run-kills2 run-guard run-guard2 run-differential run-differential2 \
+	run-kills run-kills2 run-guard run-guard2 run-differential run-differential2 run-reads run-reads2 \
 	run-log_header run-log_storm run-log_kills run-log_guard run-log_differential
 run-names:
 	@tests/names
 run-header run-log_header: run-%: $(OUT)/%
 	@$(OUT)/$*
-run-persist run-guard run-guard2 run-storm run-storm2 run-differential run-differential2 run-log_storm run-log_guard run-log_differential: run-%: $(OUT)/%
+run-persist run-guard run-guard2 run-storm run-storm2 run-differential run-differential2 run-reads run-reads2 run-log_storm run-log_guard run-log_differential: run-%: $(OUT)/%
 	@$(OUT)/$* $(SEED)
 run-lock run-heads: run-%: $(OUT)/% $(OUT)/gateway
 	@$(OUT)/$* $(OUT)/gateway $(OUT)/$*.img $(SEED)
@@ -238,7 +239,7 @@ run-install: lib tools
 heads: $(ARCHIVE)
 	$(MAKE) -f bench/Makefile heads
 
-bench: $(ARCHIVE) $(LOG_ARCHIVE)
+bench: $(ARCHIVE) $(ARCHIVE2) $(LOG_ARCHIVE)
 	$(MAKE) -f bench/Makefile run
 
 # the headers for C++ and for Rust, over the library of `make lib`; the tests are tests/file.cc and bindings/rust/tests

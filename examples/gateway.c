@@ -518,21 +518,23 @@ static void print_change(const struct command *c, const uint64_t answer[ORDERSET
            answer[ORDERSET_SLOT], answer[ORDERSET_VERSION], answer[0] == ORDERSET_ALREADY ? ", already" : "");
 }
 
+/* The index is the gateway's own: from its recovery, whose stores are made, and its calls since, each of which it makes
+ * durable before the next or ends. So these are the calls for the owner of the index, which do not look through the image. */
 static uint32_t step(struct set *s, const struct command *c, uint32_t at[ORDERSET_STORES],
                      uint64_t value[ORDERSET_STORES], uint64_t answer[ORDERSET_STEP_ANSWER]) {
     switch (c->kind) {
     case NEW:
-        return orderset_book_new(s->image, s->length, s->heads, s->heads_length, s->next, s->next_length, s->state,
-                                 s->version, c->key.low, c->number, at, value, answer);
+        return orderset_own_book_new(s->image, s->length, s->heads, s->heads_length, s->next, s->next_length, s->state,
+                                     s->version, c->key.low, c->number, at, value, answer);
     case ACKNOWLEDGE:
-        return orderset_book_acknowledge(s->image, s->length, s->heads, s->heads_length, s->next, s->next_length,
-                                         s->state, s->version, c->key.low, at, value, answer);
+        return orderset_own_book_acknowledge(s->image, s->length, s->heads, s->heads_length, s->next, s->next_length,
+                                             s->state, s->version, c->key.low, at, value, answer);
     case FILL:
-        return orderset_book_fill(s->image, s->length, s->heads, s->heads_length, s->next, s->next_length, s->state,
-                                  s->version, c->key.low, c->number, at, value, answer);
+        return orderset_own_book_fill(s->image, s->length, s->heads, s->heads_length, s->next, s->next_length, s->state,
+                                      s->version, c->key.low, c->number, at, value, answer);
     default:
-        return orderset_book_withdraw(s->image, s->length, s->heads, s->heads_length, s->next, s->next_length,
-                                      s->state, s->version, c->key.low, at, value, answer);
+        return orderset_own_book_withdraw(s->image, s->length, s->heads, s->heads_length, s->next, s->next_length,
+                                          s->state, s->version, c->key.low, at, value, answer);
     }
 }
 
@@ -541,17 +543,17 @@ static uint32_t step2(struct set *s, const struct command *c, uint32_t at[ORDERS
                       uint64_t value[ORDERSET_STORES], uint64_t answer[ORDERSET_STEP_ANSWER]) {
     switch (c->kind) {
     case NEW:
-        return orderset2_book_new(s->image, s->length, s->heads, s->heads_length, s->next, s->next_length, s->state,
-                                  s->version, c->key.low, c->key.high, c->number, at, value, answer);
+        return orderset2_own_book_new(s->image, s->length, s->heads, s->heads_length, s->next, s->next_length, s->state,
+                                      s->version, c->key.low, c->key.high, c->number, at, value, answer);
     case ACKNOWLEDGE:
-        return orderset2_book_acknowledge(s->image, s->length, s->heads, s->heads_length, s->next, s->next_length,
-                                          s->state, s->version, c->key.low, c->key.high, at, value, answer);
+        return orderset2_own_book_acknowledge(s->image, s->length, s->heads, s->heads_length, s->next, s->next_length,
+                                              s->state, s->version, c->key.low, c->key.high, at, value, answer);
     case FILL:
-        return orderset2_book_fill(s->image, s->length, s->heads, s->heads_length, s->next, s->next_length, s->state,
-                                   s->version, c->key.low, c->key.high, c->number, at, value, answer);
+        return orderset2_own_book_fill(s->image, s->length, s->heads, s->heads_length, s->next, s->next_length,
+                                       s->state, s->version, c->key.low, c->key.high, c->number, at, value, answer);
     default:
-        return orderset2_book_withdraw(s->image, s->length, s->heads, s->heads_length, s->next, s->next_length,
-                                       s->state, s->version, c->key.low, c->key.high, at, value, answer);
+        return orderset2_own_book_withdraw(s->image, s->length, s->heads, s->heads_length, s->next, s->next_length,
+                                           s->state, s->version, c->key.low, c->key.high, at, value, answer);
     }
 }
 
@@ -683,11 +685,12 @@ static uint32_t basket(struct set *s, const struct command *c) {
         number = item_fault(s, &c->item[i]);
     }
     if (!number && s->layout == ORDERSET2_LAYOUT)
-        number = orderset2_basket(s->image, s->length, s->heads, s->heads_length, s->next, s->next_length, s->state,
-                                  s->version, items, kinds, lows, highs, lengths, values, at, ROOM, value, ROOM, answer);
+        number = orderset2_own_basket(s->image, s->length, s->heads, s->heads_length, s->next, s->next_length, s->state,
+                                      s->version, items, kinds, lows, highs, lengths, values, at, ROOM, value, ROOM,
+                                      answer);
     else if (!number)
-        number = orderset_basket(s->image, s->length, s->heads, s->heads_length, s->next, s->next_length, s->state,
-                                 s->version, items, kinds, lows, lengths, values, at, ROOM, value, ROOM, answer);
+        number = orderset_own_basket(s->image, s->length, s->heads, s->heads_length, s->next, s->next_length, s->state,
+                                     s->version, items, kinds, lows, lengths, values, at, ROOM, value, ROOM, answer);
     if (number)
         return number;
     if (persist_list(s, at, value, ORDERSET_BASKET_STORES(items)))

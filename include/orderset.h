@@ -11,18 +11,27 @@
  *   image    ORDERSET_IMAGE_BYTES(N) bytes; 64-byte aligned if its stores are to be persisted (orderset_persist.h)
  *   heads    B numbers, B from 1 to ORDERSET_HEADS_MAX; key k belongs to head k % B
  *   next     N + 1 numbers
- *   state    four numbers: the reuse chain's first and last slot, the live count, and the (first) slot that the last
- *            call took, 0 for none since recovery (ORDERSET_FIRST, ORDERSET_LAST, ORDERSET_LIVE, ORDERSET_NEWEST)
+ *   state    four numbers: the reuse chain's first and last slot, the live count, and the newest slot, one with the
+ *            highest version among valid slots (ORDERSET_FIRST, ORDERSET_LAST, ORDERSET_LIVE, ORDERSET_NEWEST)
  *   version  one number: the next version
  * heads, next, state and version are the index. orderset_recover fills them; insert, replace, remove, baskets and the
- * book's steps keep them up to date. They are never persisted. state[ORDERSET_NEWEST] is a hint that makes calls faster:
- * whatever stands there, no answer and no store is another.
+ * book's steps keep them up to date. They are never persisted. state[ORDERSET_NEWEST] is a hint to these calls, which
+ * makes them faster: whatever stands there, no answer and no store is another. The calls for the owner (below) go by it.
+ * Where no slot is valid, recovery leaves some slot's number there.
  *
  * How to write: orderset_insert, orderset_replace, orderset_remove and the book's steps change the index and hand out
  * 16 stores, eight for each of two lines, and leave the image as it is. The caller makes all 16, in order within each
  * line, flushes both lines and fences once (orderset_persist), or makes them with orderset_play(..., 8, 8). Only then
  * may the next call follow. If that was not finished, orderset_recover comes next. orderset_basket does the same for up
  * to eight keys at once, with 16 stores for each of them in a lent list and still one fence (orderset_persist_list).
+ *
+ * Two families: each call that writes is there twice, as orderset_insert and so on, the calls of document 01, and as
+ * orderset_own_insert and so on, the calls for the owner of the index, which are no calls of document 01. Use the owner's
+ * calls only where index and state come from an orderset_recover whose stores are made and from accepted calls since,
+ * the stores of each made before the next call, and nobody else writes index, state or image: then they answer, hand out
+ * and leave exactly what the calls of document 01 do, and never look through the image. Of any other index they are safe
+ * and terminate, but their refusals 11 (reuse) and 28 and the slots that they take are their own: use there the
+ * calls of document 01, which are exact for any index.
  *
  * Insert or replace: insert is for a key that is not held and replace for one that is, and each refuses the other kind,
  * so that a key that is used again by mistake overwrites nothing. A caller who means either asks orderset_locate first,
@@ -374,6 +383,60 @@ ORDERSET_CALL uint32_t orderset_book_withdraw(const uint8_t *image, size_t image
                                               uint32_t state[ORDERSET_STATE], uint64_t version[1], uint64_t key,
                                               uint32_t at[ORDERSET_STORES], uint64_t value[ORDERSET_STORES],
                                               uint64_t answer[ORDERSET_STEP_ANSWER]);
+
+/* For the owner of the index (above): as the calls without own_, parameters, answers and the order of the refusals too.
+ * They are no calls of document 01. */
+ORDERSET_CALL uint64_t orderset_own_insert(const uint8_t *image, size_t image_length, uint32_t *heads,
+                                           size_t heads_length, uint32_t *next, size_t next_length,
+                                           uint32_t state[ORDERSET_STATE], uint64_t version[1], uint64_t key,
+                                           const uint8_t *bytes, size_t bytes_length, uint32_t at[ORDERSET_STORES],
+                                           uint64_t value[ORDERSET_STORES], uint64_t answer[ORDERSET_CHANGE_ANSWER]);
+
+ORDERSET_CALL uint64_t orderset_own_replace(const uint8_t *image, size_t image_length, uint32_t *heads,
+                                            size_t heads_length, uint32_t *next, size_t next_length,
+                                            uint32_t state[ORDERSET_STATE], uint64_t version[1], uint64_t key,
+                                            const uint8_t *bytes, size_t bytes_length, uint32_t at[ORDERSET_STORES],
+                                            uint64_t value[ORDERSET_STORES], uint64_t answer[ORDERSET_CHANGE_ANSWER]);
+
+ORDERSET_CALL uint64_t orderset_own_remove(const uint8_t *image, size_t image_length, uint32_t *heads,
+                                           size_t heads_length, uint32_t *next, size_t next_length,
+                                           uint32_t state[ORDERSET_STATE], uint64_t version[1], uint64_t key,
+                                           uint32_t at[ORDERSET_STORES], uint64_t value[ORDERSET_STORES],
+                                           uint64_t answer[ORDERSET_CHANGE_ANSWER]);
+
+ORDERSET_CALL uint32_t orderset_own_basket(const uint8_t *image, size_t image_length, uint32_t *heads,
+                                           size_t heads_length, uint32_t *next, size_t next_length,
+                                           uint32_t state[ORDERSET_STATE], uint64_t version[1], size_t count,
+                                           const uint32_t kinds[ORDERSET_BASKET_MAX],
+                                           const uint64_t keys[ORDERSET_BASKET_MAX],
+                                           const size_t lengths[ORDERSET_BASKET_MAX],
+                                           const uint8_t bytes[ORDERSET_BASKET_BYTES], uint32_t *at, size_t at_length,
+                                           uint64_t *value, size_t value_length,
+                                           uint64_t answer[ORDERSET_BASKET_ANSWER]);
+
+ORDERSET_CALL uint32_t orderset_own_book_new(const uint8_t *image, size_t image_length, uint32_t *heads,
+                                             size_t heads_length, uint32_t *next, size_t next_length,
+                                             uint32_t state[ORDERSET_STATE], uint64_t version[1], uint64_t key,
+                                             uint64_t quantity, uint32_t at[ORDERSET_STORES],
+                                             uint64_t value[ORDERSET_STORES], uint64_t answer[ORDERSET_STEP_ANSWER]);
+
+ORDERSET_CALL uint32_t orderset_own_book_acknowledge(const uint8_t *image, size_t image_length, uint32_t *heads,
+                                                     size_t heads_length, uint32_t *next, size_t next_length,
+                                                     uint32_t state[ORDERSET_STATE], uint64_t version[1], uint64_t key,
+                                                     uint32_t at[ORDERSET_STORES], uint64_t value[ORDERSET_STORES],
+                                                     uint64_t answer[ORDERSET_STEP_ANSWER]);
+
+ORDERSET_CALL uint32_t orderset_own_book_fill(const uint8_t *image, size_t image_length, uint32_t *heads,
+                                              size_t heads_length, uint32_t *next, size_t next_length,
+                                              uint32_t state[ORDERSET_STATE], uint64_t version[1], uint64_t key,
+                                              uint64_t quantity, uint32_t at[ORDERSET_STORES],
+                                              uint64_t value[ORDERSET_STORES], uint64_t answer[ORDERSET_STEP_ANSWER]);
+
+ORDERSET_CALL uint32_t orderset_own_book_withdraw(const uint8_t *image, size_t image_length, uint32_t *heads,
+                                                  size_t heads_length, uint32_t *next, size_t next_length,
+                                                  uint32_t state[ORDERSET_STATE], uint64_t version[1], uint64_t key,
+                                                  uint32_t at[ORDERSET_STORES], uint64_t value[ORDERSET_STORES],
+                                                  uint64_t answer[ORDERSET_STEP_ANSWER]);
 
 /* Makes the first a stores of the first half and the first b of the second: with 8 and 8 a whole call, with less what a
  * cut leaves of it. Plain writes: nothing is flushed. Refusals: 1, 14, 15. */

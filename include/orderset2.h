@@ -110,6 +110,64 @@ ORDERSET_CALL uint32_t orderset2_book_withdraw(const uint8_t *image, size_t imag
                                                uint64_t high, uint32_t at[ORDERSET_STORES],
                                                uint64_t value[ORDERSET_STORES], uint64_t answer[ORDERSET_STEP_ANSWER]);
 
+/* For the owner of the index: as the calls without own_ (orderset.h, two families). */
+ORDERSET_CALL uint64_t orderset2_own_insert(const uint8_t *image, size_t image_length, uint32_t *heads,
+                                            size_t heads_length, uint32_t *next, size_t next_length,
+                                            uint32_t state[ORDERSET_STATE], uint64_t version[1], uint64_t low,
+                                            uint64_t high, const uint8_t *bytes, size_t bytes_length,
+                                            uint32_t at[ORDERSET_STORES], uint64_t value[ORDERSET_STORES],
+                                            uint64_t answer[ORDERSET_CHANGE_ANSWER]);
+
+ORDERSET_CALL uint64_t orderset2_own_replace(const uint8_t *image, size_t image_length, uint32_t *heads,
+                                             size_t heads_length, uint32_t *next, size_t next_length,
+                                             uint32_t state[ORDERSET_STATE], uint64_t version[1], uint64_t low,
+                                             uint64_t high, const uint8_t *bytes, size_t bytes_length,
+                                             uint32_t at[ORDERSET_STORES], uint64_t value[ORDERSET_STORES],
+                                             uint64_t answer[ORDERSET_CHANGE_ANSWER]);
+
+ORDERSET_CALL uint64_t orderset2_own_remove(const uint8_t *image, size_t image_length, uint32_t *heads,
+                                            size_t heads_length, uint32_t *next, size_t next_length,
+                                            uint32_t state[ORDERSET_STATE], uint64_t version[1], uint64_t low,
+                                            uint64_t high, uint32_t at[ORDERSET_STORES],
+                                            uint64_t value[ORDERSET_STORES], uint64_t answer[ORDERSET_CHANGE_ANSWER]);
+
+ORDERSET_CALL uint32_t orderset2_own_basket(const uint8_t *image, size_t image_length, uint32_t *heads,
+                                            size_t heads_length, uint32_t *next, size_t next_length,
+                                            uint32_t state[ORDERSET_STATE], uint64_t version[1], size_t count,
+                                            const uint32_t kinds[ORDERSET_BASKET_MAX],
+                                            const uint64_t lows[ORDERSET_BASKET_MAX],
+                                            const uint64_t highs[ORDERSET_BASKET_MAX],
+                                            const size_t lengths[ORDERSET_BASKET_MAX],
+                                            const uint8_t bytes[ORDERSET_BASKET_BYTES], uint32_t *at, size_t at_length,
+                                            uint64_t *value, size_t value_length,
+                                            uint64_t answer[ORDERSET_BASKET_ANSWER]);
+
+ORDERSET_CALL uint32_t orderset2_own_book_new(const uint8_t *image, size_t image_length, uint32_t *heads,
+                                              size_t heads_length, uint32_t *next, size_t next_length,
+                                              uint32_t state[ORDERSET_STATE], uint64_t version[1], uint64_t low,
+                                              uint64_t high, uint64_t quantity, uint32_t at[ORDERSET_STORES],
+                                              uint64_t value[ORDERSET_STORES], uint64_t answer[ORDERSET_STEP_ANSWER]);
+
+ORDERSET_CALL uint32_t orderset2_own_book_acknowledge(const uint8_t *image, size_t image_length, uint32_t *heads,
+                                                      size_t heads_length, uint32_t *next, size_t next_length,
+                                                      uint32_t state[ORDERSET_STATE], uint64_t version[1], uint64_t low,
+                                                      uint64_t high, uint32_t at[ORDERSET_STORES],
+                                                      uint64_t value[ORDERSET_STORES],
+                                                      uint64_t answer[ORDERSET_STEP_ANSWER]);
+
+ORDERSET_CALL uint32_t orderset2_own_book_fill(const uint8_t *image, size_t image_length, uint32_t *heads,
+                                               size_t heads_length, uint32_t *next, size_t next_length,
+                                               uint32_t state[ORDERSET_STATE], uint64_t version[1], uint64_t low,
+                                               uint64_t high, uint64_t quantity, uint32_t at[ORDERSET_STORES],
+                                               uint64_t value[ORDERSET_STORES], uint64_t answer[ORDERSET_STEP_ANSWER]);
+
+ORDERSET_CALL uint32_t orderset2_own_book_withdraw(const uint8_t *image, size_t image_length, uint32_t *heads,
+                                                   size_t heads_length, uint32_t *next, size_t next_length,
+                                                   uint32_t state[ORDERSET_STATE], uint64_t version[1], uint64_t low,
+                                                   uint64_t high, uint32_t at[ORDERSET_STORES],
+                                                   uint64_t value[ORDERSET_STORES],
+                                                   uint64_t answer[ORDERSET_STEP_ANSWER]);
+
 #ifdef __cplusplus
 }
 #endif

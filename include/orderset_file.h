@@ -2,8 +2,9 @@
  * (installed: -lorderset; built: src/orderset_file.c with liborderset2_c.a, liborderset_c.a, liblog_c.a and -pthread;
  * x86-64 Linux). A handle does what orderset.h, orderset2.h, orderset_log.h and orderset_persist.h ask of their caller:
  * it locks, maps and recovers the file, keeps the index, and makes the stores of every call durable before the call
- * returns. Those who bring their own memory use these headers. The calls of the archives are proved; this header and
- * its source are not.
+ * returns. The index is its own, so that it changes the set by the calls for the owner of an index (orderset.h), which are
+ * no calls of document 01 and here do exactly what those do. Those who bring their own memory use these headers. The calls
+ * of the archives are proved; this header and its source are not.
  *
  *     struct orderset_file *set;
  *     uint32_t number = orderset_file_create("orders.img", 1000, 1);       once: room for 999 open orders, layout 1

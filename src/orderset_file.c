@@ -644,6 +644,10 @@ void orderset_file_close(struct orderset_file *set) {
 
 /* ---- the set: calls */
 
+/* The index is the handle's own: from its recovery, whose stores are made, and its calls since, each with its stores made
+ * before the next; after a failure there is no further change. So the changes are the calls for the owner of the index,
+ * which do not look through the image. */
+
 static const uint8_t nothing[1];
 
 static uint32_t fits(const struct orderset_file *s, struct orderset_key key) {
@@ -690,7 +694,7 @@ uint32_t orderset_file_insert(struct orderset_file *set, struct orderset_key key
     uint32_t number = refuse_change(set, key);
     if (number)
         return number;
-    return finish_counted(set, OF_LAYOUT(set, insert, CHANGED(set), key, bytes, length, HANDED(c)), c);
+    return finish_counted(set, OF_LAYOUT(set, own_insert, CHANGED(set), key, bytes, length, HANDED(c)), c);
 }
 
 uint32_t orderset_file_replace(struct orderset_file *set, struct orderset_key key, const void *value, size_t length) {
@@ -699,7 +703,7 @@ uint32_t orderset_file_replace(struct orderset_file *set, struct orderset_key ke
     uint32_t number = refuse_change(set, key);
     if (number)
         return number;
-    return finish_counted(set, OF_LAYOUT(set, replace, CHANGED(set), key, bytes, length, HANDED(c)), c);
+    return finish_counted(set, OF_LAYOUT(set, own_replace, CHANGED(set), key, bytes, length, HANDED(c)), c);
 }
 
 uint32_t orderset_file_remove(struct orderset_file *set, struct orderset_key key) {
@@ -707,31 +711,31 @@ uint32_t orderset_file_remove(struct orderset_file *set, struct orderset_key key
     uint32_t number = refuse_change(set, key);
     if (number)
         return number;
-    return finish_counted(set, OF_LAYOUT(set, remove, CHANGED(set), key, HANDED(c)), c);
+    return finish_counted(set, OF_LAYOUT(set, own_remove, CHANGED(set), key, HANDED(c)), c);
 }
 
 uint32_t orderset_file_book_new(struct orderset_file *set, struct orderset_key key, uint64_t quantity) {
     struct change made, *c = &made;
     uint32_t number = refuse_change(set, key);
-    return number ? number : finish(set, OF_LAYOUT(set, book_new, CHANGED(set), key, quantity, HANDED(c)), c);
+    return number ? number : finish(set, OF_LAYOUT(set, own_book_new, CHANGED(set), key, quantity, HANDED(c)), c);
 }
 
 uint32_t orderset_file_book_acknowledge(struct orderset_file *set, struct orderset_key key) {
     struct change made, *c = &made;
     uint32_t number = refuse_change(set, key);
-    return number ? number : finish(set, OF_LAYOUT(set, book_acknowledge, CHANGED(set), key, HANDED(c)), c);
+    return number ? number : finish(set, OF_LAYOUT(set, own_book_acknowledge, CHANGED(set), key, HANDED(c)), c);
 }
 
 uint32_t orderset_file_book_fill(struct orderset_file *set, struct orderset_key key, uint64_t quantity) {
     struct change made, *c = &made;
     uint32_t number = refuse_change(set, key);
-    return number ? number : finish(set, OF_LAYOUT(set, book_fill, CHANGED(set), key, quantity, HANDED(c)), c);
+    return number ? number : finish(set, OF_LAYOUT(set, own_book_fill, CHANGED(set), key, quantity, HANDED(c)), c);
 }
 
 uint32_t orderset_file_book_withdraw(struct orderset_file *set, struct orderset_key key) {
     struct change made, *c = &made;
     uint32_t number = refuse_change(set, key);
-    return number ? number : finish(set, OF_LAYOUT(set, book_withdraw, CHANGED(set), key, HANDED(c)), c);
+    return number ? number : finish(set, OF_LAYOUT(set, own_book_withdraw, CHANGED(set), key, HANDED(c)), c);
 }
 
 /* ---- the set: baskets */
@@ -770,11 +774,11 @@ uint32_t orderset_file_basket(struct orderset_file *set, const struct orderset_i
     if (number)
         return number;
     if (set->layout == ORDERSET2_LAYOUT)
-        number = orderset2_basket(CHANGED(set), count, b.kinds, b.lows, b.highs, b.lengths, b.values, b.at, LIST,
-                                  b.value, LIST, b.answer);
+        number = orderset2_own_basket(CHANGED(set), count, b.kinds, b.lows, b.highs, b.lengths, b.values, b.at, LIST,
+                                      b.value, LIST, b.answer);
     else
-        number = orderset_basket(CHANGED(set), count, b.kinds, b.lows, b.lengths, b.values, b.at, LIST, b.value, LIST,
-                                 b.answer);
+        number = orderset_own_basket(CHANGED(set), count, b.kinds, b.lows, b.lengths, b.values, b.at, LIST, b.value,
+                                     LIST, b.answer);
     return number ? number : persist(&set->area, b.at, b.value, ORDERSET_BASKET_STORES(count));
 }
 

@@ -8,7 +8,13 @@
  * of them or as a cut leaves them: recovery must give all of the basket or nothing of it, also after cuts among the
  * stores that open void slots. Beside each recovery the slots are counted. With an index that is not the image's own,
  * the slots of a basket and the index that it leaves are free, and of a single call whose slot is not the reuse chain's
- * first all but the refusal. Ends with status 1 at the first difference and prints the case.
+ * first all but the refusal.
+ *
+ * Each call that writes is made by one of the two families (orderset.h), by chance. With an index that is the image's own
+ * both are held to the model of document 01, and beside the one the other is called on copies, in a large set now and
+ * then: code, answer, stores, index and state must be the same. With any other index, or where the state does not name
+ * the newest slot, the owner's call is held to the model of its own definition, and nothing of it is free. Ends with
+ * status 1 at the first difference and prints the case.
  *
  *     differential [SEED [CALLS]]
  *     differential SEED CALLS damaged    recovers damaged images alone, one a call
@@ -65,6 +71,7 @@ struct set {
     uint64_t *open_value;
     struct m_basket basket; /* what the last basket hands out */
     int own;        /* the index is the image's own */
+    int named;      /* and its state names a slot of the highest version among the valid ones */
     uint64_t since; /* calls since everything was compared */
 };
 
@@ -80,18 +87,20 @@ enum { DONE = 0, ABSENT = 100, ALREADY = 101, ANSWERS };  /* answers that are no
 static uint64_t baskets, half_baskets, openings; /* whole, struck by a cut, stores that open void slots */
 static uint64_t calls, strikes, queries, met[WHICH][ANSWERS]; /* queries: of lines; met: by the answer */
 static uint64_t compared, longest, far_met[WHICH][ANSWERS]; /* slots: of the last call, the most; with 2 or more */
+static uint64_t own_calls, both, own_met[WHICH][ANSWERS]; /* by the owner's calls; both: beside the other family */
 static uint32_t named; /* the slot that the last recovery named */
 static uint64_t counted; /* accepted images whose slots were counted */
 static const char *phase = "";
 static enum which call;
+static int owner; /* the call is the one for the owner of its index */
 static const struct set *now;
 static m_key call_key;
 static size_t call_size, call_a, call_b;
 
 static void show_case(void) {
     printf("layout %d, seed %" PRIu64 ", call %" PRIu64 ", %s\n", LAYOUT, seed, calls, phase);
-    printf("%s: N %u, length %zu, B %zu, next %zu, key " KEY_FORM ", size, room or quantity %zu, counts %zu %zu\n",
-           name[call], now->n, now->length, now->model.heads_length, now->model.next_length, KEY_WORDS(call_key),
+    printf("%s%s: N %u, length %zu, B %zu, next %zu, key " KEY_FORM ", size, room or quantity %zu, counts %zu %zu\n",
+           owner ? "own " : "", name[call], now->n, now->length, now->model.heads_length, now->model.next_length, KEY_WORDS(call_key),
            call_size, call_a, call_b);
     printf("state: archive %u %u %u %u %" PRIu64 ", model %u %u %u %u %" PRIu64 "\n", now->state[0], now->state[1],
            now->state[2], now->state[3], now->version[0], now->model.state.first, now->model.state.last,
@@ -134,6 +143,7 @@ static void same_bytes(const char *what, const void *archive, const void *model,
 static void keep_case(const struct set *s, enum which which, m_key key, size_t size, size_t a, size_t b) {
     now = s;
     call = which;
+    owner = 0;
     call_key = key;
     call_size = size;
     call_a = a;
@@ -150,6 +160,7 @@ static unsigned same_code(uint32_t archive, int model, unsigned done) {
     unsigned answer = model ? (unsigned)model : done;
     same_number("the code", archive, (uint64_t)model);
     met[call][answer]++;
+    own_met[call][answer] += (uint64_t)owner;
     return answer;
 }
 
@@ -287,9 +298,11 @@ static void framed(const struct set *s, uint32_t slot, uint64_t version) {
     for (size_t i = 0; i < ORDERSET_STORES; i += ORDERSET_LINE_STORES) {
         const uint8_t *line = s->image + ORDERSET_SLOT_BYTES * (size_t)slot + 8 * i;
         const enum which asked = call;
+        const int by = owner;
         const uint64_t first = try_line(s, LINE_FIRST, line, ORDERSET_LINE_BYTES, version, ORDERSET_LINE_ANSWER),
                        last = try_line(s, LINE_LAST, line, ORDERSET_LINE_BYTES, version, ORDERSET_LINE_ANSWER);
         call = asked;
+        owner = by;
         same_number("the first store of a line", s->value[i], first);
         same_number("the last store of a line", s->value[i + ORDERSET_LINE_STORES - 1], last);
     }
@@ -383,6 +396,7 @@ static int try_recover(struct set *s) {
     if (s->n > SMALL)
         compare_all(s);
     s->own = !recovered.refusal && !recovered.count;
+    s->named = 1;
     return recovered.refusal;
 }
 
@@ -399,38 +413,51 @@ static uint64_t archive_change(const struct set *s, const struct request *r, uin
     const size_t heads = s->model.heads_length, next = s->model.next_length;
     switch (r->which) {
     case INSERT:
-        return SET(insert)(s->image, s->length, s->heads, heads, s->next, next, s->state, s->version, KEY(r->key),
+        return SET_BY(owner, insert)(s->image, s->length, s->heads, heads, s->next, next, s->state, s->version, KEY(r->key),
                                r->bytes, r->size, s->at, s->value, answer);
     case REPLACE:
-        return SET(replace)(s->image, s->length, s->heads, heads, s->next, next, s->state, s->version, KEY(r->key),
+        return SET_BY(owner, replace)(s->image, s->length, s->heads, heads, s->next, next, s->state, s->version, KEY(r->key),
                                 r->bytes, r->size, s->at, s->value, answer);
     case REMOVE:
-        return SET(remove)(s->image, s->length, s->heads, heads, s->next, next, s->state, s->version, KEY(r->key), s->at,
+        return SET_BY(owner, remove)(s->image, s->length, s->heads, heads, s->next, next, s->state, s->version, KEY(r->key), s->at,
                                s->value, answer);
     case NEW:
-        return SET(book_new)(s->image, s->length, s->heads, heads, s->next, next, s->state, s->version, KEY(r->key),
+        return SET_BY(owner, book_new)(s->image, s->length, s->heads, heads, s->next, next, s->state, s->version, KEY(r->key),
                                  r->quantity, s->at, s->value, answer);
     case ACKNOWLEDGE:
-        return SET(book_acknowledge)(s->image, s->length, s->heads, heads, s->next, next, s->state, s->version,
+        return SET_BY(owner, book_acknowledge)(s->image, s->length, s->heads, heads, s->next, next, s->state, s->version,
                                          KEY(r->key), s->at, s->value, answer);
     case FILL:
-        return SET(book_fill)(s->image, s->length, s->heads, heads, s->next, next, s->state, s->version, KEY(r->key),
+        return SET_BY(owner, book_fill)(s->image, s->length, s->heads, heads, s->next, next, s->state, s->version, KEY(r->key),
                                   r->quantity, s->at, s->value, answer);
     default:
-        return SET(book_withdraw)(s->image, s->length, s->heads, heads, s->next, next, s->state, s->version, KEY(r->key),
+        return SET_BY(owner, book_withdraw)(s->image, s->length, s->heads, heads, s->next, next, s->state, s->version, KEY(r->key),
                                       s->at, s->value, answer);
     }
 }
 
+/* The family of the next call that writes: 0 and 1 where a directed case asks for it, else by chance. */
+static int family = -1;
+
+static int any_family(void) {
+    return family < 0 ? (int)below(2) : family;
+}
+
+/* Where the index is the image's own, the owner's call is to be the one of document 01. */
+static int by_document(const struct set *s) {
+    return !owner || (s->own && s->named);
+}
+
 static struct m_change model_change(struct set *s, const struct request *r) {
+    const int own = !by_document(s);
     switch (r->which) {
-    case INSERT: return m_insert(s->model_image, s->length, &s->model, r->key, r->bytes, r->size);
-    case REPLACE: return m_replace(s->model_image, s->length, &s->model, r->key, r->bytes, r->size);
-    case REMOVE: return m_remove(s->model_image, s->length, &s->model, r->key);
-    case NEW: return m_new(s->model_image, s->length, &s->model, r->key, r->quantity);
-    case ACKNOWLEDGE: return m_acknowledge(s->model_image, s->length, &s->model, r->key);
-    case FILL: return m_fill(s->model_image, s->length, &s->model, r->key, r->quantity);
-    default: return m_withdraw(s->model_image, s->length, &s->model, r->key);
+    case INSERT: return m_insert(own, s->model_image, s->length, &s->model, r->key, r->bytes, r->size);
+    case REPLACE: return m_replace(own, s->model_image, s->length, &s->model, r->key, r->bytes, r->size);
+    case REMOVE: return m_remove(own, s->model_image, s->length, &s->model, r->key);
+    case NEW: return m_new(own, s->model_image, s->length, &s->model, r->key, r->quantity);
+    case ACKNOWLEDGE: return m_acknowledge(own, s->model_image, s->length, &s->model, r->key);
+    case FILL: return m_fill(own, s->model_image, s->length, &s->model, r->key, r->quantity);
+    default: return m_withdraw(own, s->model_image, s->length, &s->model, r->key);
     }
 }
 
@@ -450,8 +477,8 @@ static unsigned compare_answer(uint64_t code, const uint64_t *answer, const uint
 /* With an index that is not the image's own only the refusal is fixed. The model goes on with what the archive left. */
 static unsigned compare_free(struct set *s, uint64_t code, const uint64_t *answer, const struct m_change *c) {
     const int reports = call == INSERT || call == REPLACE || call == REMOVE;
-    if (s->own)
-        differ("in the slot taken: with the image's own index it is not the reuse chain's first");
+    if (s->own || owner)
+        differ("in the slot taken: with the image's own index, or by the owner's call, it is not the reuse chain's first");
     same_number("the answer's kind", answer[0], ORDERSET_GIVEN);
     take_over(s);
     return reports ? same_report(code, 0, DONE, answer[ORDERSET_COMPARED], c->compared)
@@ -478,7 +505,61 @@ static unsigned compare_change(struct set *s, uint64_t code, const uint64_t *ans
     return answered;
 }
 
+/* The set lent once more, with the image and another index: what the archive left becomes what the model has. */
+static struct set *twin_of(const struct set *s) {
+    struct set *t = open_set(s->length, s->model.heads_length, s->model.next_length);
+    memcpy(t->model_image, s->image, s->length);
+    memcpy(t->heads, s->heads, 4 * s->model.heads_length);
+    memcpy(t->next, s->next, 4 * s->model.next_length);
+    memcpy(t->state, s->state, 4 * ORDERSET_STATE);
+    memcpy(t->version, s->version, 8);
+    take_over(t);
+    lend_same(t);
+    return t;
+}
+
+/* Is the other family called too? */
+static struct set *perhaps_twin(const struct set *s) {
+    const int small = s->n <= SMALL && s->model.heads_length <= 4 * SMALL;
+    return s->own && s->named && (small || below(500) == 0) ? twin_of(s) : NULL;
+}
+
+/* The image and the index that the two families left. */
+static void same_left(struct set *s, struct set *twin) {
+    take_over(twin);
+    same_bytes("the image, after the other family", twin->image, s->image, s->length);
+    same_bytes("heads, after the other family", twin->heads, s->heads, 4 * s->model.heads_length);
+    same_bytes("next, after the other family", twin->next, s->next, 4 * s->model.next_length);
+    same_bytes("the state, after the other family", twin->state, s->state, 4 * ORDERSET_STATE);
+    same_number("the version, after the other family", twin->version[0], s->version[0]);
+    compare_all(twin);
+    both++;
+    close_set(twin);
+}
+
+/* The owner's call, by a state that names another slot, may take one that no call takes: the index is no longer the
+ * image's own. */
+static void after_change(struct set *s, unsigned answered) {
+    own_calls += (uint64_t)owner;
+    if (answered != DONE)
+        return;
+    s->own &= by_document(s);
+    s->named = 1;
+}
+
+/* The same by the other family, from what was lent. */
+static void change_too(struct set *s, struct set *twin, const struct request *r, uint64_t code, const uint64_t *answer,
+                       uint64_t *answer_lent) {
+    owner = !owner;
+    same_number("what the other family returned", archive_change(twin, r, answer_lent), code);
+    same_bytes("the other family's answer", answer_lent, answer, 8 * ORDERSET_CHANGE_ANSWER);
+    same_bytes("the other family's word numbers", twin->at, s->at, 4 * ORDERSET_STORES);
+    same_bytes("the other family's values", twin->value, s->value, 8 * ORDERSET_STORES);
+    same_left(s, twin);
+}
+
 static unsigned try_change(struct set *s, const struct request *r) {
+    struct set *twin = perhaps_twin(s);
     uint64_t answer[ORDERSET_CHANGE_ANSWER], answer_lent[ORDERSET_CHANGE_ANSWER], value_lent[ORDERSET_STORES];
     uint32_t at_lent[ORDERSET_STORES];
     fill(answer_lent, sizeof answer_lent);
@@ -487,10 +568,19 @@ static unsigned try_change(struct set *s, const struct request *r) {
     fill(value_lent, sizeof value_lent);
     memcpy(s->at, at_lent, sizeof at_lent);
     memcpy(s->value, value_lent, sizeof value_lent);
+    if (twin) {
+        memcpy(twin->at, at_lent, sizeof at_lent);
+        memcpy(twin->value, value_lent, sizeof value_lent);
+    }
     begin(s, r->which, r->key, r->which == INSERT || r->which == REPLACE ? r->size : r->quantity, 0, 0);
+    owner = any_family();
     uint64_t code = archive_change(s, r, answer);
     struct m_change c = model_change(s, r);
-    return compare_change(s, code, answer, answer_lent, at_lent, value_lent, c);
+    unsigned answered = compare_change(s, code, answer, answer_lent, at_lent, value_lent, c);
+    after_change(s, answered);
+    if (twin)
+        change_too(s, twin, r, code, answer, answer_lent);
+    return answered;
 }
 
 enum { PLACES = ORDERSET_BASKET_MAX * ORDERSET_STORES }; /* the stores of a basket, at the most */
@@ -518,9 +608,9 @@ static uint32_t archive_basket(const struct set *s, const struct basket *b, uint
             memcpy(values + ORDERSET_VALUE_MAX * i, item->bytes, item->size);
     }
     (void)highs; /* of layout 1 there are none */
-    return SET(basket)(s->image, s->length, s->heads, s->model.heads_length, s->next, s->model.next_length, s->state,
-                       s->version, b->count, kinds, BASKET_KEYS(lows, highs), lengths, values, at, b->places, value, b->values,
-                       answer);
+    return SET_BY(owner, basket)(s->image, s->length, s->heads, s->model.heads_length, s->next, s->model.next_length,
+                                 s->state, s->version, b->count, kinds, BASKET_KEYS(lows, highs), lengths, values, at,
+                                 b->places, value, b->values, answer);
 }
 
 /* The stores of item i of the last basket become those that are played. */
@@ -558,12 +648,13 @@ static unsigned compare_basket(struct set *s, const struct basket *b, uint32_t c
                                const uint64_t *lent) {
     uint64_t expected[ORDERSET_BASKET_ANSWER] = {s->basket.version};
     const unsigned answered = same_code(code, s->basket.refusal, DONE);
-    if (answered == DONE && !s->own)
+    const int is_free = !owner && !s->own;
+    if (answered == DONE && is_free)
         take_slots(s, b, answer);
     for (size_t i = 0; i < ORDERSET_BASKET_MAX; i++)
         expected[ORDERSET_BASKET_SLOTS + i] = s->basket.slot[i];
     same_bytes("the answer", answer, s->basket.refusal ? lent : expected, sizeof expected);
-    if (answered == DONE && s->own)
+    if (answered == DONE && !is_free)
         m_basket_index(s->model_image, s->length, &s->model, b->item, (uint32_t)b->count, &s->basket);
     else if (answered == DONE)
         take_over(s);
@@ -575,7 +666,22 @@ static unsigned compare_basket(struct set *s, const struct basket *b, uint32_t c
     return answered;
 }
 
+/* The same by the other family, in the lists as they were lent. */
+static void basket_too(struct set *s, struct set *twin, const struct basket *b, uint32_t code, const uint64_t *answer,
+                       uint64_t *answer_lent, const uint32_t *at, uint32_t *at_lent, const uint64_t *value,
+                       uint64_t *value_lent) {
+    owner = !owner;
+    same_number("what the other family returned", archive_basket(twin, b, at_lent, value_lent, answer_lent), code);
+    same_bytes("the other family's answer", answer_lent, answer, 8 * ORDERSET_BASKET_ANSWER);
+    same_bytes("the other family's word numbers", at_lent, at, 4 * b->places);
+    same_bytes("the other family's values", value_lent, value, 8 * b->values);
+    if (!guarded(at_lent, 4 * b->places) || !guarded(value_lent, 8 * b->values))
+        differ("outside the lists lent to a basket");
+    same_left(s, twin);
+}
+
 static unsigned try_basket(struct set *s, const struct basket *b) {
+    struct set *twin = perhaps_twin(s);
     uint64_t answer[ORDERSET_BASKET_ANSWER], answer_lent[ORDERSET_BASKET_ANSWER];
     uint32_t *at = lend(4 * b->places), *at_lent = lend(4 * b->places);
     uint64_t *value = lend(8 * b->values), *value_lent = lend(8 * b->values);
@@ -586,10 +692,14 @@ static unsigned try_basket(struct set *s, const struct basket *b) {
     memcpy(at, at_lent, 4 * b->places);
     memcpy(value, value_lent, 8 * b->values);
     begin(s, BASKET, b->item[0].key, b->item[0].size, b->count, b->places);
+    owner = any_family();
     uint32_t code = archive_basket(s, b, at, value, answer);
-    s->basket = m_basket(s->model_image, s->length, &s->model, b->item, b->count, b->places, b->values);
+    s->basket = m_basket(!by_document(s), s->model_image, s->length, &s->model, b->item, b->count, b->places, b->values);
     unsigned answered = compare_basket(s, b, code, answer, answer_lent);
     compare_lists(s, b, at, value, at_lent, value_lent);
+    after_change(s, answered);
+    if (twin)
+        basket_too(s, twin, b, code, answer, answer_lent, at, at_lent, value, value_lent);
     give_back(at);
     give_back(at_lent);
     give_back(value);
@@ -1208,6 +1318,13 @@ static void play_basket(struct set *s, size_t count) {
     s->own &= whole;
 }
 
+/* The state names any slot as the newest, or none. */
+static void name_any(struct set *s) {
+    s->model.state.newest = below(4) ? (uint32_t)below(s->n + 2ul) : (uint32_t)chance();
+    s->state[ORDERSET_NEWEST] = s->model.state.newest;
+    s->named = 0;
+}
+
 /* Calls on whatever stands there, with whatever index. */
 static void any_calls(struct set *s, uint64_t keys, unsigned count) {
     static const enum which any[] = {GET,     GET,    GET,    LOCATE, INSERT,      INSERT, REPLACE,  BASKET,
@@ -1215,6 +1332,8 @@ static void any_calls(struct set *s, uint64_t keys, unsigned count) {
     uint8_t bytes[128], out[96];
     for (unsigned k = 0; k < count; k++) {
         const m_key key = key_near(s, keys);
+        if (below(6) == 0)
+            name_any(s);
         struct request r = {any[below(sizeof any / sizeof *any)], key, any_quantity(), bytes, any_size()};
         fill(bytes, sizeof bytes);
         fill(out, sizeof out);
@@ -1357,7 +1476,8 @@ enum fault {
     OUTSIDE, ONE_LINE, TWO_LENGTHS, OTHER_STATE, ALL_FILLED, OTHER_SIZE, LARGE_ORDER, ALL_SLOTS, ALL_BUT_ONE, LONG_LAST,
     BAD_BITS, BAD_TAIL, REMOVE_LENGTH, BITS_AND_KIND, KIND_AND_LENGTH, LENGTH_AND_TAIL, TAIL_THEN_BITS, ONE_BROKEN,
     TWO_BROKEN, SAME_AND_BROKEN, NONE_TO_TAKE, KEPT_REMOVE, LATER_LINK, ROUND_REUSE, NONE_AND_VERSION, FULL_AND_VERSION,
-    NONE_AND_NO_LIVE, LIVE_N, LIVE_ABOVE, ONE_LIVE, LAST_LINK, OTHER_LAYOUT, OTHER_HIGH, FAULTS
+    NONE_AND_NO_LIVE, LIVE_N, LIVE_ABOVE, ONE_LIVE, LAST_LINK, OTHER_LAYOUT, OTHER_HIGH, SPARE_RECORDS, UNNAMED,
+    NAMED_ABOVE, NAMED_OLDER, KEPT_NAMED, OLDER_FIRST, OLDER_LAST, NEWEST_FIRST, FAULTS
 };
 
 /* the slot that recovery names */
@@ -1373,6 +1493,7 @@ enum { IN_GET = 1 << GET, IN_LOCATE = 1 << LOCATE, IN_PLAY = 1 << PLAY, IN_PLAY_
 enum { IN_NEW = 1 << NEW, IN_ACKNOWLEDGE = 1 << ACKNOWLEDGE, IN_FILL = 1 << FILL, IN_WITHDRAW = 1 << WITHDRAW };
 enum { IN_WRITE = IN_INSERT | IN_REPLACE, IN_CHANGE = IN_REPLACE | IN_REMOVE }; /* change: of a held key */
 enum { IN_STEP = IN_ACKNOWLEDGE | IN_FILL | IN_WITHDRAW };
+enum { IN_OWN = IN_WRITE | IN_REMOVE | IN_NEW | IN_STEP | 1 << BASKET }; /* of two families */
 enum { IN_WALK = IN_WRITE | IN_REMOVE | IN_GET | IN_LOCATE | IN_NEW | IN_STEP, IN_ALL = IN_WALK | IN_RECOVER };
 
 /* Six slots: key 7 in slot 1 with 20 bytes, key 8 in slot 2 with as many as there may be; in slot 3 key 11 with a sent order and in slot 4
@@ -1575,6 +1696,28 @@ static const struct directed {
 #endif
 };
 
+/* Cases in which the owner's call goes by what it reads: the answer of the call of document 01, and its own. */
+static const struct own_case {
+    struct directed c;
+    unsigned own;
+} own_cases[] = {
+    {{IN_INSERT | IN_NEW, DONE, SPARE_RECORDS, 10, 5}, DONE},
+    {{IN_CHANGE | IN_STEP, DONE, SPARE_RECORDS, 11, 59}, DONE},
+    {{IN_INSERT | IN_NEW, DONE, UNNAMED, 10, 5}, 28},
+    {{IN_CHANGE | IN_STEP, DONE, UNNAMED, 11, 59}, 28},
+    {{IN_INSERT | IN_NEW, DONE, NAMED_ABOVE, 10, 5}, 28},
+    {{IN_CHANGE | IN_STEP, DONE, NAMED_ABOVE, 11, 60}, 28},
+    {{IN_INSERT | IN_NEW, DONE, NAMED_OLDER, 10, 5}, 28},
+    {{IN_CHANGE | IN_STEP, DONE, NAMED_OLDER, 11, 59}, 28},
+    {{IN_INSERT | IN_NEW, 28, KEPT_NAMED, 10, 5}, DONE},
+    {{IN_CHANGE | IN_STEP, 28, KEPT_NAMED, 11, 60}, DONE},
+    {{IN_INSERT | IN_NEW, DONE, OLDER_FIRST, 10, 5}, DONE},
+    {{IN_INSERT | IN_NEW, DONE, OLDER_LAST, 10, 5}, DONE},
+    {{IN_CHANGE | IN_STEP, DONE, OLDER_LAST, 11, 59}, DONE},
+    {{IN_INSERT | IN_NEW, DONE, NEWEST_FIRST, 10, 5}, DONE},
+    {{IN_CHANGE | IN_STEP, DONE, NEWEST_FIRST, 11, 59}, DONE},
+};
+
 static m_key directed_key(uint64_t low) {
     return key_of_words(low, 5);
 }
@@ -1623,6 +1766,27 @@ static void kept_remove(struct set *s) {
     set_record(s->model_image, 6, 1, directed_key(13), 6, 5);
     s->model.next[5] = 0;
     s->model.state.last = 5;
+}
+
+/* Slots 5 and 6 have remove records of the highest versions, and the state names this slot as the newest. */
+static void spare_records(struct set *s, uint32_t newest) {
+    set_record(s->model_image, 5, 2, directed_key(9), 5, 0);
+    set_record(s->model_image, 6, 2, directed_key(13), 6, 0);
+    s->model.state.newest = newest;
+    s->model.state.version = 7;
+}
+
+/* Slot 5 has a put of key 9 and slot 6 a later remove of it; slot 4 is above them. The reuse chain begins with `first`. */
+static void older_records(struct set *s, uint32_t first) {
+    set_record(s->model_image, 4, 1, directed_key(12), 7, ORDERSET_ORDER_BYTES);
+    set_record(s->model_image, 5, 1, directed_key(9), 5, 5);
+    set_record(s->model_image, 6, 2, directed_key(9), 6, 0);
+    s->model.state.first = first;
+    s->model.next[first] = 11 - first;
+    s->model.next[11 - first] = 0;
+    s->model.state.last = 11 - first;
+    s->model.state.newest = 4;
+    s->model.state.version = 8;
 }
 
 static void plant(struct set *s, enum fault fault) {
@@ -1676,6 +1840,14 @@ static void plant(struct set *s, enum fault fault) {
     case ONE_LIVE: index->state.live = 1; break;
     case LAST_LINK: index->next[6] = 7 + (uint32_t)below(1000); break;
     case LIVE_ABOVE: index->state.live = 7 + (uint32_t)below(UINT32_MAX - 6u); break;
+    case SPARE_RECORDS: spare_records(s, 6); break;
+    case UNNAMED: spare_records(s, 0); break;
+    case NAMED_ABOVE: spare_records(s, 7 + (uint32_t)below(UINT32_MAX - 6u)); break;
+    case NAMED_OLDER: spare_records(s, 1 + (uint32_t)below(5)); break;
+    case KEPT_NAMED: kept_remove(s), index->state.newest = 6; break;
+    case OLDER_FIRST: older_records(s, 5); break;
+    case OLDER_LAST: older_records(s, 6); break;
+    case NEWEST_FIRST: set_record(image, 5, 1, directed_key(9), 5, 5), index->state.newest = 5; break;
     case TAIL_THEN_BITS: set_tail(image), set_kind_word(image, 3, VALUE_MAX + 1, bits); break;
     default: break;
     }
@@ -1718,6 +1890,7 @@ static uint64_t slots_due(const struct directed *c) {
 static void directed(const struct directed *c, enum which which) {
     uint8_t bytes[128];
     struct set *s = directed_set(c->fault);
+    s->own = s->named = c->fault == SOUND;
     const m_key key = key_of_words(c->key, c->fault == OTHER_HIGH ? 6 : 5);
     const struct request r = {which, key, c->size, bytes, c->size};
     uint64_t before = met[which][c->answer];
@@ -1732,12 +1905,27 @@ static void directed(const struct directed *c, enum which which) {
     default: try_change(s, &r); break;
     }
     if (met[which][c->answer] != before + 1)
-        differ("in directed case %td: the answer is not %u", c - cases, c->answer);
+        differ("in a directed case of fault %d: the answer is not %u", c->fault, c->answer);
     if (1 << which & (IN_WRITE | IN_REMOVE | IN_GET | IN_LOCATE))
         same_number("a directed case's slots compared", compared, slots_due(c));
     if (which == RECOVER && named != slot_at_fault[c->fault])
-        differ("in directed case %td: the slot named is not %" PRIu32, c - cases, slot_at_fault[c->fault]);
+        differ("in a directed case of fault %d: the slot named is not %" PRIu32, c->fault, slot_at_fault[c->fault]);
     close_set(s);
+}
+
+/* All calls of a case, those that write in both families: of the owner's the answer is this. */
+static void directed_calls(const struct directed *c, unsigned own) {
+    struct directed its = *c;
+    its.answer = own;
+    for (unsigned which = 0; which < WHICH; which++)
+        if (c->calls >> which & 1) {
+            family = 0;
+            directed(c, (enum which)which);
+            family = 1;
+            if (IN_OWN >> which & 1)
+                directed(&its, (enum which)which);
+        }
+    family = -1;
 }
 
 /* ---- directed cases of a basket, on the same six slots; of these 5 and 6 are spare */
@@ -1820,6 +2008,24 @@ static const struct basket_case {
     {9, LAST_VERSION, 2, {0, 0}, {{I, 10, 5}, {D, 7, 0}}},
 };
 
+/* and where the owner's call goes by what it reads */
+static const struct own_basket_case {
+    struct basket_case c;
+    unsigned own;
+} own_basket_cases[] = {
+    {{DONE, SPARE_RECORDS, 1, {0, 0}, {{I, 10, 5}}}, DONE},
+    {{28, SPARE_RECORDS, 2, {0, 0}, {{R, 7, 5}, {D, 8, 0}}}, 28},
+    {{DONE, UNNAMED, 1, {0, 0}, {{I, 10, 5}}}, 28},
+    {{DONE, NAMED_ABOVE, 1, {0, 0}, {{R, 7, 5}}}, 28},
+    {{DONE, NAMED_OLDER, 1, {0, 0}, {{D, 8, 0}}}, 28},
+    {{28, KEPT_NAMED, 1, {0, 0}, {{R, 7, 5}}}, DONE},
+    {{28, OLDER_FIRST, 2, {0, 0}, {{R, 7, 5}, {I, 10, 5}}}, 28},
+    {{DONE, OLDER_FIRST, 1, {0, 0}, {{R, 7, 5}}}, DONE},
+    {{28, OLDER_LAST, 2, {0, 0}, {{R, 7, 5}, {D, 11, 0}}}, DONE},
+    {{DONE, NEWEST_FIRST, 1, {0, 0}, {{R, 7, 5}}}, DONE},
+    {{28, NEWEST_FIRST, 2, {0, 0}, {{R, 7, 5}, {D, 11, 0}}}, 28},
+};
+
 static void directed_basket(const struct basket_case *c) {
     struct set *s = directed_set(c->fault);
     uint8_t bytes[ORDERSET_VALUE_MAX];
@@ -1829,11 +2035,21 @@ static void directed_basket(const struct basket_case *c) {
     fill(bytes, sizeof bytes);
     for (size_t i = 0; i < ORDERSET_BASKET_MAX; i++)
         b.item[i] = (struct m_item){c->item[i].kind, directed_key(c->item[i].key), bytes, c->item[i].size};
-    s->own = c->fault == SOUND;
+    s->own = s->named = c->fault == SOUND;
     try_basket(s, &b);
     if (met[BASKET][c->answer] != before + 1)
-        differ("in directed basket %td: the answer is not %u", c - basket_cases, c->answer);
+        differ("in a directed basket of fault %d: the answer is not %u", c->fault, c->answer);
     close_set(s);
+}
+
+static void directed_baskets(const struct basket_case *c, unsigned own) {
+    struct basket_case its = *c;
+    its.answer = own;
+    family = 0;
+    directed_basket(c);
+    family = 1;
+    directed_basket(&its);
+    family = -1;
 }
 
 /* Lines by their mark and stamp, and what is answered: whole, version, and the first and last word for version 9. */
@@ -1979,18 +2195,20 @@ static void all_directed(void) {
     directed_lines();
     directed_groups();
     for (size_t i = 0; i < sizeof basket_cases / sizeof *basket_cases; i++)
-        directed_basket(&basket_cases[i]);
+        directed_baskets(&basket_cases[i], basket_cases[i].answer);
+    for (size_t i = 0; i < sizeof own_basket_cases / sizeof *own_basket_cases; i++)
+        directed_baskets(&own_basket_cases[i].c, own_basket_cases[i].own);
     for (size_t i = 0; i < sizeof cases / sizeof *cases; i++)
-        for (unsigned which = 0; which < WHICH; which++)
-            if (cases[i].calls >> which & 1)
-                directed(&cases[i], (enum which)which);
+        directed_calls(&cases[i], cases[i].answer);
+    for (size_t i = 0; i < sizeof own_cases / sizeof *own_cases; i++)
+        directed_calls(&own_cases[i].c, own_cases[i].own);
 }
 
-/* How often the answer of the rules was met that was met least; 100 is absent, 101 already. */
-static uint64_t least_met(uint64_t times[WHICH][ANSWERS], const char *const rules[WHICH]) {
+/* How often the answer of the rules was met that was met least, of these calls; 100 is absent, 101 already. */
+static uint64_t least_met(uint64_t times[WHICH][ANSWERS], const char *const rules[WHICH], unsigned of) {
     uint64_t least = UINT64_MAX;
     for (int w = 0; w < WHICH; w++)
-        for (char *p = (char *)rules[w]; p && *p;) {
+        for (char *p = of >> w & 1 ? (char *)rules[w] : NULL; p && *p;) {
             uint64_t here = times[w][strtoul(p, &p, 10)];
             least = here < least ? here : least;
         }
@@ -2053,7 +2271,7 @@ static int only_damaged(uint64_t wanted) {
 }
 
 int main(int count, char **word) {
-    uint64_t wanted = count > 2 ? strtoull(word[2], NULL, 10) : CALLS, least, far_least;
+    uint64_t wanted = count > 2 ? strtoull(word[2], NULL, 10) : CALLS, least, far_least, own_least;
     begin_chance(LAYOUT == 1 ? "differential" : "differential of layout 2", count > 1 ? word[1] : NULL);
     for (int i = 0; i < 20; i++)
         all_directed();
@@ -2063,12 +2281,16 @@ int main(int count, char **word) {
         round_of_calls();
     for (unsigned k = 0; k < LARGE; k++)
         large_history(k);
-    least = least_met(met, answers);
-    far_least = least_met(far_met, far_answers);
+    least = least_met(met, answers, UINT_MAX);
+    own_least = least_met(own_met, answers, IN_OWN);
+    far_least = least_met(far_met, far_answers, UINT_MAX);
     printf("%" PRIu64 " calls, %" PRIu64 " of them struck with all 81 pairs of counts, %" PRIu64
            " questions about lines, %" PRIu64 " baskets and %" PRIu64 " that a cut struck, %" PRIu64
            " opening stores, %" PRIu64 " images counted, each answer of the rules at least %" PRIu64 " times, %" PRIu64
-           " with 2 or more slots compared, up to %" PRIu64 ": no difference (%.0f s)\n",
-           calls, strikes, queries, baskets, half_baskets, openings, counted, least, far_least, longest, seconds());
-    return least == 0 || far_least == 0 || baskets == 0 || half_baskets == 0 || openings == 0 || counted == 0;
+           " with 2 or more slots compared, up to %" PRIu64 "; %" PRIu64 " calls by the owner, each answer at least %" PRIu64
+           " times, %" PRIu64 " by both families: no difference (%.0f s)\n",
+           calls, strikes, queries, baskets, half_baskets, openings, counted, least, far_least, longest, own_calls,
+           own_least, both, seconds());
+    return least == 0 || own_least == 0 || far_least == 0 || baskets == 0 || half_baskets == 0 || openings == 0
+           || counted == 0 || both == 0;
 }

@@ -1,6 +1,7 @@
 /* Calls of the layout that the test is built for (layout.h), on lent memory that begins or ends at a page which nobody
  * may touch (pieces.h). What a refused call was lent is
- * compared with what it was. Images and indexes are sound, damaged and garbage; lengths are right and wrong.
+ * compared with what it was. Images and indexes are sound, damaged and garbage; lengths are right and wrong. Each call that
+ * writes is made by one of the two families (orderset.h), by chance.
  *
  *     guard [SEED [CALLS]]
  */
@@ -25,7 +26,9 @@ static const char *const name[WHICH] = {"format",      "recover", "insert",     
 
 static uint64_t already, opened;   /* second acknowledges, stores that open void slots */
 static uint64_t answers[WHICH][2]; /* [0] not refused, [1] refused */
+static uint64_t own_answers[WHICH][2]; /* the same of the calls for the owner of the index */
 static enum which call;
+static int owner; /* the call is one of these */
 
 /* ---- pieces of memory */
 
@@ -60,8 +63,14 @@ const int pieces = PIECES;
 
 /* ---- before and after a call */
 
+/* Is the call there for the owner too? */
+static int is_change(enum which which) {
+    return (which >= INSERT && which <= WITHDRAW) || which == BASKET;
+}
+
 static void begin(enum which which, const int *writable) {
     call = which;
+    owner = is_change(call) ? (int)below(2) : 0;
     begin_call(name[call], writable);
 }
 
@@ -69,6 +78,7 @@ static void begin(enum which which, const int *writable) {
 static uint32_t end(uint64_t code, const int *writable) {
     const uint32_t number = ORDERSET_REFUSAL(code), above = ORDERSET_REFUSED_COMPARED(code);
     answers[call][code != 0]++;
+    own_answers[call][code != 0] += (uint64_t)owner;
     if ((code && !number) || (above && above >= piece[IMAGE].length / ORDERSET_SLOT_BYTES)) {
         show("refusal %" PRIu32 " with %" PRIu32 " above it", number, above);
         exit(1);
@@ -144,25 +154,25 @@ static uint64_t change(m_key key, uint64_t quantity) {
     const size_t length = piece[IMAGE].length;
     switch (call) {
     case INSERT:
-        return SET(insert)(r(IMAGE), length, w(HEADS), heads_length, w(NEXT), next_length, w(STATE), w(VERSION),
+        return SET_BY(owner, insert)(r(IMAGE), length, w(HEADS), heads_length, w(NEXT), next_length, w(STATE), w(VERSION),
                                KEY(key), r(BYTES), piece[BYTES].length, w(AT), w(VALUE), w(ANSWER));
     case REPLACE:
-        return SET(replace)(r(IMAGE), length, w(HEADS), heads_length, w(NEXT), next_length, w(STATE), w(VERSION),
+        return SET_BY(owner, replace)(r(IMAGE), length, w(HEADS), heads_length, w(NEXT), next_length, w(STATE), w(VERSION),
                                 KEY(key), r(BYTES), piece[BYTES].length, w(AT), w(VALUE), w(ANSWER));
     case REMOVE:
-        return SET(remove)(r(IMAGE), length, w(HEADS), heads_length, w(NEXT), next_length, w(STATE), w(VERSION),
+        return SET_BY(owner, remove)(r(IMAGE), length, w(HEADS), heads_length, w(NEXT), next_length, w(STATE), w(VERSION),
                                KEY(key), w(AT), w(VALUE), w(ANSWER));
     case NEW:
-        return SET(book_new)(r(IMAGE), length, w(HEADS), heads_length, w(NEXT), next_length, w(STATE), w(VERSION),
+        return SET_BY(owner, book_new)(r(IMAGE), length, w(HEADS), heads_length, w(NEXT), next_length, w(STATE), w(VERSION),
                                  KEY(key), quantity, w(AT), w(VALUE), w(ANSWER));
     case ACKNOWLEDGE:
-        return SET(book_acknowledge)(r(IMAGE), length, w(HEADS), heads_length, w(NEXT), next_length, w(STATE),
+        return SET_BY(owner, book_acknowledge)(r(IMAGE), length, w(HEADS), heads_length, w(NEXT), next_length, w(STATE),
                                          w(VERSION), KEY(key), w(AT), w(VALUE), w(ANSWER));
     case FILL:
-        return SET(book_fill)(r(IMAGE), length, w(HEADS), heads_length, w(NEXT), next_length, w(STATE), w(VERSION),
+        return SET_BY(owner, book_fill)(r(IMAGE), length, w(HEADS), heads_length, w(NEXT), next_length, w(STATE), w(VERSION),
                                   KEY(key), quantity, w(AT), w(VALUE), w(ANSWER));
     default:
-        return SET(book_withdraw)(r(IMAGE), length, w(HEADS), heads_length, w(NEXT), next_length, w(STATE),
+        return SET_BY(owner, book_withdraw)(r(IMAGE), length, w(HEADS), heads_length, w(NEXT), next_length, w(STATE),
                                       w(VERSION), KEY(key), w(AT), w(VALUE), w(ANSWER));
     }
 }
@@ -222,7 +232,7 @@ static void call_basket(uint64_t keys) {
     fill(w(AT), piece[AT].length);
     fill(w(VALUE), piece[VALUE].length);
     begin(BASKET, writable);
-    if (end(SET(basket)(r(IMAGE), piece[IMAGE].length, w(HEADS), heads_length, w(NEXT), next_length, w(STATE),
+    if (end(SET_BY(owner, basket)(r(IMAGE), piece[IMAGE].length, w(HEADS), heads_length, w(NEXT), next_length, w(STATE),
                         w(VERSION), count, r(KINDS), BASKET_KEYS(r(LOWS), r(HIGHS)), r(LENGTHS), r(VALUES), w(AT),
                         piece[AT].length / 4, w(VALUE), piece[VALUE].length / 8, w(ANSWER)),
             writable))
@@ -401,13 +411,14 @@ static void any_call(uint64_t keys) {
 
 static int all_met(void) {
     for (int i = 0; i < WHICH; i++)
-        if (answers[i][0] == 0 || answers[i][1] == 0)
+        if (answers[i][0] == 0 || answers[i][1] == 0
+            || (is_change((enum which)i) && (own_answers[i][0] == 0 || own_answers[i][1] == 0)))
             return 0;
     return already > 0 && opened > 0;
 }
 
 int main(int count, char **word) {
-    uint64_t wanted = count > 2 ? strtoull(word[2], NULL, 10) : CALLS, refused = 0;
+    uint64_t wanted = count > 2 ? strtoull(word[2], NULL, 10) : CALLS, refused = 0, own = 0;
     begin_chance(LAYOUT == 1 ? "guard" : "guard of layout 2", count > 1 ? word[1] : NULL);
     make_pieces();
     while (calls < wanted) {
@@ -420,10 +431,10 @@ int main(int count, char **word) {
             any_call(keys);
     }
     for (int i = 0; i < WHICH; i++)
-        refused += answers[i][1];
-    printf("%" PRIu64 " calls, %" PRIu64 " of them refused, %" PRIu64
+        refused += answers[i][1], own += own_answers[i][0] + own_answers[i][1];
+    printf("%" PRIu64 " calls, %" PRIu64 " of them refused, %" PRIu64 " by the owner, %" PRIu64
            " opening stores: no fault, nothing changed that may not be (%.0f s)\n",
-           calls, refused, opened, seconds());
+           calls, refused, own, opened, seconds());
     if (!all_met())
         printf("a function was always refused, or never, or no order was acknowledged twice, or no slot was void\n");
     return !all_met();

@@ -4,7 +4,9 @@
 // acknowledged again and filled; a record of a basket that a cut left is opened; a basket is made durable and found, and
 // baskets are refused; the slots are counted. Before the stores of a call are made, and after that, its lines are asked
 // about. In layout 2 two keys that share their low word are inserted, found, and removed by a basket, the slots are
-// counted, and each layout refuses the other's image.
+// counted, and each layout refuses the other's image. All of it by the calls of document 01, and again by those for the
+// owner of the index; the state names a slot of the highest version.
+#include <algorithm>
 #include <cstdio>
 #include <cstring>
 #include <vector>
@@ -25,6 +27,9 @@ uint64_t list_value[ORDERSET_BASKET_STORES(4)], given[ORDERSET_BASKET_ANSWER];
 uint64_t version[1], value[ORDERSET_STORES], answer[ORDERSET_CHANGE_ANSWER], found[ORDERSET_ANSWER];
 uint8_t out[ORDERSET_VALUE_MAX];
 const enum orderset_flush best = orderset_best_flush();
+bool own = false; // by the calls for the owner of the index
+#define BY(name) (own ? orderset_own_##name : orderset_##name)
+#define BY2(name) (own ? orderset2_own_##name : orderset2_##name)
 
 // The stores that recovery hands out are made durable before any other call.
 bool recover(uint32_t voids) {
@@ -33,6 +38,11 @@ bool recover(uint32_t voids) {
                == ORDERSET_OK
            && count[0] == voids
            && orderset_persist_list(image, sizeof image, open_at, open_value, count[0], best) == 0;
+}
+
+// The state names the slot that was taken.
+bool newest_is(uint64_t slot) {
+    return state[ORDERSET_NEWEST] == slot;
 }
 
 bool formats(uint64_t layout) {
@@ -69,23 +79,23 @@ bool opens_void() {
 
 // The stores are made only where the call was accepted and handed some out.
 bool made_durable(uint64_t code) {
-    return code == ORDERSET_OK && answer[0] == ORDERSET_GIVEN
+    return code == ORDERSET_OK && answer[0] == ORDERSET_GIVEN && newest_is(answer[ORDERSET_SLOT])
            && orderset_persist(image, sizeof image, at, value, best) == 0;
 }
 
 uint64_t insert(uint64_t key, const char *text, size_t length) {
-    return orderset_insert(image, sizeof image, heads.data(), heads.size(), next.data(), next.size(), state, version,
-                           key, reinterpret_cast<const uint8_t *>(text), length, at, value, answer);
+    return BY(insert)(image, sizeof image, heads.data(), heads.size(), next.data(), next.size(), state, version, key,
+                      reinterpret_cast<const uint8_t *>(text), length, at, value, answer);
 }
 
 uint64_t replace(uint64_t key, const char *text, size_t length) {
-    return orderset_replace(image, sizeof image, heads.data(), heads.size(), next.data(), next.size(), state, version,
-                            key, reinterpret_cast<const uint8_t *>(text), length, at, value, answer);
+    return BY(replace)(image, sizeof image, heads.data(), heads.size(), next.data(), next.size(), state, version, key,
+                       reinterpret_cast<const uint8_t *>(text), length, at, value, answer);
 }
 
 uint64_t drop(uint64_t key) {
-    return orderset_remove(image, sizeof image, heads.data(), heads.size(), next.data(), next.size(), state, version,
-                           key, at, value, answer);
+    return BY(remove)(image, sizeof image, heads.data(), heads.size(), next.data(), next.size(), state, version, key,
+                      at, value, answer);
 }
 
 bool finds(uint64_t key, const char *text) {
@@ -158,8 +168,8 @@ uint32_t basket(size_t keys, uint32_t first_kind, uint64_t first, uint32_t secon
     uint8_t values[ORDERSET_BASKET_BYTES] = "twin";
     std::memcpy(values + ORDERSET_VALUE_MAX, "second", 6);
     std::memset(list_at, 1, sizeof list_at);
-    return orderset_basket(image, sizeof image, heads.data(), heads.size(), next.data(), next.size(), state, version,
-                           keys, kinds, key, lengths, values, list_at, room, list_value, room, given);
+    return BY(basket)(image, sizeof image, heads.data(), heads.size(), next.data(), next.size(), state, version, keys,
+                      kinds, key, lengths, values, list_at, room, list_value, room, given);
 }
 
 bool basket_refused(uint32_t code, uint32_t number) {
@@ -184,29 +194,31 @@ bool keeps_basket() {
            && basket_durable(basket(2, ORDERSET_INSERT, 30, ORDERSET_INSERT, 31, room + 1), 2)
            && given[ORDERSET_BASKET_VERSION] + 1 == version[0]
            && given[ORDERSET_BASKET_SLOTS] != given[ORDERSET_BASKET_SLOTS + 1] && given[ORDERSET_BASKET_SLOTS + 2] == 0
-           && finds(30, "twin") && finds(31, "second") && recover(0) && finds(30, "twin") && finds(31, "second")
+           && newest_is(given[ORDERSET_BASKET_SLOTS]) && finds(30, "twin") && finds(31, "second") && recover(0)
+           && newest_is(std::max(given[ORDERSET_BASKET_SLOTS], given[ORDERSET_BASKET_SLOTS + 1])) && finds(30, "twin")
+           && finds(31, "second")
            && basket_refused(basket(2, 1, 32, 1, 33, room), ORDERSET_NO_ROOM)
            && basket_durable(basket(1, ORDERSET_REMOVE, 30, 0, 0, room), 1) && finds(30, nullptr)
            && basket_durable(basket(1, ORDERSET_REMOVE, 31, 0, 0, room), 1) && finds(31, nullptr);
 }
 
 uint32_t acknowledge(uint64_t key) {
-    return orderset_book_acknowledge(image, sizeof image, heads.data(), heads.size(), next.data(), next.size(), state,
-                                     version, key, at, value, answer);
+    return BY(book_acknowledge)(image, sizeof image, heads.data(), heads.size(), next.data(), next.size(), state,
+                                version, key, at, value, answer);
 }
 
 uint32_t fill(uint64_t key, uint64_t quantity) {
-    return orderset_book_fill(image, sizeof image, heads.data(), heads.size(), next.data(), next.size(), state, version,
-                              key, quantity, at, value, answer);
+    return BY(book_fill)(image, sizeof image, heads.data(), heads.size(), next.data(), next.size(), state, version, key,
+                         quantity, at, value, answer);
 }
 
 bool keeps_book(uint64_t key) {
-    return made_durable(orderset_book_new(image, sizeof image, heads.data(), heads.size(), next.data(), next.size(),
-                                          state, version, key, 100, at, value, answer))
+    return made_durable(BY(book_new)(image, sizeof image, heads.data(), heads.size(), next.data(), next.size(), state,
+                                     version, key, 100, at, value, answer))
            && made_durable(acknowledge(key)) && acknowledge(key) == ORDERSET_OK && answer[0] == ORDERSET_ALREADY
            && fill(key, 101) == ORDERSET_BAD_QUANTITY && made_durable(fill(key, 100))
-           && orderset_book_withdraw(image, sizeof image, heads.data(), heads.size(), next.data(), next.size(), state,
-                                     version, key, at, value, answer)
+           && BY(book_withdraw)(image, sizeof image, heads.data(), heads.size(), next.data(), next.size(), state,
+                                version, key, at, value, answer)
                   == ORDERSET_NO_ORDER
            && orderset_locate(image, sizeof image, heads.data(), heads.size(), next.data(), next.size(), key, answer)
                   == ORDERSET_OK
@@ -221,8 +233,8 @@ uint64_t recover2() {
 }
 
 uint64_t insert2(uint64_t high, const char *text, size_t length) {
-    return orderset2_insert(image, sizeof image, heads.data(), heads.size(), next.data(), next.size(), state, version, 7,
-                            high, reinterpret_cast<const uint8_t *>(text), length, at, value, answer);
+    return BY2(insert)(image, sizeof image, heads.data(), heads.size(), next.data(), next.size(), state, version, 7,
+                       high, reinterpret_cast<const uint8_t *>(text), length, at, value, answer);
 }
 
 bool finds2(uint64_t high, const char *text, uint64_t compared) {
@@ -242,8 +254,8 @@ bool drops_both() {
     const size_t lengths[ORDERSET_BASKET_MAX] = {0, 0};
     const uint8_t values[ORDERSET_BASKET_BYTES] = {0};
     const size_t stores = ORDERSET_BASKET_STORES(2);
-    return orderset2_basket(image, sizeof image, heads.data(), heads.size(), next.data(), next.size(), state, version, 2,
-                            kinds, lows, highs, lengths, values, list_at, stores, list_value, stores, given)
+    return BY2(basket)(image, sizeof image, heads.data(), heads.size(), next.data(), next.size(), state, version, 2,
+                       kinds, lows, highs, lengths, values, list_at, stores, list_value, stores, given)
                == ORDERSET_OK
            && orderset_persist_list(image, sizeof image, list_at, list_value, stores, best) == 0;
 }
@@ -262,22 +274,28 @@ bool keeps_second_layout() {
            && finds2(3, nullptr, 2) && recover2() == ORDERSET_OK && finds2(1, "buy", 1) && finds2(2, "sell", 2)
            && counts_by(orderset2_count_slots, {2, 0, 0, 0, 0, 2}) && drops_both() && finds2(1, nullptr, 0)
            && counts_by(orderset2_count_slots, {0, 2, 2, 0, 0, 0})
-           && made_durable(orderset2_book_new(image, sizeof image, heads.data(), heads.size(), next.data(), next.size(),
-                                              state, version, 7, 9, 100, at, value, answer))
-           && made_durable(orderset2_book_withdraw(image, sizeof image, heads.data(), heads.size(), next.data(),
-                                                   next.size(), state, version, 7, 9, at, value, answer));
+           && made_durable(BY2(book_new)(image, sizeof image, heads.data(), heads.size(), next.data(), next.size(),
+                                         state, version, 7, 9, 100, at, value, answer))
+           && made_durable(BY2(book_withdraw)(image, sizeof image, heads.data(), heads.size(), next.data(), next.size(),
+                                              state, version, 7, 9, at, value, answer));
+}
+
+bool keeps_all() {
+    return start() && opens_void() && start() && made_durable(insert(7, "buy", 3)) && finds(7, "buy")
+           && refused_stores_nothing("buy") && replace(7, "sell", 4) == ORDERSET_OK
+           && lines_foretell() && made_durable(ORDERSET_OK) && lines_tell() && finds(7, "sell")
+           && refused_stores_nothing("sell")
+           && reports_compared() && counts(1, 2, 1, 0, 0, 0) && made_durable(drop(7)) && finds(7, nullptr)
+           && drop(7) == ORDERSET_OK && answer[0] == ORDERSET_ABSENT && keeps_book(9) && keeps_basket()
+           && keeps_second_layout();
 }
 
 }
 
 int main() {
-    const bool good = start() && opens_void() && start() && made_durable(insert(7, "buy", 3)) && finds(7, "buy")
-                      && refused_stores_nothing("buy")
-                      && replace(7, "sell", 4) == ORDERSET_OK && lines_foretell() && made_durable(ORDERSET_OK)
-                      && lines_tell() && finds(7, "sell") && refused_stores_nothing("sell")
-                      && reports_compared() && counts(1, 2, 1, 0, 0, 0) && made_durable(drop(7)) && finds(7, nullptr)
-                      && drop(7) == ORDERSET_OK && answer[0] == ORDERSET_ABSENT && keeps_book(9) && keeps_basket()
-                      && keeps_second_layout();
+    bool good = keeps_all();
+    own = true;
+    good = good && keeps_all();
     std::printf("header: a set through the headers in C++: %s\n", good ? "as it should be" : "NOT SO");
     return good ? 0 : 1;
 }

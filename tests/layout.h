@@ -27,6 +27,9 @@ enum { VALUE_MAX = ORDERSET2_VALUE_MAX };
 #define BASKET_KEYS(lows, highs) (lows), (highs)
 #endif
 
+/* The call of either family: the one for the owner of its index, or the one of document 01. */
+#define SET_BY(own, call) ((own) ? SET(own_##call) : SET(call))
+
 /* Where the kind word and the value's first word stand in a slot, and how many of the value's bytes are in line A. Document
  * 02, A.11: "Layout 2 has the key in words 1 and 2 of line A, the kind word in word 3, and a value .. from word 4 on". */
 enum { KIND_WORD = LAYOUT + 1, VALUE_WORD = LAYOUT + 2, FRONT = 8 * (7 - VALUE_WORD) };

@@ -1,5 +1,6 @@
 /* The order set of document 01 as document 02 changes it (A.2, A.4 to A.8, A.11, A.12), and its order book (A.1), as a
- * plain program. The quotations are their sentences. */
+ * plain program. The quotations are their sentences. A parameter `own` tells that a call is the one for the owner of its
+ * index, which no sentence of theirs names: it differs in the slots that may be taken and in the slot that is. */
 #include "model.h"
 
 #include <stdlib.h>
@@ -230,6 +231,16 @@ static uint32_t judge(struct slot *slot, const struct entry *valid, uint32_t cou
     return count;
 }
 
+/* The newest slot: of the valid ones the last by version and slot number; without any the last empty one, or else the last. */
+static uint32_t newest_of(const struct slot *slot, uint32_t n, const struct entry *valid, uint32_t count) {
+    uint32_t s = n;
+    if (count)
+        return valid[count - 1].slot;
+    while (s > 0 && slot[s].kind != EMPTY)
+        s--;
+    return s ? s : n;
+}
+
 /* "Recovery shall name the lowest slot at fault and what in it" */
 static struct m_recovered recover_slots(struct slot *slot, uint32_t n, struct entry *valid, uint8_t *live, struct m_index *index) {
     uint32_t count = 0;
@@ -259,7 +270,7 @@ static struct m_recovered recover_slots(struct slot *slot, uint32_t n, struct en
         return no(8, 0);
     build(slot, n, valid, count, live, index);
     index->state.live = found;
-    index->state.newest = 0;
+    index->state.newest = newest_of(slot, n, valid, count);
     index->state.version = highest + 1;
     return no(0, 0);
 }
@@ -357,34 +368,51 @@ static uint64_t valid_version(const uint8_t *image, uint32_t s) {
     return m_word(slot, 0) == (a & 1) && m_word(slot, 8) == (b & 1) && a >> 1 == b >> 1 ? a >> 1 : 0;
 }
 
+/* slot t has an older valid record of the key of slot s */
+static int is_older(const uint8_t *image, uint32_t t, uint32_t s) {
+    const uint64_t version = valid_version(image, t);
+    return version && m_key_in(image, t) == m_key_in(image, s) && version < valid_version(image, s);
+}
+
+/* the version on line A of the slot that the state names as the newest, 0 where the image has no such slot */
+static uint64_t named_version(const uint8_t *image, uint32_t n, uint32_t newest) {
+    return newest > n ? 0 : m_word(image, 16 * (size_t)newest + 7) >> 1;
+}
+
 /* "No call, single ones included, takes a slot of the highest valid version, or a remove record while an older valid record of its key remains in the image the
- * call is given" */
-int m_may_take(const uint8_t *image, uint32_t n, uint32_t s) {
+ * call is given". The owner's call goes by the version of the slot that the state names, and looks for an older record in the `found` slots taken before. */
+static int may_take(int own, const uint8_t *image, uint32_t n, uint32_t s, uint32_t newest, const uint32_t *taken, uint32_t found) {
     const uint64_t version = valid_version(image, s);
-    const m_key key = m_key_in(image, s);
     uint32_t t = 1;
     if (version == 0)
         return 1;
-    while (t <= n && valid_version(image, t) <= version)
+    while (!own && t <= n && valid_version(image, t) <= version)
         t++;
-    if (t > n)
+    if (own ? version >= named_version(image, n, newest) : t > n)
         return 0;
     if (image[128 * (size_t)s + 8 * KIND_WORD] != 2)
         return 1;
-    for (t = 1; t <= n; t++)
-        if (m_key_in(image, t) == key && valid_version(image, t) && valid_version(image, t) < version)
+    for (uint32_t i = 0; i < (own ? found : n); i++)
+        if (is_older(image, own ? taken[i] : i + 1, s))
             return 0;
     return 1;
 }
 
+int m_may_take(const uint8_t *image, uint32_t n, uint32_t slot) {
+    return may_take(0, image, n, slot, 0, NULL, 0);
+}
+
 /* "it takes the first others in the reuse chain": `wanted` of them. "11 .. covers a link above N met from the chain's first through the last slot taken, that slot's
  * own included, or a nonzero one after N slots; a slot met twice counts twice"; "28 when too few slots may be taken" */
-static int follow_reuse(const uint8_t *image, uint32_t n, const struct m_index *index, uint32_t wanted, uint32_t *taken) {
-    uint32_t at = index->state.first;
+static int follow_reuse(int own, const uint8_t *image, uint32_t n, const struct m_index *index, uint32_t wanted, uint32_t *taken, uint32_t *before) {
+    uint32_t at = index->state.first, stays = 0;
     for (uint32_t met = 1, found = 0;; met++) {
         uint32_t after = index->next[at];
-        if (m_may_take(image, n, at))
+        if (may_take(own, image, n, at, index->state.newest, taken, found)) {
+            before[found] = stays;
             taken[found++] = at;
+        } else
+            stays = at;
         if (after > n || (met == n && after))
             return 11;
         if (found == wanted)
@@ -397,13 +425,14 @@ static int follow_reuse(const uint8_t *image, uint32_t n, const struct m_index *
 
 /* "11 when the reuse chain's first or last slot is zero or above N"; "11 (reuse, or fewer live than are removed) now stands whole before 28"; "28 when too few
  * slots may be taken or, by the live count, no spare slot would be left .. before 9" */
-static int refuse_slots(const uint8_t *image, uint32_t n, const struct m_index *index, uint32_t inserts, uint32_t removes, uint32_t wanted, uint32_t *taken) {
+static int refuse_slots(int own, const uint8_t *image, uint32_t n, const struct m_index *index, uint32_t inserts, uint32_t removes, uint32_t wanted,
+                        uint32_t *taken, uint32_t *before) {
     const struct m_state *s = &index->state;
     if (s->first == 0 || s->first > n || s->last == 0 || s->last > n)
         return 11;
     if (s->live < removes)
         return 11;
-    int refusal = follow_reuse(image, n, index, wanted, taken);
+    int refusal = follow_reuse(own, image, n, index, wanted, taken, before);
     if (refusal)
         return refusal;
     if ((uint64_t)s->live + inserts - removes >= n)
@@ -513,7 +542,8 @@ void m_basket_stores(const uint8_t *image, const struct m_item item[8], size_t c
 }
 
 /* "It answers its version and slots" */
-struct m_basket m_basket(const uint8_t *image, size_t length, const struct m_index *index, const struct m_item item[8], size_t count, size_t places, size_t values) {
+struct m_basket m_basket(int own, const uint8_t *image, size_t length, const struct m_index *index, const struct m_item item[8], size_t count, size_t places,
+                         size_t values) {
     const uint32_t n = m_slots(length);
     struct m_basket b = {.refusal = refuse_given(item, count, places, values)};
     uint32_t inserts = 0, removes = 0;
@@ -526,7 +556,7 @@ struct m_basket m_basket(const uint8_t *image, size_t length, const struct m_ind
         removes += item[i].kind == 3;
     }
     if (!b.refusal)
-        b.refusal = refuse_slots(image, n, index, inserts, removes, (uint32_t)count, b.slot);
+        b.refusal = refuse_slots(own, image, n, index, inserts, removes, (uint32_t)count, b.slot, b.before);
     if (b.refusal)
         return (struct m_basket){.refusal = b.refusal};
     b.version = index->state.version;
@@ -534,11 +564,8 @@ struct m_basket m_basket(const uint8_t *image, size_t length, const struct m_ind
     return b;
 }
 
-/* The slot leaves the reuse chain, wherever it stands there. */
-static void leave_reuse(struct m_index *index, uint32_t slot) {
-    uint32_t before = 0;
-    for (uint32_t at = index->state.first; at != slot; at = index->next[at])
-        before = at;
+/* The slot leaves the reuse chain, where it stands after `before`. */
+static void leave_reuse(struct m_index *index, uint32_t slot, uint32_t before) {
     if (before)
         index->next[before] = index->next[slot];
     else
@@ -547,11 +574,14 @@ static void leave_reuse(struct m_index *index, uint32_t slot) {
         index->state.last = before;
 }
 
-/* The slot before `slot` in the chain of the key's head, or the chain's last slot where that is 0; 0: the head. */
-static uint32_t before_in_chain(const struct m_index *index, m_key key, uint32_t slot) {
-    uint32_t before = 0;
-    for (uint32_t at = index->heads[m_head(key, index->heads_length)]; at != slot; at = index->next[at])
+/* The slot before `slot` in the chain of the key's head, or the chain's last slot where that is 0; 0: the head. Of an index that is not the image's own the
+ * search ends at a link that is 0 or above N, and after N links. */
+static uint32_t before_in_chain(const struct m_index *index, uint32_t n, m_key key, uint32_t slot) {
+    uint32_t before = 0, at = index->heads[m_head(key, index->heads_length)];
+    for (uint32_t left = n; left > 0 && at != slot && at != 0 && at <= n; left--) {
         before = at;
+        at = index->next[at];
+    }
     return before;
 }
 
@@ -563,9 +593,9 @@ void m_basket_index(const uint8_t *image, size_t length, struct m_index *index, 
         index->state.live += (uint32_t)(item[i].kind == 1) - (uint32_t)(item[i].kind == 3);
     }
     for (uint32_t i = 0; i < count; i++)
-        leave_reuse(index, basket->slot[i]);
+        leave_reuse(index, basket->slot[i], basket->before[i]);
     for (uint32_t i = 0; i < count; i++) {
-        uint32_t slot = basket->slot[i], before = before_in_chain(index, item[i].key, old[i]);
+        uint32_t slot = basket->slot[i], before = before_in_chain(index, m_slots(length), item[i].key, old[i]);
         if (item[i].kind != 3)
             index->next[slot] = old[i] ? index->next[old[i]] : 0;
         link_after(index, item[i].key, before, item[i].kind == 3 ? index->next[old[i]] : slot);
@@ -583,12 +613,15 @@ static struct m_change refuse(int number, uint32_t compared) {
 }
 
 /* A call that writes one record and inserts or removes so many keys: its refusals after those of its key, or its slot and stores. The slot is taken from the index
- * where it is the reuse chain's first, as it is "with an index .. the image's own"; otherwise "only refusals are fixed". */
-static struct m_change change(const uint8_t *image, uint32_t n, struct m_index *index, const struct m_record *r, uint32_t inserts, uint32_t removes, uint32_t compared) {
-    uint32_t slot;
-    int refusal = refuse_slots(image, n, index, inserts, removes, 1, &slot);
+ * where it is the reuse chain's first, as it is "with an index .. the image's own"; otherwise "only refusals are fixed". The owner's call takes the first. */
+static struct m_change change(int own, const uint8_t *image, uint32_t n, struct m_index *index, const struct m_record *r, uint32_t inserts, uint32_t removes,
+                              uint32_t compared) {
+    uint32_t slot, before;
+    int refusal = refuse_slots(own, image, n, index, inserts, removes, 1, &slot, &before);
     if (refusal)
         return refuse(refusal, compared);
+    if (own)
+        slot = index->state.first;
     struct m_change c = {.version = index->state.version, .compared = compared, .slot = slot};
     if (slot != index->state.first) {
         c.free = 1;
@@ -612,14 +645,14 @@ static struct walk walk_for_value(const uint8_t *image, size_t length, const str
 }
 
 /* "20 when insert meets a held key .. straight after the chain check" */
-struct m_change m_insert(const uint8_t *image, size_t length, struct m_index *index, m_key key, const uint8_t *bytes, size_t size) {
+struct m_change m_insert(int own, const uint8_t *image, size_t length, struct m_index *index, m_key key, const uint8_t *bytes, size_t size) {
     struct walk walk = walk_for_value(image, length, index, key, size);
     uint32_t n = m_slots(length);
     if (walk.refusal)
         return refuse(walk.refusal, 0);
     if (walk.slot)
         return refuse(20, walk.compared);
-    struct m_change c = change(image, n, index, &(struct m_record){1, key, bytes, size}, 1, 0, walk.compared);
+    struct m_change c = change(own, image, n, index, &(struct m_record){1, key, bytes, size}, 1, 0, walk.compared);
     if (c.refusal || c.free)
         return c;
     index->next[c.slot] = 0;
@@ -628,13 +661,13 @@ struct m_change m_insert(const uint8_t *image, size_t length, struct m_index *in
 }
 
 /* "21 when replace meets an unheld one .. straight after the chain check" */
-struct m_change m_replace(const uint8_t *image, size_t length, struct m_index *index, m_key key, const uint8_t *bytes, size_t size) {
+struct m_change m_replace(int own, const uint8_t *image, size_t length, struct m_index *index, m_key key, const uint8_t *bytes, size_t size) {
     struct walk walk = walk_for_value(image, length, index, key, size);
     if (walk.refusal)
         return refuse(walk.refusal, 0);
     if (!walk.slot)
         return refuse(21, walk.compared);
-    struct m_change c = change(image, m_slots(length), index, &(struct m_record){1, key, bytes, size}, 0, 0, walk.compared);
+    struct m_change c = change(own, image, m_slots(length), index, &(struct m_record){1, key, bytes, size}, 0, 0, walk.compared);
     if (c.refusal || c.free)
         return c;
     index->next[c.slot] = index->next[walk.slot];
@@ -643,7 +676,7 @@ struct m_change m_replace(const uint8_t *image, size_t length, struct m_index *i
     return c;
 }
 
-struct m_change m_remove(const uint8_t *image, size_t length, struct m_index *index, m_key key) {
+struct m_change m_remove(int own, const uint8_t *image, size_t length, struct m_index *index, m_key key) {
     int refusal = refuse_lent(image, length, index->heads_length, index->next_length);
     if (refusal)
         return refuse(refusal, 0);
@@ -653,7 +686,7 @@ struct m_change m_remove(const uint8_t *image, size_t length, struct m_index *in
         return refuse(walk.refusal, 0);
     if (!walk.slot)
         return (struct m_change){.absent = 1, .compared = walk.compared};
-    struct m_change c = change(image, n, index, &(struct m_record){2, key, (const uint8_t *)"", 0}, 0, 1, walk.compared);
+    struct m_change c = change(own, image, n, index, &(struct m_record){2, key, (const uint8_t *)"", 0}, 0, 1, walk.compared);
     if (c.refusal || c.free)
         return c;
     link_after(index, key, walk.before, index->next[walk.slot]);
@@ -723,14 +756,14 @@ static void set_bytes(uint8_t bytes[24], struct order o) {
 }
 
 /* "The book's steps use the one they mean": acknowledge and fill, whose key is held, replace */
-static struct m_change replace_order(const uint8_t *image, size_t length, struct m_index *index, m_key key, struct order o) {
+static struct m_change replace_order(int own, const uint8_t *image, size_t length, struct m_index *index, m_key key, struct order o) {
     uint8_t bytes[24];
     set_bytes(bytes, o);
-    return m_replace(image, length, index, key, bytes, sizeof bytes);
+    return m_replace(own, image, length, index, key, bytes, sizeof bytes);
 }
 
 /* "17 when a new order's key is held", "19 when a new quantity is zero" */
-struct m_change m_new(const uint8_t *image, size_t length, struct m_index *index, m_key key, uint64_t quantity) {
+struct m_change m_new(int own, const uint8_t *image, size_t length, struct m_index *index, m_key key, uint64_t quantity) {
     uint8_t bytes[24];
     struct m_place place = m_locate(image, length, index, key);
     if (place.refusal)
@@ -740,11 +773,11 @@ struct m_change m_new(const uint8_t *image, size_t length, struct m_index *index
     if (quantity == 0)
         return refuse(19, 0);
     set_bytes(bytes, (struct order){0, 1, quantity, 0});
-    return m_insert(image, length, index, key, bytes, sizeof bytes);
+    return m_insert(own, image, length, index, key, bytes, sizeof bytes);
 }
 
 /* "A second acknowledge stores nothing and, before any later check, answers the order's present slot and its line A's version" */
-struct m_change m_acknowledge(const uint8_t *image, size_t length, struct m_index *index, m_key key) {
+struct m_change m_acknowledge(int own, const uint8_t *image, size_t length, struct m_index *index, m_key key) {
     struct order o = order_of(image, length, index, key);
     if (o.refusal)
         return refuse(o.refusal, 0);
@@ -753,11 +786,11 @@ struct m_change m_acknowledge(const uint8_t *image, size_t length, struct m_inde
         return (struct m_change){.already = 1, .slot = place.slot, .version = place.version};
     }
     o.state = 2;
-    return replace_order(image, length, index, key, o);
+    return replace_order(own, image, length, index, key, o);
 }
 
 /* "19 when .. a fill is zero or more than is open", "Fill and withdraw serve either state and keep it", "A .. fully filled order is removed" */
-struct m_change m_fill(const uint8_t *image, size_t length, struct m_index *index, m_key key, uint64_t quantity) {
+struct m_change m_fill(int own, const uint8_t *image, size_t length, struct m_index *index, m_key key, uint64_t quantity) {
     struct order o = order_of(image, length, index, key);
     if (o.refusal)
         return refuse(o.refusal, 0);
@@ -765,15 +798,15 @@ struct m_change m_fill(const uint8_t *image, size_t length, struct m_index *inde
     if (quantity == 0 || quantity > open)
         return refuse(19, 0);
     if (quantity == open)
-        return m_remove(image, length, index, key);
+        return m_remove(own, image, length, index, key);
     o.filled += quantity;
-    return replace_order(image, length, index, key, o);
+    return replace_order(own, image, length, index, key, o);
 }
 
 /* "A withdrawn .. order is removed" */
-struct m_change m_withdraw(const uint8_t *image, size_t length, struct m_index *index, m_key key) {
+struct m_change m_withdraw(int own, const uint8_t *image, size_t length, struct m_index *index, m_key key) {
     struct order o = order_of(image, length, index, key);
-    return o.refusal ? refuse(o.refusal, 0) : m_remove(image, length, index, key);
+    return o.refusal ? refuse(o.refusal, 0) : m_remove(own, image, length, index, key);
 }
 
 /* ---- play */

@@ -9,7 +9,7 @@
 #include "layout.h"
 
 struct m_state {
-    uint32_t first, last, live, newest; /* newest: the slot that the last call took, 0 for none since recovery */
+    uint32_t first, last, live, newest; /* newest: a slot of the highest version among the valid ones */
     uint64_t version;
 };
 
@@ -47,11 +47,11 @@ struct m_item {
     size_t size;
 };
 
-/* What a basket answers: a refusal, or its version, slots and stores, sixteen for each key. */
+/* What a basket answers: a refusal, or its version, slots and stores, sixteen for each key; and where the slots stood. */
 struct m_basket {
     int refusal;
     uint64_t version;
-    uint32_t slot[8];
+    uint32_t slot[8], before[8]; /* before: the slot before it in the reuse chain that stays there, 0 for none */
     struct m_store store[128];
 };
 
@@ -83,15 +83,17 @@ int m_format(uint8_t *image, size_t length, uint64_t layout);
 struct m_recovered m_recover(const uint8_t *image, size_t length, struct m_index *index);
 /* Of an image that recovery accepted: live slots, hidden puts, remove records, void, broken and empty slots. */
 void m_count(const uint8_t *image, size_t length, const struct m_recovered *recovered, uint64_t count[6]);
-struct m_change m_insert(const uint8_t *image, size_t length, struct m_index *index, m_key key, const uint8_t *bytes, size_t size);
-struct m_change m_replace(const uint8_t *image, size_t length, struct m_index *index, m_key key, const uint8_t *bytes, size_t size);
-struct m_change m_remove(const uint8_t *image, size_t length, struct m_index *index, m_key key);
+/* own: the call is the one for the owner of its index, which is no call of document 01. Of an index that is the image's own it is the same call; of another it
+ * goes by the definitions of the crates taking and calls (ownTaking), with all that it answers, hands out and leaves. */
+struct m_change m_insert(int own, const uint8_t *image, size_t length, struct m_index *index, m_key key, const uint8_t *bytes, size_t size);
+struct m_change m_replace(int own, const uint8_t *image, size_t length, struct m_index *index, m_key key, const uint8_t *bytes, size_t size);
+struct m_change m_remove(int own, const uint8_t *image, size_t length, struct m_index *index, m_key key);
 struct m_got m_get(const uint8_t *image, size_t length, const struct m_index *index, m_key key, uint8_t *out, size_t room);
 struct m_place m_locate(const uint8_t *image, size_t length, const struct m_index *index, m_key key);
-struct m_change m_new(const uint8_t *image, size_t length, struct m_index *index, m_key key, uint64_t quantity);
-struct m_change m_acknowledge(const uint8_t *image, size_t length, struct m_index *index, m_key key);
-struct m_change m_fill(const uint8_t *image, size_t length, struct m_index *index, m_key key, uint64_t quantity);
-struct m_change m_withdraw(const uint8_t *image, size_t length, struct m_index *index, m_key key);
+struct m_change m_new(int own, const uint8_t *image, size_t length, struct m_index *index, m_key key, uint64_t quantity);
+struct m_change m_acknowledge(int own, const uint8_t *image, size_t length, struct m_index *index, m_key key);
+struct m_change m_fill(int own, const uint8_t *image, size_t length, struct m_index *index, m_key key, uint64_t quantity);
+struct m_change m_withdraw(int own, const uint8_t *image, size_t length, struct m_index *index, m_key key);
 
 /* what is asked of a line of 64 bytes, and answered in 8; version: of M_FIRST and M_LAST */
 enum m_query { M_WHOLE, M_VERSION, M_FIRST, M_LAST };
@@ -100,16 +102,17 @@ int m_line(enum m_query query, const uint8_t *line, size_t length, uint64_t vers
 int m_play(uint8_t *image, size_t length, const uint32_t at[16], const uint64_t value[16], size_t a, size_t b);
 int m_play_list(uint8_t *bytes, size_t length, const uint32_t *at, size_t places, const uint64_t *value, size_t values);
 
-/* May a call take the slot? */
+/* May a call of document 01 take the slot? */
 int m_may_take(const uint8_t *image, uint32_t n, uint32_t slot);
 
 /* A basket of the first `count` of eight items; places and values: the lengths of the two lists that it is lent. The index stays as it is. */
-struct m_basket m_basket(const uint8_t *image, size_t length, const struct m_index *index, const struct m_item item[8], size_t count, size_t places, size_t values);
+struct m_basket m_basket(int own, const uint8_t *image, size_t length, const struct m_index *index, const struct m_item item[8], size_t count, size_t places,
+                         size_t values);
 
 /* Its stores, by its version and slots. */
 void m_basket_stores(const uint8_t *image, const struct m_item item[8], size_t count, struct m_basket *basket);
 
-/* Its changes of an index that is the image's own, where it is not refused. */
+/* Its changes of the index, where it is not refused: of an index that is the image's own, and of any index where it is the owner's call. */
 void m_basket_index(const uint8_t *image, size_t length, struct m_index *index, const struct m_item item[8], uint32_t count, const struct m_basket *basket);
 
 /* "the key in words 1 and 2 of line A"; its head is "word 1 mod B" */

@@ -55,8 +55,11 @@ exchange='s/line \+ 0, value\[0\]/line + 8, value[8]/; s/line \+ 7, value\[7\]/l
     s/line \+ 8, value\[8\]/line + 7, value[7]/'
 
 fault header 'a store is left out' $header '/orderset_store\(line \+ 1,/d' 'NOT SO'
-fault header 'a held key is inserted' tests/header.cc 's/orderset_replace\(/orderset_insert(/' 'NOT SO'
-fault header 'a key that is not held is replaced' tests/header.cc 's/orderset_insert\(/orderset_replace(/' 'NOT SO'
+fault header 'a held key is inserted' tests/header.cc 's/BY\(replace\)\(/BY(insert)(/' 'NOT SO'
+fault header 'a key that is not held is replaced' tests/header.cc 's/BY\(insert\)\(/BY(replace)(/' 'NOT SO'
+fault header 'an owner that holds a key inserts it' tests/header.cc \
+    's/return BY\(replace\)\(/return (own ? orderset_own_insert : orderset_replace)(/' 'NOT SO'
+fault header 'recovery is to name the lower slot of a basket' tests/header.cc 's/std::max\(/std::min(/' 'NOT SO'
 fault header 'the count of a refusal is not looked for' tests/header.cc \
     's/ORDERSET_REFUSED_COMPARED\(code\) == compared/(code >> 32) == 0/' 'NOT SO'
 fault header 'the result is kept in 32 bits' tests/header.cc 's/refused\(uint64_t code/refused(uint32_t code/' \
@@ -216,13 +219,18 @@ fault storm 'a basket that inserts a held key should be done' tests/storm.c \
     's/return is_held \? ORDERSET_INSERT_HELD/return is_held ? ORDERSET_OK/' 'LOST a basket of [0-9]+ keys answers 20'
 fault storm 'too few slots that may be taken are not looked at' tests/storm.c 's/to_take\(\) < asked.count \|\| //' \
     'LOST a basket of [0-9]+ keys answers 28'
-fault storm 'every slot may be taken' tests/model.c '/^int m_may_take/,/^}/s/if \(version == 0\)/if (n > 0)/' \
+fault storm 'every slot may be taken' tests/model.c '/^static int may_take/,/^}/s/if \(version == 0\)/if (n > 0)/' \
     'LOST a basket of [0-9]+ keys answers 28'
 fault storm 'one line of a basket is not flushed' $header "${list}s/if \(line != last\)/if (line != last \&\& i > 0)/" 'LOST key'
 fault storm 'an insert of a held key should be done' tests/storm.c \
     's/return ORDERSET_INSERT_HELD;/return ORDERSET_OK;/' 'LOST a call of key [0-9a-f:]+ answers 20'
 fault storm 'a replace of a key that is not held should be done' tests/storm.c 's/ORDERSET_NOT_HELD;/ORDERSET_OK;/' \
     'LOST a call of key [0-9a-f:]+ answers 21'
+fault storm 'a start loses the newest slot' tests/storm.c \
+    '/^static void recover\(/,/^}/s/^    check\(\);/    state[ORDERSET_NEWEST] = 0;\n&/' 'LOST a (call of key [0-9a-f:]+|basket of [0-9]+ keys) answers 28'
+fault storm 'the newest slot stays that of the start' tests/storm.c \
+    's/^    const int own = any_family\(\);/    static uint32_t first;\n    if (version[0] % 7 == 0)\n        first = state[ORDERSET_NEWEST];\n    state[ORDERSET_NEWEST] = first;\n&/' \
+    'LOST'
 fault storm 'the count of a refusal is lost' tests/storm.c 's/code \? ORDERSET_REFUSED_COMPARED\(code\)/code ? 0/' \
     'LOST count: key [0-9a-f:]+, 0 slots compared'
 
@@ -251,6 +259,9 @@ fault kills 'a basket with a refused item is carried out' $gateway \
     "NOT SO: the answer is 'no 1[789]: '"
 fault kills 'void slots are not opened' $gateway 's/^ +open_voids\(s, path, writing\);//' \
     'NOT SO: (key|an order that was never sent|the answer is|the gateway (recovers|runs)|recovery takes)'
+fault kills 'a start loses the newest slot' $gateway \
+    '/^static void start\(/,/^}/s/^    open_voids\(s, path, writing\);/&\n    s->state[ORDERSET_NEWEST] = 0;/' \
+    "NOT SO: the answer is .*no 28"
 fault kills 'the directory of a new file is not synced' $gateway '/^static void make\(/,/^}/s/sync_name\(path\);//' \
     'NOT SO: the directory of a new file'
 
@@ -262,6 +273,11 @@ fault guard 'the value of an insert one byte longer' tests/guard.c \
     '/case INSERT:/,/case REPLACE:/s/piece\[BYTES\].length/& + 1/' 'NOT SO: signal 11: bytes is touched'
 fault guard 'the value of a replace one byte longer' tests/guard.c \
     '/case REPLACE:/,/case REMOVE:/s/piece\[BYTES\].length/& + 1/' 'NOT SO: signal 11: bytes is touched'
+fault guard "the value of an owner's insert one byte longer" tests/guard.c \
+    '/case INSERT:/,/case REPLACE:/s/piece\[BYTES\].length/& + (size_t)owner/' 'NOT SO: signal 11: bytes is touched'
+fault guard "a refused remove of the owner's changes the state" tests/guard.c \
+    's/return SET_BY\(owner, remove\)\(/return (*(uint8_t *)w(STATE) += (uint8_t)owner, SET_BY(owner, remove))(/' \
+    'NOT SO: state changed, by a (refused|call that stores nothing)'
 fault guard 'the answer of a get one word shorter' tests/guard.c 's/return ORDERSET_ANSWER;/return 2;/' \
     'NOT SO: (signal 11: answer is touched|answer changed, after what was lent)'
 fault guard 'the answer of an insert one word shorter' tests/guard.c 's/return ORDERSET_CHANGE_ANSWER;/return 3;/' \
@@ -281,10 +297,10 @@ fault guard 'a call writes what it may only read' tests/guard.c \
 fault guard 'a refused call changes the state' tests/guard.c \
     's/if \(end\(SET\(recover\)\(/if ((++*(uint8_t *)w(STATE), end)(SET(recover)(/' 'NOT SO: state changed, by a refused'
 fault guard 'a refused insert changes the version' tests/guard.c \
-    's/return SET\(insert\)\(/return (++*(uint8_t *)w(VERSION), SET(insert))(/' \
+    's/return SET_BY\(owner, insert\)\(/return (++*(uint8_t *)w(VERSION), SET_BY(owner, insert))(/' \
     'NOT SO: version changed, by a refused'
 fault guard 'a refused replace changes the version' tests/guard.c \
-    's/return SET\(replace\)\(/return (++*(uint8_t *)w(VERSION), SET(replace))(/' \
+    's/return SET_BY\(owner, replace\)\(/return (++*(uint8_t *)w(VERSION), SET_BY(owner, replace))(/' \
     'NOT SO: version changed, by a refused'
 
 fault guard 'in a basket word numbers one longer than lent' tests/guard.c \
@@ -300,7 +316,7 @@ fault guard2 'seven high words for a basket' tests/guard.c \
 fault guard 'the answer of a basket one word shorter' tests/guard.c 's/return ORDERSET_BASKET_ANSWER;/return 8;/' \
     'NOT SO: (signal 11: answer is touched|answer changed, after what was lent)'
 fault guard 'a refused basket changes the version' tests/guard.c \
-    's/if \(end\(SET\(basket\)\(/if ((++*(uint8_t *)w(VERSION), end)(SET(basket)(/' \
+    's/if \(end\(SET_BY\(owner, basket\)\(/if ((++*(uint8_t *)w(VERSION), end)(SET_BY(owner, basket)(/' \
     'NOT SO: version changed, by a refused'
 fault guard 'an entry past the stores of a basket changes' tests/guard.c \
     's/^    same\(&piece\[AT\], .* "past the stores"\);/    if (piece[AT].length > 4 * stores)\n        ++((uint8_t *)w(AT))[piece[AT].length - 1];\n&/' \
@@ -437,7 +453,7 @@ fault differential 'the keys of a basket are linked from the last one on' tests/
 fault differential 'a remove of a basket does not queue its record' tests/model.c "${index}s/append\(index, slot\);/;/" \
     'DIFFERENCE in the (first|last) slot'
 fault differential 'the slots of a basket stay in the reuse chain' tests/model.c \
-    "${index}s/leave_reuse\(index, basket->slot\[i\]\);/;/" 'DIFFERENCE in the (first|last) slot'
+    "${index}s/leave_reuse\(index, basket->slot\[i\], basket->before\[i\]\);/;/" 'DIFFERENCE in the (first|last) slot'
 fault differential 'a slot that a basket passes over is lost' tests/model.c \
     's/index->next\[before\] = index->next\[slot\];/index->state.first = index->next[slot];/' 'DIFFERENCE in the first slot'
 fault differential 'the newest slot of a basket is its last' tests/model.c \
@@ -445,8 +461,8 @@ fault differential 'the newest slot of a basket is its last' tests/model.c \
 fault differential 'a basket counts its keys as versions' tests/model.c \
     "${index}s/state.version\+\+/state.version += count/" 'DIFFERENCE in the next version'
 
-take='/^int m_may_take/,/^}/'
-fault differential 'a slot of the highest version is taken' tests/model.c "${take}s/if \(t > n\)/if (t > n + 1)/" \
+take='/^static int may_take/,/^}/'
+fault differential 'a slot of the highest version is taken' tests/model.c "${take}s/: t > n\)/: t > n + 1)/" \
     'DIFFERENCE in the code: archive (28|11), model 0'
 fault differential 'a remove record with an older one is taken' tests/model.c "${take}s/KIND_WORD\] != 2/KIND_WORD] != 3/" \
     'DIFFERENCE in the code: archive 28, model 0'
@@ -457,16 +473,55 @@ fault differential '28 is tested before 11 of a later link' tests/model.c \
 fault differential 'a chain without an end is 28' tests/model.c 's/ \|\| \(met == n \&\& after\)\)$/)\n            return 11;\n        if (met == n)/' \
     'DIFFERENCE in the code: archive (11|0|28), model'
 fault differential '28 is tested before 11 of the live count' tests/model.c \
-    's/^    if \(s->live < removes\)/    if (follow_reuse(image, n, index, wanted, taken) == 28)\n        return 28;\n&/' \
+    's/^    if \(s->live < removes\)/    if (follow_reuse(own, image, n, index, wanted, taken, before) == 28)\n        return 28;\n&/' \
     'DIFFERENCE in the code: archive 11, model 28'
 fault differential 'the newest slot is not kept' tests/model.c '/index->state.newest = slot;/d' \
     'DIFFERENCE in the newest slot'
-fault differential 'recovery keeps the newest slot' tests/model.c '/index->state.newest = 0;/d' \
+fault differential 'recovery keeps the newest slot' tests/model.c '/index->state.newest = newest_of\(/d' \
     'DIFFERENCE in the newest slot'
+newest='/^static uint32_t newest_of/,/^}/'
+fault differential 'recovery names no newest slot' tests/model.c "${newest}s/return valid\[count - 1\].slot;/return 0;/" \
+    'DIFFERENCE in the newest slot: archive [0-9]+, model 0'
+fault differential 'recovery names the slot before the newest' tests/model.c \
+    "${newest}s/valid\[count - 1\]/valid[count > 1 ? count - 2 : 0]/" 'DIFFERENCE in the newest slot'
+fault differential 'of slots that share the highest version recovery names the first' tests/model.c \
+    "${newest}s/^    if \(count\)/    while (count > 1 \&\& valid[count - 2].version == valid[count - 1].version)\n        count--;\n&/" \
+    'DIFFERENCE in the newest slot'
+fault differential 'without a valid slot recovery names none' tests/model.c "${newest}s/return s \? s : n;/return 0;/" \
+    'DIFFERENCE in the newest slot: archive [0-9]+, model 0'
+fault differential 'a void record is named as the newest' tests/model.c \
+    's/newest_of\(slot, n, valid, count\);/newest_of(slot, n, valid, count + voids);/' 'DIFFERENCE in the newest slot'
+fault differential "the owner's call takes a slot of the version that is named" tests/model.c \
+    "${take}s/version >= named_version/version > named_version/" 'DIFFERENCE in the code: archive (28|11), model 0'
+fault differential "the owner's call looks through the image for an older record" tests/model.c \
+    "${take}s/own \? found : n/n/; ${take}s/own \? taken\[i\] : i \+ 1/i + 1/" 'DIFFERENCE in the code: archive 0, model 28'
+for layout in '' 2; do
+    fault "differential$layout" "the owner's call looks for no older record" tests/model.c \
+        "${take}s/own \? found : n/own ? 0 : n/" 'DIFFERENCE in the code: archive 28, model 0'
+done
+fault differential "the owner's call goes by a slot above N" tests/model.c \
+    's/return newest > n \? 0 : /return newest > n ? UINT64_MAX : /' 'DIFFERENCE in the code: archive 28, model 0'
+fault differential "the owner's call goes by the highest version of the image" tests/model.c \
+    "${take}s/while \(!own \&\& /while (/; ${take}s/own \? version >= named_version\(image, n, newest\) : t > n/t > n/" \
+    'DIFFERENCE in the code: archive 28, model 0'
+fault differential "the owner's call takes the slot of the rule" tests/model.c \
+    '/^static struct m_change change/,/^}/{/if \(own\)/,+1d}' 'DIFFERENCE in the slot taken'
+fault differential "the owner's basket takes a passed slot out of the chain" tests/model.c \
+    's/before\[found\] = stays;/before[found] = 0;/' 'DIFFERENCE in (the first slot|next)'
+fault differential "the owner's call is to be that of document 01 with any index" tests/differential.c \
+    's/return !owner \|\| \(s->own \&\& s->named\);/return 1;/' 'DIFFERENCE in the code: archive 28, model 0'
+fault differential 'the state may name any slot for the owner' tests/differential.c \
+    '/^static void name_any/,/^}/{/s->named = 0;/d}' 'DIFFERENCE in the code: archive 28, model'
+fault differential 'the other family is called on what the first one left' tests/differential.c \
+    's/^    uint64_t code = archive_change\(s, r, answer\);/&\n    if (twin)\n        close_set(twin), twin = twin_of(s);/' \
+    'DIFFERENCE in (what the other family returned|the other family)'
+fault differential 'the other family is called by a state that names no slot' tests/differential.c \
+    '/^static struct set \*twin_of/,/^}/s/^    return t;/    t->state[ORDERSET_NEWEST] = 0;\n&/' \
+    'DIFFERENCE in (what the other family returned|the state, after the other family)'
 fault differential 'the slot after the one at fault is named' tests/model.c \
     's/return no\(slot\[s\].fault, s\);/return no(slot[s].fault, s + 1);/' 'DIFFERENCE in the slot named'
 
-given='image, length, index, key, bytes, size'
+given='own, image, length, index, key, bytes, size'
 held='follow(image, m_slots(length), index, key).slot'
 insert='/^struct m_change m_insert/,/^}/'
 replace='/^struct m_change m_replace/,/^}/'
@@ -633,7 +688,7 @@ fault header 'the high words of a basket are left out' tests/header.cc \
 fault header 'in layout 2 hidden puts are to be counted as live' tests/header.cc \
     's/(orderset2_count_slots, \{)0, 2, 2, 0, 0, 0/\12, 0, 2, 0, 0, 0/' 'NOT SO'
 fault storm2 'a key is inserted by its low word alone' tests/storm.c \
-    's/return SET\(insert\)\((.*)KEY\(key\)/return SET(insert)(\1KEY((m_key)low_word(key))/' 'LOST'
+    's/return SET_BY\(own, insert\)\((.*)KEY\(key\)/return SET_BY(own, insert)(\1KEY((m_key)low_word(key))/' 'LOST'
 
 fault install 'a program can put its own function in the place of one of the library' Makefile 's/ -Wl,-Bsymbolic//' \
     "within the shared library"
@@ -1056,6 +1111,8 @@ fault file 'an inspection opens void slots' $handle \
 fault file 'a writer does not open void slots' $handle \
     '/^static uint32_t persist_opening/,/^}/s/if \(a->mode != ORDERSET_FILE_WRITE\)/if (a->mode == ORDERSET_FILE_WRITE) return 0; else/' \
     'NOT SO: a writer of half a basket has 0 void slots'
+fault file 'an open loses the newest slot' $handle \
+    's/^    s->refusal = ORDERSET_REFUSAL\(returned\);/    s->state[ORDERSET_NEWEST] = 0;\n&/' 'NOT SO: .* gives .*28'
 fault file 'the value of layout 2 is read as that of layout 1' $handle \
     's/begins = s->layout == ORDERSET2_LAYOUT \? 32 : 24/begins = 24/' 'NOT SO: an inspection of half a basket'
 fault file 'bytes past a value are not looked at' $handle 's/^        if \(value\[i\]\)/        if (value[i] \&\& i > 80)/' \
@@ -1207,6 +1264,15 @@ fault rust 'a cut call is to be there' bindings/rust/tests/on_files/cuts.rs \
     's/all\(\|\&count\| count == 8\)/all(|\&count| count >= 7)/' 'NOT SO: .* leaves the plain map'
 fault rust 'a cut append is to be there' bindings/rust/tests/on_files/cuts.rs 's/if image == after \{/if image != before {/' \
     'NOT SO: a cut leaves the plain list'
+
+reads=tests/reads.c
+any_index='s/SET\(own_(\w+)\)\(INDEX/SET(\1)(INDEX/'
+fault reads 'the calls are those for any index' $reads "$any_index" 'NOT SO: .* reads at most . slots more'
+fault reads2 'the calls are those for any index' $reads "$any_index" 'NOT SO: .* reads at most . slots more'
+fault reads 'a touch is not counted' $reads 's/r->touched \+= \*last != counted;//' \
+    'NOT SO: insert for any index reads many slots there: 0'
+fault reads 'the slot of the highest version is not to be read' $reads 's/OF_CHANGE = 2/OF_CHANGE = 1/' \
+    'NOT SO: .* reads at most 1 slots more'
 
 echo "$count faults planted, $((count - unseen)) seen"
 [ $unseen -eq 0 ]

@@ -179,10 +179,10 @@ static void due_of_line(const char *line) {
         uint8_t word[8];
         for (int i = 0; i < 8; i++)
             word[i] = (uint8_t)(a[1] >> 8 * i);
-        change = m_locate(image, size, &index_of, a[0]).absent ? m_insert(image, size, &index_of, a[0], word, 8)
-                                                                : m_replace(image, size, &index_of, a[0], word, 8);
+        change = m_locate(image, size, &index_of, a[0]).absent ? m_insert(0, image, size, &index_of, a[0], word, 8)
+                                                                : m_replace(0, image, size, &index_of, a[0], word, 8);
     } else if (size && of_form(line, 'r', 1, a)) {
-        change = m_remove(image, size, &index_of, a[0]);
+        change = m_remove(0, image, size, &index_of, a[0]);
     }
     if (!change.refusal && !change.absent)
         try_cuts(change.store);

@@ -3,7 +3,8 @@
  * a process sees and what is durable are apart, and each line has a list of the stores that are not durable yet.
  * Whenever something strikes, the program starts again, makes the image durable, recovers and makes the stores that
  * recovery hands out, and there it may be struck again. Then every acknowledged order must be there, the call or the
- * basket that was struck must be there wholly or not at all, and nothing else may be there.
+ * basket that was struck must be there wholly or not at all, and nothing else may be there. Each change is made by one of
+ * the two families of calls (orderset.h), by chance: the index is always the image's own.
  *
  *     storm [SEED [STRIKES]]
  */
@@ -24,7 +25,7 @@ enum { MAX_N = 300, MAX_HEADS = 40, MAX_KEYS = MAX_N + 3, STRIKES = 1000000 };
 enum { BASKET = ORDERSET_BASKET_MAX };
 
 static uint64_t histories, strikes, cuts, kills, in_start, in_call, in_basket, in_opening, acknowledged, baskets,
-    opened, refused_baskets;
+    opened, refused_baskets, own_calls, own_refused;
 
 static uint32_t n;
 
@@ -198,16 +199,16 @@ static uint32_t due(enum kind kind, uint32_t i) {
     return kind == INSERT && held() + 1 >= n ? ORDERSET_NO_ROOM : ORDERSET_OK;
 }
 
-static uint64_t carry_out(enum kind kind, m_key key, const struct value *v) {
+static uint64_t carry_out(int own, enum kind kind, m_key key, const struct value *v) {
     switch (kind) {
     case INSERT:
-        return SET(insert)(visible, length, heads, heads_length, next, n + 1, state, version, KEY(key), v->bytes,
+        return SET_BY(own, insert)(visible, length, heads, heads_length, next, n + 1, state, version, KEY(key), v->bytes,
                            v->size, at, value, answer);
     case REPLACE:
-        return SET(replace)(visible, length, heads, heads_length, next, n + 1, state, version, KEY(key), v->bytes,
+        return SET_BY(own, replace)(visible, length, heads, heads_length, next, n + 1, state, version, KEY(key), v->bytes,
                             v->size, at, value, answer);
     default:
-        return SET(remove)(visible, length, heads, heads_length, next, n + 1, state, version, KEY(key), at, value,
+        return SET_BY(own, remove)(visible, length, heads, heads_length, next, n + 1, state, version, KEY(key), at, value,
                            answer);
     }
 }
@@ -220,6 +221,13 @@ static const struct value *later_of(uint32_t k, uint32_t i, int holds) {
     later->size = holds ? below(VALUE_MAX + 1) : 0;
     fill(later->bytes, later->size);
     return later;
+}
+
+/* by the calls for the owner of the index, or by those of document 01 */
+static int any_family(void) {
+    const int own = (int)below(2);
+    own_calls += (uint64_t)own;
+    return own;
 }
 
 static void call_begins(uint32_t count) {
@@ -242,7 +250,9 @@ static void call_ends(void) {
 
 static void change(uint32_t i, enum kind kind) {
     const uint32_t wanted = due(kind, i);
-    uint64_t code = carry_out(kind, key_of[i], later_of(0, i, kind != REMOVE));
+    const int own = any_family();
+    uint64_t code = carry_out(own, kind, key_of[i], later_of(0, i, kind != REMOVE));
+    own_refused += (uint64_t)(own && code);
     if (ORDERSET_REFUSAL(code) != wanted)
         lost("a call of key " KEY_FORM " answers %" PRIu32, KEY_WORDS(key_of[i]), ORDERSET_REFUSAL(code));
     counted(i, code ? ORDERSET_REFUSED_COMPARED(code) : answer[ORDERSET_COMPARED]);
@@ -301,9 +311,12 @@ static uint32_t due_of_basket(void) {
 static void basket(void) {
     ask_basket();
     const uint32_t wanted = due_of_basket();
-    uint32_t code = SET(basket)(visible, length, heads, heads_length, next, n + 1, state, version, asked.count,
-                                asked.kinds, BASKET_KEYS(asked.lows, asked.highs), asked.lengths, asked.values, list_at,
-                                BASKET * ORDERSET_STORES, list_value, BASKET * ORDERSET_STORES, basket_answer);
+    const int own = any_family();
+    uint32_t code = SET_BY(own, basket)(visible, length, heads, heads_length, next, n + 1, state, version, asked.count,
+                                        asked.kinds, BASKET_KEYS(asked.lows, asked.highs), asked.lengths, asked.values,
+                                        list_at, BASKET * ORDERSET_STORES, list_value, BASKET * ORDERSET_STORES,
+                                        basket_answer);
+    own_refused += (uint64_t)(own && code);
     if (code != wanted)
         lost("a basket of %" PRIu32 " keys answers %" PRIu32 ", due is %" PRIu32, asked.count, code, wanted);
     refused_baskets += code != 0;
@@ -390,8 +403,9 @@ int main(int count, char **word) {
     }
     printf("%" PRIu64 " histories of the restart machine with %" PRIu64 " cuts and %" PRIu64 " kills, %" PRIu64
            " of them in a start, %" PRIu64 " in a call, %" PRIu64 " in a basket and %" PRIu64 " while %" PRIu64 " void slots were opened, %" PRIu64 " calls and %" PRIu64
-           " baskets acknowledged, %" PRIu64 " baskets refused: nothing lost (%.0f s)\n",
+           " baskets acknowledged, %" PRIu64 " baskets refused; %" PRIu64 " calls by the owner, %" PRIu64
+           " of them refused: nothing lost (%.0f s)\n",
            histories, cuts, kills, in_start, in_call - in_basket, in_basket, in_opening, opened,
-           acknowledged - baskets, baskets, refused_baskets, seconds());
-    return in_basket == 0 || in_opening == 0 || refused_baskets == 0;
+           acknowledged - baskets, baskets, refused_baskets, own_calls, own_refused, seconds());
+    return in_basket == 0 || in_opening == 0 || refused_baskets == 0 || own_calls == 0 || own_refused == 0;
 }

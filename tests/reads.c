@@ -1,0 +1,499 @@
+/* What the calls for the owner of an index read, in the layout that the test is built for (layout.h): no call reads
+ * more slots than those that it compared, those that it takes and a constant number, however long the set was in use.
+ * Four lives of a set: fresh, worn (every slot was written several times), after a restart, and after a day's end and
+ * a restart, where the calls for any index look through the image. Ends with status 1 at the first call that reads
+ * more.
+ *
+ * How it counts: what is lent to a counted call is mapped so that nobody may touch it. A touch faults; the place is
+ * noted, its page is opened for one instruction, by the processor's trap flag, and closed again (x86-64 Linux). So
+ * every instruction that touches the image, heads or next is seen, without a change to the archive. One that reads two
+ * slots at once would count as one; the archive's own reads are of a word or two. The calls between are lent the same
+ * memory through a second mapping.
+ *
+ * reads [SEED] */
+#define _GNU_SOURCE
+#include <inttypes.h>
+#include <signal.h>
+#include <stdarg.h>
+#include <stdio.h>
+#include <stdlib.h>
+#include <string.h>
+#include <sys/mman.h>
+#include <ucontext.h>
+#include <unistd.h>
+
+#include "chance.h"
+#include "layout.h"
+
+enum { MAX_N = 65535, MANY = 1000, OPEN = 50, SMALL_SETS = 40, SMALL = 60, TRAP_FLAG = 0x100, PAGE = 4096 };
+enum { BASKET = ORDERSET_BASKET_MAX, LIST = ORDERSET_STORES * BASKET };
+
+/* The constant: line A of the header and the slot of the highest version, of a get the header alone; of a basket also the
+ * slots of the reuse chain that it passes over, remove records of keys whose older record it takes. */
+enum { OF_GET = 1, OF_CHANGE = 2 };
+static unsigned of_basket(size_t count) {
+    return OF_CHANGE + (unsigned)count - 1;
+}
+
+/* ---- what is lent, and what is touched of it */
+
+enum { IMAGE, HEADS, NEXT, REGIONS };
+static struct region {
+    size_t bytes, unit;      /* a slot, or a number */
+    int access;              /* what a call may do there */
+    uint8_t *watched, *open; /* its two mappings */
+    uint32_t *last;          /* the last counted call that touched the unit */
+    uint32_t touched;        /* units that the call touched; where they are too many, MANY + 1 */
+} region[REGIONS] = {{128 * (MAX_N + 1), 128, PROT_READ, NULL, NULL, NULL, 0},
+                     {4 * ORDERSET_HEADS_MAX, 4, PROT_READ | PROT_WRITE, NULL, NULL, NULL, 0},
+                     {4 * (MAX_N + 1), 4, PROT_READ | PROT_WRITE, NULL, NULL, NULL, 0}};
+static uint32_t counted;
+static uint8_t *opened[16];
+static unsigned opened_count;
+
+static const char *life = "";
+static uint32_t n;
+static size_t b;
+
+static void __attribute__((format(printf, 2, 3))) expect(int holds, const char *what, ...) {
+    va_list list;
+    if (holds)
+        return;
+    printf("\nNOT SO: ");
+    va_start(list, what);
+    vprintf(what, list);
+    va_end(list);
+    printf("\nseed %" PRIu64 ", N %" PRIu32 ", %zu heads, %s\n", seed, n, b, life);
+    fflush(stdout);
+    _exit(1);
+}
+
+static void at_touch(int number, siginfo_t *info, void *context) {
+    uint8_t *where = info->si_addr, *page = (uint8_t *)((uintptr_t)where / PAGE * PAGE);
+    struct region *r = region;
+    (void)number;
+    while (r < region + REGIONS && !(where >= r->watched && where < r->watched + r->bytes))
+        r++;
+    expect(r < region + REGIONS, "a call touches what it was lent");
+    for (unsigned i = 0; i < opened_count; i++)
+        expect(opened[i] != page, "a call only reads the image");
+    uint32_t *last = &r->last[(size_t)(where - r->watched) / r->unit];
+    r->touched += *last != counted;
+    *last = counted;
+    if (r->touched > MANY) {
+        mprotect(r->watched, r->bytes, r->access);
+        return;
+    }
+    expect(opened_count < sizeof opened / sizeof *opened, "an instruction touches few pages");
+    opened[opened_count++] = page;
+    mprotect(page, PAGE, r->access);
+    ((ucontext_t *)context)->uc_mcontext.gregs[REG_EFL] |= TRAP_FLAG;
+}
+
+static void after_instruction(int number, siginfo_t *info, void *context) {
+    (void)number;
+    (void)info;
+    for (unsigned i = 0; i < opened_count; i++)
+        mprotect(opened[i], PAGE, PROT_NONE);
+    opened_count = 0;
+    ((ucontext_t *)context)->uc_mcontext.gregs[REG_EFL] &= ~(greg_t)TRAP_FLAG;
+}
+
+static void make_regions(void) {
+    struct sigaction touch = {.sa_sigaction = at_touch, .sa_flags = SA_SIGINFO};
+    struct sigaction trap = {.sa_sigaction = after_instruction, .sa_flags = SA_SIGINFO};
+    for (struct region *r = region; r < region + REGIONS; r++) {
+        int file = memfd_create("reads", 0);
+        expect(file >= 0 && ftruncate(file, (off_t)r->bytes) == 0, "memory");
+        r->watched = mmap(NULL, r->bytes, PROT_NONE, MAP_SHARED, file, 0);
+        r->open = mmap(NULL, r->bytes, PROT_READ | PROT_WRITE, MAP_SHARED, file, 0);
+        r->last = calloc(r->bytes / r->unit, sizeof *r->last);
+        expect(r->watched != MAP_FAILED && r->open != MAP_FAILED && r->last, "memory");
+        close(file);
+    }
+    sigaction(SIGSEGV, &touch, NULL);
+    sigaction(SIGTRAP, &trap, NULL);
+}
+
+/* ---- the set */
+
+static uint32_t state[ORDERSET_STATE], at[LIST];
+static uint64_t version[1], value[LIST], answer[ORDERSET_BASKET_ANSWER];
+static uint8_t bytes[ORDERSET_BASKET_BYTES];
+static int watching; /* the calls are counted */
+
+static uint8_t *lent(int what) {
+    return watching ? region[what].watched : region[what].open;
+}
+
+#define INDEX lent(IMAGE), ORDERSET_IMAGE_BYTES(n), (uint32_t *)lent(HEADS), b, (uint32_t *)lent(NEXT), (size_t)n + 1
+#define OPEN_INDEX region[IMAGE].open, ORDERSET_IMAGE_BYTES(n), (uint32_t *)region[HEADS].open, b, (uint32_t *)region[NEXT].open, (size_t)n + 1
+
+static void recover(void) {
+    uint32_t count[1], open_at[ORDERSET_OPENINGS];
+    uint64_t open_value[ORDERSET_OPENINGS];
+    expect(SET(recover)(OPEN_INDEX, state, version, count, open_at, open_value) == 0 && count[0] == 0, "recover");
+}
+
+static uint64_t slots_compared(m_key key) {
+    uint64_t found[ORDERSET_CHANGE_ANSWER];
+    expect(SET(locate)(OPEN_INDEX, KEY(key), found) == 0, "locate");
+    return found[ORDERSET_COMPARED];
+}
+
+/* ---- the keys that are held */
+
+enum what { VALUE, SENT, ACKNOWLEDGED };
+static struct held {
+    m_key key;
+    enum what what;
+} held[MAX_N];
+static uint32_t count;
+
+static m_key new_key(void) {
+    const uint64_t low = chance();
+    return key_of_words(low, chance());
+}
+
+static struct held *any_held(void) {
+    return &held[below(count)];
+}
+
+static void drop(struct held *h) {
+    *h = held[--count];
+}
+
+/* ---- calls */
+
+static uint64_t calls, most_over[3]; /* of the regions: the most that was touched beyond what was compared and taken */
+
+static void begin(void) {
+    counted++;
+    for (int i = 0; i < REGIONS; i++)
+        region[i].touched = 0;
+}
+
+/* A call of so many keys has ended, which compared and takes so many slots. */
+static void end(const char *call, size_t keys, uint64_t compared, uint64_t taken, unsigned constant) {
+    if (!watching)
+        return;
+    const uint64_t slots = compared + taken, touched = region[IMAGE].touched, links = region[NEXT].touched;
+    expect(touched <= slots + constant, "%s reads at most %u slots more than it compared and takes: %" PRIu64 " compared, %" PRIu64
+           " taken, %" PRIu64 " read", call, constant, compared, taken, touched);
+    expect(links <= slots + constant, "%s touches at most %u links more than it compared and takes: %" PRIu64 " compared, %" PRIu64
+           " taken, %" PRIu64 " touched", call, constant, compared, taken, links);
+    expect(region[HEADS].touched <= keys, "%s touches one head for each key: %" PRIu32, call, region[HEADS].touched);
+    const int kind = constant == OF_GET ? 0 : constant == OF_CHANGE && keys == 1 ? 1 : 2;
+    if (touched > slots && touched - slots > most_over[kind])
+        most_over[kind] = touched - slots;
+    calls++;
+}
+
+static void play(uint64_t returned, size_t stores) {
+    expect(returned == 0, "a call of an own index is not refused: %" PRIu64, returned & UINT32_MAX);
+    expect(orderset_play_list(region[IMAGE].open, ORDERSET_IMAGE_BYTES(n), at, stores, value, stores) == ORDERSET_OK, "play");
+}
+
+static void insert(void) {
+    const m_key key = new_key();
+    begin();
+    const uint64_t code = SET(own_insert)(INDEX, state, version, KEY(key), bytes, below(VALUE_MAX + 1), at, value, answer);
+    end("insert", 1, answer[ORDERSET_COMPARED], 1, OF_CHANGE);
+    play(code, ORDERSET_STORES);
+    held[count++] = (struct held){key, VALUE};
+}
+
+static void replace(struct held *h) {
+    begin();
+    const uint64_t code = SET(own_replace)(INDEX, state, version, KEY(h->key), bytes, below(VALUE_MAX + 1), at, value, answer);
+    end("replace", 1, answer[ORDERSET_COMPARED], 1, OF_CHANGE);
+    play(code, ORDERSET_STORES);
+    h->what = VALUE;
+}
+
+static void take_out(struct held *h) {
+    begin();
+    const uint64_t code = SET(own_remove)(INDEX, state, version, KEY(h->key), at, value, answer);
+    end("remove", 1, answer[ORDERSET_COMPARED], 1, OF_CHANGE);
+    play(code, ORDERSET_STORES);
+    drop(h);
+}
+
+/* A get, of a held key or of any, and a remove of a key that is not held. */
+static void ask(void) {
+    const m_key key = count && below(2) ? any_held()->key : new_key();
+    uint8_t output[ORDERSET_VALUE_MAX];
+    begin();
+    expect(SET(get)(INDEX, KEY(key), output, sizeof output, answer) == 0, "get");
+    end("get", 1, answer[ORDERSET_GET_COMPARED], 0, OF_GET);
+    begin();
+    expect(SET(own_remove)(INDEX, state, version, KEY(new_key()), at, value, answer) == 0 && answer[0] == ORDERSET_ABSENT, "absent");
+    end("remove of a key that is not held", 1, answer[ORDERSET_COMPARED], 0, OF_GET);
+}
+
+static void book_new(void) {
+    const m_key key = new_key();
+    const uint64_t compared = slots_compared(key);
+    begin();
+    const uint64_t code = SET(own_book_new)(INDEX, state, version, KEY(key), 1000000, at, value, answer);
+    end("new", 1, compared, 1, OF_CHANGE);
+    play(code, ORDERSET_STORES);
+    held[count++] = (struct held){key, SENT};
+}
+
+/* A step of the book for the key, where it holds an order. */
+static void step(struct held *h) {
+    if (h->what == VALUE) {
+        replace(h);
+        return;
+    }
+    const uint64_t compared = slots_compared(h->key), kind = below(4);
+    uint64_t code;
+    begin();
+    if (kind == 0 && h->what == SENT) {
+        code = SET(own_book_acknowledge)(INDEX, state, version, KEY(h->key), at, value, answer);
+        end("acknowledge", 1, compared, 1, OF_CHANGE);
+        h->what = ACKNOWLEDGED;
+    } else if (kind == 1) {
+        code = SET(own_book_withdraw)(INDEX, state, version, KEY(h->key), at, value, answer);
+        end("withdraw", 1, compared, 1, OF_CHANGE);
+        drop(h);
+    } else {
+        code = SET(own_book_fill)(INDEX, state, version, KEY(h->key), 1 + below(3), at, value, answer);
+        end("fill", 1, compared, 1, OF_CHANGE);
+    }
+    play(code, ORDERSET_STORES);
+}
+
+/* ---- baskets: some keys are removed, some replaced and some new, and about as many held after it */
+
+struct basket {
+    size_t count, lengths[BASKET];
+    uint32_t kinds[BASKET];
+    uint64_t lows[BASKET], highs[BASKET];
+};
+
+/* The held keys of it stand at the end of `held`. */
+static struct basket any_basket(void) {
+    struct basket k = {1 + below(BASKET), {0}, {0}, {0}, {0}};
+    uint32_t chosen = 0;
+    for (size_t i = 0; i < k.count; i++) {
+        m_key key = new_key();
+        k.kinds[i] = chosen < count && below(4) ? (below(2) ? ORDERSET_REPLACE : ORDERSET_REMOVE) : ORDERSET_INSERT;
+        if (k.kinds[i] != ORDERSET_INSERT) {
+            struct held *h = &held[below(count - chosen)], moved = *h;
+            chosen++;
+            *h = held[count - chosen];
+            held[count - chosen] = moved;
+            key = moved.key;
+        }
+        k.lows[i] = low_word(key);
+        k.highs[i] = high_word(key);
+        k.lengths[i] = below(VALUE_MAX + 1);
+    }
+    return k;
+}
+
+static void settle(const struct basket *k) {
+    for (size_t i = 0; i < k->count; i++) {
+        const m_key key = key_of_words(k->lows[i], k->highs[i]);
+        uint32_t j = 0;
+        while (k->kinds[i] != ORDERSET_INSERT && held[count - 1 - j].key != key)
+            j++;
+        if (k->kinds[i] == ORDERSET_INSERT)
+            held[count++] = (struct held){key, VALUE};
+        else if (k->kinds[i] == ORDERSET_REMOVE)
+            drop(&held[count - 1 - j]);
+        else
+            held[count - 1 - j].what = VALUE;
+    }
+}
+
+static void basket(void) {
+    const struct basket k = any_basket();
+    uint64_t compared = 0;
+    for (size_t i = 0; i < k.count; i++)
+        compared += slots_compared(key_of_words(k.lows[i], k.highs[i]));
+    begin();
+    const uint64_t code =
+        SET(own_basket)(INDEX, state, version, k.count, k.kinds, BASKET_KEYS(k.lows, k.highs), k.lengths, bytes, at, LIST, value, LIST, answer);
+    end("a basket", k.count, compared, k.count, of_basket(k.count));
+    play(code, ORDERSET_BASKET_STORES(k.count));
+    settle(&k);
+}
+
+/* ---- lives */
+
+/* One call, or a get and a remove; no more than `most` keys are held but by a basket. */
+static void any_call(uint32_t most) {
+    const uint64_t kind = below(16);
+    if (kind == 0)
+        ask();
+    else if (kind == 1 && count > BASKET && n > 4 * BASKET)
+        basket();
+    else if (kind < 6 && count)
+        step(any_held());
+    else if (count < most && (count == 0 || kind < 11))
+        kind % 2 ? insert() : book_new();
+    else
+        take_out(any_held());
+}
+
+/* So many calls, one in `every` of them counted. */
+static void go_on(uint32_t many, uint32_t every, uint32_t most) {
+    for (uint32_t i = 0; i < many; i++) {
+        watching = i < 8 || below(every) == 0;
+        any_call(most);
+        watching = 0;
+    }
+}
+
+static void make(uint32_t slots, size_t heads) {
+    uint64_t made[ORDERSET_FORMAT_ANSWER];
+    n = slots;
+    b = heads;
+    count = 0;
+    expect(orderset_format(region[IMAGE].open, ORDERSET_IMAGE_BYTES(n), LAYOUT, made) == 0, "format");
+    recover();
+}
+
+static void three_lives(uint32_t each) {
+    const uint32_t half = n / 2;
+    life = "fresh";
+    for (uint32_t i = 0; i < half; i++) {
+        watching = below(half) < each;
+        below(2) ? insert() : book_new();
+        watching = 0;
+    }
+    go_on(each, 1, half);
+    life = "worn";
+    for (int round = 0; round < 8; round++)
+        for (uint32_t i = 0; i < count; i++)
+            if (below(2))
+                replace(&held[i]);
+            else {
+                take_out(&held[i]);
+                insert();
+            }
+    go_on(each, 1, half);
+    life = "after a restart";
+    recover();
+    go_on(each, 1, half);
+}
+
+static int first_is_remove(void) {
+    const uint64_t *slot = (const uint64_t *)region[IMAGE].open + 16 * (size_t)state[ORDERSET_FIRST];
+    return (slot[KIND_WORD] & 255) == 2;
+}
+
+/* A call by one family or the other. */
+static uint64_t both_families(int what, const struct basket *k, const struct held *h, int own) {
+    const m_key key = h->key;
+    switch (what) {
+    case 0:
+        return (own ? SET(own_insert) : SET(insert))(INDEX, state, version, KEY(key + 1), bytes, 8, at, value, answer);
+    case 1:
+        return (own ? SET(own_replace) : SET(replace))(INDEX, state, version, KEY(key), bytes, 8, at, value, answer);
+    case 2:
+        return (own ? SET(own_remove) : SET(remove))(INDEX, state, version, KEY(key), at, value, answer);
+    default:
+        return (own ? SET(own_basket) : SET(basket))(INDEX, state, version, k->count, k->kinds, BASKET_KEYS(k->lows, k->highs), k->lengths, bytes, at,
+                                                     LIST, value, LIST, answer);
+    }
+}
+
+static void compare_families(void) {
+    static const char *const name[] = {"insert", "replace", "remove", "basket"};
+    static uint8_t kept[REGIONS][4 * (MAX_N + 1)];
+    const struct basket k = any_basket();
+    for (int what = 0; what < 4; what++) {
+        uint32_t kept_state[ORDERSET_STATE], found_at[LIST];
+        uint64_t kept_version = version[0], found_value[LIST], found[ORDERSET_BASKET_ANSWER];
+        memcpy(kept_state, state, sizeof state);
+        for (int i = HEADS; i < REGIONS; i++)
+            memcpy(kept[i], region[i].open, sizeof kept[i]);
+        for (int own = 0; own < 2; own++) {
+            memset(at, 0, sizeof at);
+            memset(value, 0, sizeof value);
+            memset(answer, 0, sizeof answer);
+            watching = 1;
+            begin();
+            expect(both_families(what, &k, &held[0], own) == 0, "%s is not refused", name[what]);
+            watching = 0;
+            for (int i = 0; i < REGIONS; i++)
+                mprotect(region[i].watched, region[i].bytes, PROT_NONE);
+            expect(own || region[IMAGE].touched > MANY, "%s for any index reads many slots there: %" PRIu32, name[what],
+                   region[IMAGE].touched);
+            expect(!own || region[IMAGE].touched < 64, "%s for the owner reads few slots there: %" PRIu32, name[what], region[IMAGE].touched);
+            expect(!own || (memcmp(found_at, at, sizeof at) == 0 && memcmp(found_value, value, sizeof value) == 0
+                            && memcmp(found, answer, sizeof found) == 0),
+                   "%s of both families has one answer and the same stores", name[what]);
+            memcpy(found_at, at, sizeof at);
+            memcpy(found_value, value, sizeof value);
+            memcpy(found, answer, sizeof found);
+            memcpy(state, kept_state, sizeof state);
+            version[0] = kept_version;
+            for (int i = HEADS; i < REGIONS; i++)
+                memcpy(region[i].open, kept[i], sizeof kept[i]);
+        }
+    }
+}
+
+/* Orders are put, and all withdrawn; a restart; then orders come and go, `OPEN` at a time. */
+static void day(uint32_t each) {
+    const uint32_t orders = (uint32_t)(n * 45ul / 100) ? (uint32_t)(n * 45ul / 100) : 1, most = n / 2 < OPEN ? n / 2 : OPEN;
+    uint32_t left = 2 * n;
+    life = "after a day's end and a restart";
+    for (uint32_t i = 0; i < orders; i++)
+        i % 2 ? insert() : book_new();
+    while (count)
+        take_out(&held[0]);
+    recover();
+    go_on(8, 1, most);
+    if (n == MAX_N) {
+        while (!first_is_remove()) {
+            any_call(most);
+            left--;
+        }
+        compare_families();
+    }
+    go_on(left, left / each + 1, most);
+}
+
+static void lives(uint32_t slots, size_t heads, uint32_t each) {
+    make(slots, heads);
+    three_lives(each);
+    make(slots, heads);
+    day(each);
+}
+
+/* An insert that is refused because one slot is spare reads no more. */
+static void full(void) {
+    life = "full";
+    while (count < n - 1)
+        insert();
+    watching = 1;
+    begin();
+    const uint64_t code = SET(own_insert)(INDEX, state, version, KEY(new_key()), bytes, 8, at, value, answer);
+    end("a refused insert", 1, ORDERSET_REFUSED_COMPARED(code), 1, OF_CHANGE);
+    watching = 0;
+    expect(ORDERSET_REFUSAL(code) == ORDERSET_NO_ROOM, "an insert is refused where one slot is spare");
+}
+
+int main(int words, char **word) {
+    begin_chance(LAYOUT == 1 ? "reads" : "reads2", words > 1 ? word[1] : NULL);
+    make_regions();
+    fill(bytes, sizeof bytes);
+    for (int i = 0; i < SMALL_SETS; i++) {
+        lives((uint32_t)spread(ORDERSET_SLOTS_MIN, SMALL), (size_t)spread(1, 2 * SMALL), 20);
+        full();
+    }
+    lives(1000, 250, 800);
+    full();
+    lives(MAX_N, ORDERSET_HEADS_MAX, 800);
+    full();
+    printf("%" PRIu64 " of %" PRIu32 " calls in four lives; beyond the slots compared and taken a get reads %" PRIu64 ", a change %" PRIu64
+           ", a basket %" PRIu64 " at most (%.0f s)\n",
+           calls, counted, most_over[0], most_over[1], most_over[2], seconds());
+    return 0;
+}
