@@ -21,12 +21,26 @@ struct result {
     struct sum clean[OPS], all[OPS];
 };
 
+/* The calls of an engine one by one: 0 for done, of get the length. A basket is of FOUR keys and their values, 80 bytes apart; NULL where there is none. */
+enum { FOUR = 4 };
+struct calls {
+    int (*open)(const struct config *);
+    void (*close)(void);
+    int (*restart)(void);
+    int (*insert)(uint64_t key, const uint8_t *bytes, size_t size);
+    int (*replace)(uint64_t key, const uint8_t *bytes, size_t size);
+    int (*remove)(uint64_t key);
+    int (*basket)(const uint32_t *kinds, const uint64_t *keys, const uint8_t *bytes, size_t size);
+    int (*get)(uint64_t key, uint8_t *out);
+};
+
 struct engine {
     const char *name;
     int counts_heads; /* its work goes by the number of heads */
     int (*open)(const struct config *);
     void (*close)(void);
     void (*run)(const struct config *, unsigned writes, unsigned gets, unsigned recoveries, uint64_t seed, struct result *);
+    struct calls call;
 };
 
 /* A wait is over when the fence is and, as the memory would have it, some more time has passed.
@@ -78,6 +92,11 @@ long bench_preempted(void); /* how often the thread was preempted so far */
 int bench_by_size(const void *, const void *); /* doubles, for qsort */
 void *bench_map(const char *path, size_t length); /* a new file in /dev/shm, mapped */
 void bench_unmap(const char *path, void *memory, size_t length);
+
+/* Where this is a path, it takes the place of all others, with a digit for the first, the second and the third mapping of an engine; the files stay. So
+ * engines that are open one at a time have the same pages. */
+extern const char *bench_shared;
+void bench_name(char *name, size_t room, unsigned place); /* that path */
 
 #define NOINLINE __attribute__((noipa))
 

@@ -1,5 +1,5 @@
-/* Instructions: the operations as functions of their own, for callgrind to count; (a) and this set, insert, replace, remove and the book's steps with
- * the persist.
+/* Instructions: the operations as functions of their own, for callgrind to count; (a), this set and this set's calls for the owner of an index; insert,
+ * replace, remove and the book's steps with the persist.
  *     count N HEADS SIZE CALLS */
 #include <stdio.h>
 #include <stdlib.h>
@@ -26,12 +26,6 @@ static inline int hand_inserts(uint64_t key) {
     return orderset_persist(hand.image, hand.length, hand_out.at, hand_out.value, flush);
 }
 
-static inline int set_inserts(uint64_t key) {
-    if (orderset_insert(image, length, heads, heads_length, next, next_length, state, version, key, bytes, size, at, value, answer))
-        return 1;
-    return orderset_persist(image, length, at, value, flush);
-}
-
 MEASURED int count_hand_prepare(uint64_t key) { return hand_inserts(key); }
 MEASURED int count_hand_insert(uint64_t key) { return hand_inserts(key); }
 MEASURED int count_hand_replace(uint64_t key) {
@@ -47,45 +41,23 @@ MEASURED int count_hand_remove(uint64_t key) {
     return orderset_persist(hand.image, hand.length, hand_out.at, hand_out.value, flush);
 }
 
-MEASURED int count_set_prepare(uint64_t key) { return set_inserts(key); }
-MEASURED int count_set_insert(uint64_t key) { return set_inserts(key); }
-MEASURED int count_set_replace(uint64_t key) {
-    if (orderset_replace(image, length, heads, heads_length, next, next_length, state, version, key, bytes, size, at, value, answer))
-        return 1;
-    return orderset_persist(image, length, at, value, flush);
-}
 MEASURED int count_set_get(uint64_t key) {
     return orderset_get(image, length, heads, heads_length, next, next_length, key, out, sizeof out, answer) || answer[0] == ORDERSET_ABSENT;
 }
 MEASURED int count_set_recover(void) {
     return orderset_recover(image, length, heads, heads_length, next, next_length, state, version, voids, open_at, open_value) != 0;
 }
-MEASURED int count_set_remove(uint64_t key) {
-    if (orderset_remove(image, length, heads, heads_length, next, next_length, state, version, key, at, value, answer) || answer[0] == ORDERSET_ABSENT)
-        return 1;
-    return orderset_persist(image, length, at, value, flush);
-}
-MEASURED int count_set_new(uint64_t key) {
-    if (orderset_book_new(image, length, heads, heads_length, next, next_length, state, version, key, 100, at, value, answer))
-        return 1;
-    return orderset_persist(image, length, at, value, flush);
-}
-MEASURED int count_set_acknowledge(uint64_t key) {
-    if (orderset_book_acknowledge(image, length, heads, heads_length, next, next_length, state, version, key, at, value, answer)
-        || answer[0] == ORDERSET_ALREADY)
-        return 1;
-    return orderset_persist(image, length, at, value, flush);
-}
-MEASURED int count_set_fill(uint64_t key) {
-    if (orderset_book_fill(image, length, heads, heads_length, next, next_length, state, version, key, 1, at, value, answer))
-        return 1;
-    return orderset_persist(image, length, at, value, flush);
-}
-MEASURED int count_set_withdraw(uint64_t key) {
-    if (orderset_book_withdraw(image, length, heads, heads_length, next, next_length, state, version, key, at, value, answer))
-        return 1;
-    return orderset_persist(image, length, at, value, flush);
-}
+
+#define COUNT(op) count_set_##op
+#define CALL(name) orderset_##name
+#include "count_calls.inc"
+MEASURED int count_set_prepare(uint64_t key) { return count_set_inserts(key); }
+#undef COUNT
+#undef CALL
+#define COUNT(op) count_own_##op
+#define CALL(name) orderset_own_##name
+#include "count_calls.inc"
+
 MEASURED int count_persist(void) { return orderset_persist(image, length, at, value, flush); }
 
 static uint64_t seed = 1;
@@ -134,6 +106,13 @@ int main(int count, char **word) {
         bad |= count_set_new(order) || count_set_acknowledge(order) || count_set_fill(order) || count_set_withdraw(order);
     }
     bad |= count_hand_recover() | count_set_recover();
+    for (uint32_t i = 0; i < calls; i++) {
+        uint32_t k = (uint32_t)(chance() % held);
+        bad |= count_own_replace(key[k]) | count_own_remove(key[k]);
+        key[k] = chance();
+        uint64_t order = chance();
+        bad |= count_own_insert(key[k]) || count_own_new(order) || count_own_acknowledge(order) || count_own_fill(order) || count_own_withdraw(order);
+    }
     printf("%d\n", bad);
     return bad;
 }

@@ -5,6 +5,8 @@ import sys
 import tempfile
 
 CALLS = 2000
+ENGINES = {"by hand": "count_hand_", "this set": "count_set_", "owner's calls": "count_own_"}
+OPS = ("insert", "replace", "remove", "get", "new", "acknowledge", "fill", "withdraw")
 
 
 def inclusive(program, n, heads, size):
@@ -25,12 +27,12 @@ def main():
         for heads in (65536, n // 4):
             for size in (24, 80):
                 found = inclusive(program, n, heads, size)
-                for engine, prefix in (("by hand", "count_hand_"), ("this set", "count_set_")):
-                    for op in ("insert", "replace", "remove", "get"):
-                        print(f"{n},{heads},{size},{engine},{op},{found[prefix + op] / CALLS:.1f}")
-                    print(f"{n},{heads},{size},{engine},recover,{found[prefix + 'recover']}")
-                for step in ("new", "acknowledge", "fill", "withdraw"):
-                    print(f"{n},{heads},{size},this set,{step},{found['count_set_' + step] / CALLS:.1f}")
+                for engine, prefix in ENGINES.items():
+                    for op in OPS:
+                        if prefix + op in found:
+                            print(f"{n},{heads},{size},{engine},{op},{found[prefix + op] / CALLS:.1f}")
+                    if prefix + "recover" in found:
+                        print(f"{n},{heads},{size},{engine},recover,{found[prefix + 'recover']}")
                 print(f"{n},{heads},{size},persist,persist,{found['count_persist'] / CALLS:.1f}", flush=True)
 
 

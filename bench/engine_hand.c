@@ -2,6 +2,7 @@
 #include "bench.h"
 
 #define FILE_NAME "/dev/shm/orderset_bench_hand"
+#define CALL(name) hand_##name
 #include "hand_engine.inc"
 
 static inline int durable(void) {

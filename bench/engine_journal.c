@@ -3,6 +3,7 @@
 #include "bench.h"
 
 #define FILE_NAME "/dev/shm/orderset_bench_journal"
+#define CALL(name) hand_##name
 #include "hand_engine.inc"
 
 static inline int durable(void) {

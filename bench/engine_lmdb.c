@@ -18,10 +18,8 @@ static void remove_files(void) {
     unlink(FILE_NAME "-lock");
 }
 
-static int e_open(const struct config *c) {
+static int attach(void) {
     MDB_txn *txn;
-    (void)c;
-    remove_files();
     if (mdb_env_create(&env) || mdb_env_set_mapsize(env, MAP_BYTES) || mdb_env_open(env, FILE_NAME, MDB_NOSUBDIR | MDB_WRITEMAP, 0600))
         return 1;
     if (mdb_txn_begin(env, NULL, 0, &txn) || mdb_dbi_open(txn, NULL, MDB_INTEGERKEY, &dbi) || mdb_txn_commit(txn))
@@ -32,9 +30,24 @@ static int e_open(const struct config *c) {
     return 0;
 }
 
-static void e_close(void) {
+static void detach(void) {
     mdb_txn_abort(reader);
     mdb_env_close(env);
+}
+
+static int e_open(const struct config *c) {
+    (void)c;
+    remove_files();
+    return attach();
+}
+
+static int e_recover(void) {
+    detach();
+    return attach();
+}
+
+static void e_close(void) {
+    detach();
     remove_files();
 }
 
@@ -68,10 +81,6 @@ static NOINLINE int e_get(uint64_t key, uint8_t *out) {
     memcpy(out, v.mv_data, v.mv_size);
     mdb_txn_reset(reader);
     return (int)v.mv_size;
-}
-
-static int e_recover(void) {
-    return 0;
 }
 
 #define ENGINE engine_lmdb

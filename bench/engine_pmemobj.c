@@ -28,16 +28,26 @@ static inline uint64_t *find(uint64_t key) {
     return link;
 }
 
-static int e_open(const struct config *c) {
-    unlink(FILE_NAME);
-    pool = pmemobj_create(FILE_NAME, "bench", POOL_BYTES, 0600);
+static int find_root(void) {
     if (!pool)
         return 1;
-    bucket_count = c->heads;
     PMEMoid root = pmemobj_root(pool, sizeof *buckets * bucket_count);
     buckets = pmemobj_direct(root);
     pool_id = root.pool_uuid_lo;
     return 0;
+}
+
+static int e_open(const struct config *c) {
+    unlink(FILE_NAME);
+    pool = pmemobj_create(FILE_NAME, "bench", POOL_BYTES, 0600);
+    bucket_count = c->heads;
+    return find_root();
+}
+
+static int e_recover(void) {
+    pmemobj_close(pool);
+    pool = pmemobj_open(FILE_NAME, "bench");
+    return find_root();
 }
 
 static void e_close(void) {
@@ -95,10 +105,6 @@ static NOINLINE int e_get(uint64_t key, uint8_t *out) {
     struct node *node = node_at(*link);
     memcpy(out, node->bytes, node->size);
     return (int)node->size;
-}
-
-static int e_recover(void) {
-    return 0;
 }
 
 #define ENGINE engine_pmemobj

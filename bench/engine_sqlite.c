@@ -16,11 +16,9 @@ static void remove_files(void) {
     unlink(FILE_NAME "-shm");
 }
 
-static int e_open(const struct config *c) {
+static int attach(void) {
     static const char *const start = "pragma journal_mode=wal; pragma synchronous=full; pragma locking_mode=exclusive;"
-                                     "create table orders(key integer primary key, value blob)";
-    (void)c;
-    remove_files();
+                                     "create table if not exists orders(key integer primary key, value blob)";
     if (sqlite3_open(FILE_NAME, &db) || sqlite3_exec(db, start, NULL, NULL, NULL))
         return 1;
     return sqlite3_prepare_v2(db, "insert into orders values(?, ?)", -1, &inserting, NULL)
@@ -29,12 +27,27 @@ static int e_open(const struct config *c) {
            || sqlite3_prepare_v2(db, "delete from orders where key = ?", -1, &removing, NULL);
 }
 
-static void e_close(void) {
+static void detach(void) {
     sqlite3_finalize(inserting);
     sqlite3_finalize(replacing);
     sqlite3_finalize(getting);
     sqlite3_finalize(removing);
     sqlite3_close(db);
+}
+
+static int e_open(const struct config *c) {
+    (void)c;
+    remove_files();
+    return attach();
+}
+
+static int e_recover(void) {
+    detach();
+    return attach();
+}
+
+static void e_close(void) {
+    detach();
     remove_files();
 }
 
@@ -67,10 +80,6 @@ static NOINLINE int e_get(uint64_t key, uint8_t *out) {
     memcpy(out, sqlite3_column_blob(getting, 0), (size_t)size);
     sqlite3_reset(getting);
     return size;
-}
-
-static int e_recover(void) {
-    return 0;
 }
 
 #define ENGINE engine_sqlite

@@ -37,6 +37,11 @@ uint64_t hand_recover(struct hand_set *set); /* 0, or the refusal + 2^32 * the s
 struct hand_answer hand_insert(struct hand_set *set, uint64_t key, const uint8_t *bytes, size_t size, struct hand_stores *stores);
 struct hand_answer hand_replace(struct hand_set *set, uint64_t key, const uint8_t *bytes, size_t size, struct hand_stores *stores);
 struct hand_answer hand_remove(struct hand_set *set, uint64_t key, struct hand_stores *stores);
+/* For the owner of an index, that is, of one from recovery and the accepted calls since: the first slot of reuse is the one to take, or none may be taken, so
+ * that no call looks through the image. */
+struct hand_answer hand_own_insert(struct hand_set *set, uint64_t key, const uint8_t *bytes, size_t size, struct hand_stores *stores);
+struct hand_answer hand_own_replace(struct hand_set *set, uint64_t key, const uint8_t *bytes, size_t size, struct hand_stores *stores);
+struct hand_answer hand_own_remove(struct hand_set *set, uint64_t key, struct hand_stores *stores);
 struct hand_answer hand_get(const struct hand_set *set, uint64_t key, uint8_t *out, size_t room);
 
 #endif

@@ -13,12 +13,22 @@
 int bench_strict, bench_slow;
 uint64_t bench_delay, bench_waits, bench_flushes, bench_bytes;
 double bench_ticks_per_ns;
+const char *bench_shared;
 uint8_t bench_values[VALUES + KEPT] __attribute__((aligned(64)));
 
 const struct setting settings[SETTINGS] = {{"P", 0, 0}, {"S", 1, 0}, {"S", 1, 200}, {"S", 1, 800}};
 
+static unsigned mappings; /* of shared files */
+
+void bench_name(char *name, size_t room, unsigned place) {
+    snprintf(name, room, "%s%u", bench_shared, place);
+}
+
 void *bench_map(const char *path, size_t length) {
-    int file = open(path, O_RDWR | O_CREAT | O_TRUNC, 0600);
+    char name[64];
+    if (bench_shared)
+        bench_name(name, sizeof name, mappings++);
+    int file = bench_shared ? open(name, O_RDWR | O_CREAT, 0600) : open(path, O_RDWR | O_CREAT | O_TRUNC, 0600);
     if (file < 0 || ftruncate(file, (off_t)length)) {
         perror(path);
         exit(1);
@@ -34,7 +44,10 @@ void *bench_map(const char *path, size_t length) {
 
 void bench_unmap(const char *path, void *memory, size_t length) {
     munmap(memory, length);
-    unlink(path);
+    if (bench_shared)
+        mappings--;
+    else
+        unlink(path);
 }
 
 static double nanoseconds(void) {

@@ -4,6 +4,7 @@ import platform
 import sys
 
 ENGINES = ("by hand", "this set", "two waits", "libpmemobj", "LMDB", "SQLite")
+OWN = "owner's calls"  # counted; their times are in the lives (lives_report.py)
 SETTINGS = (("P", "0"), ("S", "0"), ("S", "200"), ("S", "800"))
 OPS = ("insert", "replace", "remove")
 STEPS = {"new": "insert", "acknowledge": "replace", "fill": "replace", "withdraw": "remove"}  # a step of the book, and what the set does for it
@@ -80,21 +81,21 @@ def book_table(figures):
 
 
 def counts_table(figures):
-    ops = OPS + ("get", "recover")
-    head = " | ".join(f"{op}: by hand | this set" for op in ops)
-    lines = ["", "### Instructions (insert, replace and remove with the persist)", "", f"| N | B | bytes | {head} |", "|---" * (3 + 2 * len(ops)) + "|"]
+    counted = [(op, e) for op in OPS + ("get", "recover") for e in ENGINES[:2] + (OWN,) if (*figures.configs[0], e, op) in figures.instructions]
+    head = " | ".join(f"{op}: {e}" if e == ENGINES[0] else e for op, e in counted)
+    lines = ["", "### Instructions (insert, replace and remove with the persist)", "", f"| N | B | bytes | {head} |", "|---" * (3 + len(counted)) + "|"]
     for config in figures.configs:
-        cells = [f"{figures.instructions[(*config, e, op)]:,.0f}" for op in ops for e in ENGINES[:2]]
+        cells = [f"{figures.instructions[(*config, e, op)]:,.0f}" for op, e in counted]
         lines.append(f"| {number(config[0])} | {number(config[1])} | {config[2]} | " + " | ".join(cells) + " |")
     config = figures.configs[0]
     lines += ["", f"Of these the persist is {figures.instructions[(*config, 'persist', 'persist')]:.0f}."]
-    lines += ["", "### Instructions of the book's steps, this set (ratio to what the set does for them)", ""]
-    lines += ["| N | B | " + " | ".join(STEPS) + " |", "|---" * (2 + len(STEPS)) + "|"]
+    lines += ["", "### Instructions of the book's steps, this set and the owner's calls (ratio to what the set does for them)", ""]
+    lines += ["| N | B | | " + " | ".join(STEPS) + " |", "|---" * (3 + len(STEPS)) + "|"]
     for config in figures.configs:
-        if config[2] == "24":
-            found = {op: figures.instructions[(*config, "this set", op)] for op in OPS + tuple(STEPS)}
+        for engine in (ENGINES[1], OWN) if config[2] == "24" else ():
+            found = {op: figures.instructions[(*config, engine, op)] for op in OPS + tuple(STEPS)}
             cells = [f"{found[step]:,.0f} ({found[step] / found[op]:.2f})" for step, op in STEPS.items()]
-            lines.append(f"| {number(config[0])} | {number(config[1])} | " + " | ".join(cells) + " |")
+            lines.append(f"| {number(config[0])} | {number(config[1])} | {engine} | " + " | ".join(cells) + " |")
     return lines
 
 
