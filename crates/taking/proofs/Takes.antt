@@ -17,7 +17,7 @@ use Rattle.table.specs.Taking.{highestValid, isRemove, older, mayTake, mayTakeA
 use Rattle.table.proofs.TakingAfter.{may-after}
 use Rattle.taking.specs.Taking.{takingOf, choiceOf}
 use Rattle.taking.specs.inner.Walk.{takeFault, walkFault}
-use Rattle.taking.specs.inner.Takeable.{slotVersion, takeable, OpenFirst}
+use Rattle.taking.specs.inner.Takeable.{slotVersion, takeable, lowPut, OpenFirst}
 use Rattle.taking.proofs.Walks.{walk-fault, walk-taken, end-good, still-fine}
 use Rattle.taking.proofs.Contents.{slot-holds, held-version}
 use Rattle.taking.proofs.Tested.{may-low}
@@ -80,6 +80,17 @@ module _ (l : ℕ) (image next : List ℕ) (n first : ℕ) where
         (still-fine (takeable (contentsOf l image) n top false) (λ c. mayTake (contentsOf l image) n) next n
         (λ c w s. surely (contentsOf l image) n top s (omega (arith, highest-is l (word image) n))) few n wanted wanted 0 first [] (λ t i. absurd i) q some
         (omega arith) (sym e ∙ z))
+
+    -- a walk by line A alone, by such a version: not refused
+    pub taken-low : (top k : ℕ) → top ≤ greatest (slotVersion (word image)) n → k ≡ walkFault (lowPut l (word image) top) next n n wanted first → k ≡ 0
+        → k ≡ takeFault (takingOf l image next n first wanted)
+    unfolding takingOf takeFrom
+    taken-low top k h e z =
+        z ∙ sym
+        (still-fine (lowPut l (word image) top) (λ c. mayTake (contentsOf l image) n) next n
+        (λ c w s q.
+        surely (contentsOf l image) n top s (omega (arith, highest-is l (word image) n)) (sym (may-low l (word image) n top false s _ refl q))) n n wanted wanted 0 first []
+        (λ t i. absurd i) (omega arith) some (omega arith) (sym e ∙ z))
 
     -- a walk along the chain, by the highest version
     pub taken-by-all : (top r : ℕ) → top ≡ greatest (slotVersion (word image)) n

@@ -19,7 +19,7 @@ use crate::slot::valid_version;
 use taking::Told;
 use words_code::read_word;
 
-// So many slots of a chain of n are met to see that it ends.
+// So many slots of a chain of n are met where a few tell.
 fn few_of(n: usize) -> usize
     ensures { λ r. ⌜ r ≤ n ⌝ }
 {
@@ -135,17 +135,8 @@ fn step_cost(from: usize, to: usize) -> usize
     1
 }
 
-// So much the look ahead along the chain of n slots may cost: in a large image about half a pass over it. Without a version that is known it finds little.
-fn ahead_cost(n: usize, known: u64) -> usize
-    ensures { λ r. ⌜ r ≤ n + 1024 ⌝ }
-{
-    if known == 0 {
-        return 1024;
-    }
-    n / 2 + 1024
-}
-
-// Are there enough slots ahead that may be taken by this version, and are no remove records? Where the look ahead ends too soon the answer is no.
+// Are there enough slots ahead that by their line A are below this version and no remove records? The look ahead costs about half a pass over a large image;
+// where it ends too soon the answer is no. Where no version is known, a few slots that are not valid may tell.
 fn is_clear_ahead(
     image: &[u8],
     l: usize,
@@ -158,10 +149,13 @@ fn is_clear_ahead(
     requires { ⌜ Walkable (now image) (now next) l n × (0 < wanted) × (known ≤ greatest (slotVersion (word (now image))) n) ⌝ }
     ensures { λ r. ⌜ (r ≡ true → takeFault (takingOf l (now (image .entry)) (now (next .entry)) n first wanted) ≡ 0) ⌝ }
 {
+    if known == 0 {
+        return walk_fault(image, l, next, n, first, few_of(n), wanted, known, false) == 0;
+    }
     let mut at = first;
     let mut left = n;
     let mut need = wanted;
-    let mut budget = ahead_cost(n, known);
+    let mut budget = n / 2 + 1024;
     let mut from = first as usize;
     while 0 < left {
         if at == 0 {
@@ -179,7 +173,7 @@ fn is_clear_ahead(
         from = slot;
         left -= 1;
         at = next[slot];
-        if may_take(image, l, n, known, false, slot) {
+        if is_low(image, l, slot, known) {
             if need == 1 {
                 return end_fault(n, left, at) == 0;
             }
