@@ -519,7 +519,8 @@ static void print_change(const struct command *c, const uint64_t answer[ORDERSET
 }
 
 /* The index is the gateway's own: from its recovery, whose stores are made, and its calls since, each of which it makes
- * durable before the next or ends. So these are the calls for the owner of the index, which do not look through the image. */
+ * durable before the next or ends. So these are the calls for the owner of the index, no
+ * calls of document 01, which do not look through the image. */
 static uint32_t step(struct set *s, const struct command *c, uint32_t at[ORDERSET_STORES],
                      uint64_t value[ORDERSET_STORES], uint64_t answer[ORDERSET_STEP_ANSWER]) {
     switch (c->kind) {

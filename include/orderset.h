@@ -31,7 +31,7 @@
  * the stores of each made before the next call, and nobody else writes index, state or image: then they answer, hand out
  * and leave exactly what the calls of document 01 do, and never look through the image. Of any other index they are safe
  * and terminate, but their refusals 11 (reuse) and 28 and the slots that they take are their own: use there the
- * calls of document 01, which are exact for any index.
+ * calls of document 01, whose refusals hold for any index.
  *
  * Insert or replace: insert is for a key that is not held and replace for one that is, and each refuses the other kind,
  * so that a key that is used again by mistake overwrites nothing. A caller who means either asks orderset_locate first,
