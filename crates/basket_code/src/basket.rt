@@ -3,8 +3,11 @@ ghost use mathlib.Core.Path.{_≡_};
 ghost use lib.ListN.{length};
 ghost use Rattle.layout.specs.Record.{Layout};
 ghost use Rattle.layout.specs.Size.{slotsIn};
-ghost use Rattle.taking.specs.Taking.{choiceBy};
-ghost use Rattle.calls.specs.Basket.{changesOf, basketDone, basketResult, basketResultBy, basketEnd, leftInLists};
+ghost use Rattle.index.specs.Index.{indexOf};
+ghost use Rattle.allocation.specs.Allocation.{allocationChosenBy};
+ghost use Rattle.calls.specs.Basket.{basketDone, basketResult, basketResultBy};
+ghost use Rattle.calls.specs.BasketItems.{changesOf};
+ghost use Rattle.calls.specs.BasketBuffers.{basketEnd, buffersAfterLists};
 ghost use Rattle.calls.specs.inner.Basket.{BasketReady};
 use basket_plan_code::plan::plan;
 use basket_plan_code::totals::totals_of;
@@ -16,7 +19,8 @@ use calls::BasketOutcome;
 use index::State;
 use layout_code::header::slot_count;
 
-// The basket is written by what was read: the slots of the old records of its keys, the slots that it takes and the slots before them.
+// The basket is written by what was read: the slots of the old records of its keys, the slots that it takes and the
+// slots before them.
 fn store_basket(
     image: &[u8],
     l: usize,
@@ -33,8 +37,13 @@ fn store_basket(
     words: &mut [u64],
     own: bool,
 ) -> BasketAnswer
-    requires { ⌜ Layout l × BasketReady own l (now image) (now heads) (now next) (slotsIn (now image)) state count items (length (now at)) (length (now words)) (record { fault = 0; olds = olds; slots = slots; prevs = prevs }) ⌝ }
-    ensures { λ r. ⌜ basketEnd count r (now (at .exit)) (now (words .exit)) (now (heads .exit)) (now (next .exit)) ≡ leftInLists (now (at .entry)) (now (words .entry)) (basketDone l (now (image .entry)) (now (heads .entry)) (now (next .entry)) state (changesOf l count items values) (choiceBy own l (now (image .entry)) (now (next .entry)) (slotsIn (now (image .entry))) (state .first) (state .newest) count)) ⌝ }
+    requires { ⌜ Layout l
+        × BasketReady own l (now image) (now heads) (now next) (slotsIn (now image)) state count items (length (now at)) (length (now words))
+        (record { fault = 0; olds = olds; slots = slots; prevs = prevs }) ⌝ }
+    ensures { λ r. ⌜ basketEnd count r (now (at .exit)) (now (words .exit)) (now (heads .exit)) (now (next .exit))
+        ≡ buffersAfterLists (now (at .entry)) (now (words .entry))
+        (basketDone l (now (image .entry)) (indexOf (now (heads .entry)) (now (next .entry)) state) (changesOf l count items values)
+        (allocationChosenBy own l (now (image .entry)) (now (next .entry)) (slotsIn (now (image .entry))) (state .first) (state .newest) count)) ⌝ }
 {
     let n = slot_count(image.len());
     let totals = totals_of(items, count);
@@ -80,7 +89,10 @@ pub fn basket_in(
     own: bool,
 ) -> BasketAnswer
     requires { ⌜ Layout l ⌝ }
-    ensures { λ r. ⌜ basketEnd count r (now (at .exit)) (now (words .exit)) (now (heads .exit)) (now (next .exit)) ≡ leftInLists (now (at .entry)) (now (words .entry)) (basketResultBy own l (now (image .entry)) (now (heads .entry)) (now (next .entry)) state (changesOf l count items values) (length (now (at .entry))) (length (now (words .entry)))) ⌝ }
+    ensures result { λ r. ⌜ basketEnd count r (now (at .exit)) (now (words .exit)) (now (heads .exit)) (now (next .exit))
+        ≡ buffersAfterLists (now (at .entry)) (now (words .entry))
+        (basketResultBy own l (now (image .entry)) (indexOf (now (heads .entry)) (now (next .entry)) state) (changesOf l count items values)
+        (length (now (at .entry))) (length (now (words .entry)))) ⌝ }
 {
     let p = plan(
         image,
@@ -122,8 +134,9 @@ pub fn basket_in(
     )
 }
 
-// Up to eight keys are inserted, replaced or removed; item i's value is the first bytes of values from byte 80 × i on. The version, the slots taken, the new state and,
-// lent, sixteen stores for each key to be played; or a refusal, which changes nothing.
+// Up to eight keys are inserted, replaced or removed; item i's value is the first bytes of values from byte 80 × i on.
+// The version, the slots taken, the new state and, lent, sixteen stores for each key to be played; or a refusal, which
+// changes nothing.
 pub fn basket(
     image: &[u8],
     heads: &mut [u32],
@@ -135,7 +148,10 @@ pub fn basket(
     at: &mut [u32],
     words: &mut [u64],
 ) -> BasketAnswer
-    ensures { λ r. ⌜ basketEnd count r (now (at .exit)) (now (words .exit)) (now (heads .exit)) (now (next .exit)) ≡ leftInLists (now (at .entry)) (now (words .entry)) (basketResult 1 (now (image .entry)) (now (heads .entry)) (now (next .entry)) state (changesOf 1 count items values) (length (now (at .entry))) (length (now (words .entry)))) ⌝ }
+    ensures result { λ r. ⌜ basketEnd count r (now (at .exit)) (now (words .exit)) (now (heads .exit)) (now (next .exit))
+        ≡ buffersAfterLists (now (at .entry)) (now (words .entry))
+        (basketResult 1 (now (image .entry)) (indexOf (now (heads .entry)) (now (next .entry)) state) (changesOf 1 count items values)
+        (length (now (at .entry))) (length (now (words .entry)))) ⌝ }
 {
     basket_in(
         image,
@@ -164,7 +180,10 @@ pub fn basket2(
     at: &mut [u32],
     words: &mut [u64],
 ) -> BasketAnswer
-    ensures { λ r. ⌜ basketEnd count r (now (at .exit)) (now (words .exit)) (now (heads .exit)) (now (next .exit)) ≡ leftInLists (now (at .entry)) (now (words .entry)) (basketResult 2 (now (image .entry)) (now (heads .entry)) (now (next .entry)) state (changesOf 2 count items values) (length (now (at .entry))) (length (now (words .entry)))) ⌝ }
+    ensures result { λ r. ⌜ basketEnd count r (now (at .exit)) (now (words .exit)) (now (heads .exit)) (now (next .exit))
+        ≡ buffersAfterLists (now (at .entry)) (now (words .entry))
+        (basketResult 2 (now (image .entry)) (indexOf (now (heads .entry)) (now (next .entry)) state) (changesOf 2 count items values)
+        (length (now (at .entry))) (length (now (words .entry)))) ⌝ }
 {
     basket_in(
         image,

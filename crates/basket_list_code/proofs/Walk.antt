@@ -47,6 +47,7 @@ use denote.Triple.Clauses.{Clauses, Lasts, closing, ensured, lasts}
 use denote.Triple.Table.{entered, cited}
 use denote.Triple.Walked.{says, Stays, stay-dropped, gave-slice, walkOf, goes-dropped, goes-gave-slice, Walks, ends-at, walked, walk-meets}
 use denote.Exit.{yes}
+use Rattle.index.specs.Index.{indexOf}
 use Rattle.mir_steps.proofs.Lent.{lentAt, OwnsMut, number-owned}
 use Rattle.mir_steps.proofs.Locals.{Blocks, block, envOf, Frame, allocates, freed, behind, sinks}
 use Rattle.mir_steps.proofs.Statements.{copied, field-of, sets}
@@ -58,7 +59,9 @@ use Rattle.stores.specs.inner.List.{storesPut}
 use Rattle.index.specs.declared.State.{State}
 use Rattle.index.proofs.State as S
 use Rattle.index.proofs.State.Laws as S′
-use Rattle.calls.specs.Basket.{changesOf, basketResultBy, basketListEnd, leftInList}
+use Rattle.calls.specs.Basket.{basketResultBy}
+use Rattle.calls.specs.BasketItems.{changesOf}
+use Rattle.calls.specs.BasketList.{basketListEnd, buffersAfterList}
 use Rattle.calls.specs.inner.Basket.{MadeOf}
 use Rattle.calls.specs.declared.BasketItem.{BasketItem}
 use Rattle.calls.specs.declared.BasketMade.{BasketMade}
@@ -143,7 +146,7 @@ clauses 𝓤 l family κs a = record {
   requires = λ _. emp 𝓤;
   ensures = λ _ r e. fact 𝓤 (
       basketListEnd (a .1 .1 .1 .1 .0) r (now (e .1 .1 .1 .1 .1 .1 .1 .0)) (now (e .1 .0)) (now (e .1 .1 .0))
-      ≡ leftInList (now (a .1 .1 .1 .1 .1 .1 .1 .0)) (basketResultBy (eqb family 1) l (now (a .0)) (now (a .1 .0)) (now (a .1 .1 .0)) (a .1 .1 .1 .0) (changesOf l (a .1 .1 .1 .1 .0) (a .1 .1 .1 .1 .1 .0) (a .1 .1 .1 .1 .1 .1 .0))
+      ≡ buffersAfterList (now (a .1 .1 .1 .1 .1 .1 .1 .0)) (basketResultBy (eqb family 1) l (now (a .0)) (indexOf (now (a .1 .0)) (now (a .1 .1 .0)) (a .1 .1 .1 .0)) (changesOf l (a .1 .1 .1 .1 .0) (a .1 .1 .1 .1 .1 .0) (a .1 .1 .1 .1 .1 .1 .0))
       (length (now (a .1 .1 .1 .1 .1 .1 .1 .0))) (length (now (a .1 .1 .1 .1 .1 .1 .1 .0))))
       );
 }
@@ -254,7 +257,7 @@ module _ (l family : ℕ) (layout : Layout l) (family-fits : family < 2 ^ 64) {M
   -- ---- what `basket_made` gives back: m, whose stores are those of the result, and an index
 
   abbrev Result : BasketMade → List ℕ → List ℕ → Type 0
-  Result m hs ns = MadeOf (basketResultBy (eqb family 1) l image heads next st (changesOf l n items values) (length list) (length list)) (length list) n m hs ns
+  Result m hs ns = MadeOf (basketResultBy (eqb family 1) l image (indexOf heads next st) (changesOf l n items values) (length list) (length list)) (length list) n m hs ns
 
   module _ (m : BasketMade) (is : Is D.the-row m (LL.vals D.the-type D′.the-laws m)) (hs ns : List ℕ) (made-it : Result m hs ns) where
     abbrev mv : Val
@@ -283,7 +286,7 @@ module _ (l family : ℕ) (layout : Layout l) (family-fits : family < 2 ^ 64) {M
     arrays = record { few = lit< tt; is-at = is-at; is-words = is-words; fits = LL.owed D.the-type D′.the-laws m _ is .1 .0 .1; in-room = made-it .in-room; in-arrays = made-it .in-arrays }
 
     ends : (zs : List Store) → zs ≡ storesPut at words (m .stored) list
-        → basketListEnd n (m .answer) zs hs ns ≡ leftInList list (basketResultBy (eqb family 1) l image heads next st (changesOf l n items values) (length list) (length list))
+        → basketListEnd n (m .answer) zs hs ns ≡ buffersAfterList list (basketResultBy (eqb family 1) l image (indexOf heads next st) (changesOf l n items values) (length list) (length list))
     ends zs e =
         ap (λ (l : List Store). basketListEnd n (m .answer) l hs ns) (e ∙ ap₂ (λ (x y : List ℕ). storesPut x y (m .stored) list) (map-id (m .at)) (map-id (m .words)))
         ∙ in-list _ _ n m hs ns made-it (omega (arith, made-it .in-arrays, ap length (map-id (m .at)), is-at .1 .0 .1)) (omega (arith, made-it .in-arrays, ap length (map-id (m .words)), is-words .1 .0 .1)) list

@@ -2,7 +2,10 @@
 ghost use mathlib.Core.Path.{_≡_};
 ghost use mathlib.Core.Bool.{true};
 ghost use lib.ListN.{length};
-ghost use Rattle.calls.specs.Basket.{changesOf, basketResult, basketResultBy, basketListEnd, leftInList};
+ghost use Rattle.index.specs.Index.{indexOf};
+ghost use Rattle.calls.specs.Basket.{basketResult, basketResultBy};
+ghost use Rattle.calls.specs.BasketItems.{changesOf};
+ghost use Rattle.calls.specs.BasketList.{basketListEnd, buffersAfterList};
 use crate::made::basket_made;
 use calls::BasketAnswer;
 use calls::BasketItem;
@@ -10,8 +13,9 @@ use index::State;
 use store_list_code::list::put_stores;
 use stores::Store;
 
-// Up to eight keys are inserted, replaced or removed; item i's value is the first bytes of values from byte 80 × i on. The version, the slots taken, the new state and, at the
-// front of the lent list, sixteen stores for each key to be played; or a refusal, which changes nothing.
+// Up to eight keys are inserted, replaced or removed; item i's value is the first bytes of values from byte 80 × i on.
+// The version, the slots taken, the new state and, at the front of the lent list, sixteen stores for each key to be
+// played; or a refusal, which changes nothing.
 pub fn basket_list(
     image: &[u8],
     heads: &mut [u32],
@@ -22,7 +26,10 @@ pub fn basket_list(
     values: [u8; 640],
     list: &mut [Store],
 ) -> BasketAnswer
-    ensures { λ r. ⌜ basketListEnd count r (now (list .exit)) (now (heads .exit)) (now (next .exit)) ≡ leftInList (now (list .entry)) (basketResult 1 (now (image .entry)) (now (heads .entry)) (now (next .entry)) state (changesOf 1 count items values) (length (now (list .entry))) (length (now (list .entry)))) ⌝ }
+    ensures result { λ r. ⌜ basketListEnd count r (now (list .exit)) (now (heads .exit)) (now (next .exit))
+        ≡ buffersAfterList (now (list .entry))
+        (basketResult 1 (now (image .entry)) (indexOf (now (heads .entry)) (now (next .entry)) state) (changesOf 1 count items values)
+        (length (now (list .entry))) (length (now (list .entry)))) ⌝ }
 {
     let made = basket_made(
         image,
@@ -53,7 +60,10 @@ pub fn basket_list2(
     values: [u8; 640],
     list: &mut [Store],
 ) -> BasketAnswer
-    ensures { λ r. ⌜ basketListEnd count r (now (list .exit)) (now (heads .exit)) (now (next .exit)) ≡ leftInList (now (list .entry)) (basketResult 2 (now (image .entry)) (now (heads .entry)) (now (next .entry)) state (changesOf 2 count items values) (length (now (list .entry))) (length (now (list .entry)))) ⌝ }
+    ensures result { λ r. ⌜ basketListEnd count r (now (list .exit)) (now (heads .exit)) (now (next .exit))
+        ≡ buffersAfterList (now (list .entry))
+        (basketResult 2 (now (image .entry)) (indexOf (now (heads .entry)) (now (next .entry)) state) (changesOf 2 count items values)
+        (length (now (list .entry))) (length (now (list .entry)))) ⌝ }
 {
     let made = basket_made(
         image,
@@ -73,8 +83,8 @@ pub fn basket_list2(
     made.answer
 }
 
-// The same for the owner of the index. It is no call of document 01: where the index is not the image's own, its refusals 11 and 28 go by the slots that it
-// looks at.
+// The same for the owner of the index. It is no call of document 01: where the index is not the image's own, its
+// refusals 11 and 28 go by the slots that it looks at.
 pub fn own_basket_list(
     image: &[u8],
     heads: &mut [u32],
@@ -85,7 +95,10 @@ pub fn own_basket_list(
     values: [u8; 640],
     list: &mut [Store],
 ) -> BasketAnswer
-    ensures { λ r. ⌜ basketListEnd count r (now (list .exit)) (now (heads .exit)) (now (next .exit)) ≡ leftInList (now (list .entry)) (basketResultBy true 1 (now (image .entry)) (now (heads .entry)) (now (next .entry)) state (changesOf 1 count items values) (length (now (list .entry))) (length (now (list .entry)))) ⌝ }
+    ensures result { λ r. ⌜ basketListEnd count r (now (list .exit)) (now (heads .exit)) (now (next .exit))
+        ≡ buffersAfterList (now (list .entry))
+        (basketResultBy true 1 (now (image .entry)) (indexOf (now (heads .entry)) (now (next .entry)) state) (changesOf 1 count items values)
+        (length (now (list .entry))) (length (now (list .entry)))) ⌝ }
 {
     let made = basket_made(
         image,
@@ -116,7 +129,10 @@ pub fn own_basket_list2(
     values: [u8; 640],
     list: &mut [Store],
 ) -> BasketAnswer
-    ensures { λ r. ⌜ basketListEnd count r (now (list .exit)) (now (heads .exit)) (now (next .exit)) ≡ leftInList (now (list .entry)) (basketResultBy true 2 (now (image .entry)) (now (heads .entry)) (now (next .entry)) state (changesOf 2 count items values) (length (now (list .entry))) (length (now (list .entry)))) ⌝ }
+    ensures result { λ r. ⌜ basketListEnd count r (now (list .exit)) (now (heads .exit)) (now (next .exit))
+        ≡ buffersAfterList (now (list .entry))
+        (basketResultBy true 2 (now (image .entry)) (indexOf (now (heads .entry)) (now (next .entry)) state) (changesOf 2 count items values)
+        (length (now (list .entry))) (length (now (list .entry)))) ⌝ }
 {
     let made = basket_made(
         image,

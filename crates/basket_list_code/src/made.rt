@@ -3,7 +3,9 @@ ghost use mathlib.Core.Path.{_≡_};
 ghost use Prim.Native.Nat.{_≤_};
 ghost use lib.Dec.{eqb};
 ghost use Rattle.layout.specs.Record.{Layout};
-ghost use Rattle.calls.specs.Basket.{changesOf, basketResultBy};
+ghost use Rattle.index.specs.Index.{indexOf};
+ghost use Rattle.calls.specs.Basket.{basketResultBy};
+ghost use Rattle.calls.specs.BasketItems.{changesOf};
 ghost use Rattle.calls.specs.inner.Basket.{basketStoreCount, MadeOf};
 use basket_code::basket::basket_in;
 use calls::BasketItem;
@@ -39,7 +41,10 @@ pub fn basket_made(
     family: usize,
 ) -> BasketMade
     requires { ⌜ Layout l ⌝ }
-    ensures { λ r. ⌜ MadeOf (basketResultBy (eqb family 1) l (now (image .entry)) (now (heads .entry)) (now (next .entry)) state (changesOf l count items values) room room) room count r (now (heads .exit)) (now (next .exit)) ⌝ }
+    ensures result { λ r. ⌜ MadeOf
+        (basketResultBy (eqb family 1) l (now (image .entry)) (indexOf (now (heads .entry)) (now (next .entry)) state) (changesOf l count items values)
+        room room)
+        room count r (now (heads .exit)) (now (next .exit)) ⌝ }
 {
     let mut at = [0u32; 128];
     let mut words = [0u64; 128];

@@ -88,7 +88,8 @@ pub fn plan(
     own: bool,
 ) -> Plan
     requires { ⌜ Layout l ⌝ }
-    ensures { λ r. ⌜ Planned own l (now (image .entry)) (now (heads .entry)) (now (next .entry)) (slotsIn (now (image .entry))) state count items at words r ⌝ }
+    ensures result { λ r. ⌜ Planned own l (now (image .entry)) (now (heads .entry)) (now (next .entry)) (slotsIn (now (image .entry))) state count
+        items at words r ⌝ }
 {
     let given = given_fault(l, count, items, at, words);
     if given != 0 {

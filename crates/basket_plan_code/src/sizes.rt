@@ -4,7 +4,8 @@ ghost use mathlib.Core.List.{List};
 ghost use Prim.Native.Nat.{ℕ, _≤_};
 ghost use lib.ListN.{length};
 ghost use Rattle.layout.specs.Record.{Layout};
-ghost use Rattle.calls.specs.Basket.{valueFault, firstFault, changesOf, basketLentFault};
+ghost use Rattle.calls.specs.BasketRefusals.{valueFault, firstFault, basketLentFault};
+ghost use Rattle.calls.specs.BasketItems.{changesOf};
 use calls::BasketItem;
 use fields_code::fields::value_limit;
 use index::Action;
@@ -60,7 +61,7 @@ pub fn basket_lent_fault(
     items: [BasketItem; 8],
 ) -> u32
     requires { ⌜ Layout l × (count ≤ 8) ⌝ }
-    ensures { λ r. ⌜ ((values : List ℕ) → r ≡ basketLentFault l (now (image .entry)) heads next (changesOf l count items values)) ⌝ }
+    ensures result { λ r. ⌜ ((values : List ℕ) → r ≡ basketLentFault l (now (image .entry)) heads next (changesOf l count items values)) ⌝ }
 {
     let lent = lent_fault(image, l, heads, next);
     if lent != 0 {

@@ -1,18 +1,19 @@
 // The slots that a basket takes, and the refusals by them, by the live count and by the next version.
 ghost use Prim.Native.Nat.{_≤_, _<_};
-ghost use Rattle.taking.specs.Taking.{takingBy, choiceBy};
-ghost use Rattle.taking.specs.inner.Takeable.{Walkable};
+ghost use Rattle.allocation.specs.Allocation.{allocationBy, allocationChosenBy};
+ghost use Rattle.allocation.specs.inner.Takeable.{Walkable};
 ghost use Rattle.calls.specs.inner.Basket.{StoreChoice};
+use allocation::Choice;
+use allocation_code::choose::choose_by;
+use allocation_code::choose::none_chosen;
+use allocation_code::take::full_fault;
 use index::State;
 use line_code::line::version_fault;
 use search_code::fault::ends_fault;
 use search_code::fault::live_fault;
-use taking::Choice;
-use taking_code::choose::choose_by;
-use taking_code::choose::none_chosen;
-use taking_code::take::full_fault;
 
-// The slots of a call that wants so many; or 11 (reuse, or fewer live than are removed), 28 or 9; own tells whether it is for the owner of its index.
+// The slots of a call that wants so many; or 11 (reuse, or fewer live than are removed), 28 or 9; own tells whether it
+// is for the owner of its index.
 pub fn choose_slots(
     image: &[u8],
     l: usize,
@@ -25,8 +26,8 @@ pub fn choose_slots(
     own: bool,
 ) -> Choice
     requires { ⌜ Walkable (now image) (now next) l n × (0 < wanted) × (wanted ≤ 8) ⌝ }
-    ensures { λ r. ⌜ StoreChoice (takingBy own l (now (image .entry)) (now (next .entry)) n (state .first) (state .newest) wanted)
-        (choiceBy own l (now (image .entry)) (now (next .entry)) n (state .first) (state .newest) wanted) n state wanted inserts removes r ⌝ }
+    ensures result { λ r. ⌜ StoreChoice (allocationBy own l (now (image .entry)) (now (next .entry)) n (state .first) (state .newest) wanted)
+        (allocationChosenBy own l (now (image .entry)) (now (next .entry)) n (state .first) (state .newest) wanted) n state wanted inserts removes r ⌝ }
 {
     let ends = ends_fault(n as u32, state.first, state.last);
     if ends != 0 {

@@ -4,8 +4,9 @@ ghost use lib.ListN.{length};
 ghost use Rattle.words.specs.Word.{word};
 ghost use Rattle.stores.specs.Basket.{basketStores};
 ghost use Rattle.stores.specs.Play.{wordNumbers, values as valuesOf};
-ghost use Rattle.table.specs.Complete.{numberFor};
-ghost use Rattle.calls.specs.Basket.{kindBy, atFront};
+ghost use Rattle.table.specs.Complete.{sizeFieldFor};
+ghost use Rattle.calls.specs.Basket.{kindBy};
+ghost use Rattle.calls.specs.BasketBuffers.{atFront};
 ghost use Rattle.calls.specs.inner.Basket.{sizeBy, recordsFrom, StoresInside};
 use basket_plan_code::given::high_in;
 use calls::BasketItem;
@@ -36,7 +37,7 @@ fn size_by(action: Action, size: usize) -> usize
 
 // The number in the kind words: a basket of one has 0.
 fn number_for(count: usize) -> u64
-    ensures { λ r. ⌜ r ≡ numberFor count ⌝ }
+    ensures { λ r. ⌜ r ≡ sizeFieldFor count ⌝ }
 {
     if count == 1 {
         return 0;
@@ -57,7 +58,12 @@ pub fn put_stores(
     words: &mut [u64],
 )
     requires { ⌜ StoresInside l (now image) version count items slots (length (now at)) (length (now words)) ⌝ }
-    ensures { λ _. ⌜ (now (at .exit) ≡ atFront (wordNumbers (basketStores l (word (now (image .entry))) (numberFor count) version (recordsFrom l items values slots 0 count))) (now (at .entry))) × (now (words .exit) ≡ atFront (valuesOf (basketStores l (word (now (image .entry))) (numberFor count) version (recordsFrom l items values slots 0 count))) (now (words .entry))) ⌝ }
+    ensures result { λ _. ⌜ (now (at .exit)
+        ≡ atFront (wordNumbers (basketStores l (word (now (image .entry))) (sizeFieldFor count) version (recordsFrom l items values slots 0 count)))
+        (now (at .entry)))
+        × (now (words .exit)
+        ≡ atFront (valuesOf (basketStores l (word (now (image .entry))) (sizeFieldFor count) version (recordsFrom l items values slots 0 count)))
+        (now (words .entry))) ⌝ }
 {
     let number = number_for(count);
     let mut j = 0;

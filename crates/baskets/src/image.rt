@@ -51,12 +51,12 @@ pub fn recovered(set: Set) -> Set {
     let k = numbers_of(lent.next, &next);
     let answer = recover(&image[..i], &mut heads[..h], &mut next[..k]);
     let r = answer.recovered;
-    let openings = answer.openings;
+    let invalidations = answer.invalidations;
     show::recovered(r);
-    show::openings(openings);
-    let at = openings.at;
-    let value = openings.value;
-    let mut after = put_front(set, &at, &value, openings.count as usize, true);
+    show::invalidations(invalidations);
+    let at = invalidations.at;
+    let value = invalidations.value;
+    let mut after = put_front(set, &at, &value, invalidations.count as usize, true);
     after.heads = heads;
     after.next = next;
     after.state = state_after(r, s);

@@ -1,6 +1,7 @@
-// Prints the lines of its input and carries them out on a set of at most sixteen slots: baskets, single calls, plays, cuts and recoveries with their
-// opening stores. A line is a name and numbers. One that ends in a colon is a call, and what it answers and leaves is printed after it; another names
-// an item of the basket to come, sets a part of the set or, if it has no such name, is only printed.
+// Prints the lines of its input and carries them out on a set of at most sixteen slots: baskets, single calls, plays,
+// cuts and recoveries with their invalidating stores. A line is a name and numbers. One that ends in a colon is a call,
+// and what it answers and leaves is printed after it; another names an item of the basket to come, sets a part of the
+// set or, if it has no such name, is only printed.
 mod basket;
 mod handed;
 mod image;

@@ -21,8 +21,8 @@ pub const STATE: u64 = 0x6574617473;
 // clear: no item is named
 pub const CLEAR: u64 = 0x7261656c63;
 
-// insert KEY LENGTH BYTE HIGH: names an item of the basket to come; byte i of its value is BYTE + i, and HIGH is the high word of its key. With a
-// colon it is the single call: the answer, the state and the index
+// insert KEY LENGTH BYTE HIGH: names an item of the basket to come; byte i of its value is BYTE + i, and HIGH is the
+// high word of its key. With a colon it is the single call: the answer, the state and the index
 pub const INSERT: u64 = 0x747265736e69;
 
 // replace KEY LENGTH BYTE HIGH: the same
@@ -31,13 +31,16 @@ pub const REPLACE: u64 = 0x6563616c706572;
 // remove KEY LENGTH BYTE HIGH: the same
 pub const REMOVE: u64 = 0x65766f6d6572;
 
-// basket: the basket of the items named: the answer, the state and the index; one that is not refused leaves no item named
+// basket: the basket of the items named: the answer, the state and the index; one that is not refused leaves no item
+// named
 pub const BASKET: u64 = 0x74656b736162;
 
-// format SLOTS HEADS: an image of so many slots. All of it is lent, with so many heads and all of the two lists, and no item is named
+// format SLOTS HEADS: an image of so many slots. All of it is lent, with so many heads and all of the two lists, and no
+// item is named
 pub const FORMAT: u64 = 0x74616d726f66;
 
-// recover: the state and the opening stores, if any, or the refusal, and the index; the opening stores are put into the lists
+// recover: the state and the invalidating stores, if any, or the refusal, and the index; the invalidating stores are
+// put into the lists
 pub const RECOVER: u64 = 0x7265766f636572;
 
 // get KEY: the answer, and words 0, 3, 4 and 9 of the value
@@ -49,5 +52,6 @@ pub const STORES: u64 = 0x7365726f7473;
 // play: all stores handed out last, by a call or by recovery; the answer
 pub const PLAY: u64 = 0x79616c70;
 
-// cut COUNTS: a cut that leaves so many of them on each line, counted from the first; a digit for each line, in the order of the stores
+// cut COUNTS: a cut that leaves so many of them on each line, counted from the first; a digit for each line, in the
+// order of the stores
 pub const CUT: u64 = 0x747563;

@@ -1,5 +1,6 @@
-// The set that the lines work on: an image of at most sixteen slots, its index of at most three heads, its state, two lists with the stores handed
-// out last, and the items named for the basket to come. Any number of it may be set to any other, and a call may be lent less than all of it.
+// The set that the lines work on: an image of at most sixteen slots, its index of at most three heads, its state, two
+// lists with the stores handed out last, and the items named for the basket to come. Any number of it may be set to any
+// other, and a call may be lent less than all of it.
 use orderset::Action;
 use orderset::BasketItem;
 use orderset::State;
@@ -21,7 +22,8 @@ pub struct Named {
     pub values: [u8; 640],
 }
 
-// `count` first entries of the lists were handed out last: opening stores, each on a line of its own, or eight to a line.
+// `count` first entries of the lists were handed out last: invalidating stores, each on a line of its own, or eight to
+// a line.
 pub struct Set {
     pub image: [u8; 2176],
     pub heads: [u32; 3],

@@ -11,19 +11,19 @@ use lib.Dec.{eqb, ltb}
 use borrow.Author.Tests.{eqb-true, eqb-false, eq-eqb, ne-eqb, ltb-false}
 use Rattle.prelude.specs.Answer.{refuses}
 use Rattle.prelude.specs.Members.{All, none-left, one-more}
-use Rattle.prelude.specs.Refusal.{say}
+use Rattle.prelude.specs.Refusal.{refuseIf}
 use Rattle.prelude.proofs.Choice.{pick-true, pick-false, true-false}
 use Rattle.prelude.proofs.Histories.{throughout}
-use Rattle.prelude.proofs.Refusals.{say-zero, orElse-zero, taken-leaves}
-use Rattle.face.proofs.SetLaws.{call-laws, set-laws}
-use Rattle.face.specs.Set.{Layout, World, Insert, Replace, Call, write, remove, PlainMap, giving, dropping, updates, updated, plainNext, plainStep, isHeld, Holds, holds, Keys, restarted, slotsIn, slotsMap}
-use Rattle.face.specs.Laws.{SetLaws}
-use Rattle.face.specs.Event.{Event, requestOf, isWhole, plainEvent, FitsBy, done-fits, struck-fits}
+use Rattle.prelude.proofs.Refusals.{refuseIf-zero, orElse-zero, taken-leaves}
+use Rattle.interface.proofs.SetLaws.{call-laws, set-laws}
+use Rattle.interface.specs.Set.{Layout, World, Insert, Replace, Call, write, remove, PlainMap, giving, dropping, updates, updated, plainNext, plainStep, isHeld, Holds, holds, Keys, restarted, slotsIn, slotsMap}
+use Rattle.interface.specs.Laws.{SetLaws}
+use Rattle.interface.specs.Event.{Event, requestOf, isWhole, plainEvent, FitsBy, done-fits, struck-fits}
 use Rattle.book.specs.declared.Order.{Order}
 use Rattle.book.specs.Orders.{orderBytes, orderOf, isOrder, isState, openOf, sent, acknowledged, filledBy}
 use Rattle.book.specs.Steps.{Step, new, acknowledge, fill, withdraw, BookAnswer, taken, already, declined, quantityFault, booked}
-use Rattle.book.specs.Plain.{stepKey, orderIn, orderFault, bookFault, callBy, stepCall, stepFault, answerFor, stepAnswer, updatesBy, stepUpdates, refusalNumber, StepRight, TypedStep, new-typed, acknowledge-typed, fill-typed, withdraw-typed, stepLeaves, worldAfterStep, mapAfterStep}
-use Rattle.book.specs.Totals.{openHeld, ofHeld, orderedIn, filledIn, withdrawnIn, isAccepted, isCounted, totalOf, mapAtEnd, openTotal, StepsRight, Conservation}
+use Rattle.book.specs.Plain.{stepKey, orderIn, orderFault, bookFault, callBy, stepCall, stepFault, answerFor, stepAnswer, updatesBy, stepUpdates, refusalNumber, StepCorrect, TypedStep, new-typed, acknowledge-typed, fill-typed, withdraw-typed, stepEffects, worldAfterStep, mapAfterStep}
+use Rattle.book.specs.Totals.{openHeld, ofHeld, orderedIn, filledIn, withdrawnIn, isAccepted, isCounted, totalOf, mapAtEnd, openTotal, StepsCorrect, Conservation}
 use Rattle.book.proofs.OrderBytes.{BookOrder, BookRecord, order-back, order-record, record-order}
 use Rattle.book.proofs.StepEvents.{step-event-keeps, step-event-slots, to-end}
 use Rattle.book.proofs.Steps.{step-right}
@@ -83,18 +83,18 @@ after m call = plainNext (updatesBy call) m
 quantity-fits : (quantity left : ℕ) → quantityFault quantity left ≡ 0 → (0 < quantity) × (quantity ≤ left)
 unfolding quantityFault
 quantity-fits quantity left z =
-    let first = say-zero (eqb quantity 0) 19 _ z (omega arith) in
-    let second = say-zero (ltb left quantity) 19 0 (first .1) (omega arith) in
+    let first = refuseIf-zero (eqb quantity 0) 19 _ z (omega arith) in
+    let second = refuseIf-zero (ltb left quantity) 19 0 (first .1) (omega arith) in
     (omega (arith, eqb-false quantity 0 (first .0)), ltb-false left quantity (second .0))
 
 module _ (m : PlainMap) (r : Records m) (key : ℕ) where
   -- a new order, whose key is not held
-  new-moves : (quantity : ℕ) → quantity < 2 ^ 64 → m key ≡ none → say (eqb quantity 0) 19 0 ≡ 0
+  new-moves : (quantity : ℕ) → quantity < 2 ^ 64 → m key ≡ none → refuseIf (eqb quantity 0) 19 0 ≡ 0
       → Moved key quantity 0 0 m (after m (some (write Insert key (orderBytes (sent quantity)))))
   unfolding updatesBy updates sent ofHeld isState
   new-moves quantity h e z =
       write-moves m key quantity 0 0 (sent quantity)
-      (record { state = refl; part = omega (arith, eqb-false quantity 0 (say-zero (eqb quantity 0) 19 0 z (omega arith) .0)); size = h })
+      (record { state = refl; part = omega (arith, eqb-false quantity 0 (refuseIf-zero (eqb quantity 0) 19 0 z (omega arith) .0)); size = h })
       (omega (arith, ap openHeld e))
 
   -- the order o that the key holds
@@ -151,7 +151,7 @@ module _ (l : ℕ) (m : PlainMap) (r : Records m) where
       → Moves m step (after m (callBy (orderIn (m (stepKey step))) step))
   unfolding bookFault orderFault callBy orderedIn filledIn withdrawnIn
   by-call (new key quantity) (new-typed k h) z =
-      let free = say-zero (isHeld (m key)) 17 _ z (omega arith) in
+      let free = refuseIf-zero (isHeld (m key)) 17 _ z (omega arith) in
       new-moves m r key quantity h (not-held (m key) (free .0)) (free .1)
   by-call (acknowledge key) (acknowledge-typed k) z =
       by-order m r key (λ o. orderFault o (acknowledge key)) refl z
@@ -218,7 +218,7 @@ unfolding answerFor isAccepted
 answer-accepted values present none = refl
 answer-accepted values present (some call) = refl
 
-step-accepted : (l : ℕ) (w : World) (m : PlainMap) (step : Step) → StepRight l w m step
+step-accepted : (l : ℕ) (w : World) (m : PlainMap) (step : Step) → StepCorrect l w m step
     → isAccepted (booked l w step .answer) ≡ not (refuses (stepFault l w m step))
 unfolding stepAnswer
 step-accepted l w m step right =
@@ -252,7 +252,7 @@ module _ (l n : ℕ) where
   records-at-end w m r [] none-left = r
   records-at-end w m r (event ∷ events) (one-more f fs) =
       records-at-end (worldAfterStep l w event) (mapAfterStep l w m event)
-      (moved-records _ _ _ _ m _ r (event-moves l m r w (requestOf event) (typed-request f) _ refl (isWhole (stepLeaves l) w event))) events fs
+      (moved-records _ _ _ _ m _ r (event-moves l m r w (requestOf event) (typed-request f) _ refl (isWhole (stepEffects l) w event))) events fs
 
   -- a key that no step names keeps its value
   pub others-stay : (w : World) (m : PlainMap) → Records m → (events : List (Event Step)) → All (FitsBy (TypedStep l) n) events → (key : ℕ)
@@ -260,18 +260,18 @@ module _ (l n : ℕ) where
   unfolding mapAtEnd
   others-stay w m r [] none-left key none-left = refl
   others-stay w m r (event ∷ events) (one-more f fs) key (one-more ne nes) =
-      let v = event-moves l m r w (requestOf event) (typed-request f) _ refl (isWhole (stepLeaves l) w event) in
+      let v = event-moves l m r w (requestOf event) (typed-request f) _ refl (isWhole (stepEffects l) w event) in
       others-stay (worldAfterStep l w event) (mapAfterStep l w m event) (moved-records _ _ _ _ m _ r v) events fs key nes ∙ v .elsewhere key ne
 
   -- THE BALANCE from any map of book records, with what is open at the start, of steps that answer right
-  pub balanced : (w : World) (m : PlainMap) → Records m → (events : List (Event Step)) → All (FitsBy (TypedStep l) n) events → StepsRight l w m events
+  pub balanced : (w : World) (m : PlainMap) → Records m → (events : List (Event Step)) → All (FitsBy (TypedStep l) n) events → StepsCorrect l w m events
       → (ks js : List ℕ) → Keys m ks → Keys (mapAtEnd l w m events) js
       → totalOf orderedIn l w m events + openTotal m ks
       ≡ totalOf filledIn l w m events + totalOf withdrawnIn l w m events + openTotal (mapAtEnd l w m events) js
   unfolding mapAtEnd totalOf isCounted
   balanced w m r [] none-left right ks js a b = omega (arith, open-same m ks js a b)
   balanced w m r (event ∷ events) (one-more f fs) right ks js a b =
-      let v = event-moves l m r w (requestOf event) (typed-request f) _ (step-accepted l w m (requestOf event) (right .1)) (isWhole (stepLeaves l) w event) in
+      let v = event-moves l m r w (requestOf event) (typed-request f) _ (step-accepted l w m (requestOf event) (right .1)) (isWhole (stepEffects l) w event) in
       moved-before _ _ _ _ m (mapAfterStep l w m event) v ks a _ _ _ _
       (λ is c. balanced (worldAfterStep l w event) (mapAfterStep l w m event) (moved-records _ _ _ _ m _ r v) events fs (right .2) is js c b)
 
@@ -279,7 +279,7 @@ module _ (l n : ℕ) where
 
 module _ (l : ℕ) (Inv : World → PlainMap → Type 0) (laws : SetLaws l Inv) (n : ℕ) where
   steps-right : (w : World) (m : PlainMap) (events : List (Event Step)) → Inv w m → slotsIn (w .image) ≡ n → All (FitsBy (TypedStep l) n) events
-      → StepsRight l w m events
+      → StepsCorrect l w m events
   steps-right w m events i e fits =
       throughout _ _ _ _ (λ v p. Inv v p × (slotsIn (v .image) ≡ n)) (FitsBy (TypedStep l) n)
       (λ v p j. laws .recovers v p (j .0))
@@ -311,7 +311,7 @@ conservation l layout image start z restart empty events fits = record {
     same : slotsIn (w .image) ≡ slotsIn image
     same = call-laws l layout .restart-slots image start
 
-    right : StepsRight l w (slotsMap l image) events
+    right : StepsCorrect l w (slotsMap l image) events
     right =
         steps-right l _ (set-laws l layout) (slotsIn image) w (slotsMap l image) events (set-laws l layout .after-recovery image start z restart) same fits
 

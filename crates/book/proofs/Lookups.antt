@@ -1,5 +1,5 @@
 -- What a step finds of its key is what the plain map holds. Assumes nothing.
-use mathlib.Core.Path.{_≡_, refl, ap, _∙_}
+use mathlib.Core.Path.{_≡_, refl, ap, _∙_, ap₂}
 use mathlib.Core.Bool.{Bool, true, false, cond}
 use mathlib.Core.Option.{Option, some, none}
 use mathlib.Core.List.{List}
@@ -7,8 +7,8 @@ use Prim.Native.Nat.{ℕ}
 use native.Mathlib.Omega.{arith}
 use lib.ListN.{length, drop, replicate, length-replicate}
 use lib.Seq.{take-append-seam}
-use Rattle.face.specs.Set.{World, PlainMap, limit, lengthAnswer, filled}
-use Rattle.face.specs.Laws.{SetLaws}
+use Rattle.interface.specs.Set.{World, PlainMap, limit, lengthAnswer, filled}
+use Rattle.interface.specs.Laws.{SetLaws}
 use Rattle.book.specs.Orders.{isOrder, orderOf}
 use Rattle.book.specs.Steps.{order, none-there, soughtIn, soughtBy, seek}
 use Rattle.book.specs.Plain.{orderIn}
@@ -29,8 +29,8 @@ sought-held (some value) out =
 
 module _ (l : ℕ) (Inv : World → PlainMap → Type 0) (laws : SetLaws l Inv) (w : World) (m : PlainMap) (i : Inv w m) (key : ℕ) where
   -- a seek finds the order that the plain map holds
-  pub sought : seek l (w .image) (w .heads) (w .next) key ≡ soughtFor (orderIn (m key))
+  pub sought : seek l (w .image) (w .index .heads) (w .index .next) key ≡ soughtFor (orderIn (m key))
   unfolding seek soughtBy
   sought =
-      ap soughtBy (laws .reads w m i key (replicate (limit l) 0) (omega (arith, length-replicate {A = ℕ} (limit l) 0)))
+      (let e = laws .reads w m i key (replicate (limit l) 0) (omega (arith, length-replicate {A = ℕ} (limit l) 0)) in ap₂ soughtIn (e .1) (e .0))
       ∙ sought-held (m key) (replicate (limit l) 0)

@@ -11,7 +11,7 @@ use Rattle.words.specs.Word.{word}
 use Rattle.words.proofs.Laws.{word-take}
 use Rattle.prelude.proofs.Choice.{pick-true, pick-false, both, both-right}
 use Rattle.prelude.specs.Answer.{Answer, gives, absent, refused}
-use Rattle.face.specs.Set.{Layout, GetResult, getResult, limit}
+use Rattle.interface.specs.Set.{Layout, getResult, limit, ReadOnlyResult}
 use Rattle.book.specs.Orders.{isState, isOrder, orderOf}
 use Rattle.book.specs.Steps.{Sought, order, none-there, soughtIn, soughtBy, seek}
 use Rattle.book.specs.inner.Courses.{soughtWith}
@@ -70,7 +70,7 @@ found-sound bytes o true e q =
     (both-right (eqb (length bytes) 24 && isState (word bytes 0)) _ (sym e)))
 found-sound bytes o false e q = absurd (not-there o 18 q)
 
-sought-sound : (r : GetResult) (o : Order) → order o ≡ soughtBy r → o .filled < o .ordered
+sought-sound : (r : ReadOnlyResult) (o : Order) → order o ≡ soughtBy r → o .filled < o .ordered
 unfolding soughtBy soughtIn
 sought-sound r o e = go (r .answer) e
   where
@@ -101,12 +101,12 @@ module _ (l : ℕ) (image heads next : List ℕ) (key : ℕ) where
   seek-sound o e = sought-sound (getResult l image heads next key (replicate (limit l) 0)) o e
 
   -- what a get answers and the output that it leaves
-  seek-by : (r : GetResult) → r ≡ getResult l image heads next key (replicate (limit l) 0) → (answer : Answer) → r .answer ≡ answer
+  seek-by : (r : ReadOnlyResult) → r ≡ getResult l image heads next key (replicate (limit l) 0) → (answer : Answer) → r .answer ≡ answer
       → soughtIn (r .out) answer ≡ seek l image heads next key
   unfolding seek soughtBy
   seek-by r e answer q = ap (soughtIn (r .out)) (sym q) ∙ ap soughtBy e
 
   -- the same of a get with such an output
-  pub seek-given : (out : List ℕ) → out ≡ replicate (limit l) 0 → (r : GetResult) → r ≡ getResult l image heads next key out → (answer : Answer)
+  pub seek-given : (out : List ℕ) → out ≡ replicate (limit l) 0 → (r : ReadOnlyResult) → r ≡ getResult l image heads next key out → (answer : Answer)
       → r .answer ≡ answer → soughtIn (r .out) answer ≡ seek l image heads next key
   seek-given out e r q answer p = seek-by r (q ∙ ap (getResult l image heads next key) e) answer p

@@ -12,14 +12,14 @@ use Rattle.prelude.specs.Answer.{refuses}
 use Rattle.prelude.specs.Members.{All, none-left, one-more}
 use Rattle.prelude.proofs.Choice.{pick-true}
 use Rattle.prelude.proofs.Refusals.{orElse-zero, taken-leaves, refused-keeps, by-refusal}
-use Rattle.face.specs.Set.{World, Insert, Replace, Call, write, remove, locate, called, PlainMap, Update, updates, plainNext, plainStep, ruleFault, Typed, write-typed, remove-typed, locate-typed, dueFault, slotsIn}
-use Rattle.face.specs.Event.{Cut, Event, done, struck, Leaving, leaving, stepBy, imageCut, step, isWhole, plainEvent, mapAfterEvent, FitsBy, done-fits, struck-fits, Fits}
-use Rattle.face.specs.Plays.{PlaysSingle}
-use Rattle.face.specs.Recovers.{RecoversAlong}
-use Rattle.face.specs.Laws.{SetLaws}
+use Rattle.interface.specs.Set.{World, Insert, Replace, Call, write, remove, locate, callResult, PlainMap, Update, updates, plainNext, plainStep, ruleFault, Typed, write-typed, remove-typed, locate-typed, expectedRefusal, slotsIn}
+use Rattle.interface.specs.Event.{Cut, Event, done, struck, Effects, effectsOf, stepBy, imageCut, step, isWhole, plainEvent, mapAfterEvent, FitsBy, done-fits, struck-fits, Fits}
+use Rattle.interface.specs.Plays.{PlaysSingle}
+use Rattle.interface.specs.Recovers.{RecoversAlways}
+use Rattle.interface.specs.Laws.{SetLaws}
 use Rattle.book.specs.Orders.{orderBytes, acknowledged, filledBy, openOf, sent}
 use Rattle.book.specs.Steps.{Step, new, acknowledge, fill, withdraw}
-use Rattle.book.specs.Plain.{stepKey, orderIn, bookFault, callBy, stepCall, callFault, stepFault, updatesBy, stepUpdates, callOr, callFor, TypedStep, new-typed, acknowledge-typed, fill-typed, withdraw-typed, stepLeaves, worldAfterStep, mapAfterStep}
+use Rattle.book.specs.Plain.{stepKey, orderIn, bookFault, callBy, stepCall, callFault, stepFault, updatesBy, stepUpdates, callOr, callFor, TypedStep, new-typed, acknowledge-typed, fill-typed, withdraw-typed, stepEffects, worldAfterStep, mapAfterStep}
 use Rattle.book.specs.Totals.{worldAtEnd, mapAtEnd}
 use Rattle.book.specs.declared.Order.{Order}
 use Rattle.book.proofs.defs.CallEvent.{callEvent}
@@ -59,13 +59,13 @@ module _ (l : ℕ) where
 
 module _ (l : ℕ) (w : World) (m : PlainMap) (step : Step) where
   -- a locate keeps the plain map
-  located-map : (call : Call) (key : ℕ) → call ≡ locate key → m ≡ plainStep (updates call) (refuses (dueFault l w m call)) m
+  located-map : (call : Call) (key : ℕ) → call ≡ locate key → m ≡ plainStep (updates call) (refuses (expectedRefusal l w m call)) m
   unfolding plainStep updates plainNext ruleFault refuses
-  located-map call key e = sym (ap (λ (c : Call). plainStep (updates c) (refuses (dueFault l w m c)) m) e)
+  located-map call key e = sym (ap (λ (c : Call). plainStep (updates c) (refuses (expectedRefusal l w m c)) m) e)
 
   by-map : (call : Option Call) → callFault l w m call ≡ 0
       → plainStep (updatesBy call) (refuses 0) m ≡
-      plainStep (updates (callOr (stepKey step) call)) (refuses (dueFault l w m (callOr (stepKey step) call))) m
+      plainStep (updates (callOr (stepKey step) call)) (refuses (expectedRefusal l w m (callOr (stepKey step) call))) m
   unfolding callFault updatesBy callOr updates ruleFault plainNext
   by-map none z = refl
   by-map (some call) z = ap (λ (k : ℕ). plainStep (updates call) (refuses k) m) (sym z)
@@ -80,13 +80,13 @@ module _ (l : ℕ) (w : World) (m : PlainMap) (step : Step) where
   call-zero z = orElse-zero (bookFault m step) _ z .1
 
   step-map : plainStep (stepUpdates m step) (refuses (stepFault l w m step)) m ≡
-      plainStep (updates (callFor l w m step)) (refuses (dueFault l w m (callFor l w m step))) m
+      plainStep (updates (callFor l w m step)) (refuses (expectedRefusal l w m (callFor l w m step))) m
   unfolding stepUpdates callFor
   step-map =
       by-cases (ℕ-discrete (stepFault l w m step) 0)
       (λ z. ap (λ (k : ℕ). plainStep (stepUpdates m step) (refuses k) m) z
       ∙ by-map (stepCall m step) (call-zero z)
-      ∙ sym (ap (λ (c : Call). plainStep (updates c) (refuses (dueFault l w m c)) m) (taken-leaves _ _ (stepFault l w m step) z)))
+      ∙ sym (ap (λ (c : Call). plainStep (updates c) (refuses (expectedRefusal l w m c)) m) (taken-leaves _ _ (stepFault l w m step) z)))
       (λ nz. refused-map _ (stepFault l w m step) nz ∙ located-map _ _ (refused-keeps _ _ (stepFault l w m step) nz))
 
 -- ---- events
@@ -107,9 +107,9 @@ module _ (l : ℕ) (Inv : World → PlainMap → Type 0) (laws : SetLaws l Inv) 
     where
       go : (e : Event Step) → FitsBy (TypedStep l) (slotsIn (w .image)) e → worldAfterStep l w e ≡ step l w (callEvent l w m e)
       go (done request) (done-fits t) =
-          ap (λ (r : Leaving). stepBy l (λ v x. r) w (done request)) (step-right l Inv laws w m i request t .leaves)
+          ap (λ (r : Effects). stepBy l (λ v x. r) w (done request)) (step-right l Inv laws w m i request t .leaves)
       go (struck request cut) (struck-fits t f) =
-          ap (λ (r : Leaving). stepBy l (λ v x. r) w (struck request cut)) (step-right l Inv laws w m i request t .leaves)
+          ap (λ (r : Effects). stepBy l (λ v x. r) w (struck request cut)) (step-right l Inv laws w m i request t .leaves)
 
   -- and so is the plain map
   pub step-event-map : mapAfterStep l w m event ≡ mapAfterEvent l w m (callEvent l w m event)
@@ -119,7 +119,7 @@ module _ (l : ℕ) (Inv : World → PlainMap → Type 0) (laws : SetLaws l Inv) 
       go : (e : Event Step) → FitsBy (TypedStep l) (slotsIn (w .image)) e → mapAfterStep l w m e ≡ mapAfterEvent l w m (callEvent l w m e)
       go (done request) (done-fits t) = step-map l w m request
       go (struck request cut) (struck-fits t f) =
-          ap₂ (λ (r : Leaving) (p : PlainMap). cond (isWhole (λ v x. r) w (struck request cut)) p m) (step-right l Inv laws w m i request t .leaves)
+          ap₂ (λ (r : Effects) (p : PlainMap). cond (isWhole (λ v x. r) w (struck request cut)) p m) (step-right l Inv laws w m i request t .leaves)
           (step-map l w m request)
 
   -- an event of a step keeps the invariant, with the plain map's next map
@@ -135,16 +135,16 @@ module _ (l : ℕ) (Inv : World → PlainMap → Type 0) (laws : SetLaws l Inv) 
       ap (λ (v : World). slotsIn (v .image)) step-event-world ∙ laws .keeps-slots w m i (callEvent l w m event) (step-event-fits l w m event fits)
 
   -- play makes of its stores the image that the next request or recovery gets
-  pub step-event-plays : PlaysSingle l (stepLeaves l) w event
+  pub step-event-plays : PlaysSingle l (stepEffects l) w event
   unfolding callEvent stepBy
   step-event-plays = go event fits
     where
-      go : (e : Event Step) → FitsBy (TypedStep l) (slotsIn (w .image)) e → PlaysSingle l (stepLeaves l) w e
+      go : (e : Event Step) → FitsBy (TypedStep l) (slotsIn (w .image)) e → PlaysSingle l (stepEffects l) w e
       go (done request) (done-fits t) =
-          subst (λ (r : Leaving). PlaysSingle l (λ v x. r) w (done request)) (sym (step-right l Inv laws w m i request t .leaves))
+          subst (λ (r : Effects). PlaysSingle l (λ v x. r) w (done request)) (sym (step-right l Inv laws w m i request t .leaves))
           (laws .plays-event w m i (done (callFor l w m request)) (step-event-fits l w m (done request) (done-fits t)))
       go (struck request cut) (struck-fits t f) =
-          subst (λ (r : Leaving). PlaysSingle l (λ v x. r) w (struck request cut)) (sym (step-right l Inv laws w m i request t .leaves))
+          subst (λ (r : Effects). PlaysSingle l (λ v x. r) w (struck request cut)) (sym (step-right l Inv laws w m i request t .leaves))
           (laws .plays-event w m i (struck (callFor l w m request) cut) (step-event-fits l w m (struck request cut) (struck-fits t f)))
 
 -- after a cut recovery gives the plain map's next map of each image on the way
@@ -153,14 +153,14 @@ module _ (l : ℕ) (Inv : World → PlainMap → Type 0) (laws : SetLaws l Inv) 
   typed-step : FitsBy (TypedStep l) (slotsIn (w .image)) (struck request cut) → TypedStep l request
   typed-step (struck-fits t f) = t
 
-  pub step-along : RecoversAlong l (imageCut w (stepLeaves l w request) cut) (mapAfterStep l w m (struck request cut)) (cut .restart .rounds)
+  pub step-always : RecoversAlways l (imageCut w (stepEffects l w request) cut) (mapAfterStep l w m (struck request cut))
   unfolding callEvent
-  step-along =
-      subst (λ (r : Leaving). RecoversAlong l (imageCut w r cut) (mapAfterStep l w m (struck request cut)) (cut .restart .rounds))
+  step-always =
+      subst (λ (r : Effects). RecoversAlways l (imageCut w r cut) (mapAfterStep l w m (struck request cut)))
       (sym (step-right l Inv laws w m i request (typed-step fits) .leaves))
-      (subst (λ (p : PlainMap). RecoversAlong l (imageCut w (leaving (called l w (callFor l w m request))) cut) p (cut .restart .rounds))
+      (subst (λ (p : PlainMap). RecoversAlways l (imageCut w (effectsOf (callResult l w (callFor l w m request))) cut) p)
       (sym (step-event-map l Inv laws w m i (struck request cut) fits))
-      (laws .keeps-along w m i (callFor l w m request) cut (step-event-fits l w m (struck request cut) fits)))
+      (laws .keeps-always w m i (callFor l w m request) cut (step-event-fits l w m (struck request cut) fits)))
 
 -- every list of events of steps keeps the invariant, with the plain map at the end
 module _ (l : ℕ) (Inv : World → PlainMap → Type 0) (laws : SetLaws l Inv) (n : ℕ) where

@@ -8,12 +8,12 @@ use Prim.Native.Nat.{ℕ}
 use native.Mathlib.Omega.{arith}
 use native.Mathlib.Decide.{ℕ-discrete}
 use lib.Dec.{eqb, ltb}
-use Rattle.prelude.specs.Refusal.{say}
-use Rattle.prelude.proofs.Refusals.{say-zero, orElse-first, orElse-later, taken-leaves}
-use Rattle.face.specs.Set.{World, Layout, Insert, Replace, Call, write, remove, PlainMap, isHeld, dueFault, slotsIn, InsertsNew, RoomRight}
-use Rattle.face.specs.Event.{Event, FitsBy}
-use Rattle.face.specs.Laws.{SetLaws}
-use Rattle.face.proofs.defs.RoomLaws.{RoomLaws}
+use Rattle.prelude.specs.Refusal.{refuseIf}
+use Rattle.prelude.proofs.Refusals.{refuseIf-zero, orElse-first, orElse-later, taken-leaves}
+use Rattle.interface.specs.Set.{World, Layout, Insert, Replace, Call, write, remove, PlainMap, isHeld, expectedRefusal, slotsIn, InsertsNew, RoomCorrect}
+use Rattle.interface.specs.Event.{Event, FitsBy}
+use Rattle.interface.specs.Laws.{SetLaws}
+use Rattle.interface.proofs.defs.RoomLaws.{RoomLaws}
 use Rattle.book.specs.Orders.{orderBytes, sent, acknowledged, filledBy, openOf}
 use Rattle.book.specs.Steps.{Step, new, acknowledge, fill, withdraw, quantityFault}
 use Rattle.book.specs.Plain.{stepKey, orderIn, orderFault, bookFault, callBy, stepCall, callFault, stepFault, TypedStep, NewOrder, worldAfterStep}
@@ -26,10 +26,10 @@ use Rattle.book.proofs.StepEvents.{step-event-fits, step-event-world}
 
 -- the book's own rules never have 28
 book-28 : (m : PlainMap) (step : Step) → bookFault m step ≡ 28 → ⊥
-unfolding bookFault orderFault quantityFault say
+unfolding bookFault orderFault quantityFault refuseIf
 book-28 m (new key quantity) e = go (isHeld (m key)) (eqb quantity 0) e
   where
-    go : (a b : Bool) → say a 17 (say b 19 0) ≡ 28 → ⊥
+    go : (a b : Bool) → refuseIf a 17 (refuseIf b 19 0) ≡ 28 → ⊥
     go true b e = omega arith
     go false true e = omega arith
     go false false e = omega arith
@@ -40,7 +40,7 @@ book-28 m (acknowledge key) e = go (orderIn (m key)) e
     go (some o) e = omega arith
 book-28 m (fill key quantity) e = go (orderIn (m key)) e
   where
-    of : (a b : Bool) → say a 19 (say b 19 0) ≡ 28 → ⊥
+    of : (a b : Bool) → refuseIf a 19 (refuseIf b 19 0) ≡ 28 → ⊥
     of true b e = omega arith
     of false true e = omega arith
     of false false e = omega arith
@@ -54,7 +54,7 @@ book-28 m (withdraw key) e = go (orderIn (m key)) e
     go none e = omega arith
     go (some o) e = omega arith
 
-module _ (l : ℕ) (lay : Layout l) (w : World) (m : PlainMap) (room : (call : Call) → RoomRight l w (InsertsNew l m call) (dueFault l w m call)) where
+module _ (l : ℕ) (lay : Layout l) (w : World) (m : PlainMap) (room : (call : Call) → RoomCorrect l w (InsertsNew l m call) (expectedRefusal l w m call)) where
   -- so 28 is that of the call to which the step comes
   of-call : (step : Step) → stepFault l w m step ≡ 28
       → (bookFault m step ≡ 0) × (callFault l w m (callBy (orderIn (m (stepKey step))) step) ≡ 28)
@@ -105,18 +105,18 @@ module _ (l : ℕ) (lay : Layout l) (w : World) (m : PlainMap) (room : (call : C
   withdraw-never none key = no-call
   withdraw-never (some o) key = no-remove key
 
-  never : (step : Step) → Never (callBy (orderIn (m (stepKey step))) step) → RoomRight l w ⊥ (stepFault l w m step)
+  never : (step : Step) → Never (callBy (orderIn (m (stepKey step))) step) → RoomCorrect l w ⊥ (stepFault l w m step)
   never step h = record { met = λ x one. absurd x; only-new = λ e. h (of-call step e .1); only-left = λ e. absurd (h (of-call step e .1)) }
 
   -- 28 EXACTLY where a new order finds one slot left: the other steps never meet it
-  pub step-room : (step : Step) → RoomRight l w (NewOrder m step) (stepFault l w m step)
+  pub step-room : (step : Step) → RoomCorrect l w (NewOrder m step) (stepFault l w m step)
   unfolding callBy callFault bookFault
   step-room (new key quantity) =
       let insert = room (write Insert key (orderBytes (sent quantity))) in
       record {
         met = λ z one.
             by-call (new key quantity) z
-            ∙ insert .met (omega (arith, order-length (sent quantity), lay .high), say-zero (isHeld (m key)) 17 _ z (omega arith) .0) one;
+            ∙ insert .met (omega (arith, order-length (sent quantity), lay .high), refuseIf-zero (isHeld (m key)) 17 _ z (omega arith) .0) one;
         only-new = λ e. of-call (new key quantity) e .0;
         only-left = λ e. insert .only-left (of-call (new key quantity) e .1);
       }

@@ -8,19 +8,18 @@ use native.Mathlib.Omega.{arith}
 use native.Mathlib.Decide.{ℕ-discrete}
 use Rattle.prelude.specs.Answer.{Answer, gives, absent, refused, refusalIn}
 use Rattle.prelude.proofs.Refusals.{orElse-first, orElse-later, taken-leaves, refused-keeps}
-use Rattle.face.specs.Set.{World, Call, locate, Called, called, calledChange, calledLocate, ChangeResult, Store, State, PlainMap, Right, dueFault}
-use Rattle.face.specs.Event.{Leaving, leaving}
+use Rattle.interface.specs.Set.{World, Call, locate, CallResult, callResult, Store, State, PlainMap, CallCorrect, expectedRefusal, readsOnly, Index}
+use Rattle.interface.specs.Event.{Effects, effectsOf}
 use Rattle.book.specs.Steps.{Step, BookResult, idle, changeAnswers, asChange}
-use Rattle.book.specs.Plain.{stepKey, bookFault, stepCall, callFault, stepFault, answerFor, stepAnswer, refusalNumber, bookLeaving, callOr, callFor, StepRight}
+use Rattle.book.specs.Plain.{stepKey, bookFault, stepCall, callFault, stepFault, answerFor, stepAnswer, refusalNumber, bookEffects, callOr, callFor, StepCorrect}
 use Rattle.book.proofs.defs.Ways.{Declines, Repeats, Calls}
 
 absent-gives : (values : List ℕ) → absent ≡ gives values → ⊥
 absent-gives values e = let z : _≡_ {A = ℕ} 0 1 = cc in omega arith
 
 -- a call that changes nothing
-still-leaving : (ss : List Store) (heads next heads′ next′ : List ℕ) (s s′ : State) → ss ≡ [] → heads ≡ heads′ → next ≡ next′ → s ≡ s′
-    → _≡_ {A = Leaving} (record { stores = ss; heads = heads; next = next; state = s }) (record { stores = []; heads = heads′; next = next′; state = s′ })
-still-leaving ss heads next heads′ next′ s s′ a b c d = cc
+still-leaving : (ss : List Store) (i i′ : Index) → ss ≡ [] → i ≡ i′ → _≡_ {A = Effects} (record { stores = ss; index = i }) (record { stores = []; index = i′ })
+still-leaving ss i i′ a b = cc
 
 module _ (l : ℕ) (w : World) (m : PlainMap) (step : Step) where
   -- ---- the number of a step
@@ -44,81 +43,80 @@ module _ (l : ℕ) (w : World) (m : PlainMap) (step : Step) where
   for-taken z = taken-leaves _ _ (stepFault l w m step) z
 
   -- a locate leaves all as it is
-  still : Leaving
-  still = record { stores = []; heads = w .heads; next = w .next; state = w .state }
+  still : Effects
+  still = record { stores = []; index = w .index }
 
-  locate-leaves : (call : Call) → call ≡ locate (stepKey step) → leaving (called l w call) ≡ still
-  unfolding called calledLocate still
-  locate-leaves call e = ap (λ (c : Call). leaving (called l w c)) e
+  locate-leaves : (call : Call) → call ≡ locate (stepKey step) → effectsOf (callResult l w call) ≡ still
+  unfolding callResult readsOnly still
+  locate-leaves call e = ap (λ (c : Call). effectsOf (callResult l w c)) e
 
   -- ---- a step that the book's rules refuse
 
-  pub declines-right : (number : ℕ) → Declines l w m step number → StepRight l w m step
-  unfolding refusalNumber bookLeaving idle still
+  pub declines-right : (number : ℕ) → Declines l w m step number → StepCorrect l w m step
+  unfolding refusalNumber bookEffects idle still
   declines-right number d =
       let fault = first-fault number (d .fault) (d .some) in
       let nz : stepFault l w m step ≡ 0 → ⊥ = λ z. d .some (sym fault ∙ z) in
       record {
         refusal = ap (λ (r : BookResult). refusalNumber (r .answer)) (d .result) ∙ sym fault;
         answer = λ z. absurd (nz z);
-        leaves = ap bookLeaving (d .result) ∙ sym (locate-leaves _ (for-refused nz));
+        leaves = ap bookEffects (d .result) ∙ sym (locate-leaves _ (for-refused nz));
       }
 
   -- ---- a step that comes to no call
 
-  pub repeats-right : Repeats l w m step → StepRight l w m step
-  unfolding callFault refusalNumber bookLeaving idle still stepAnswer answerFor callOr
+  pub repeats-right : Repeats l w m step → StepCorrect l w m step
+  unfolding callFault refusalNumber bookEffects idle still stepAnswer answerFor callOr
   repeats-right d =
       let fault = later-fault none (d .fault) (d .comes) in
       record {
         refusal = ap (λ (r : BookResult). refusalNumber (r .answer)) (d .result) ∙ sym fault;
         answer = λ z. ap (λ (r : BookResult). r .answer) (d .result) ∙ sym (ap (answerFor _ _) (d .comes));
-        leaves = ap bookLeaving (d .result) ∙ sym (locate-leaves _ (for-taken fault ∙ ap (callOr (stepKey step)) (d .comes)));
+        leaves = ap bookEffects (d .result) ∙ sym (locate-leaves _ (for-taken fault ∙ ap (callOr (stepKey step)) (d .comes)));
       }
 
   -- ---- a step that comes to a call
 
   -- what the step answers and leaves is what the call does
-  change-leaves : (c : ChangeResult) → bookLeaving (asChange c) ≡ leaving (calledChange c)
-  unfolding bookLeaving asChange calledChange
+  change-leaves : (c : CallResult) → bookEffects (asChange c) ≡ effectsOf c
+  unfolding bookEffects asChange
   change-leaves c = refl
 
-  module _ (call : Call) (c : ChangeResult) (d : Calls l w m step call c) (right : Right l w m call) where
-    due : stepFault l w m step ≡ dueFault l w m call
+  module _ (call : Call) (c : CallResult) (d : Calls l w m step call c) (right : CallCorrect l w m call) where
+    due : stepFault l w m step ≡ expectedRefusal l w m call
     unfolding callFault
     due = later-fault (some call) (d .fault) (d .comes)
 
-    answered : c .answer ≡ called l w call .answer
-    unfolding calledChange
-    answered = sym (ap (λ (r : Called). r .answer) (d .change))
+    answered : c .answer ≡ callResult l w call .answer
+    answered = sym (ap (λ (r : CallResult). r .answer) (d .change))
 
-    number-right : (answer : Answer) → answer ≡ called l w call .answer → refusalNumber (changeAnswers answer) ≡ dueFault l w m call
+    number-right : (answer : Answer) → answer ≡ callResult l w call .answer → refusalNumber (changeAnswers answer) ≡ expectedRefusal l w m call
     unfolding refusalNumber changeAnswers refusalIn
     number-right (gives values) e = ap refusalIn e ∙ right .refusal
     number-right absent e =
-        let z : dueFault l w m call ≡ 0 = sym (ap refusalIn e ∙ right .refusal) in
+        let z : expectedRefusal l w m call ≡ 0 = sym (ap refusalIn e ∙ right .refusal) in
         absurd (absent-gives _ (e ∙ right .answer z ∙ d .answer))
     number-right (refused number) e = ap refusalIn e ∙ right .refusal
 
-    refused-leaves : (dueFault l w m call ≡ 0 → ⊥) → leaving (called l w call) ≡ still
+    refused-leaves : (expectedRefusal l w m call ≡ 0 → ⊥) → effectsOf (callResult l w call) ≡ still
     unfolding still
     refused-leaves nz =
         let u = right .refused-still nz in
-        still-leaving _ _ _ _ _ _ _ (u .stores) (u .heads) (u .next) (u .state)
+        still-leaving _ _ _ (u .no-stores) (u .index-kept)
 
-    leaves-right : leaving (called l w call) ≡ leaving (called l w (callFor l w m step))
+    leaves-right : effectsOf (callResult l w call) ≡ effectsOf (callResult l w (callFor l w m step))
     unfolding callOr
     leaves-right =
         by-cases (ℕ-discrete (stepFault l w m step) 0)
-        (λ z. sym (ap (λ (k : Call). leaving (called l w k)) (for-taken z ∙ ap (callOr (stepKey step)) (d .comes))))
+        (λ z. sym (ap (λ (k : Call). effectsOf (callResult l w k)) (for-taken z ∙ ap (callOr (stepKey step)) (d .comes))))
         (λ nz. refused-leaves (λ z. nz (due ∙ z)) ∙ sym (locate-leaves _ (for-refused nz)))
 
-    pub calls-right : StepRight l w m step
+    pub calls-right : StepCorrect l w m step
     unfolding asChange stepAnswer answerFor changeAnswers
     calls-right =
         record {
           refusal = ap (λ (r : BookResult). refusalNumber (r .answer)) (d .result) ∙ number-right (c .answer) answered ∙ sym due;
           answer = λ z. ap (λ (r : BookResult). r .answer) (d .result)
               ∙ ap changeAnswers (answered ∙ right .answer (sym due ∙ z) ∙ d .answer) ∙ sym (ap (answerFor _ _) (d .comes));
-          leaves = ap bookLeaving (d .result) ∙ change-leaves c ∙ ap leaving (sym (d .change)) ∙ leaves-right;
+          leaves = ap bookEffects (d .result) ∙ change-leaves c ∙ ap effectsOf (sym (d .change)) ∙ leaves-right;
         }

@@ -10,7 +10,7 @@ use Rattle.prelude.specs.Members.{In}
 use Rattle.prelude.proofs.defs.Members.{without, sumOver}
 use Rattle.prelude.proofs.Lists.{in-without, without-in, once-without, without-gone}
 use Rattle.prelude.proofs.Sums.{sum-same, sum-but-one}
-use Rattle.face.specs.Set.{PlainMap, Holds, holds, Keys}
+use Rattle.interface.specs.Set.{PlainMap, Holds, holds, Keys}
 use Rattle.book.specs.Totals.{openHeld, ofHeld, openTotal}
 
 pub some-none : {v : List ℕ} {held : Option (List ℕ)} → held ≡ some v → held ≡ none → ⊥

@@ -1,4 +1,5 @@
--- The numbers with which a book step is refused, whatever image, index and state it is given: 10, 13, 20, 21 and 23 never show.
+-- The numbers with which a book step is refused, whatever image, index and state it is given: 10, 13, 20, 21 and 23
+-- never show.
 use mathlib.Core.List.{List, [], _∷_}
 use Prim.Native.Nat.{ℕ}
 use Rattle.prelude.specs.Members.{In}

@@ -1,5 +1,5 @@
--- The record of an order. Document 02, A.1: "Its record is 24 bytes: state (1 sent, 2 acknowledged), ordered quantity and filled quantity, a word each,
--- filled below ordered."
+-- The record of an order. Document 02, A.1: "Its record is 24 bytes: state (1 sent, 2 acknowledged), ordered quantity
+-- and filled quantity, a word each, filled below ordered."
 use mathlib.Core.Bool.{Bool, true, cond, _&&_}
 use mathlib.Core.List.{List}
 use Prim.Native.Nat.{ℕ, _+_, _-_}
@@ -28,7 +28,8 @@ isOrder bytes = eqb (length bytes) 24 && isState (word bytes 0) && ltb (word byt
 abbrev pub openOf : Order → ℕ
 openOf o = o .ordered - o .filled
 
--- a new order, the order acknowledged, and the order with q more filled: "Fill and withdraw serve either state and keep it"
+-- a new order, the order acknowledged, and the order with q more filled: "Fill and withdraw serve either state and keep
+-- it"
 unfoldable pub sent : (quantity : ℕ) → Order
 sent quantity = record { state = 1; ordered = quantity; filled = 0 }
 

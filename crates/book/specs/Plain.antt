@@ -6,9 +6,9 @@ use mathlib.Core.List.{List, [], _∷_}
 use Prim.Native.Nat.{ℕ, _^_, _<_}
 use lib.Dec.{eqb}
 use Rattle.prelude.specs.Answer.{refuses}
-use Rattle.prelude.specs.Refusal.{say, orElse, unlessRefused}
-use Rattle.face.specs.Set.{World, Insert, Replace, Call, write, remove, locate, called, PlainMap, Update, updates, isHeld, holder, nextVersion, tableOf, slotsIn, dueFault}
-use Rattle.face.specs.Event.{Event, Leaving, leaving, requestOf, stepBy, isWhole, plainEvent}
+use Rattle.prelude.specs.Refusal.{refuseIf, orElse, unlessRefused}
+use Rattle.interface.specs.Set.{World, Insert, Replace, Call, write, remove, locate, callResult, PlainMap, Update, updates, isHeld, holder, nextVersion, tableOf, slotsIn, expectedRefusal}
+use Rattle.interface.specs.Event.{Event, Effects, effectsOf, requestOf, stepBy, isWhole, plainEvent}
 use Rattle.book.specs.Orders.{orderBytes, orderOf, isOrder, openOf, sent, acknowledged, filledBy}
 use Rattle.book.specs.Steps.{Step, new, acknowledge, fill, withdraw, BookAnswer, taken, already, declined, BookResult, quantityFault, booked}
 use Rattle.book.specs.declared.Order.{Order}
@@ -26,10 +26,10 @@ orderIn (some value) = cond (isOrder value) (some (orderOf value)) none
 
 -- ---- where a step is refused
 
--- "17 when a new order's key is held, 18 when another step's key is not held or holds no book record, and 19 when a new quantity is zero or a fill is zero or more
--- than is open": by the order that is there
+-- "17 when a new order's key is held, 18 when another step's key is not held or holds no book record, and 19 when a new
+-- quantity is zero or a fill is zero or more than is open": by the order that is there
 unfoldable pub orderFault : Option Order → Step → ℕ
-orderFault none (new key quantity) = say (eqb quantity 0) 19 0
+orderFault none (new key quantity) = refuseIf (eqb quantity 0) 19 0
 orderFault none (acknowledge key) = 18
 orderFault none (fill key quantity) = 18
 orderFault none (withdraw key) = 18
@@ -40,14 +40,15 @@ orderFault (some o) (withdraw key) = 0
 
 -- a new order's key may hold what is no book record
 unfoldable pub bookFault : PlainMap → Step → ℕ
-bookFault m (new key quantity) = say (isHeld (m key)) 17 (orderFault none (new key quantity))
+bookFault m (new key quantity) = refuseIf (isHeld (m key)) 17 (orderFault none (new key quantity))
 bookFault m (acknowledge key) = orderFault (orderIn (m key)) (acknowledge key)
 bookFault m (fill key quantity) = orderFault (orderIn (m key)) (fill key quantity)
 bookFault m (withdraw key) = orderFault (orderIn (m key)) (withdraw key)
 
 -- ---- the call of the set that a step comes to
 
--- by the order that is there: one call, or none for a second acknowledge. Document 02, A.2: "The book's steps use the one they mean"
+-- by the order that is there: one call, or none for a second acknowledge. Document 02, A.2: "The book's steps use the
+-- one they mean"
 unfoldable pub callBy : Option Order → Step → Option Call
 callBy held (new key quantity) = some (write Insert key (orderBytes (sent quantity)))
 callBy none (acknowledge key) = none
@@ -65,7 +66,7 @@ stepCall m step = unlessRefused (bookFault m step) (callBy (orderIn (m (stepKey 
 -- the rules' number for that call
 unfoldable pub callFault : (l : ℕ) → World → PlainMap → Option Call → ℕ
 callFault l w m none = 0
-callFault l w m (some call) = dueFault l w m call
+callFault l w m (some call) = expectedRefusal l w m call
 
 -- the rules' number for a step: the book's, and then those of its call
 unfoldable pub stepFault : (l : ℕ) → World → PlainMap → Step → ℕ
@@ -80,7 +81,7 @@ answerFor values present (some call) = taken values
 
 unfoldable pub stepAnswer : (l : ℕ) → World → PlainMap → Step → BookAnswer
 stepAnswer l w m step =
-    answerFor (w .state .first ∷ nextVersion (tableOf l (w .image)) (slotsIn (w .image)) ∷ [])
+    answerFor (w .index .state .first ∷ nextVersion (tableOf l (w .image)) (slotsIn (w .image)) ∷ [])
     (holder (tableOf l (w .image)) (slotsIn (w .image)) (stepKey step)) (stepCall m step)
 
 unfoldable pub updatesBy : Option Call → List Update
@@ -97,8 +98,8 @@ refusalNumber (taken values) = 0
 refusalNumber (already values) = 0
 refusalNumber (declined number) = number
 
-unfoldable pub bookLeaving : BookResult → Leaving
-bookLeaving r = record { stores = r .stores; heads = r .heads; next = r .next; state = r .state }
+unfoldable pub bookEffects : BookResult → Effects
+bookEffects r = record { stores = r .stores; index = r .index }
 
 -- the call whose stores, index and state a step's are; a locate, which leaves all as it is, where it comes to none
 unfoldable pub callOr : (key : ℕ) → Option Call → Call
@@ -108,11 +109,12 @@ callOr key (some call) = call
 unfoldable pub callFor : (l : ℕ) → World → PlainMap → Step → Call
 callFor l w m step = unlessRefused (stepFault l w m step) (callOr (stepKey step) (stepCall m step)) (locate (stepKey step))
 
--- the step is right: refused exactly where the rules refuse it; otherwise it answers as they have it; it leaves what its call leaves
-pub record StepRight (l : ℕ) (w : World) (m : PlainMap) (step : Step) : Type 0 where
+-- the step is right: refused exactly where the rules refuse it; otherwise it answers as they have it; it leaves what
+-- its call leaves
+pub record StepCorrect (l : ℕ) (w : World) (m : PlainMap) (step : Step) : Type 0 where
   pub refusal : refusalNumber (booked l w step .answer) ≡ stepFault l w m step
   pub answer : stepFault l w m step ≡ 0 → booked l w step .answer ≡ stepAnswer l w m step
-  pub leaves : bookLeaving (booked l w step) ≡ leaving (called l w (callFor l w m step))
+  pub leaves : bookEffects (booked l w step) ≡ effectsOf (callResult l w (callFor l w m step))
 
 -- keys and quantities are numbers of their size
 pub data TypedStep (l : ℕ) : Step → Type 0 where
@@ -131,13 +133,13 @@ NewOrder m (withdraw key) = ⊥
 -- ---- events of book steps
 
 -- what a step leaves, its stores not yet played
-abbrev pub stepLeaves : (l : ℕ) → World → Step → Leaving
-stepLeaves l w step = bookLeaving (booked l w step)
+abbrev pub stepEffects : (l : ℕ) → World → Step → Effects
+stepEffects l w step = bookEffects (booked l w step)
 
 -- the set and the plain map after an event of a book step
 abbrev pub worldAfterStep : (l : ℕ) → World → Event Step → World
-worldAfterStep l w event = stepBy l (stepLeaves l) w event
+worldAfterStep l w event = stepBy l (stepEffects l) w event
 
 abbrev pub mapAfterStep : (l : ℕ) → World → PlainMap → Event Step → PlainMap
 mapAfterStep l w m event =
-    plainEvent (isWhole (stepLeaves l) w event) (stepUpdates m (requestOf event)) (refuses (stepFault l w m (requestOf event))) m
+    plainEvent (isWhole (stepEffects l) w event) (stepUpdates m (requestOf event)) (refuses (stepFault l w m (requestOf event))) m

@@ -1,5 +1,5 @@
--- CONSERVATION. Document 02, A.1: "Over any history of book steps since an empty set, total ordered equals total filled plus total withdrawn plus what is open,
--- the first three summed from the accepted steps that no cut made absent."
+-- CONSERVATION. Document 02, A.1: "Over any history of book steps since an empty set, total ordered equals total filled
+-- plus total withdrawn plus what is open, the first three summed from the accepted steps that no cut made absent."
 use mathlib.Core.Path.{_≡_}
 use mathlib.Core.Bool.{Bool, true, false, cond, _&&_}
 use mathlib.Core.Option.{Option, some, none}
@@ -8,13 +8,13 @@ use Prim.Native.Nat.{ℕ, _+_}
 use lib.ListN.{length}
 use Rattle.prelude.specs.Members.{All}
 use Rattle.prelude.specs.History.{Throughout}
-use Rattle.face.specs.Set.{World, PlainMap, Keys, recoverFault, Restart, restarted, slotsIn, slotsMap}
-use Rattle.face.specs.Recovers.{Recovers}
-use Rattle.face.specs.Event.{Event, requestOf, isWhole, RestartFits, FitsBy}
+use Rattle.interface.specs.Set.{Accepted, World, PlainMap, Keys, Restart, restarted, slotsIn, slotsMap}
+use Rattle.interface.specs.Recovers.{Recovers}
+use Rattle.interface.specs.Event.{Event, requestOf, isWhole, RestartFits, FitsBy}
 use Rattle.book.specs.Orders.{orderOf, isOrder, openOf}
 use Rattle.book.specs.declared.Order.{Order}
 use Rattle.book.specs.Steps.{Step, new, acknowledge, fill, withdraw, BookAnswer, taken, already, declined, booked}
-use Rattle.book.specs.Plain.{StepRight, TypedStep, stepLeaves, worldAfterStep, mapAfterStep}
+use Rattle.book.specs.Plain.{StepCorrect, TypedStep, stepEffects, worldAfterStep, mapAfterStep}
 
 -- a quantity of the order in a key's value, 0 where the key is not held
 unfoldable pub ofHeld : (Order → ℕ) → Option (List ℕ) → ℕ
@@ -53,7 +53,7 @@ isAccepted (declined number) = false
 
 -- is the step of an event counted? An accepted step is, by what it answered, "that no cut made absent"
 unfoldable pub isCounted : (l : ℕ) → World → Event Step → Bool
-isCounted l w event = isWhole (stepLeaves l) w event && isAccepted (booked l w (requestOf event) .answer)
+isCounted l w event = isWhole (stepEffects l) w event && isAccepted (booked l w (requestOf event) .answer)
 
 -- the sum over a list of events of what each counted step adds
 unfoldable pub totalOf : (adds : PlainMap → Step → ℕ) → (l : ℕ) → World → PlainMap → List (Event Step) → ℕ
@@ -80,26 +80,26 @@ openTotal m (key ∷ keys) = openHeld (m key) + openTotal m keys
 abbrev pub AllOrders : PlainMap → Type 0
 AllOrders m = (key : ℕ) (value : List ℕ) → m key ≡ some value → isOrder value ≡ true
 
--- before each event and after the last recovery gives the plain map m; each step is refused exactly where the rules refuse it, and otherwise answers as the
--- plain map does
-abbrev pub StepsRight : (l : ℕ) → World → PlainMap → List (Event Step) → Type 0
-StepsRight l =
-    Throughout (worldAfterStep l) (mapAfterStep l) (λ w m. Recovers l (w .image) m) (λ w m event. StepRight l w m (requestOf event))
+-- before each event and after the last recovery gives the plain map m; each step is refused exactly where the rules
+-- refuse it, and otherwise answers as the plain map does
+abbrev pub StepsCorrect : (l : ℕ) → World → PlainMap → List (Event Step) → Type 0
+StepsCorrect l =
+    Throughout (worldAfterStep l) (mapAfterStep l) (λ w m. Recovers l (w .image) m) (λ w m event. StepCorrect l w m (requestOf event))
 
--- from a world with the plain map m: every step answers right, and the totals, summed from the steps that answered so, balance with what is open in every
--- list of the keys that are held at the end
+-- from a world with the plain map m: every step answers right, and the totals, summed from the steps that answered so,
+-- balance with what is open in every list of the keys that are held at the end
 pub record Conserves (l : ℕ) (w : World) (m : PlainMap) (events : List (Event Step)) : Type 0 where
-  pub steps : StepsRight l w m events
+  pub steps : StepsCorrect l w m events
   -- the map is that of the set: what recovery and get then give, with a list of the held keys
   pub recovers : Recovers l (worldAtEnd l w events .image) (mapAtEnd l w m events)
   pub orders : AllOrders (mapAtEnd l w m events)
   pub balance : (keys : List ℕ) → Keys (mapAtEnd l w m events) keys
       → totalOf orderedIn l w m events ≡ totalOf filledIn l w m events + totalOf withdrawnIn l w m events + openTotal (mapAtEnd l w m events) keys
 
--- "since an empty set": an accepted image whose map is empty, with the index and state that recovery leaves and its opening stores played, with any cuts
--- among them
+-- "since an empty set": an accepted image whose map is empty, with the index and state that recovery leaves and its
+-- invalidating stores played, with any cuts among them
 abbrev pub Conservation : (l : ℕ) → Type 0
 Conservation l =
-    (image : List ℕ) (start : Restart) → recoverFault l image (length (start .heads)) (length (start .next)) ≡ 0 → RestartFits (slotsIn image) start
+    (image : List ℕ) (start : Restart) → Accepted l image → RestartFits (slotsIn image) start
     → ((key : ℕ) → slotsMap l image key ≡ none) → (events : List (Event Step)) → All (FitsBy (TypedStep l) (slotsIn image)) events
     → Conserves l (restarted l image start) (slotsMap l image) events

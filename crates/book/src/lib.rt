@@ -1,6 +1,6 @@
-// The order book: a layer above the set, which it knows by its face. Types, definitions and laws.
-use face::Mode;
-use face::State;
+// The order book: a layer above the set, which it knows by its interface. Types, definitions and laws.
+use interface::Mode;
+use interface::State;
 
 // An order: its state (1 sent, 2 acknowledged), the quantity ordered and the quantity filled.
 pub struct Order {
@@ -9,7 +9,8 @@ pub struct Order {
     pub filled: u64,
 }
 
-// The answer of a book step: the slot taken and the version; an order that was acknowledged before, with its slot and version; or a refusal.
+// The answer of a book step: the slot taken and the version; an order that was acknowledged before, with its slot and
+// version; or a refusal.
 pub enum BookOutcome {
     Stored { slot: u32, version: u64 },
     Already { slot: u32, version: u64 },

@@ -2,8 +2,8 @@
 ghost use mathlib.Core.Path.{_≡_};
 ghost use mathlib.Core.List.{List};
 ghost use Prim.Native.Nat.{ℕ};
-ghost use Rattle.face.specs.Set.{layoutNumber, keyWith, zipped, changeSays, changeEnd};
-ghost use Rattle.book.specs.Steps.{bookSays, bookEnd, bookLeftIn, changeAnswers, asChange};
+ghost use Rattle.interface.specs.Set.{layoutNumber, keyWith, zipped, changeSays, changeEnd, indexOf};
+ghost use Rattle.book.specs.Steps.{bookSays, bookEnd, bookBuffersAfter, changeAnswers, asChange};
 ghost use Rattle.book.specs.inner.Courses.{planSays, courseResult};
 use book::BookChange;
 use book::BookOutcome;
@@ -28,7 +28,7 @@ fn outcome_of(outcome: Outcome) -> BookOutcome
 
 // What a step gives back by what its call gave back.
 fn by_change(change: Change) -> BookChange
-    ensures { λ r. ⌜ ((at value heads next : List ℕ) → bookEnd r at value heads next ≡ asChange (changeEnd change at value heads next .left)) ⌝ }
+    ensures { λ r. ⌜ ((at value heads next : List ℕ) → bookEnd r at value heads next ≡ asChange (changeEnd change at value heads next)) ⌝ }
 {
     let outcome = change.outcome;
     let state = change.state;
@@ -53,8 +53,9 @@ pub fn carry_out(
     own: bool,
 ) -> BookChange
     ensures result { λ r. ⌜ bookEnd r (now (at .exit)) (now (words .exit)) (now (heads .exit)) (now (next .exit))
-        ≡ bookLeftIn (zipped (now (at .entry)) (now (words .entry)))
-        (courseResult own (layoutNumber wide) (now (image .entry)) (now (heads .entry)) (now (next .entry)) state (keyWith low high) (planSays plan)) ⌝ }
+        ≡ bookBuffersAfter (zipped (now (at .entry)) (now (words .entry)))
+        (courseResult own (layoutNumber wide) (now (image .entry)) (indexOf (now (heads .entry)) (now (next .entry)) state) (keyWith low high)
+        (planSays plan)) ⌝ }
 {
     match plan {
         Plan::Write { mode, order } => {

@@ -1,4 +1,5 @@
-// The steps of the order book, by the calls of the set that take the layout as a parameter. None has a `requires`; each contract is one equation. A step whose name ends in 2 is layout 2's.
+// The steps of the order book, by the calls of the set that take the layout as a parameter. None has a `requires`; each
+// contract is one equation. A step whose name ends in 2 is layout 2's.
 mod steps;
 
 pub use book::BookChange;

@@ -1,7 +1,7 @@
 // The steps: each reads, and then makes at most one call that writes. A step whose name ends in 2 is layout 2's.
 ghost use mathlib.Core.Path.{_≡_};
-ghost use Rattle.face.specs.Set.{keyWith, zipped};
-ghost use Rattle.book.specs.Steps.{bookEnd, bookLeftIn, newResult, acknowledgeResult, fillResult, withdrawResult};
+ghost use Rattle.interface.specs.Set.{keyWith, zipped, indexOf};
+ghost use Rattle.book.specs.Steps.{bookEnd, bookBuffersAfter, newResult, acknowledgeResult, fillResult, withdrawResult};
 use book::BookChange;
 use book_change_code::change::carry_out;
 use book_plan_code::plans::acknowledge_plan;
@@ -10,7 +10,8 @@ use book_plan_code::plans::new_plan;
 use book_plan_code::plans::withdraw_plan;
 use orderset::State;
 
-// A new order of this quantity: the slot taken and the version, the new state and, lent, the stores to be played; or a refusal, which changes nothing.
+// A new order of this quantity: the slot taken and the version, the new state and, lent, the stores to be played; or a
+// refusal, which changes nothing.
 pub fn new(
     image: &[u8],
     heads: &mut [u32],
@@ -21,7 +22,9 @@ pub fn new(
     at: &mut [u32; 16],
     words: &mut [u64; 16],
 ) -> BookChange
-    ensures { λ r. ⌜ bookEnd r (now (at .exit)) (now (words .exit)) (now (heads .exit)) (now (next .exit)) ≡ bookLeftIn (zipped (now (at .entry)) (now (words .entry))) (newResult 1 (now (image .entry)) (now (heads .entry)) (now (next .entry)) state key quantity) ⌝ }
+    ensures result { λ r. ⌜ bookEnd r (now (at .exit)) (now (words .exit)) (now (heads .exit)) (now (next .exit))
+        ≡ bookBuffersAfter (zipped (now (at .entry)) (now (words .entry)))
+        (newResult 1 (now (image .entry)) (indexOf (now (heads .entry)) (now (next .entry)) state) key quantity) ⌝ }
 {
     let plan = new_plan(image, false, heads, next, key, 0, quantity);
     carry_out(
@@ -39,7 +42,8 @@ pub fn new(
     )
 }
 
-// The order is acknowledged: as above; or, of an order that was acknowledged before, its slot and version, which changes nothing.
+// The order is acknowledged: as above; or, of an order that was acknowledged before, its slot and version, which
+// changes nothing.
 pub fn acknowledge(
     image: &[u8],
     heads: &mut [u32],
@@ -49,7 +53,9 @@ pub fn acknowledge(
     at: &mut [u32; 16],
     words: &mut [u64; 16],
 ) -> BookChange
-    ensures { λ r. ⌜ bookEnd r (now (at .exit)) (now (words .exit)) (now (heads .exit)) (now (next .exit)) ≡ bookLeftIn (zipped (now (at .entry)) (now (words .entry))) (acknowledgeResult 1 (now (image .entry)) (now (heads .entry)) (now (next .entry)) state key) ⌝ }
+    ensures result { λ r. ⌜ bookEnd r (now (at .exit)) (now (words .exit)) (now (heads .exit)) (now (next .exit))
+        ≡ bookBuffersAfter (zipped (now (at .entry)) (now (words .entry)))
+        (acknowledgeResult 1 (now (image .entry)) (indexOf (now (heads .entry)) (now (next .entry)) state) key) ⌝ }
 {
     let plan = acknowledge_plan(image, false, heads, next, key, 0);
     carry_out(
@@ -78,7 +84,9 @@ pub fn fill(
     at: &mut [u32; 16],
     words: &mut [u64; 16],
 ) -> BookChange
-    ensures { λ r. ⌜ bookEnd r (now (at .exit)) (now (words .exit)) (now (heads .exit)) (now (next .exit)) ≡ bookLeftIn (zipped (now (at .entry)) (now (words .entry))) (fillResult 1 (now (image .entry)) (now (heads .entry)) (now (next .entry)) state key quantity) ⌝ }
+    ensures result { λ r. ⌜ bookEnd r (now (at .exit)) (now (words .exit)) (now (heads .exit)) (now (next .exit))
+        ≡ bookBuffersAfter (zipped (now (at .entry)) (now (words .entry)))
+        (fillResult 1 (now (image .entry)) (indexOf (now (heads .entry)) (now (next .entry)) state) key quantity) ⌝ }
 {
     let plan = fill_plan(image, false, heads, next, key, 0, quantity);
     carry_out(
@@ -106,7 +114,9 @@ pub fn withdraw(
     at: &mut [u32; 16],
     words: &mut [u64; 16],
 ) -> BookChange
-    ensures { λ r. ⌜ bookEnd r (now (at .exit)) (now (words .exit)) (now (heads .exit)) (now (next .exit)) ≡ bookLeftIn (zipped (now (at .entry)) (now (words .entry))) (withdrawResult 1 (now (image .entry)) (now (heads .entry)) (now (next .entry)) state key) ⌝ }
+    ensures result { λ r. ⌜ bookEnd r (now (at .exit)) (now (words .exit)) (now (heads .exit)) (now (next .exit))
+        ≡ bookBuffersAfter (zipped (now (at .entry)) (now (words .entry)))
+        (withdrawResult 1 (now (image .entry)) (indexOf (now (heads .entry)) (now (next .entry)) state) key) ⌝ }
 {
     let plan = withdraw_plan(image, false, heads, next, key, 0);
     carry_out(
@@ -136,7 +146,9 @@ pub fn new2(
     at: &mut [u32; 16],
     words: &mut [u64; 16],
 ) -> BookChange
-    ensures { λ r. ⌜ bookEnd r (now (at .exit)) (now (words .exit)) (now (heads .exit)) (now (next .exit)) ≡ bookLeftIn (zipped (now (at .entry)) (now (words .entry))) (newResult 2 (now (image .entry)) (now (heads .entry)) (now (next .entry)) state (keyWith low high) quantity) ⌝ }
+    ensures result { λ r. ⌜ bookEnd r (now (at .exit)) (now (words .exit)) (now (heads .exit)) (now (next .exit))
+        ≡ bookBuffersAfter (zipped (now (at .entry)) (now (words .entry)))
+        (newResult 2 (now (image .entry)) (indexOf (now (heads .entry)) (now (next .entry)) state) (keyWith low high) quantity) ⌝ }
 {
     let plan = new_plan(image, true, heads, next, low, high, quantity);
     carry_out(
@@ -165,7 +177,9 @@ pub fn acknowledge2(
     at: &mut [u32; 16],
     words: &mut [u64; 16],
 ) -> BookChange
-    ensures { λ r. ⌜ bookEnd r (now (at .exit)) (now (words .exit)) (now (heads .exit)) (now (next .exit)) ≡ bookLeftIn (zipped (now (at .entry)) (now (words .entry))) (acknowledgeResult 2 (now (image .entry)) (now (heads .entry)) (now (next .entry)) state (keyWith low high)) ⌝ }
+    ensures result { λ r. ⌜ bookEnd r (now (at .exit)) (now (words .exit)) (now (heads .exit)) (now (next .exit))
+        ≡ bookBuffersAfter (zipped (now (at .entry)) (now (words .entry)))
+        (acknowledgeResult 2 (now (image .entry)) (indexOf (now (heads .entry)) (now (next .entry)) state) (keyWith low high)) ⌝ }
 {
     let plan = acknowledge_plan(image, true, heads, next, low, high);
     carry_out(
@@ -195,7 +209,9 @@ pub fn fill2(
     at: &mut [u32; 16],
     words: &mut [u64; 16],
 ) -> BookChange
-    ensures { λ r. ⌜ bookEnd r (now (at .exit)) (now (words .exit)) (now (heads .exit)) (now (next .exit)) ≡ bookLeftIn (zipped (now (at .entry)) (now (words .entry))) (fillResult 2 (now (image .entry)) (now (heads .entry)) (now (next .entry)) state (keyWith low high) quantity) ⌝ }
+    ensures result { λ r. ⌜ bookEnd r (now (at .exit)) (now (words .exit)) (now (heads .exit)) (now (next .exit))
+        ≡ bookBuffersAfter (zipped (now (at .entry)) (now (words .entry)))
+        (fillResult 2 (now (image .entry)) (indexOf (now (heads .entry)) (now (next .entry)) state) (keyWith low high) quantity) ⌝ }
 {
     let plan = fill_plan(image, true, heads, next, low, high, quantity);
     carry_out(
@@ -224,7 +240,9 @@ pub fn withdraw2(
     at: &mut [u32; 16],
     words: &mut [u64; 16],
 ) -> BookChange
-    ensures { λ r. ⌜ bookEnd r (now (at .exit)) (now (words .exit)) (now (heads .exit)) (now (next .exit)) ≡ bookLeftIn (zipped (now (at .entry)) (now (words .entry))) (withdrawResult 2 (now (image .entry)) (now (heads .entry)) (now (next .entry)) state (keyWith low high)) ⌝ }
+    ensures result { λ r. ⌜ bookEnd r (now (at .exit)) (now (words .exit)) (now (heads .exit)) (now (next .exit))
+        ≡ bookBuffersAfter (zipped (now (at .entry)) (now (words .entry)))
+        (withdrawResult 2 (now (image .entry)) (indexOf (now (heads .entry)) (now (next .entry)) state) (keyWith low high)) ⌝ }
 {
     let plan = withdraw_plan(image, true, heads, next, low, high);
     carry_out(

@@ -8,48 +8,49 @@ use native.Mathlib.Decide.{ℕ-discrete}
 use native.Mathlib.Omega.{arith}
 use lib.ListN.{length}
 use Rattle.words.specs.Word.{word, setBytes, setWord}
-use Rattle.prelude.specs.Refusal.{say, orElse, unlessRefused}
+use Rattle.prelude.specs.Refusal.{refuseIf, orElse, unlessRefused}
 use Rattle.prelude.specs.Range.{anyOf, tabulate, greatest, topmost, lowest, atLowest, count}
 use Rattle.prelude.specs.Filter.{filter}
 use Rattle.prelude.specs.Answer.{refuses}
 use Rattle.prelude.specs.Members.{In, All, none-left, one-more, slotNumbers}
 use Rattle.layout.specs.Size.{slotsOf, slotsIn}
-use Rattle.layout.specs.Line.{lineTop, versionFault}
-use Rattle.layout.specs.Slot.{paired, slotTop, verdictOf, lineVerdict, isValid}
+use Rattle.layout.specs.Line.{wholeVersion, versionFault}
+use Rattle.layout.specs.Slot.{paired, highestWholeOf, verdictOf, lineVerdict, isValid}
 use Rattle.layout.specs.Record.{keyFrom, keyOf, valuePlace, slotWord, valueWord, valueByte, valueFront, valueOf}
-use Rattle.layout.specs.Content.{made, contentBy, contentOf, content, topOf, top}
+use Rattle.layout.specs.Content.{contentOfRecord, contentBy, contentOf, content, highestWholeIn, highestWhole}
 use Rattle.layout.specs.Header.{headerWord, headerFault, imageFault, indexFault, lentFault}
 use Rattle.layout.specs.Fault.{markFault, kindFault, kindLimit, wordFault, tailFault, faultOf, recordFault, bitsFault}
 use Rattle.stores.specs.Store.{zipped, played, less, standing, allStand}
 use Rattle.stores.specs.Written.{marked, placedWord, bodyA, bodyB, run, lineStores, recordStores}
 use Rattle.stores.specs.Play.{wordNumbers, values}
-use Rattle.stores.specs.Opening.{openingStore, openingStores}
+use Rattle.stores.specs.Invalidation.{invalidatingStore, invalidatingStores}
 use Rattle.sorting.specs.Sorted.{insert, sorted}
-use Rattle.table.specs.Table.{isRecord, keyIn, weight, nextVersion, decider, valueIn, valueAt, mapOf, decidingPut, live, spare, liveCount, isBroken, brokenCount, brokenLimit, manyBroken, allLive, isHeld}
+use Rattle.table.specs.Table.{isRecord, keyIn, rankForKey, nextVersion, decider, valueIn, valueAt, mapOf, decidingPut, live, spare, liveCount, isBroken, brokenCount, brokenLimit, manyBroken, allLive, isHeld}
 use Rattle.table.specs.Order.{rankOf, ordered, chainOf, reuseOf}
 use Rattle.table.specs.Keys.{Holds, holds, Keys}
-use Rattle.table.specs.Complete.{said, hasVersion, sharers, complete, versionIfComplete, highestComplete, isVoid, settled}
+use Rattle.table.specs.Complete.{basketSize, hasVersion, sharers, complete, versionIfComplete, highestComplete, isVoid, settled}
 use Rattle.table.specs.Shared.{clashes, sharersFault}
-use Rattle.table.specs.Taking.{validVersion, highestValid, isRemove, older, mayTake, takeableCount, takeableIf}
-use Rattle.index.specs.Index.{setNext, setStart, setLast, link}
+use Rattle.table.specs.Takeable.{validVersion, highestValid, isRemove, older, mayTake, takeableCount, takeableIf}
+use Rattle.index.specs.Index.{setNext, setStart, setLast, link, noState}
 use Rattle.index.specs.Chained.{firstOf, lastOf, after, nextIn, chained}
 use Rattle.index.specs.Change.{takeFirst, linkNew, append, keyFault, isFound, insertAt, replaceAt, removeAt}
 use Rattle.index.specs.Walk.{walk, search, chainFault}
-use Rattle.index.specs.Taking.{withTaken, atEnd, takeWalk, takeFrom, endsFault, linkFault, fewFault, reuseFault, roomFault}
-use Rattle.taking.specs.Taking.{takingOf, takingBy}
-use Rattle.recovery.specs.Recover.{slotsFault, recoverFault, chainsOf, placeOf, recoveredIndex, recoveredState, recovered, recoverResult, noState, settledFault, slotsNamed, recoverSlot}
-use Rattle.recovery.specs.Opening.{voidSlots, openingsOf, storesIn}
-use Rattle.calls.specs.Change.{unchanged, changed, writeLentFault, writeLaterFault, writeFault, writeDone, writeUnless, writeResult, removeLaterFault, removeFault, removeDone, removeUnless, removeResult, storeFault, insertsOf, removeFaultBy, removeResultBy, writeFaultBy, writeResultBy}
+use Rattle.index.specs.Allocation.{withTaken, atEnd, allocationWalk, allocateFrom, endsFault, linkFault, fewFault, reuseFault, roomFault}
+use Rattle.allocation.specs.Allocation.{allocationByRule, allocationBy}
+use Rattle.recovery.specs.Recover.{slotsFault, recoverFault, chainsOf, placeOf, recoveredIndex, recovered, recoverResult, settledFault, slotsNamed, recoverSlot}
+use Rattle.recovery.specs.Invalidation.{voidSlots, invalidationsOf, storesIn}
+use Rattle.calls.specs.Change.{changed, writeLentFault, writeLaterFault, writeFault, writeDone, writeUnless, writeResult, removeLaterFault, removeFault, removeDone, removeUnless, removeResult, storeFault, insertsOf, removeFaultBy, removeResultBy, writeFaultBy, writeResultBy}
+use Rattle.calls.specs.Result.{unchanged}
 use Rattle.calls.specs.Get.{lengthFault, getLaterFault, getFault, getDone, getResult}
 use Rattle.calls.specs.Format.{formatted}
-use Rattle.calls.specs.Locate.{locateFault, locateDone, locateResult}
-use Rattle.plainmap.specs.World.{worldAfter, afterRound, afterRounds, openedWorld, restarted}
+use Rattle.calls.specs.Locate.{locateFault, locateDone, locateAnswer}
+use Rattle.plainmap.specs.World.{worldAfter, afterRound, afterRounds, invalidatedWorld, restarted}
 use Rattle.plainmap.specs.Plain.{updates, updated, plainNext, plainStep, sizeOf, ruleFault, roomRule}
-use Rattle.face.proofs.SetLaws.{layout-1}
-use Rattle.face.specs.Event.{RestartFits, FitsBy, done-fits, struck-fits, stepBy, imageCut, plainEvent, isWhole}
+use Rattle.interface.proofs.SetLaws.{layout-1, call-laws}
+use Rattle.interface.specs.Event.{RestartFits, FitsBy, done-fits, struck-fits, stepBy, imageCut, plainEvent, isWhole}
 use Rattle.book.specs.Orders.{orderBytes, orderOf, isState, isOrder, sent, acknowledged, filledBy}
 use Rattle.book.specs.Steps.{new, fill, idle, changeAnswers, asChange, soughtIn, soughtBy, seek, newAt, newResultBy, alreadyAt, acknowledgeAt, acknowledgeResultBy, quantityFault, fillBy, fillAt, fillResultBy, withdrawAt, withdrawResultBy, bookedBy}
-use Rattle.book.specs.Plain.{TypedStep, new-typed, acknowledge-typed, fill-typed, withdraw-typed, orderIn, orderFault, bookFault, callBy, stepCall, callFault, stepFault, updatesBy, stepUpdates, bookLeaving}
+use Rattle.book.specs.Plain.{TypedStep, new-typed, acknowledge-typed, fill-typed, withdraw-typed, orderIn, orderFault, bookFault, callBy, stepCall, callFault, stepFault, updatesBy, stepUpdates, bookEffects}
 use Rattle.book.specs.Totals.{ofHeld, orderedIn, filledIn, withdrawnIn, isAccepted, isCounted, totalOf, mapAtEnd, openTotal, Conserves}
 use Rattle.book.proofs.Conservation.{none-held, others-stay, conservation}
 use Rattle.book.proofs.Sums.{some-none}
@@ -66,7 +67,7 @@ history-computed : (bookAnswers 1 emptyBook history ≡ historyAnswers) × (tota
     × (recoverFault 1 (formatted 1 512) (length oneHead) (length threeSlots) ≡ 0) × (slotsIn (formatted 1 512) ≡ 3)
     × ((key : ℕ) → emptyMap key ≡ none) × (historyMap 7 ≡ some (orderBytes filled30))
     × (historyMap 8 ≡ none)
-unfolding word setBytes setWord refuses isAccepted filter slotNumbers anyOf tabulate greatest topmost lowest atLowest count say orElse unlessRefused made contentBy contentOf content top topOf markFault kindFault kindLimit bitsFault wordFault tailFault faultOf recordFault headerWord headerFault imageFault indexFault lentFault lineTop versionFault keyFrom keyOf valuePlace slotWord valueWord valueByte valueFront valueOf slotsOf paired slotTop verdictOf lineVerdict isValid insert sorted openingStore openingStores wordNumbers values zipped played less standing allStand marked placedWord bodyA bodyB run lineStores recordStores said hasVersion sharers complete versionIfComplete highestComplete isVoid settled rankOf ordered chainOf reuseOf clashes sharersFault isRecord isBroken keyIn weight nextVersion decider valueIn valueAt mapOf decidingPut live spare liveCount brokenCount brokenLimit manyBroken allLive isHeld validVersion highestValid isRemove older mayTake takeableCount firstOf lastOf after nextIn chained takeFirst linkNew append insertAt replaceAt removeAt keyFault isFound setNext setStart setLast link withTaken atEnd takeWalk takeFrom endsFault linkFault fewFault reuseFault roomFault walk search chainFault takingOf voidSlots openingsOf storesIn noState settledFault slotsFault slotsNamed recoverFault recoverSlot chainsOf placeOf recoveredIndex recoveredState recovered recoverResult unchanged storeFault changed writeLentFault insertsOf writeLaterFault writeFaultBy takingBy writeDone writeUnless writeResultBy removeLaterFault removeFaultBy removeDone removeUnless removeResultBy formatted lengthFault getLaterFault getFault getDone getResult locateFault locateDone locateResult updates updated plainNext plainStep sizeOf roomRule ruleFault worldAfter afterRound afterRounds openedWorld restarted imageCut stepBy isWhole plainEvent orderBytes orderOf isState isOrder sent acknowledged filledBy orderIn orderFault bookFault callBy stepCall callFault stepFault updatesBy stepUpdates bookLeaving idle changeAnswers asChange soughtIn soughtBy seek newAt newResultBy alreadyAt acknowledgeAt acknowledgeResultBy quantityFault fillBy fillAt fillResultBy withdrawAt withdrawResultBy bookedBy ofHeld orderedIn filledIn withdrawnIn isCounted totalOf mapAtEnd openTotal bookAnswers totals threeSlots emptyBook history historyAnswers historyTotals historyKeys oneHead recovering cutAt filled30 takeableIf
+unfolding word setBytes setWord refuses isAccepted filter slotNumbers anyOf tabulate greatest topmost lowest atLowest count refuseIf orElse unlessRefused contentOfRecord contentBy contentOf content highestWhole highestWholeIn markFault kindFault kindLimit bitsFault wordFault tailFault faultOf recordFault headerWord headerFault imageFault indexFault lentFault wholeVersion versionFault keyFrom keyOf valuePlace slotWord valueWord valueByte valueFront valueOf slotsOf paired highestWholeOf verdictOf lineVerdict isValid insert sorted invalidatingStore invalidatingStores wordNumbers values zipped played less standing allStand marked placedWord bodyA bodyB run lineStores recordStores basketSize hasVersion sharers complete versionIfComplete highestComplete isVoid settled rankOf ordered chainOf reuseOf clashes sharersFault isRecord isBroken keyIn rankForKey nextVersion decider valueIn valueAt mapOf decidingPut live spare liveCount brokenCount brokenLimit manyBroken allLive isHeld validVersion highestValid isRemove older mayTake takeableCount firstOf lastOf after nextIn chained takeFirst linkNew append insertAt replaceAt removeAt keyFault isFound setNext setStart setLast link withTaken atEnd allocationWalk allocateFrom endsFault linkFault fewFault reuseFault roomFault walk search chainFault allocationByRule voidSlots invalidationsOf storesIn noState settledFault slotsFault slotsNamed recoverFault recoverSlot chainsOf placeOf recoveredIndex recovered recoverResult unchanged storeFault changed writeLentFault insertsOf writeLaterFault writeFaultBy allocationBy writeDone writeUnless writeResultBy removeLaterFault removeFaultBy removeDone removeUnless removeResultBy formatted lengthFault getLaterFault getFault getDone getResult locateFault locateDone locateAnswer updates updated plainNext plainStep sizeOf roomRule ruleFault worldAfter afterRound afterRounds invalidatedWorld restarted imageCut stepBy isWhole plainEvent orderBytes orderOf isState isOrder sent acknowledged filledBy orderIn orderFault bookFault callBy stepCall callFault stepFault updatesBy stepUpdates bookEffects idle changeAnswers asChange soughtIn soughtBy seek newAt newResultBy alreadyAt acknowledgeAt acknowledgeResultBy quantityFault fillBy fillAt fillResultBy withdrawAt withdrawResultBy bookedBy ofHeld orderedIn filledIn withdrawnIn isCounted totalOf mapAtEnd openTotal bookAnswers totals threeSlots emptyBook history historyAnswers historyTotals historyKeys oneHead recovering cutAt filled30 takeableIf
 history-computed = (refl, refl, refl, refl, λ key. refl, refl, refl)
 
 pub history-answers : bookAnswers 1 emptyBook history ≡ historyAnswers
@@ -79,7 +80,7 @@ history-totals = history-computed .1
 -- ---- the hypotheses of conservation
 
 right-size : indexFault 3 (length oneHead) (length threeSlots) ≡ 0
-unfolding indexFault say oneHead threeSlots
+unfolding indexFault refuseIf oneHead threeSlots
 right-size = refl
 
 key-sized : (key : ℕ) → key < 256 → key < (2 ^ 64) ^ 1
@@ -134,7 +135,7 @@ history-held = record { once = ((λ i. i), tt); held = held; all = all }
 history-conserves : Conserves 1 emptyBook emptyMap history
 unfolding emptyBook recovering
 history-conserves =
-    conservation 1 layout-1 (formatted 1 512) (recovering threeSlots) (history-computed .2) (rw (history-computed .3) restart-fits)
+    conservation 1 layout-1 (formatted 1 512) (recovering threeSlots) (call-laws 1 layout-1 .accepted (formatted 1 512) (length oneHead) (length threeSlots) (history-computed .2)) (rw (history-computed .3) restart-fits)
     (history-computed .4) history slots-fit
 
 pub history-balance : totalOf orderedIn 1 emptyBook emptyMap history

@@ -5,7 +5,7 @@ use Rattle.calls.specs.Format.{formatted}
 use Rattle.plainmap.specs.World.{World, restarted}
 use Rattle.plainmap.specs.Plain.{PlainMap}
 use Rattle.plainmap.specs.Claims.{slotsMap}
-use Rattle.face.specs.Event.{Event, done, struck, requestOf}
+use Rattle.interface.specs.Event.{Event, done, struck, requestOf}
 use Rattle.book.specs.Steps.{Step, new, acknowledge, fill, withdraw, BookAnswer, taken, already, declined, booked}
 use Rattle.book.specs.Plain.{worldAfterStep}
 use Rattle.book.specs.Totals.{orderedIn, filledIn, withdrawnIn, totalOf, mapAtEnd, openTotal}
@@ -34,8 +34,8 @@ emptyBook = restarted 1 (formatted 1 512) (recovering threeSlots)
 abbrev pub emptyMap : PlainMap
 emptyMap = slotsMap 1 (formatted 1 512)
 
--- two orders; order 7 acknowledged, and 30 of it filled; 20 more filled, which a cut makes absent; order 8 withdrawn by a struck step all of whose
--- stores stand; more filled than is open; a second acknowledge
+-- two orders; order 7 acknowledged, and 30 of it filled; 20 more filled, which a cut makes absent; order 8 withdrawn by
+-- a struck step all of whose stores stand; more filled than is open; a second acknowledge
 unfoldable pub history : List (Event Step)
 history =
     done (new 7 100) ∷ done (new 8 50) ∷ done (acknowledge 7) ∷ done (fill 7 30) ∷ struck (fill 7 20) (cutAt 8 3 threeSlots)

@@ -14,7 +14,7 @@ use words_code::write_word;
 
 // The bytes of an order.
 pub fn order_bytes(order: Order) -> [u8; 24]
-    ensures { λ r. ⌜ r ≡ orderBytes order ⌝ }
+    ensures result { λ r. ⌜ r ≡ orderBytes order ⌝ }
 {
     let mut bytes = [0u8; 24];
     write_word(&mut bytes, 0, order.state);
@@ -53,7 +53,7 @@ fn order_with(state: u64, ordered: u64, filled: u64) -> Seek
 // The order in the first n bytes, or 18 where they are no book record.
 pub fn order_in(bytes: &[u8], n: usize) -> Seek
     requires { ⌜ 24 < length (now bytes) ⌝ }
-    ensures { λ r. ⌜ seekSays r ≡ soughtIn (now (bytes .entry)) (gives (n ∷ [])) ⌝ }
+    ensures result { λ r. ⌜ seekSays r ≡ soughtIn (now (bytes .entry)) (gives (n ∷ [])) ⌝ }
 {
     if n != 24 {
         return Seek::Missing(18);

@@ -2,9 +2,10 @@
 ghost use mathlib.Core.Path.{_≡_};
 ghost use Prim.Native.Nat.{_<_};
 ghost use lib.ListN.{replicate};
-ghost use Rattle.face.specs.Set.{layoutNumber, keyWith, limit, locateSays, locateResult};
+ghost use Rattle.interface.specs.Set.{layoutNumber, keyWith, limit, locateSays, locateResult};
 ghost use Rattle.book.specs.Steps.{seek};
-ghost use Rattle.book.specs.inner.Courses.{seekSays, soughtNumber, planSays, newCourse, alreadyCourse, acknowledgeCourse, fillOrder, fillCourse, withdrawCourse};
+ghost use Rattle.book.specs.inner.Courses.{seekSays, soughtNumber, planSays, newCourse};
+ghost use Rattle.book.specs.inner.Courses.{alreadyCourse, acknowledgeCourse, fillOrder, fillCourse, withdrawCourse};
 use crate::orders::order_in;
 use book::Order;
 use book::Plan;
@@ -96,7 +97,7 @@ pub fn new_plan(
     quantity: u64,
 ) -> Plan
     ensures plan { λ r. ⌜ planSays r
-        ≡ newCourse quantity (locateResult (layoutNumber wide) (now (image .entry)) (now (heads .entry)) (now (next .entry)) (keyWith low high)) ⌝ }
+        ≡ newCourse quantity (locateResult (layoutNumber wide) (now (image .entry)) (now (heads .entry)) (now (next .entry)) (keyWith low high) .answer) ⌝ }
 {
     let answer = locate_in_layout(image, wide, heads, next, low, high);
     let located = answer.located;
@@ -125,7 +126,7 @@ pub fn acknowledge_plan(
 ) -> Plan
     ensures plan { λ r. ⌜ planSays r
         ≡ acknowledgeCourse
-        (locateResult (layoutNumber wide) (now (image .entry)) (now (heads .entry)) (now (next .entry)) (keyWith low high))
+        (locateResult (layoutNumber wide) (now (image .entry)) (now (heads .entry)) (now (next .entry)) (keyWith low high) .answer)
         (seek (layoutNumber wide) (now (image .entry)) (now (heads .entry)) (now (next .entry)) (keyWith low high)) ⌝ }
 {
     let sought = seek_order(image, wide, heads, next, low, high);

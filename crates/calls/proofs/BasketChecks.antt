@@ -10,9 +10,9 @@ use lib.Dec.{eqb}
 use lib.ListN.{length, getD, set, replicate, length-set}
 use lib.Seq.{getD-set-same, getD-set-other}
 use borrow.Author.Tests.{eq-eqb, ne-eqb, eqb-true, eqb-false, ltb-false, lt-ltb, le-ltb}
-use Rattle.prelude.specs.Refusal.{say, orElse}
+use Rattle.prelude.specs.Refusal.{refuseIf, orElse}
 use Rattle.prelude.proofs.Choice.{pick-true, pick-false}
-use Rattle.prelude.proofs.Refusals.{say-true, say-false, say-zero, orElse-first, orElse-later, orElse-zero}
+use Rattle.prelude.proofs.Refusals.{refuseIf-true, refuseIf-false, refuseIf-zero, orElse-first, orElse-later, orElse-zero}
 use Rattle.prelude.proofs.Tabulate.{tabulate-length}
 use Rattle.layout.specs.Record.{keyWith, limit}
 use Rattle.layout.proofs.KeyWords.{same-words}
@@ -21,7 +21,9 @@ use Rattle.index.specs.Change.{isFound}
 use Rattle.index.specs.declared.Action.{Action}
 use Rattle.index.specs.declared.Action.the-variants.{Insert, Replace, Remove}
 use Rattle.index.specs.declared.Found.{Found}
-use Rattle.calls.specs.Basket.{KeyChange, highIn, itemKey, itemAt, itemValue, changeAt, changesFrom, changesOf, keyCountFault, among, anyTwice, listsFault, givenFault, firstFault, valueFault, actionFault, insertsBy, removesBy, sumOver, oldIn}
+use Rattle.calls.specs.Basket.{oldIn}
+use Rattle.calls.specs.BasketItems.{KeyChange, highIn, itemKey, itemAt, itemValue, changeAt, changesFrom, changesOf}
+use Rattle.calls.specs.BasketRefusals.{keyCountFault, among, anyTwice, listsFault, givenFault, firstFault, valueFault, actionFault, insertsBy, removesBy, sumOver}
 use Rattle.calls.specs.inner.Basket.{itemKeyAt, sizeBy, sizeAt, OldsOf, ActionsFault, TotalsOf}
 use Rattle.calls.specs.declared.BasketItem.{BasketItem}
 
@@ -116,19 +118,19 @@ size-at l items i k e values = e ∙ ap (valueFault l (itemAt items i .action)) 
 module _ (l size : ℕ) (a : Action) where
   pub inserted-long : a ≡ Insert → (m : ℕ) → m ≡ limit l → m < size → 10 ≡ valueFault l a size
   unfolding valueFault
-  inserted-long q m e h = sym (ap (λ (x : Action). valueFault l x size) q ∙ say-true _ _ _ (lt-ltb (limit l) size (omega arith)))
+  inserted-long q m e h = sym (ap (λ (x : Action). valueFault l x size) q ∙ refuseIf-true _ _ _ (lt-ltb (limit l) size (omega arith)))
 
   pub inserted-fits : a ≡ Insert → (m : ℕ) → m ≡ limit l → size ≤ m → 0 ≡ valueFault l a size
   unfolding valueFault
-  inserted-fits q m e h = sym (ap (λ (x : Action). valueFault l x size) q ∙ say-false _ _ _ (le-ltb (limit l) size (omega arith)))
+  inserted-fits q m e h = sym (ap (λ (x : Action). valueFault l x size) q ∙ refuseIf-false _ _ _ (le-ltb (limit l) size (omega arith)))
 
   pub replaced-long : a ≡ Replace → (m : ℕ) → m ≡ limit l → m < size → 10 ≡ valueFault l a size
   unfolding valueFault
-  replaced-long q m e h = sym (ap (λ (x : Action). valueFault l x size) q ∙ say-true _ _ _ (lt-ltb (limit l) size (omega arith)))
+  replaced-long q m e h = sym (ap (λ (x : Action). valueFault l x size) q ∙ refuseIf-true _ _ _ (lt-ltb (limit l) size (omega arith)))
 
   pub replaced-fits : a ≡ Replace → (m : ℕ) → m ≡ limit l → size ≤ m → 0 ≡ valueFault l a size
   unfolding valueFault
-  replaced-fits q m e h = sym (ap (λ (x : Action). valueFault l x size) q ∙ say-false _ _ _ (le-ltb (limit l) size (omega arith)))
+  replaced-fits q m e h = sym (ap (λ (x : Action). valueFault l x size) q ∙ refuseIf-false _ _ _ (le-ltb (limit l) size (omega arith)))
 
   pub removed-fits : a ≡ Remove → 0 ≡ valueFault l a size
   unfolding valueFault
@@ -136,8 +138,8 @@ module _ (l size : ℕ) (a : Action) where
 
 fits-by : (l : ℕ) (a : Action) (size : ℕ) → valueFault l a size ≡ 0 → sizeBy a size ≤ limit l
 unfolding valueFault sizeBy
-fits-by l Insert size e = ltb-false (limit l) size (say-zero _ _ _ e (omega arith) .0)
-fits-by l Replace size e = ltb-false (limit l) size (say-zero _ _ _ e (omega arith) .0)
+fits-by l Insert size e = ltb-false (limit l) size (refuseIf-zero _ _ _ e (omega arith) .0)
+fits-by l Replace size e = ltb-false (limit l) size (refuseIf-zero _ _ _ e (omega arith) .0)
 fits-by l Remove size e = omega arith
 
 pub sizes-fit : (l : ℕ) (items : List BasketItem) (count : ℕ) (values : List ℕ)
@@ -224,16 +226,16 @@ module _ (l : ℕ) (items : List BasketItem) (count : ℕ) where
 pub count-few : (count k : ℕ) → k ≡ keyCountFault count → k ≡ 0 → (0 < count) × (count ≤ 8)
 unfolding keyCountFault
 count-few count k e z =
-    let a = say-zero _ _ _ (sym e ∙ z) (omega arith) in
-    let b = say-zero _ _ _ (a .1) (omega arith) in
+    let a = refuseIf-zero _ _ _ (sym e ∙ z) (omega arith) in
+    let b = refuseIf-zero _ _ _ (a .1) (omega arith) in
     (omega (arith, eqb-false count 0 (a .0)), ltb-false 8 count (b .0))
 
 module _ (l : ℕ) (items : List BasketItem) (count at words k : ℕ) (e : k ≡ keyCountFault count) where
-  given : (values : List ℕ) → orElse (keyCountFault count) (say (anyTwice (changesOf l count items values)) 27 (listsFault count at words))
+  given : (values : List ℕ) → orElse (keyCountFault count) (refuseIf (anyTwice (changesOf l count items values)) 27 (listsFault count at words))
       ≡ givenFault (changesOf l count items values) at words
   unfolding givenFault
   given values =
-      ap (λ (m : ℕ). orElse (keyCountFault m) (say (anyTwice (changesOf l count items values)) 27 (listsFault m at words)))
+      ap (λ (m : ℕ). orElse (keyCountFault m) (refuseIf (anyTwice (changesOf l count items values)) 27 (listsFault m at words)))
       (sym (so-many l items values count))
 
   pub given-count : (k ≡ 0 → ⊥) → (values : List ℕ) → k ≡ givenFault (changesOf l count items values) at words
@@ -242,12 +244,12 @@ module _ (l : ℕ) (items : List BasketItem) (count at words k : ℕ) (e : k ≡
   module _ (z : k ≡ 0) (b : Bool) (t : (values : List ℕ) → b ≡ anyTwice (changesOf l count items values)) where
     pub given-twice : b ≡ true → (values : List ℕ) → 27 ≡ givenFault (changesOf l count items values) at words
     given-twice q values =
-        sym (say-true (anyTwice (changesOf l count items values)) _ _ (sym (t values) ∙ q)) ∙ sym (orElse-later (keyCountFault count) _ (sym e ∙ z))
+        sym (refuseIf-true (anyTwice (changesOf l count items values)) _ _ (sym (t values) ∙ q)) ∙ sym (orElse-later (keyCountFault count) _ (sym e ∙ z))
         ∙ given values
 
     pub given-lists : b ≡ false → (r : ℕ) → r ≡ listsFault count at words → (values : List ℕ) → r ≡ givenFault (changesOf l count items values) at words
     given-lists q r f values =
-        f ∙ sym (say-false (anyTwice (changesOf l count items values)) _ _ (sym (t values) ∙ q)) ∙ sym (orElse-later (keyCountFault count) _ (sym e ∙ z))
+        f ∙ sym (refuseIf-false (anyTwice (changesOf l count items values)) _ _ (sym (t values) ∙ q)) ∙ sym (orElse-later (keyCountFault count) _ (sym e ∙ z))
         ∙ given values
 
 -- ---- 11 by the chains, and the old records
@@ -301,27 +303,27 @@ module _ (found : ℕ → Found) (l : ℕ) (items : List BasketItem) (count : �
 -- action_fault: by what is asked
 module _ (a : Action) (old : ℕ) where
   pub insert-held : a ≡ Insert → (old ≡ 0 → ⊥) → 20 ≡ actionFault a (not (eqb old 0))
-  unfolding actionFault say
+  unfolding actionFault refuseIf
   insert-held q ne = sym (ap₂ actionFault q (ap not (ne-eqb old 0 ne)))
 
   pub insert-new : a ≡ Insert → old ≡ 0 → 0 ≡ actionFault a (not (eqb old 0))
-  unfolding actionFault say
+  unfolding actionFault refuseIf
   insert-new q z = sym (ap₂ actionFault q (ap not (eq-eqb old 0 z)))
 
   pub replace-new : a ≡ Replace → old ≡ 0 → 21 ≡ actionFault a (not (eqb old 0))
-  unfolding actionFault say
+  unfolding actionFault refuseIf
   replace-new q z = sym (ap₂ actionFault q (ap not (eq-eqb old 0 z)))
 
   pub replace-held : a ≡ Replace → (old ≡ 0 → ⊥) → 0 ≡ actionFault a (not (eqb old 0))
-  unfolding actionFault say
+  unfolding actionFault refuseIf
   replace-held q ne = sym (ap₂ actionFault q (ap not (ne-eqb old 0 ne)))
 
   pub remove-new : a ≡ Remove → old ≡ 0 → 21 ≡ actionFault a (not (eqb old 0))
-  unfolding actionFault say
+  unfolding actionFault refuseIf
   remove-new q z = sym (ap₂ actionFault q (ap not (eq-eqb old 0 z)))
 
   pub remove-held : a ≡ Remove → (old ≡ 0 → ⊥) → 0 ≡ actionFault a (not (eqb old 0))
-  unfolding actionFault say
+  unfolding actionFault refuseIf
   remove-held q ne = sym (ap₂ actionFault q (ap not (ne-eqb old 0 ne)))
 
 pub record Acting (items : List BasketItem) (count : ℕ) (olds : List ℕ) (i : ℕ) : Type 0 where

@@ -15,23 +15,25 @@ use Rattle.layout.specs.Size.{slotsIn}
 use Rattle.stores.specs.Store.{Store}
 use Rattle.stores.specs.Play.{wordNumbers, values}
 use Rattle.stores.specs.Basket.{BasketRecord, basketStores}
-use Rattle.table.specs.Complete.{numberFor}
-use Rattle.index.specs.Index.{Index, indexOf}
+use Rattle.table.specs.Complete.{sizeFieldFor}
+use Rattle.index.specs.Index.{Index, indexOf, withCounts}
 use Rattle.index.specs.Walk.{search}
-use Rattle.index.specs.Taking.{Taken, Taking}
+use Rattle.index.specs.Allocation.{Taken, Allocation}
 use Rattle.index.specs.Basket.{takenSlots, basketIndex, Item}
-use Rattle.index.specs.inner.Parts.{PartsOf}
 use Rattle.index.specs.inner.Basket.{takensFrom, TakensInside}
 use Rattle.index.specs.declared.State.{State}
 use Rattle.index.specs.declared.Found.{Found}
 use Rattle.index.specs.declared.Found.the-variants.{At, Missing, BadChain}
-use Rattle.taking.proofs.Own.{chosen-inside}
+use Rattle.allocation.proofs.Own.{chosen-inside}
 use Rattle.index.proofs.BasketInside.{TakenInside}
 use Rattle.index.proofs.Takens.{takens-each}
 use Rattle.index.proofs.Walks.{at-inside}
-use Rattle.taking.specs.Taking.{choiceBy}
-use Rattle.calls.specs.Change.{unchanged}
-use Rattle.calls.specs.Basket.{KeyChange, changesOf, sumOver, insertsBy, removesBy, basketFaultBy, recordsFor, oldIn, indexAfter, basketMade, basketDone, basketUnless, basketResultBy, BasketLeft, basketSays, basketEnd, eightSlots, atFront, leftInLists}
+use Rattle.allocation.specs.Allocation.{allocationChosenBy}
+use Rattle.calls.specs.Result.{unchanged}
+use Rattle.calls.specs.BasketItems.{KeyChange, changesOf}
+use Rattle.calls.specs.BasketRefusals.{sumOver, insertsBy, removesBy, basketFaultBy}
+use Rattle.calls.specs.BasketBuffers.{BasketBuffers, basketSays, basketEnd, eightSlots, atFront, buffersAfterLists}
+use Rattle.calls.specs.Basket.{recordsFor, oldIn, indexAfter, basketMade, basketDone, basketUnless, basketResultBy}
 use Rattle.calls.specs.inner.Basket.{itemKeyAt, itemsFrom, recordsFrom, TotalsOf, BasketReady, StoresInside, ItemsInside}
 use Rattle.calls.specs.declared.BasketItem.{BasketItem}
 use Rattle.calls.specs.declared.BasketOutcome.the-variants.{Stored, Refused}
@@ -66,25 +68,25 @@ padded slots count e h zeros =
 -- ---- refused
 
 pub basket-refused : (own : Bool) (l : ℕ) (image heads next : List ℕ) (s : State) (changes : List KeyChange) (at words : List ℕ) (count k : ℕ)
-    → k ≡ basketFaultBy own l image heads next s changes (length at) (length words) → (k ≡ 0 → ⊥)
+    → k ≡ basketFaultBy own l image (indexOf heads next s) changes (length at) (length words) → (k ≡ 0 → ⊥)
     → basketEnd count (record { outcome = Refused k; slots = replicate 8 0; state = s }) at words heads next
-    ≡ leftInLists at words (basketResultBy own l image heads next s changes (length at) (length words))
-unfolding basketResultBy basketUnless basketSays leftInLists unchanged eightSlots atFront wordNumbers values
+    ≡ buffersAfterLists at words (basketResultBy own l image (indexOf heads next s) changes (length at) (length words))
+unfolding basketResultBy basketUnless basketSays buffersAfterLists unchanged eightSlots atFront wordNumbers values
 basket-refused own l image heads next s changes at words count k e ne =
-    ap (λ (x : ℕ). leftInLists at words (unchanged (refused x) s heads next)) e
-    ∙ sym (ap (leftInLists at words) (refused-keeps (basketDone l image heads next s changes (choiceBy own l image next (slotsIn image) (s .first) (s .newest) (length changes))) (unchanged (refused (basketFaultBy own l image heads next s changes (length at) (length words))) s heads next) (basketFaultBy own l image heads next s changes (length at) (length words)) (λ z. ne (e ∙ z))))
+    ap (λ (x : ℕ). buffersAfterLists at words (unchanged (refused x) (indexOf heads next s) 0)) e
+    ∙ sym (ap (buffersAfterLists at words) (refused-keeps (basketDone l image (indexOf heads next s) changes (allocationChosenBy own l image next (slotsIn image) (s .first) (s .newest) (length changes))) (unchanged (refused (basketFaultBy own l image (indexOf heads next s) changes (length at) (length words))) (indexOf heads next s) 0) (basketFaultBy own l image (indexOf heads next s) changes (length at) (length words)) (λ z. ne (e ∙ z))))
 
 -- not refused
 pub basket-taken : (own : Bool) (l : ℕ) (image heads next : List ℕ) (s : State) (count : ℕ) (items : List BasketItem) (bytes at words : List ℕ) (k : ℕ)
-    → k ≡ basketFaultBy own l image heads next s (changesOf l count items bytes) (length at) (length words) → k ≡ 0 → (r : BasketLeft)
-    → r ≡ leftInLists at words (basketDone l image heads next s (changesOf l count items bytes) (choiceBy own l image next (slotsIn image) (s .first) (s .newest) count))
-    → r ≡ leftInLists at words (basketResultBy own l image heads next s (changesOf l count items bytes) (length at) (length words))
+    → k ≡ basketFaultBy own l image (indexOf heads next s) (changesOf l count items bytes) (length at) (length words) → k ≡ 0 → (r : BasketBuffers)
+    → r ≡ buffersAfterLists at words (basketDone l image (indexOf heads next s) (changesOf l count items bytes) (allocationChosenBy own l image next (slotsIn image) (s .first) (s .newest) count))
+    → r ≡ buffersAfterLists at words (basketResultBy own l image (indexOf heads next s) (changesOf l count items bytes) (length at) (length words))
 unfolding basketResultBy basketUnless
 basket-taken own l image heads next s count items bytes at words k e z r h =
     h
-    ∙ ap (λ (m : ℕ). leftInLists at words (basketDone l image heads next s (changesOf l count items bytes) (choiceBy own l image next (slotsIn image) (s .first) (s .newest) m)))
+    ∙ ap (λ (m : ℕ). buffersAfterLists at words (basketDone l image (indexOf heads next s) (changesOf l count items bytes) (allocationChosenBy own l image next (slotsIn image) (s .first) (s .newest) m)))
     (sym (so-many l items bytes count))
-    ∙ sym (ap (leftInLists at words) (taken-leaves _ _ _ (sym e ∙ z)))
+    ∙ sym (ap (buffersAfterLists at words) (taken-leaves _ _ _ (sym e ∙ z)))
 
 -- ---- written
 
@@ -164,25 +166,25 @@ module _ (own : Bool) (l : ℕ) (image heads next : List ℕ) (n : ℕ) (s : Sta
 
   -- what the functions leave is what is asked
   module _ (bytes at₀ words₀ at₁ words₁ heads₁ next₁ : List ℕ) (r : State) (t : Totals) (size : length (p .slots) ≡ 8) (en : n ≡ slotsIn image)
-      (parts : PartsOf heads₁ next₁ r (basketIndex n (indexOf heads next s) ts (itemsFrom l (length heads) items (p .olds) (p .slots) 0 count)) (s .live) (s .version) (s .newest))
-      (numbers : at₁ ≡ atFront (wordNumbers (basketStores l (word image) (numberFor count) (s .version) (recordsFrom l items bytes (p .slots) 0 count))) at₀)
-      (contents : words₁ ≡ atFront (values (basketStores l (word image) (numberFor count) (s .version) (recordsFrom l items bytes (p .slots) 0 count))) words₀)
+      (parts : indexOf heads₁ next₁ r ≡ basketIndex n (indexOf heads next s) ts (itemsFrom l (length heads) items (p .olds) (p .slots) 0 count))
+      (numbers : at₁ ≡ atFront (wordNumbers (basketStores l (word image) (sizeFieldFor count) (s .version) (recordsFrom l items bytes (p .slots) 0 count))) at₀)
+      (contents : words₁ ≡ atFront (values (basketStores l (word image) (sizeFieldFor count) (s .version) (recordsFrom l items bytes (p .slots) 0 count))) words₀)
       (totals : TotalsOf l count items t) where
     abbrev changes : List KeyChange
     changes = changesOf l count items bytes
 
-    index : indexOf heads₁ next₁ r ≡ indexAfter l image heads next s changes ts
+    index : indexOf heads₁ next₁ r ≡ indexAfter l image (indexOf heads next s) changes ts
     unfolding indexAfter changesOf
     index =
-        parts .index
+        parts
         ∙ ap₂ (λ (m : ℕ) (ks : List Item). basketIndex m (indexOf heads next s) ts ks) en
         (items-found (search l image heads next) l (length heads) items bytes (p .olds) (p .slots) (p .prevs) 0 count (λ j a b. w .olds-are j (omega arith)))
 
-    written : basketStores l (word image) (numberFor count) (s .version) (recordsFrom l items bytes (p .slots) 0 count)
-        ≡ basketStores l (word image) (numberFor (length changes)) (s .version) (recordsFor changes ts)
+    written : basketStores l (word image) (sizeFieldFor count) (s .version) (recordsFrom l items bytes (p .slots) 0 count)
+        ≡ basketStores l (word image) (sizeFieldFor (length changes)) (s .version) (recordsFor changes ts)
     unfolding changesOf
     written =
-        ap₂ (λ (m : ℕ) (rs : List BasketRecord). basketStores l (word image) (numberFor m) (s .version) rs) (sym (so-many l items bytes count))
+        ap₂ (λ (m : ℕ) (rs : List BasketRecord). basketStores l (word image) (sizeFieldFor m) (s .version) rs) (sym (so-many l items bytes count))
         (records-asked l items bytes (p .slots) (p .prevs) 0 count)
 
     slots-are : take count (p .slots) ≡ takenSlots ts
@@ -197,14 +199,13 @@ module _ (own : Bool) (l : ℕ) (image heads next : List ℕ) (n : ℕ) (s : Sta
     live : s .live + t .inserts - t .removes ≡ s .live + sumOver insertsBy changes - sumOver removesBy changes
     live = ap₂ (λ (a b : ℕ). s .live + a - b) (totals .inserts-are bytes) (totals .removes-are bytes)
 
-    left-by : {a b : Answer} {x y : List ℕ} {c d : State} {e f g h i j k m : List ℕ} → a ≡ b → x ≡ y → c ≡ d → e ≡ f → g ≡ h → i ≡ j → k ≡ m
-        → _≡_ {A = BasketLeft} (record { answer = a; slots = x; state = c; at = e; words = g; heads = i; next = k })
-        (record { answer = b; slots = y; state = d; at = f; words = h; heads = j; next = m })
-    left-by p₁ p₂ p₃ p₄ p₅ p₆ p₇ = cc
+    left-by : {a b : Answer} {x y e f g h : List ℕ} {c d : Index} → a ≡ b → x ≡ y → e ≡ f → g ≡ h → c ≡ d
+        → _≡_ {A = BasketBuffers} (record { answer = a; slots = x; at = e; words = g; index = c })
+        (record { answer = b; slots = y; at = f; words = h; index = d })
+    left-by p₁ p₂ p₃ p₄ p₅ = cc
 
-    state-by : {a b c d e f g h : ℕ} {v : ℕ} → a ≡ b → c ≡ d → e ≡ f → g ≡ h
-        → _≡_ {A = State} (record { first = a; last = c; live = e; version = v; newest = g }) (record { first = b; last = d; live = f; version = v; newest = h })
-    state-by p₁ p₂ p₃ p₄ = cc
+    counts-by : {i j : Index} {e f g h v : ℕ} → i ≡ j → e ≡ f → g ≡ h → withCounts i e v g ≡ withCounts j f v h
+    counts-by p₁ p₂ p₃ = cc
 
     pub basket-written : basketEnd count
         (record {
@@ -218,14 +219,13 @@ module _ (own : Bool) (l : ℕ) (image heads next : List ℕ) (n : ℕ) (s : Sta
             newest = getD (p .slots) 0 0;
           };
         }) at₁ words₁ heads₁ next₁
-        ≡ leftInLists at₀ words₀ (basketDone l image heads next s changes (choiceBy own l image next (slotsIn image) (s .first) (s .newest) count))
-    unfolding basketSays leftInLists basketDone basketMade eightSlots
+        ≡ buffersAfterLists at₀ words₀ (basketDone l image (indexOf heads next s) changes (allocationChosenBy own l image next (slotsIn image) (s .first) (s .newest) count))
+    unfolding basketSays buffersAfterLists basketDone basketMade eightSlots
     basket-written =
         left-by (ap (λ (x : List ℕ). gives (s .version ∷ x)) slots-are) eight
-        (state-by (ap (λ (i : Index). i .first) index) (ap (λ (i : Index). i .last) index) live first-slot)
         (numbers ∙ ap (λ (x : List Store). atFront (wordNumbers x) at₀) written)
         (contents ∙ ap (λ (x : List Store). atFront (values x) words₀) written)
-        (ap (λ (i : Index). i .heads) index) (ap (λ (i : Index). i .next) index)
+        (counts-by index live first-slot)
         ∙ sym
-        (ap (λ (x : Taking). leftInLists at₀ words₀ (basketDone l image heads next s changes x))
-        (ap (λ (m : ℕ). choiceBy own l image next m (s .first) (s .newest) count) (sym en) ∙ w .choice-is))
+        (ap (λ (x : Allocation). buffersAfterLists at₀ words₀ (basketDone l image (indexOf heads next s) changes x))
+        (ap (λ (m : ℕ). allocationChosenBy own l image next m (s .first) (s .newest) count) (sym en) ∙ w .choice-is))

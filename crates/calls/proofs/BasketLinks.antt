@@ -9,12 +9,12 @@ use lib.ListN.{length, getD}
 use Rattle.layout.specs.Record.{keyWith}
 use Rattle.index.specs.Index.{Index, indexOf, headOf, setLast}
 use Rattle.index.specs.Basket.{takeSlot, takeAll, Item, linkBy, linkItem, linkAll, basketIndex}
-use Rattle.index.specs.inner.Parts.{PartsOf}
 use Rattle.index.specs.inner.Basket.{takensFrom, TakensInside}
 use Rattle.index.specs.declared.State.{State}
 use Rattle.index.specs.declared.Found.{Found}
 use Rattle.index.proofs.BasketInside.{link-item-last}
-use Rattle.calls.specs.Basket.{highIn, itemKey, itemAt, changeAt, changesFrom, oldIn, itemsFor}
+use Rattle.calls.specs.Basket.{oldIn, itemsFor}
+use Rattle.calls.specs.BasketItems.{highIn, itemKey, itemAt, changeAt, changesFrom}
 use Rattle.calls.specs.inner.Basket.{itemKeyAt, itemsFrom, ItemsInside}
 use Rattle.calls.specs.declared.BasketItem.{BasketItem}
 
@@ -28,9 +28,6 @@ pub record Linking (n : ℕ) (items : List BasketItem) (count : ℕ) (olds slots
   pub last-in : s .last ≤ n
   pub rest : (l : ℕ) → linkAll n (indexOf heads next s) (itemsFrom l (length heads₀) items olds slots j (count - j))
       ≡ linkAll n (indexOf heads₀ next₀ s₀) (itemsFrom l (length heads₀) items olds slots 0 count)
-  pub live-count : s .live ≡ s₀ .live
-  pub next-version : s .version ≡ s₀ .version
-  pub newest-slot : s .newest ≡ s₀ .newest
 
 module _ (n : ℕ) (items : List BasketItem) (count : ℕ) (olds slots heads₀ next₀ : List ℕ) (s₀ : State)
     (inside : ItemsInside n (length heads₀) (length next₀) (s₀ .last) count olds slots) where
@@ -45,9 +42,6 @@ module _ (n : ℕ) (items : List BasketItem) (count : ℕ) (olds slots heads₀ 
             λ l.
             let d : count - 0 ≡ count = omega arith in
             ap (λ (k : ℕ). linkAll n (indexOf heads₀ next₀ s₀) (itemsFrom l (length heads₀) items olds slots 0 k)) d;
-        live-count = refl;
-        next-version = refl;
-        newest-slot = refl;
       }
 
   module _ (heads next : List ℕ) (s : State) (j : ℕ) (w : Linking n items count olds slots heads₀ next₀ s₀ heads next s j) where
@@ -66,7 +60,7 @@ module _ (n : ℕ) (items : List BasketItem) (count : ℕ) (olds slots heads₀ 
 
     pub linking-on : j < count → (h : ℕ) → ((high : ℕ) → h ≡ headOf (keyWith (itemAt items j .low) high) (length heads))
         → (heads′ next′ : List ℕ) (t : State) → length heads′ ≡ length heads → length next′ ≡ length next
-        → PartsOf heads′ next′ t (linkBy n (indexOf heads next s) (itemAt items j .action) h (getD olds j 0) (getD slots j 0)) (s .live) (s .version) (s .newest)
+        → indexOf heads′ next′ t ≡ linkBy n (indexOf heads next s) (itemAt items j .action) h (getD olds j 0) (getD slots j 0)
         → Linking n items count olds slots heads₀ next₀ s₀ heads′ next′ t (j + 1)
     unfolding linkItem itemKey
     linking-on q h eh heads′ next′ t sh sn p =
@@ -77,48 +71,39 @@ module _ (n : ℕ) (items : List BasketItem) (count : ℕ) (olds slots heads₀ 
           last-in =
               omega (
                 arith,
-                ap (λ (i : Index). i .last) (p .index),
+                ap (λ (i : Index). i .state .last) p,
                 link-item-last n (indexOf heads next s)
                     (record { action = itemAt items j .action; key-head = h; old = getD olds j 0; slot = getD slots j 0 }) (w .last-in)
                     (inside .old-in j q) (inside .slot-in j q),
               );
           rest =
               λ l.
-              ap (λ (i : Index). linkAll n i (itemsFrom l (length heads₀) items olds slots (j + 1) (count - (j + 1)))) (p .index)
+              ap (λ (i : Index). linkAll n i (itemsFrom l (length heads₀) items olds slots (j + 1) (count - (j + 1)))) p
               ∙ sym (one l h q (eh (highIn l (itemAt items j .high)) ∙ ap (headOf (itemKeyAt l items j)) (w .heads-size))) ∙ w .rest l;
-          live-count = p .live-count ∙ w .live-count;
-          next-version = p .next-version ∙ w .next-version;
-          newest-slot = p .newest-slot ∙ w .newest-slot;
         }
 
     pub linking-ends : count ≤ j → (l : ℕ)
-        → PartsOf heads next s (linkAll n (indexOf heads₀ next₀ s₀) (itemsFrom l (length heads₀) items olds slots 0 count)) (s₀ .live) (s₀ .version) (s₀ .newest)
+        → indexOf heads next s ≡ linkAll n (indexOf heads₀ next₀ s₀) (itemsFrom l (length heads₀) items olds slots 0 count)
     unfolding itemsFrom linkAll
     linking-ends q l =
         let d : count - j ≡ 0 = omega (arith, w .position) in
-        record {
-          index =
-              sym (ap (λ (x : ℕ). linkAll n (indexOf heads next s) (itemsFrom l (length heads₀) items olds slots j x)) d) ∙ w .rest l;
-          live-count = w .live-count;
-          next-version = w .next-version;
-          newest-slot = w .newest-slot;
-        }
+        sym (ap (λ (x : ℕ). linkAll n (indexOf heads next s) (itemsFrom l (length heads₀) items olds slots j x)) d) ∙ w .rest l
 
 -- ---- change_index: r is the state after the slots left the reuse chain
 
-left-last : (n : ℕ) (slots prevs : List ℕ) (i : Index) (j k : ℕ) → ((x : ℕ) → j ≤ x → x < j + k → getD prevs x 0 ≤ n) → i .last ≤ n
-    → takeAll i (takensFrom slots prevs j k) .last ≤ n
+left-last : (n : ℕ) (slots prevs : List ℕ) (i : Index) (j k : ℕ) → ((x : ℕ) → j ≤ x → x < j + k → getD prevs x 0 ≤ n) → i .state .last ≤ n
+    → takeAll i (takensFrom slots prevs j k) .state .last ≤ n
 unfolding takeAll takensFrom
 left-last n slots prevs i j zero h l = l
 left-last n slots prevs i j (suc k) h l =
-    left-last n slots prevs _ (suc j) k (λ x a b. h x (omega arith) (omega arith)) (unfold takeSlot in unfold setLast in pick (eqb (i .last) (getD slots j 0)))
+    left-last n slots prevs _ (suc j) k (λ x a b. h x (omega arith) (omega arith)) (unfold takeSlot in unfold setLast in pick (eqb (i .state .last) (getD slots j 0)))
   where
-    pick : (b : Bool) → cond b (getD prevs j 0) (i .last) ≤ n
+    pick : (b : Bool) → cond b (getD prevs j 0) (i .state .last) ≤ n
     pick true = h j (omega arith) (omega arith)
     pick false = l
 
 module _ (n count : ℕ) (olds slots prevs heads next : List ℕ) (s : State) (next₁ : List ℕ) (r : State)
-    (p : (hs : List ℕ) → PartsOf hs next₁ r (takeAll (indexOf hs next s) (takensFrom slots prevs 0 count)) (s .live) (s .version) (s .newest)) where
+    (p : (hs : List ℕ) → indexOf hs next₁ r ≡ takeAll (indexOf hs next s) (takensFrom slots prevs 0 count)) where
   pub left-inside : length next₁ ≡ length next → TakensInside slots prevs count (length next)
       → ItemsInside n (length heads) (length next) (s .last) count olds slots
       → ItemsInside n (length heads) (length next₁) (r .last) count olds slots
@@ -127,26 +112,20 @@ module _ (n count : ℕ) (olds slots prevs heads next : List ℕ) (s : State) (n
         some-head = i .some-head;
         size = e ∙ i .size;
         last-in =
-            omega (arith, ap (λ (x : Index). x .last) (p heads .index), left-last n slots prevs (indexOf heads next s) 0 count (λ j a b. omega (arith, inside .prev-in j (omega arith), i .size)) (i .last-in));
+            omega (arith, ap (λ (x : Index). x .state .last) (p heads), left-last n slots prevs (indexOf heads next s) 0 count (λ j a b. omega (arith, inside .prev-in j (omega arith), i .size)) (i .last-in));
         few = i .few;
         old-in = i .old-in;
         slot-in = i .slot-in;
       }
 
 module _ (n : ℕ) (items : List BasketItem) (count : ℕ) (olds slots prevs heads next : List ℕ) (s : State) (next₁ : List ℕ) (r : State)
-    (p : (hs : List ℕ) → PartsOf hs next₁ r (takeAll (indexOf hs next s) (takensFrom slots prevs 0 count)) (s .live) (s .version) (s .newest)) where
+    (p : (hs : List ℕ) → indexOf hs next₁ r ≡ takeAll (indexOf hs next s) (takensFrom slots prevs 0 count)) where
   pub index-changed : (heads′ next′ : List ℕ) (t : State)
-      → ((l : ℕ) → PartsOf heads′ next′ t (linkAll n (indexOf heads next₁ r) (itemsFrom l (length heads) items olds slots 0 count)) (r .live) (r .version) (r .newest))
-      → (l : ℕ) → PartsOf heads′ next′ t (basketIndex n (indexOf heads next s) (takensFrom slots prevs 0 count) (itemsFrom l (length heads) items olds slots 0 count))
-      (s .live) (s .version) (s .newest)
+      → ((l : ℕ) → indexOf heads′ next′ t ≡ linkAll n (indexOf heads next₁ r) (itemsFrom l (length heads) items olds slots 0 count))
+      → (l : ℕ) → indexOf heads′ next′ t ≡ basketIndex n (indexOf heads next s) (takensFrom slots prevs 0 count) (itemsFrom l (length heads) items olds slots 0 count)
   unfolding basketIndex
   index-changed heads′ next′ t q l =
-      record {
-        index = q l .index ∙ ap (λ (i : Index). linkAll n i (itemsFrom l (length heads) items olds slots 0 count)) (p heads .index);
-        live-count = q l .live-count ∙ p heads .live-count;
-        next-version = q l .next-version ∙ p heads .next-version;
-        newest-slot = q l .newest-slot ∙ p heads .newest-slot;
-      }
+      q l ∙ ap (λ (i : Index). linkAll n i (itemsFrom l (length heads) items olds slots 0 count)) (p heads)
 
 -- ---- the items by what was found
 

@@ -8,24 +8,26 @@ use lib.Dec.{eqb}
 use lib.ListN.{length}
 use borrow.Author.Tests.{ne-eqb, ltb-false}
 use Rattle.prelude.specs.Refusal.{orElse}
-use Rattle.prelude.proofs.Refusals.{say-zero, orElse-zero}
+use Rattle.prelude.proofs.Refusals.{refuseIf-zero, orElse-zero}
 use Rattle.layout.specs.Size.{slotsIn}
 use Rattle.layout.specs.Header.{lentFault}
 use Rattle.layout.specs.inner.Sized.{Sized}
 use Rattle.layout.proofs.Lents.{version-fine, lent-sized, lent-slots}
 use Rattle.index.specs.Walk.{search}
 use Rattle.index.specs.Change.{isFound}
-use Rattle.index.specs.Taking.{Taking}
+use Rattle.index.specs.Allocation.{Allocation}
 use Rattle.index.specs.declared.State.{State}
 use Rattle.index.specs.declared.Found.{Found}
 use Rattle.index.specs.declared.Found.the-variants.{At, Missing, BadChain}
 use Rattle.index.proofs.Walks.{at-inside}
 use Rattle.index.proofs.Faults.{reuse-ends, reuse-live, room-fine}
-use Rattle.taking.specs.Taking.{takingBy, choiceBy}
-use Rattle.taking.specs.inner.Choice.{Chosen}
-use Rattle.taking.specs.declared.Choice.{Choice}
+use Rattle.allocation.specs.Allocation.{allocationBy, allocationChosenBy}
+use Rattle.allocation.specs.inner.Choice.{Chosen}
+use Rattle.allocation.specs.declared.Choice.{Choice}
 use Rattle.calls.specs.Change.{storeFault}
-use Rattle.calls.specs.Basket.{KeyChange, changesOf, keyCountFault, listsFault, givenFault, firstFault, valueFault, actionFault, basketLentFault, keysFault, sumOver, insertsBy, removesBy, basketFaultBy, oldIn}
+use Rattle.calls.specs.Basket.{oldIn}
+use Rattle.calls.specs.BasketItems.{KeyChange, changesOf}
+use Rattle.calls.specs.BasketRefusals.{keyCountFault, listsFault, givenFault, firstFault, valueFault, actionFault, basketLentFault, keysFault, sumOver, insertsBy, removesBy, basketFaultBy}
 use Rattle.calls.specs.inner.Basket.{itemKeyAt, OldsOf, ActionsFault, TotalsOf, StoreChoice, KeysPlanned, BasketReady, Planned}
 use Rattle.calls.specs.declared.BasketItem.{BasketItem}
 use Rattle.calls.specs.declared.Olds.{Olds}
@@ -33,10 +35,11 @@ use Rattle.calls.specs.declared.Totals.{Totals}
 use Rattle.calls.specs.declared.Plan.{Plan}
 use Rattle.calls.proofs.Lookups.{said, passed}
 use Rattle.calls.proofs.BasketChecks.{so-many, sizes-fit, count-few}
+use Rattle.index.specs.Index.{indexOf}
 
 -- ---- choose_slots
 
-module _ (taking choice : Taking) (n : ℕ) (s : State) (wanted inserts removes : ℕ) where
+module _ (taking choice : Allocation) (n : ℕ) (s : State) (wanted inserts removes : ℕ) where
   pub no-choice : (c : Choice) (k : ℕ) → c .fault ≡ k → (k ≡ 0 → ⊥) → k ≡ storeFault taking n s inserts removes
       → StoreChoice taking choice n s wanted inserts removes c
   no-choice c k e ne f =
@@ -70,7 +73,7 @@ module _ (own : Bool) (l : ℕ) (image heads next : List ℕ) (n : ℕ) (s : Sta
 
   abbrev stores : List ℕ → ℕ
   stores values =
-      storeFault (takingBy own l image next n (s .first) (s .newest) count) n s (sumOver insertsBy (asked values)) (sumOver removesBy (asked values))
+      storeFault (allocationBy own l image next n (s .first) (s .newest) count) n s (sumOver insertsBy (asked values)) (sumOver removesBy (asked values))
 
   keys-refused : (p : Plan) (k : ℕ) → p .fault ≡ k → (k ≡ 0 → ⊥)
       → ((values : List ℕ) → k ≡ orElse (keysFault (search l image heads next) (asked values)) (stores values))
@@ -107,14 +110,14 @@ module _ (own : Bool) (l : ℕ) (image heads next : List ℕ) (n : ℕ) (s : Sta
       keys-held p e ne = keys-refused p h e ne (λ values. said (stores values) (held values) ne)
 
       pub keys-planned : h ≡ 0 → (t : Totals) → TotalsOf l count items t → (c : Choice)
-          → StoreChoice (takingBy own l image next n (s .first) (s .newest) count) (choiceBy own l image next n (s .first) (s .newest) count) n s count (t .inserts) (t .removes) c
+          → StoreChoice (allocationBy own l image next n (s .first) (s .newest) count) (allocationChosenBy own l image next n (s .first) (s .newest) count) n s count (t .inserts) (t .removes) c
           → KeysPlanned own l image heads next n s count items (record { fault = c .fault; olds = o .slots; slots = c .slots; prevs = c .prevs })
       keys-planned y t g c k =
           record {
             fault-is = λ values.
                 passed (held values) y
                 (k .fault-is
-                ∙ ap₂ (λ (a b : ℕ). storeFault (takingBy own l image next n (s .first) (s .newest) count) n s a b) (g .inserts-are values) (g .removes-are values));
+                ∙ ap₂ (λ (a b : ℕ). storeFault (allocationBy own l image next n (s .first) (s .newest) count) n s a b) (g .inserts-are values) (g .removes-are values));
             olds-are = λ q j x. w .slot-is z j x;
             choice-is = k .slots-are;
             zeros = k .zeros;
@@ -137,9 +140,9 @@ module _ (l : ℕ) (items : List BasketItem) (count at words g : ℕ) (eg : (val
   unfolding givenFault listsFault
   roomy =
       let a = orElse-zero _ _ (sym (eg []) ∙ zg) in
-      let b = say-zero _ _ _ (a .1) (omega arith) in
-      let c = say-zero _ _ _ (b .1) (omega arith) in
-      let d = say-zero _ _ _ (c .1) (omega arith) in (
+      let b = refuseIf-zero _ _ _ (a .1) (omega arith) in
+      let c = refuseIf-zero _ _ _ (b .1) (omega arith) in
+      let d = refuseIf-zero _ _ _ (c .1) (omega arith) in (
         omega (arith, ltb-false at (16 * length (changesOf l count items [])) (c .0), so-many l items [] count),
         omega (arith, ltb-false words (16 * length (changesOf l count items [])) (d .0), so-many l items [] count),
       )
@@ -156,20 +159,20 @@ module _ (own : Bool) (l : ℕ) (image heads next : List ℕ) (s : State) (count
   abbrev later : List ℕ → ℕ
   later values =
       orElse (keysFault (search l image heads next) (wanted values))
-      (storeFault (takingBy own l image next n (s .first) (s .newest) count) n s (sumOver insertsBy (wanted values)) (sumOver removesBy (wanted values)))
+      (storeFault (allocationBy own l image next n (s .first) (s .newest) count) n s (sumOver insertsBy (wanted values)) (sumOver removesBy (wanted values)))
 
   row : (values : List ℕ) → orElse (givenFault (wanted values) at words) (orElse (basketLentFault l image (length heads) (length next) (wanted values)) (later values))
-      ≡ basketFaultBy own l image heads next s (wanted values) at words
+      ≡ basketFaultBy own l image (indexOf heads next s) (wanted values) at words
   unfolding basketFaultBy
   row values =
       ap (λ (m : ℕ).
       orElse (givenFault (wanted values) at words)
       (orElse (basketLentFault l image (length heads) (length next) (wanted values))
       (orElse (keysFault (search l image heads next) (wanted values))
-      (storeFault (takingBy own l image next n (s .first) (s .newest) m) n s (sumOver insertsBy (wanted values)) (sumOver removesBy (wanted values))))))
+      (storeFault (allocationBy own l image next n (s .first) (s .newest) m) n s (sumOver insertsBy (wanted values)) (sumOver removesBy (wanted values))))))
       (sym (so-many l items values count))
 
-  plan-refused : (p : Plan) (k : ℕ) → p .fault ≡ k → (k ≡ 0 → ⊥) → ((values : List ℕ) → k ≡ basketFaultBy own l image heads next s (wanted values) at words)
+  plan-refused : (p : Plan) (k : ℕ) → p .fault ≡ k → (k ≡ 0 → ⊥) → ((values : List ℕ) → k ≡ basketFaultBy own l image (indexOf heads next s) (wanted values) at words)
       → Planned own l image heads next n s count items at words p
   plan-refused p k e ne f = record { fault-is = λ values. e ∙ f values; ready = λ z. absurd (ne (sym e ∙ z)) }
 
@@ -198,7 +201,7 @@ module _ (own : Bool) (l : ℕ) (image heads next : List ℕ) (s : State) (count
             prepared : p .fault ≡ 0 → BasketReady own l image heads next n s count items at words p
             unfolding storeFault
             prepared z =
-                let store : (values : List ℕ) → storeFault (takingBy own l image next n (s .first) (s .newest) count) n s (sumOver insertsBy (wanted values)) (sumOver removesBy (wanted values)) ≡ 0 =
+                let store : (values : List ℕ) → storeFault (allocationBy own l image next n (s .first) (s .newest) count) n s (sumOver insertsBy (wanted values)) (sumOver removesBy (wanted values)) ≡ 0 =
                 λ values. orElse-zero _ _ (sym (w .fault-is values) ∙ z) .1 in
                 record {
                   sized = plan-sized n refl;

@@ -18,11 +18,13 @@ use Rattle.stores.specs.Basket.{BasketRecord, basketStores}
 use Rattle.stores.specs.inner.Written.{pasted}
 use Rattle.stores.specs.inner.Needs.{Recordable}
 use Rattle.stores.proofs.Pasted.{numbers-append, values-append}
-use Rattle.table.specs.Complete.{numberFor}
+use Rattle.table.specs.Complete.{sizeFieldFor}
 use Rattle.index.specs.inner.Basket.{takensFrom}
 use Rattle.index.specs.declared.Action.{Action}
 use Rattle.index.specs.declared.Action.the-variants.{Insert, Replace, Remove}
-use Rattle.calls.specs.Basket.{highIn, itemAt, itemValue, changeAt, changesFrom, kindBy, valueBy, recordsFor, atFront}
+use Rattle.calls.specs.Basket.{kindBy, valueBy, recordsFor}
+use Rattle.calls.specs.BasketItems.{highIn, itemAt, itemValue, changeAt, changesFrom}
+use Rattle.calls.specs.BasketBuffers.{atFront}
 use Rattle.calls.specs.inner.Basket.{itemKeyAt, sizeBy, sizeAt, recordsFrom, StoresInside}
 use Rattle.calls.specs.declared.BasketItem.{BasketItem}
 use Rattle.calls.proofs.BasketChecks.{key-at}
@@ -76,8 +78,8 @@ kind-small Insert = omega arith
 kind-small Replace = omega arith
 kind-small Remove = omega arith
 
-number-small : (count : ℕ) → count ≤ 8 → numberFor count < 256
-unfolding numberFor
+number-small : (count : ℕ) → count ≤ 8 → sizeFieldFor count < 256
+unfolding sizeFieldFor
 number-small count h = go (eqb count 1)
   where
     go : (b : Bool) → cond b 0 count < 256
@@ -98,11 +100,11 @@ value-of bytes j r size e h = value-part bytes j r (80 * j) (80 * j + r) refl re
 
 module _ (l : ℕ) (image : List ℕ) (version count : ℕ) (items : List BasketItem) (bytes slots : List ℕ) where
   abbrev from-item : ℕ → ℕ → List Store
-  from-item j n = basketStores l (word image) (numberFor count) version (recordsFrom l items bytes slots j n)
+  from-item j n = basketStores l (word image) (sizeFieldFor count) version (recordsFrom l items bytes slots j n)
 
   abbrev of-item : ℕ → List Store
   of-item j =
-      recordStores l (word image) (getD slots j 0) (itemKeyAt l items j) (kindBy (itemAt items j .action)) (numberFor count)
+      recordStores l (word image) (getD slots j 0) (itemKeyAt l items j) (kindBy (itemAt items j .action)) (sizeFieldFor count)
       (itemValue bytes j (sizeAt items j)) version
 
   stores-step : (j : ℕ) → j < count → from-item j (count - j) ≡ of-item j ++ from-item (j + 1) (count - (j + 1))
@@ -149,7 +151,7 @@ module _ (l : ℕ) (image : List ℕ) (version count : ℕ) (items : List Basket
 
         pub storing-on : (at′ words′ : List ℕ) → length at′ ≡ length at → length words′ ≡ length words
             → (high kind number : ℕ) (value : List ℕ) → high ≡ highIn l (itemAt items j .high) → kind ≡ kindBy (itemAt items j .action)
-            → number ≡ numberFor count → value ≡ itemValue bytes j (sizeAt items j)
+            → number ≡ sizeFieldFor count → value ≡ itemValue bytes j (sizeAt items j)
             → at′ ≡ pasted at (16 * j) (wordNumbers (recordStores l (word image) (getD slots j 0) (keyWith (itemAt items j .low) high) kind number value version)) 16
             → words′ ≡ pasted words (16 * j) (values (recordStores l (word image) (getD slots j 0) (keyWith (itemAt items j .low) high) kind number value version)) 16
             → Storing at₀ words₀ at′ words′ (j + 1)
@@ -178,7 +180,7 @@ module _ (l : ℕ) (image : List ℕ) (version count : ℕ) (items : List Basket
                 ap₂ (λ (x y : ℕ). recordStores l (word image) (getD slots j 0) x y number value version) (key-at l items j high eh) ek
                 ∙ ap₂ (λ (x : ℕ) (v : List ℕ). recordStores l (word image) (getD slots j 0) (itemKeyAt l items j) (kindBy (itemAt items j .action)) x v version) en ev
 
-        pub recordable : (kind number : ℕ) (value : List ℕ) → kind ≡ kindBy (itemAt items j .action) → number ≡ numberFor count
+        pub recordable : (kind number : ℕ) (value : List ℕ) → kind ≡ kindBy (itemAt items j .action) → number ≡ sizeFieldFor count
             → value ≡ itemValue bytes j (sizeAt items j) → Recordable l kind number value version
         unfolding itemValue
         recordable kind number value ek en ev =

@@ -10,12 +10,12 @@ use borrow.Author.Tests.{eq-eqb, ne-eqb}
 use Rattle.words.specs.Word.{word, setWord}
 use Rattle.prelude.proofs.Choice.{pick-false}
 use Rattle.words.proofs.Laws.{setWord-length, word-same, word-other}
-use Rattle.prelude.specs.Refusal.{say, unlessRefused}
+use Rattle.prelude.specs.Refusal.{refuseIf, unlessRefused}
 use Rattle.prelude.specs.Answer.{gives, refused}
 use Rattle.layout.specs.Size.{slotsOf, slotsIn}
 use Rattle.layout.specs.Header.{headerWord, headerFault, imageFault}
 use Rattle.layout.specs.Content.{empty, contentsOf}
-use Rattle.prelude.proofs.Refusals.{say-true, say-false, taken-leaves, refused-keeps}
+use Rattle.prelude.proofs.Refusals.{refuseIf-true, refuseIf-false, taken-leaves, refused-keeps}
 use Rattle.layout.proofs.Content.{blank-table}
 use Rattle.layout.proofs.Size.{long}
 use Rattle.prelude.proofs.Any.{any-clear}
@@ -34,7 +34,7 @@ module _ (n len : ℕ) (e : n ≡ slotsOf len) (ne : n ≡ 0 → ⊥) where
 -- 1 before 32
 length-first : (l n : ℕ) → n ≡ 0 → formatFault l n ≡ 1
 unfolding formatFault
-length-first l n z = say-true _ _ _ (eq-eqb n 0 z)
+length-first l n z = refuseIf-true _ _ _ (eq-eqb n 0 z)
 
 pub some-slots : (l n f : ℕ) → f ≡ formatFault l n → f ≡ 0 → n ≡ 0 → ⊥
 some-slots l n f q z e = omega (arith, q, length-first l n e)
@@ -112,10 +112,10 @@ formatted-word l len (suc (suc i)) ne b =
 pub formatted-fault : (l len : ℕ) → (slotsOf len ≡ 0 → ⊥) → l < 2 ^ 64 → imageFault l (formatted l len) ≡ 0
 unfolding imageFault headerFault
 formatted-fault l len ne b =
-    ap (λ (x : ℕ). say (eqb (slotsOf x) 0) 1 (headerFault l (slotsOf x) (word (formatted l len)))) (formatted-length l len)
-    ∙ say-false _ _ _ (ne-eqb (slotsOf len) 0 ne)
-    ∙ say-false _ _ _ (ne-eqb (word (formatted l len) 0) 0 (λ q. ne (sym (formatted-zero l len ne b) ∙ q)))
-    ∙ say-false _ _ _
+    ap (λ (x : ℕ). refuseIf (eqb (slotsOf x) 0) 1 (headerFault l (slotsOf x) (word (formatted l len)))) (formatted-length l len)
+    ∙ refuseIf-false _ _ _ (ne-eqb (slotsOf len) 0 ne)
+    ∙ refuseIf-false _ _ _ (ne-eqb (word (formatted l len) 0) 0 (λ q. ne (sym (formatted-zero l len ne b) ∙ q)))
+    ∙ refuseIf-false _ _ _
     (any-clear _ 0 8
     (λ i h. ap not (eq-eqb (word (formatted l len) (0 + i)) (headerWord l (slotsOf len) (0 + i)) (formatted-word l len (0 + i) ne b))))
 

@@ -1,6 +1,7 @@
 pub mod Lookups
 pub mod Changes
 pub mod Results
+pub mod Reports
 pub mod Locates
 pub mod Formats
 pub mod BasketChecks

@@ -8,8 +8,8 @@ use native.Mathlib.Omega.{arith}
 use lib.Dec.{ltb, leb}
 use lib.ListN.{length}
 use borrow.Author.Tests.{lt-ltb, le-ltb, ltb-false}
-use Rattle.prelude.specs.Refusal.{say, orElse, unlessRefused}
-use Rattle.prelude.proofs.Refusals.{say-true, say-false, say-zero, orElse-first, orElse-later, orElse-zero, taken-leaves, refused-keeps}
+use Rattle.prelude.specs.Refusal.{refuseIf, orElse, unlessRefused}
+use Rattle.prelude.proofs.Refusals.{refuseIf-true, refuseIf-false, refuseIf-zero, orElse-first, orElse-later, orElse-zero, taken-leaves, refused-keeps}
 use Rattle.layout.specs.Size.{slotsIn}
 use Rattle.layout.specs.Record.{Layout, limit}
 use Rattle.layout.specs.Header.{lentFault}
@@ -18,17 +18,17 @@ use Rattle.layout.specs.inner.Sized.{Sized}
 use Rattle.layout.proofs.Lents.{version-fine, lent-sized, lent-slots}
 use Rattle.index.specs.Walk.{search, chainFault}
 use Rattle.index.specs.Change.{keyFault, isFound}
-use Rattle.index.specs.Taking.{Taking, endsFault, linkFault, fewFault, reuseFault, roomFault}
-use Rattle.taking.specs.Taking.{takingBy}
-use Rattle.taking.specs.inner.Walk.{takeFault}
-use Rattle.taking.specs.inner.Takeable.{Walkable}
+use Rattle.index.specs.Allocation.{Allocation, endsFault, linkFault, fewFault, reuseFault, roomFault}
+use Rattle.allocation.specs.Allocation.{allocationBy}
+use Rattle.allocation.specs.inner.Walk.{takeFault}
+use Rattle.allocation.specs.inner.Takeable.{Walkable}
 use Rattle.index.specs.declared.State.{State}
 use Rattle.index.specs.declared.Mode.{Mode}
 use Rattle.index.specs.declared.Mode.the-variants.{Insert, Replace}
 use Rattle.index.specs.declared.Place.{Place}
 use Rattle.index.specs.declared.Place.the-variants.{Held, NotHeld}
 use Rattle.index.specs.declared.Lookup.{Lookup}
-use Rattle.index.specs.declared.Lookup.the-variants.{Refused, Allowed}
+use Rattle.index.specs.declared.Lookup.the-variants.{Refused, Accepted}
 use Rattle.index.specs.declared.Found.{Found}
 use Rattle.index.specs.declared.Found.the-variants.{At, Missing, BadChain}
 use Rattle.index.proofs.Walks.{at-inside, absent-inside}
@@ -36,10 +36,10 @@ use Rattle.index.proofs.LookedUp.{held-by-fault, not-held-by-fault, not-held-ta
 use Rattle.index.proofs.Faults.{reuse-ends, reuse-live, room-fine}
 use Rattle.calls.specs.Change.{writeLentFault, storeFault, insertsOf, writeLaterFault, writeFaultBy, removeLaterFault, removeFaultBy}
 use Rattle.calls.specs.Get.{slotLength, lengthFault, getLaterFault, getFault}
-use Rattle.index.specs.Index.{headOf}
+use Rattle.index.specs.Index.{headOf, indexOf}
 use Rattle.index.specs.inner.Parts.{PlaceInside}
 use Rattle.index.specs.inner.Lookup.{lookupBy}
-use Rattle.calls.specs.inner.Lookup.{lookupOf, LooksUp, Writable, AllowedAt, WriteReady, WriteLookup, RemoveReady, RemoveLookup, FoundInside, GetReady, GetLookup}
+use Rattle.calls.specs.inner.Lookup.{lookupOf, LooksUp, Writable, AcceptedAt, WriteReady, WriteLookup, RemoveReady, RemoveLookup, FoundInside, GetReady, GetLookup}
 
 -- ---- refusals in order: the first refusal is what the whole row says, or it is none and the rest says it
 
@@ -50,20 +50,20 @@ pub passed : {a f later g : ℕ} → f ≡ a → f ≡ 0 → g ≡ later → g �
 passed e z q = q ∙ sym (orElse-later _ _ (sym e ∙ z))
 
 -- what it says of room, by a count of the keys inserted
-pub inserts-counted : {r i : ℕ} (taking : Taking) (n : ℕ) (s : State) (mode : Mode) → r ≡ storeFault taking n s i 0 → i ≡ insertsOf mode
+pub inserts-counted : {r i : ℕ} (taking : Allocation) (n : ℕ) (s : State) (mode : Mode) → r ≡ storeFault taking n s i 0 → i ≡ insertsOf mode
     → r ≡ storeFault taking n s (insertsOf mode) 0
 inserts-counted taking n s mode e q = e ∙ ap (λ (k : ℕ). storeFault taking n s k 0) q
 
 -- the refusals of a call that stores, as one row
-store-row : (taking : Taking) (n : ℕ) (s : State) (inserts removes : ℕ)
+store-row : (taking : Allocation) (n : ℕ) (s : State) (inserts removes : ℕ)
     → orElse (endsFault n (s .first) (s .last))
-    (orElse (say (ltb (s .live) removes) 11 0)
-    (orElse (takeFault taking) (orElse (say (leb (n + removes) (s .live + inserts)) 28 0) (versionFault (s .version)))))
+    (orElse (refuseIf (ltb (s .live) removes) 11 0)
+    (orElse (takeFault taking) (orElse (refuseIf (leb (n + removes) (s .live + inserts)) 28 0) (versionFault (s .version)))))
     ≡ storeFault taking n s inserts removes
 unfolding storeFault reuseFault roomFault takeFault orElse
 store-row taking n s inserts removes =
-    go (endsFault n (s .first) (s .last)) (say (ltb (s .live) removes) 11 0) (linkFault taking) (fewFault taking)
-    (say (leb (n + removes) (s .live + inserts)) 28 0) (versionFault (s .version))
+    go (endsFault n (s .first) (s .last)) (refuseIf (ltb (s .live) removes) 11 0) (linkFault taking) (fewFault taking)
+    (refuseIf (leb (n + removes) (s .live + inserts)) 28 0) (versionFault (s .version))
   where
     go : (a b c d x y : ℕ) → orElse a (orElse b (orElse (orElse c d) (orElse x y))) ≡ orElse (orElse a (orElse b c)) (orElse (orElse d x) y)
     go (suc a) b c d x y = refl
@@ -73,23 +73,23 @@ store-row taking n s inserts removes =
     go zero zero zero zero x y = refl
 
 -- store_fault: its tests in order
-module _ (taking : Taking) (n : ℕ) (s : State) (inserts removes a : ℕ) (e : a ≡ endsFault n (s .first) (s .last)) where
+module _ (taking : Allocation) (n : ℕ) (s : State) (inserts removes a : ℕ) (e : a ≡ endsFault n (s .first) (s .last)) where
   pub store-ends : (a ≡ 0 → ⊥) → a ≡ storeFault taking n s inserts removes
   store-ends ne = said _ e ne ∙ store-row taking n s inserts removes
 
   module _ (z : a ≡ 0) where
     pub store-live : s .live < removes → 11 ≡ storeFault taking n s inserts removes
     store-live h =
-        passed e z (said _ (sym (say-true _ _ _ (lt-ltb (s .live) removes h))) (λ q. omega arith)) ∙ store-row taking n s inserts removes
+        passed e z (said _ (sym (refuseIf-true _ _ _ (lt-ltb (s .live) removes h))) (λ q. omega arith)) ∙ store-row taking n s inserts removes
 
     module _ (h : removes ≤ s .live) (t : ℕ) (f : t ≡ takeFault taking) where
-      after-live : {g later : ℕ} → g ≡ later → g ≡ orElse (say (ltb (s .live) removes) 11 0) later
-      after-live q = passed (sym (say-false _ _ _ (le-ltb (s .live) removes h))) refl q
+      after-live : {g later : ℕ} → g ≡ later → g ≡ orElse (refuseIf (ltb (s .live) removes) 11 0) later
+      after-live q = passed (sym (refuseIf-false _ _ _ (le-ltb (s .live) removes h))) refl q
 
       pub store-take : (t ≡ 0 → ⊥) → t ≡ storeFault taking n s inserts removes
       store-take ne = passed e z (after-live (said _ f ne)) ∙ store-row taking n s inserts removes
 
-      module _ (y : t ≡ 0) (r : ℕ) (g : r ≡ say (leb (n + removes) (s .live + inserts)) 28 0) where
+      module _ (y : t ≡ 0) (r : ℕ) (g : r ≡ refuseIf (leb (n + removes) (s .live + inserts)) 28 0) where
         pub store-room : (r ≡ 0 → ⊥) → r ≡ storeFault taking n s inserts removes
         store-room ne = passed e z (after-live (passed f y (said _ g ne))) ∙ store-row taking n s inserts removes
 
@@ -98,43 +98,43 @@ module _ (taking : Taking) (n : ℕ) (s : State) (inserts removes a : ℕ) (e : 
 
 -- the refusals of an insert and a replace where 1, 2, 3 and 4 are not due
 pub write-after : (own : Bool) (l : ℕ) (image heads next : List ℕ) (s : State) (mode : Mode) (key size : ℕ) → lentFault l image (length heads) (length next) ≡ 0
-    → writeFaultBy own l image heads next s mode key size ≡
-    say (ltb (limit l) size) 10
-    (writeLaterFault mode (search l image heads next key) (takingBy own l image next (slotsIn image) (s .first) (s .newest) 1) (slotsIn image) s)
-unfolding writeFaultBy writeLentFault say orElse
+    → writeFaultBy own l image (indexOf heads next s) mode key size ≡
+    refuseIf (ltb (limit l) size) 10
+    (writeLaterFault mode (search l image heads next key) (allocationBy own l image next (slotsIn image) (s .first) (s .newest) 1) (slotsIn image) s)
+unfolding writeFaultBy writeLentFault refuseIf orElse
 write-after own l image heads next s mode key size z =
-    ap (λ (f : ℕ). orElse (orElse f (say (ltb (limit l) size) 10 0)) checks) z ∙ long (ltb (limit l) size) checks
+    ap (λ (f : ℕ). orElse (orElse f (refuseIf (ltb (limit l) size) 10 0)) checks) z ∙ long (ltb (limit l) size) checks
   where
     checks : ℕ
-    checks = writeLaterFault mode (search l image heads next key) (takingBy own l image next (slotsIn image) (s .first) (s .newest) 1) (slotsIn image) s
+    checks = writeLaterFault mode (search l image heads next key) (allocationBy own l image next (slotsIn image) (s .first) (s .newest) 1) (slotsIn image) s
 
-    long : (t : Bool) (later : ℕ) → orElse (say t 10 0) later ≡ say t 10 later
+    long : (t : Bool) (later : ℕ) → orElse (refuseIf t 10 0) later ≡ refuseIf t 10 later
     long true later = refl
     long false later = refl
 
 -- the refusals of a value by its length: m is the greatest length that the layout has
 module _ (l size m : ℕ) (e : m ≡ limit l) where
-  pub value-too-long : m < size → 10 ≡ say (ltb (limit l) size) 10 0
-  value-too-long h = sym (say-true _ _ _ (lt-ltb (limit l) size (omega arith)))
+  pub value-too-long : m < size → 10 ≡ refuseIf (ltb (limit l) size) 10 0
+  value-too-long h = sym (refuseIf-true _ _ _ (lt-ltb (limit l) size (omega arith)))
 
-  pub value-fits : size ≤ m → 0 ≡ say (ltb (limit l) size) 10 0
-  value-fits h = sym (say-false _ _ _ (le-ltb (limit l) size (omega arith)))
+  pub value-fits : size ≤ m → 0 ≡ refuseIf (ltb (limit l) size) 10 0
+  value-fits h = sym (refuseIf-false _ _ _ (le-ltb (limit l) size (omega arith)))
 
 module _ (l n size m : ℕ) (e : m ≡ limit l) where
   pub too-long : m < n → 23 ≡ lengthFault l n size
   unfolding lengthFault
-  too-long h = sym (say-true _ _ _ (lt-ltb (limit l) n (omega arith)))
+  too-long h = sym (refuseIf-true _ _ _ (lt-ltb (limit l) n (omega arith)))
 
   pub too-small : n ≤ m → size < n → 13 ≡ lengthFault l n size
   unfolding lengthFault
-  too-small h k = sym (say-false _ _ _ (le-ltb (limit l) n (omega arith)) ∙ say-true _ _ _ (lt-ltb size n k))
+  too-small h k = sym (refuseIf-false _ _ _ (le-ltb (limit l) n (omega arith)) ∙ refuseIf-true _ _ _ (lt-ltb size n k))
 
   pub length-fits : n ≤ m → n ≤ size → 0 ≡ lengthFault l n size
   unfolding lengthFault
-  length-fits h k = sym (say-false _ _ _ (le-ltb (limit l) n (omega arith)) ∙ say-false _ _ _ (le-ltb size n k))
+  length-fits h k = sym (refuseIf-false _ _ _ (le-ltb (limit l) n (omega arith)) ∙ refuseIf-false _ _ _ (le-ltb size n k))
 
 -- the refusals after the chain is followed, by what was found
-module _ (taking : Taking) (n : ℕ) (s : State) (found : Found) where
+module _ (taking : Allocation) (n : ℕ) (s : State) (found : Found) where
   held-later : (slot prev compared r : ℕ) → found ≡ At slot prev compared → r ≡ storeFault taking n s 0 1 → r ≡ removeLaterFault found taking n s
   unfolding removeLaterFault
   held-later slot prev compared r e q = q ∙ sym (ap (λ (f : Found). removeLaterFault f taking n s) e)
@@ -189,8 +189,8 @@ module _ (l : ℕ) (image heads next : List ℕ) (key n : ℕ) (sized : Sized im
       → GetReady l image size (lookupBy k found)
   unfolding lookupBy unlessRefused getLaterFault lengthFault
   get-ready lay size (At slot prev compared) e zero q =
-      let a = say-zero _ _ _ (sym q) (omega arith) in
-      let b = say-zero _ _ _ (a .1) (omega arith) in
+      let a = refuseIf-zero _ _ _ (sym q) (omega arith) in
+      let b = refuseIf-zero _ _ _ (a .1) (omega arith) in
       (found-inside lay (At slot prev compared) e, ltb-false _ _ (a .0), ltb-false _ _ (b .0))
   get-ready lay size (At slot prev compared) e (suc k) q = tt
   get-ready lay size (Missing prev compared) e zero q = tt
@@ -198,7 +198,7 @@ module _ (l : ℕ) (image heads next : List ℕ) (key n : ℕ) (sized : Sized im
   get-ready lay size BadChain e k q = tt
 
   module _ (s : State) where
-    writable : (taking : Taking) (inserts removes prev old : ℕ) → storeFault taking n s inserts removes ≡ 0 → prev ≤ n → old ≤ n
+    writable : (taking : Allocation) (inserts removes prev old : ℕ) → storeFault taking n s inserts removes ≡ 0 → prev ≤ n → old ≤ n
         → Writable image heads next s key prev old
     unfolding storeFault
     writable taking inserts removes prev old z p o =
@@ -220,23 +220,23 @@ module _ (l : ℕ) (image heads next : List ℕ) (key n : ℕ) (sized : Sized im
         }
 
     allowed-at : (place : Place) (size : ℕ) → size ≤ limit l → {prev old : ℕ} → Writable image heads next s key prev old
-        → PlaceInside heads next s (headOf key (length heads)) place → AllowedAt l image heads next s key size place
+        → PlaceInside heads next s (headOf key (length heads)) place → AcceptedAt l image heads next s key size place
     allowed-at place size h u p =
         record { inside = p; some-head = sized .some-head; recordable = (h, u .index .version-fits, u .slot-fits, u .slot-in) }
 
     -- a new key is counted
-    counted : (taking : Taking) → storeFault taking n s 1 0 ≡ 0 → s .live < 65535
+    counted : (taking : Allocation) → storeFault taking n s 1 0 ≡ 0 → s .live < 65535
     unfolding storeFault
     counted taking z = omega (arith, room-fine taking n (s .live) 0 1 (orElse-zero _ _ (orElse-zero _ _ z .1) .0), sized .few)
 
     -- and a removed one was
-    some-live : (taking : Taking) → storeFault taking n s 0 1 ≡ 0 → 0 < s .live
+    some-live : (taking : Allocation) → storeFault taking n s 0 1 ≡ 0 → 0 < s .live
     unfolding storeFault
     some-live taking z = omega (arith, reuse-live taking n (s .live) 1 (s .first) (s .last) (orElse-zero _ _ z .0))
 
-    write-ready : (taking : Taking) (mode : Mode) (size : ℕ) → size ≤ limit l → (found : Found) → found ≡ search l image heads next key → (k : ℕ)
+    write-ready : (taking : Allocation) (mode : Mode) (size : ℕ) → size ≤ limit l → (found : Found) → found ≡ search l image heads next key → (k : ℕ)
         → k ≡ writeLaterFault mode found taking n s → WriteReady l image heads next s key size (lookupBy k found)
-    unfolding lookupBy unlessRefused writeLaterFault chainFault keyFault isFound insertsOf say
+    unfolding lookupBy unlessRefused writeLaterFault chainFault keyFault isFound insertsOf refuseIf
     write-ready taking mode size h (At slot prev compared) e zero q =
         let z = orElse-zero _ _ (orElse-zero _ _ (sym q) .1) .1 in
         let i = at-inside l image heads next n key (sized .slot-count) slot prev compared (sym e) in
@@ -253,7 +253,7 @@ module _ (l : ℕ) (image heads next : List ℕ) (key n : ℕ) (sized : Sized im
     write-ready taking mode size h (Missing prev compared) e (suc k) q = tt
     write-ready taking mode size h BadChain e k q = tt
 
-    remove-ready : (taking : Taking) (found : Found) → found ≡ search l image heads next key → (k : ℕ) → k ≡ removeLaterFault found taking n s
+    remove-ready : (taking : Allocation) (found : Found) → found ≡ search l image heads next key → (k : ℕ) → k ≡ removeLaterFault found taking n s
         → RemoveReady image heads next s key (lookupBy k found)
     unfolding lookupBy unlessRefused removeLaterFault
     remove-ready taking (At slot prev compared) e zero q =
@@ -297,25 +297,25 @@ module _
   pub lent-inside : Layout l → FoundInside l image found
   lent-inside lay = found-inside l image heads next key n sized lay found ed
 
-  remove-looks : (own : Bool) (s : State) (k : ℕ) → k ≡ removeLaterFault found (takingBy own l image next n (s .first) (s .newest) 1) n s → (r : Lookup) → r ≡ lookupBy k found
-      → RemoveLookup own l image heads next s key r
+  remove-looks : (own : Bool) (s : State) (k : ℕ) → k ≡ removeLaterFault found (allocationBy own l image next n (s .first) (s .newest) 1) n s → (r : Lookup) → r ≡ lookupBy k found
+      → RemoveLookup own l image (indexOf heads next s) key r
   unfolding removeFaultBy
   remove-looks own s k e r h =
-      looks-up ef z (e ∙ ap₂ (λ (d : Found) (m : ℕ). removeLaterFault d (takingBy own l image next m (s .first) (s .newest) 1) m s) ed en) ed h
-      (remove-ready l image heads next key n sized s (takingBy own l image next n (s .first) (s .newest) 1) found ed k e)
+      looks-up ef z (e ∙ ap₂ (λ (d : Found) (m : ℕ). removeLaterFault d (allocationBy own l image next m (s .first) (s .newest) 1) m s) ed en) ed h
+      (remove-ready l image heads next key n sized s (allocationBy own l image next n (s .first) (s .newest) 1) found ed k e)
 
   pub remove-looks-held : (own : Bool) (s : State) (slot prev compared k : ℕ) → found ≡ At slot prev compared
-      → k ≡ storeFault (takingBy own l image next n (s .first) (s .newest) 1) n s 0 1 → (r : Lookup)
-      → r ≡ unlessRefused k (Allowed (Held slot prev) compared) (Refused k compared) → RemoveLookup own l image heads next s key r
+      → k ≡ storeFault (allocationBy own l image next n (s .first) (s .newest) 1) n s 0 1 → (r : Lookup)
+      → r ≡ unlessRefused k (Accepted (Held slot prev) compared) (Refused k compared) → RemoveLookup own l image (indexOf heads next s) key r
   remove-looks-held own s slot prev compared k e q r h =
       remove-looks own s k (held-later _ n s found slot prev compared k e q) r (h ∙ held-by-fault found slot prev compared k e)
 
   pub remove-looks-absent : (own : Bool) (s : State) (prev compared : ℕ) → found ≡ Missing prev compared
-      → RemoveLookup own l image heads next s key (Allowed (NotHeld prev) compared)
+      → RemoveLookup own l image (indexOf heads next s) key (Accepted (NotHeld prev) compared)
   remove-looks-absent own s prev compared e =
       remove-looks own s 0 (absent-later _ n s found prev compared e) _ (not-held-taken found prev compared 0 e refl)
 
-  pub remove-looks-bad : (own : Bool) (s : State) → found ≡ BadChain → RemoveLookup own l image heads next s key (Refused 11 0)
+  pub remove-looks-bad : (own : Bool) (s : State) → found ≡ BadChain → RemoveLookup own l image (indexOf heads next s) key (Refused 11 0)
   unfolding lookupBy
   remove-looks-bad own s e = remove-looks own s 11 (bad-later _ n s found e) _ (sym (ap (lookupBy 11) e))
 
@@ -331,7 +331,7 @@ module _
     (ef : f ≡ writeLentFault l image (length heads) (length next) size) where
   write-passed : (lentFault l image (length heads) (length next) ≡ 0) × (size ≤ limit l)
   unfolding writeLentFault
-  write-passed = let a = orElse-zero _ _ (sym ef ∙ z) in (a .0, ltb-false _ _ (say-zero _ _ _ (a .1) (omega arith) .0))
+  write-passed = let a = orElse-zero _ _ (sym ef ∙ z) in (a .0, ltb-false _ _ (refuseIf-zero _ _ _ (a .1) (omega arith) .0))
 
   pub write-sized : Sized image heads next n
   write-sized = lent-sized l 0 image heads next (sym (write-passed .0)) refl n en
@@ -341,25 +341,25 @@ module _
       sized-walkable l image heads next n write-sized (lent-slots l 0 image heads next (sym (write-passed .0)) refl n en) lay
 
   module _ (own : Bool) (key : ℕ) (found : Found) (ed : found ≡ search l image heads next key) (s : State) (mode : Mode) where
-    write-looks : (k : ℕ) → k ≡ writeLaterFault mode found (takingBy own l image next n (s .first) (s .newest) 1) n s → (r : Lookup) → r ≡ lookupBy k found
-        → WriteLookup own l image heads next s mode key size r
+    write-looks : (k : ℕ) → k ≡ writeLaterFault mode found (allocationBy own l image next n (s .first) (s .newest) 1) n s → (r : Lookup) → r ≡ lookupBy k found
+        → WriteLookup own l image (indexOf heads next s) mode key size r
     unfolding writeFaultBy
     write-looks k e r h =
-        looks-up ef z (e ∙ ap₂ (λ (d : Found) (m : ℕ). writeLaterFault mode d (takingBy own l image next m (s .first) (s .newest) 1) m s) ed en) ed h
-        (write-ready l image heads next key n write-sized s (takingBy own l image next n (s .first) (s .newest) 1) mode size (write-passed .1) found ed k e)
+        looks-up ef z (e ∙ ap₂ (λ (d : Found) (m : ℕ). writeLaterFault mode d (allocationBy own l image next m (s .first) (s .newest) 1) m s) ed en) ed h
+        (write-ready l image heads next key n write-sized s (allocationBy own l image next n (s .first) (s .newest) 1) mode size (write-passed .1) found ed k e)
 
     pub write-looks-held : (slot prev compared k : ℕ) → found ≡ At slot prev compared
-        → k ≡ orElse (keyFault mode true) (storeFault (takingBy own l image next n (s .first) (s .newest) 1) n s (insertsOf mode) 0) → (r : Lookup)
-        → r ≡ unlessRefused k (Allowed (Held slot prev) compared) (Refused k compared) → WriteLookup own l image heads next s mode key size r
+        → k ≡ orElse (keyFault mode true) (storeFault (allocationBy own l image next n (s .first) (s .newest) 1) n s (insertsOf mode) 0) → (r : Lookup)
+        → r ≡ unlessRefused k (Accepted (Held slot prev) compared) (Refused k compared) → WriteLookup own l image (indexOf heads next s) mode key size r
     write-looks-held slot prev compared k e q r h =
         write-looks k (q ∙ held-write-later _ n s found mode slot prev compared e) r (h ∙ held-by-fault found slot prev compared k e)
 
     pub write-looks-absent : (prev compared k : ℕ) → found ≡ Missing prev compared
-        → k ≡ orElse (keyFault mode false) (storeFault (takingBy own l image next n (s .first) (s .newest) 1) n s (insertsOf mode) 0) → (r : Lookup)
-        → r ≡ unlessRefused k (Allowed (NotHeld prev) compared) (Refused k compared) → WriteLookup own l image heads next s mode key size r
+        → k ≡ orElse (keyFault mode false) (storeFault (allocationBy own l image next n (s .first) (s .newest) 1) n s (insertsOf mode) 0) → (r : Lookup)
+        → r ≡ unlessRefused k (Accepted (NotHeld prev) compared) (Refused k compared) → WriteLookup own l image (indexOf heads next s) mode key size r
     write-looks-absent prev compared k e q r h =
         write-looks k (q ∙ not-held-write-later _ n s found mode prev compared e) r (h ∙ not-held-by-fault found prev compared k e)
 
-    pub write-looks-bad : found ≡ BadChain → WriteLookup own l image heads next s mode key size (Refused 11 0)
+    pub write-looks-bad : found ≡ BadChain → WriteLookup own l image (indexOf heads next s) mode key size (Refused 11 0)
     unfolding lookupBy
     write-looks-bad e = write-looks 11 (bad-write-later _ n s found mode e) _ (sym (ap (lookupBy 11) e))

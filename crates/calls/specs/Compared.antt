@@ -1,4 +1,5 @@
--- The slots that a call reports as compared. Document 02, A.4: "get, insert, replace and remove pass it on, absent and later refusals included".
+-- The slots that a call reports as compared. Document 02, A.4: "get, insert, replace and remove pass it on, absent and
+-- later refusals included".
 use mathlib.Core.List.{List}
 use Prim.Native.Nat.{ℕ}
 use lib.ListN.{length}
@@ -6,14 +7,6 @@ use Rattle.prelude.specs.Refusal.{unlessRefused}
 use Rattle.layout.specs.Header.{lentFault}
 use Rattle.index.specs.Walk.{search, comparedIn}
 use Rattle.index.specs.declared.Found.{Found}
-
--- what a call left, and the count that it reports
-pub record Reported (A : Type 0) : Type 0 where
-  pub left : A
-  pub compared : ℕ
-
-abbrev pub reported : {A : Type 0} → A → (compared : ℕ) → Reported A
-reported left compared = record { left = left; compared = compared }
 
 -- "A call refused before or by the chain check reports 0": `lent` is its refusal before the chain is followed
 unfoldable pub comparedAfter : (lent : ℕ) → Found → ℕ

@@ -4,7 +4,7 @@ use Prim.Native.Nat.{ℕ}
 use lib.Dec.{eqb, ltb}
 use lib.ListN.{length, replicate}
 use Rattle.words.specs.Word.{setWord}
-use Rattle.prelude.specs.Refusal.{say, unlessRefused}
+use Rattle.prelude.specs.Refusal.{refuseIf, unlessRefused}
 use Rattle.prelude.specs.Answer.{Answer, gives, refused}
 use Rattle.layout.specs.Size.{slotsOf, slotsIn}
 use Rattle.calls.specs.declared.Formatted.{Formatted}
@@ -25,11 +25,12 @@ formatEnd r bytes = record { answer = formatSays r; bytes = bytes }
 
 -- document 02, A.11: "32 when format is asked for a layout other than 1 or 2"
 unfoldable pub layoutFault : (l : ℕ) → ℕ
-layoutFault l = say (ltb l 1) 32 (say (ltb 2 l) 32 0)
+layoutFault l = refuseIf (ltb l 1) 32 (refuseIf (ltb 2 l) 32 0)
 
--- "1 when the length is not 128 × (N + 1) with N in range"; 32 "after 1". n is the number of slots, 0 where the length is of none
+-- "1 when the length is not 128 × (N + 1) with N in range"; 32 "after 1". n is the number of slots, 0 where the length
+-- is of none
 unfoldable pub formatFault : (l n : ℕ) → ℕ
-formatFault l n = say (eqb n 0) 1 (layoutFault l)
+formatFault l n = refuseIf (eqb n 0) 1 (layoutFault l)
 
 -- "Otherwise the header is written, every other byte is zero"; A.11: "Header word 1 names the layout"
 unfoldable pub formatted : (l len : ℕ) → List ℕ

@@ -1,7 +1,12 @@
+pub mod Result
 pub mod Compared
 pub mod Moved
 pub mod Change
+pub mod BasketItems
+pub mod BasketRefusals
 pub mod Basket
+pub mod BasketBuffers
+pub mod BasketList
 pub mod Get
 pub mod Locate
 pub mod Format

@@ -12,8 +12,8 @@ getMoved (Length n) = wordsMoved n
 getMoved Absent = 0
 getMoved (Refused number) = 0
 
--- insert and replace, by the answer, for a value of this size: the words of the value that they put into the stores; none where they are refused. They never
--- answer absent. A remove has no value: it moves none
+-- insert and replace, by the answer, for a value of this size: the words of the value that they put into the stores;
+-- none where they are refused. They never answer absent. A remove has no value: it moves none
 unfoldable pub writeMoved : Outcome → (size : ℕ) → ℕ
 writeMoved (Stored slot version) size = wordsMoved size
 writeMoved NotHeld size = 0

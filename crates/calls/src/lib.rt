@@ -9,8 +9,8 @@ pub enum Outcome {
     Refused(u32),
 }
 
-// What insert, replace and remove give back: the answer, the new state, the count of slots compared and the count of words moved. The stores to be
-// played are lent.
+// What insert, replace and remove give back: the answer, the new state, the count of slots compared and the count of
+// words moved. The stores to be played are lent.
 pub struct Change {
     pub outcome: Outcome,
     pub state: State,
@@ -51,8 +51,8 @@ pub enum Formatted {
     Refused(u32),
 }
 
-// One of a basket's keys: what is asked for it, its low and its high word (not read in layout 1), and the length of its value, which does not
-// matter of a remove.
+// One of a basket's keys: what is asked for it, its low and its high word (not read in layout 1), and the length of its
+// value, which does not matter of a remove.
 pub struct BasketItem {
     pub action: Action,
     pub low: u64,
@@ -66,7 +66,8 @@ pub enum BasketOutcome {
     Refused(u32),
 }
 
-// What a basket gives back: the answer, the slots taken, key by key and then zeros, and the new state. The stores to be played are lent.
+// What a basket gives back: the answer, the slots taken, key by key and then zeros, and the new state. The stores to be
+// played are lent.
 pub struct BasketAnswer {
     pub outcome: BasketOutcome,
     pub slots: [u32; 8],
@@ -85,7 +86,8 @@ pub struct Totals {
     pub removes: u32,
 }
 
-// What a basket reads before it writes: its refusal, 0 for none; else the slots of the old records of its keys, the slots that it takes and the slots before them.
+// What a basket reads before it writes: its refusal, 0 for none; else the slots of the old records of its keys, the
+// slots that it takes and the slots before them.
 pub struct Plan {
     pub fault: u32,
     pub olds: [u32; 8],
@@ -93,7 +95,8 @@ pub struct Plan {
     pub prevs: [u32; 8],
 }
 
-// What a basket gives back, with its stores: the first `stored` numbers of `at` are their word numbers, and those of `words` their values.
+// What a basket gives back, with its stores: the first `stored` numbers of `at` are their word numbers, and those of
+// `words` their values.
 pub struct BasketMade {
     pub answer: BasketAnswer,
     pub stored: usize,

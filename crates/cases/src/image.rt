@@ -4,7 +4,7 @@ use crate::set::Set;
 use crate::set::lent;
 use crate::set::show_index;
 use crate::step::played_in;
-use orderset::Openings;
+use orderset::Invalidations;
 use orderset::Recovered;
 use orderset::State;
 use orderset::format;
@@ -33,8 +33,8 @@ fn state_after(r: Recovered, s: State) -> State {
     }
 }
 
-// The opening stores of a recovery that was not refused, or the ones before.
-fn openings_after(r: Recovered, given: Openings, before: Openings) -> Openings {
+// The invalidating stores of a recovery that was not refused, or the ones before.
+fn invalidations_after(r: Recovered, given: Invalidations, before: Invalidations) -> Invalidations {
     match r {
         Recovered::Rebuilt(_) => given,
         Recovered::Refused { number: _, slot: _ } => before,
@@ -51,15 +51,15 @@ pub fn recovered(set: Set) -> Set {
     let k = fronts.next;
     let answer = recover(&image[..i], &mut heads[..h], &mut next[..k]);
     let r = answer.recovered;
-    let given = answer.openings;
+    let given = answer.invalidations;
     show::recovered(r);
-    show::openings(given);
+    show::invalidations(given);
     show_index(&heads, &next);
     let s = set.state;
     let state = state_after(r, s);
-    let before = set.openings;
+    let before = set.invalidations;
     let mut after = set;
-    after.openings = openings_after(r, given, before);
+    after.invalidations = invalidations_after(r, given, before);
     after.heads = heads;
     after.next = next;
     after.state = state;
@@ -95,10 +95,10 @@ fn in_both(n: usize, at: &[u32], value: &[u64]) -> usize
 pub fn opened(set: Set, n: [u64; 5]) -> Set {
     let before = set.image;
     let mut image = set.image;
-    let openings = set.openings;
-    let at = openings.at;
-    let value = openings.value;
-    let wanted = lesser(n[1] as usize, openings.count as usize);
+    let invalidations = set.invalidations;
+    let at = invalidations.at;
+    let value = invalidations.value;
+    let wanted = lesser(n[1] as usize, invalidations.count as usize);
     let count = in_both(wanted, &at, &value);
     let fronts = lent(set);
     let i = fronts.image;

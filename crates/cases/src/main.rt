@@ -1,6 +1,7 @@
-// Prints the lines of its input and carries them out on a set of at most four slots: the calls of the set and the steps of the book, with the
-// image's own index and with others, and with cuts. A line is a name and numbers. One that ends in a colon is a call, and what it answers and
-// leaves is printed after it; another sets a part of the set or, if it has no such name, is only printed.
+// Prints the lines of its input and carries them out on a set of at most four slots: the calls of the set and the steps
+// of the book, with the image's own index and with others, and with cuts. A line is a name and numbers. One that ends
+// in a colon is a call, and what it answers and leaves is printed after it; another sets a part of the set or, if it
+// has no such name, is only printed.
 mod change;
 mod image;
 mod names;

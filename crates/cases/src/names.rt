@@ -24,10 +24,11 @@ pub const WORD: u64 = 0x64726f77;
 // format:
 pub const FORMAT: u64 = 0x74616d726f66;
 
-// recover: the state and the opening stores, if any, or the refusal, and the index
+// recover: the state and the invalidating stores, if any, or the refusal, and the index
 pub const RECOVER: u64 = 0x7265766f636572;
 
-// open COUNT: the play of so many of the opening stores of the last recovery that was not refused: the answer, and how many bytes it changed
+// open COUNT: the play of so many of the invalidating stores of the last recovery that was not refused: the answer, and
+// how many bytes it changed
 pub const OPEN: u64 = 0x6e65706f;
 
 // play COUNT COUNT: the answer, and how many bytes it changed

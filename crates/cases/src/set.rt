@@ -1,12 +1,13 @@
-// The set that the lines work on: an image of at most four slots, its index of at most two heads, its state, the stores handed out last and the
-// opening stores. Any number of it may be set to any other, and a call may be lent less than all of it.
+// The set that the lines work on: an image of at most four slots, its index of at most two heads, its state, the stores
+// handed out last and the invalidating stores. Any number of it may be set to any other, and a call may be lent less
+// than all of it.
 ghost use Rattle.io.specs.Counts.{Counts};
 use crate::names::BYTE;
 use crate::names::INDEX;
 use crate::names::LEND;
 use crate::names::STATE;
 use crate::names::STORE;
-use orderset::Openings;
+use orderset::Invalidations;
 use orderset::State;
 use orderset::Stores;
 use words_code::lesser;
@@ -18,7 +19,8 @@ pub struct Fronts {
     pub next: usize,
 }
 
-// The quantities that steps moved; `step` is the name of the call that handed the stores out, or 0, and `quantity` what that moves if it is a step.
+// The quantities that steps moved; `step` is the name of the call that handed the stores out, or 0, and `quantity` what
+// that moves if it is a step.
 pub struct Book {
     pub ordered: u64,
     pub filled: u64,
@@ -32,7 +34,7 @@ pub struct Set {
     pub heads: [u32; 2],
     pub next: [u32; 5],
     pub stores: Stores,
-    pub openings: Openings,
+    pub invalidations: Invalidations,
     pub state: State,
     pub lent: Fronts,
     pub book: Book,
@@ -48,7 +50,7 @@ pub fn start() -> Set {
             at: [9; 16],
             value: [9; 16],
         },
-        openings: Openings {
+        invalidations: Invalidations {
             count: 0,
             at: [0; 8],
             value: [0; 8],
@@ -77,7 +79,7 @@ pub fn start() -> Set {
 
 // What is lent: no more than there is.
 pub fn lent(set: Set) -> Fronts
-    ensures { λ r. ⌜ Counts (r .image) (set .image) × Counts (r .heads) (set .heads) × Counts (r .next) (set .next) ⌝ }
+    ensures result { λ r. ⌜ Counts (r .image) (set .image) × Counts (r .heads) (set .heads) × Counts (r .next) (set .next) ⌝ }
 {
     let wanted = set.lent;
     Fronts {

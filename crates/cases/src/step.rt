@@ -95,7 +95,8 @@ fn when(step: u64, wanted: u64, quantity: u64) -> u64 {
     0
 }
 
-// The book after a call of this name, or 0 where it stored nothing, with the quantity that it named and what was open before it.
+// The book after a call of this name, or 0 where it stored nothing, with the quantity that it named and what was open
+// before it.
 pub fn handed_out(book: Book, step: u64, named: u64, open: u64) -> Book {
     let mut after = book;
     after.step = step;

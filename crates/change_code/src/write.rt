@@ -1,19 +1,20 @@
-// Insert and replace: a key that is not held, or one that is, gets a value. `l` is the layout; a key is two words, the high one 0 in layout 1.
+// Insert and replace: a key that is not held, or one that is, gets a value. `l` is the layout; a key is two words, the
+// high one 0 in layout 1.
 ghost use mathlib.Core.Path.{_≡_};
 ghost use lib.ListN.{length};
 ghost use Rattle.layout.specs.Record.{keyWith};
 ghost use Rattle.stores.specs.Store.{zipped};
 ghost use Rattle.index.specs.declared.Mode.the-variants.{Insert, Replace};
-ghost use Rattle.calls.specs.Compared.{reported};
+ghost use Rattle.index.specs.Index.{indexOf};
 ghost use Rattle.calls.specs.Moved.{writeMoved};
-ghost use Rattle.calls.specs.Change.{changeEnd, leftIn, writeResult, writeCompared};
+ghost use Rattle.calls.specs.Change.{changeEnd, buffersAfter, writeResult};
 use calls::Change;
 use change_layout_code::write::write_in;
 use index::Mode;
 use index::State;
 
-// A key that is not held gets the value: the slot taken and the version, the new state, the slots compared, the words moved and, lent, the stores to be
-// played; or a refusal, which changes nothing, with the slots compared.
+// A key that is not held gets the value: the slot taken and the version, the new state, the slots compared, the words
+// moved and, lent, the stores to be played; or a refusal, which changes nothing, with the slots compared.
 pub fn insert(
     image: &[u8],
     heads: &mut [u32],
@@ -25,10 +26,8 @@ pub fn insert(
     words: &mut [u64; 16],
 ) -> Change
     ensures result { λ r. ⌜ changeEnd r (now (at .exit)) (now (words .exit)) (now (heads .exit)) (now (next .exit))
-        ≡ reported
-        (leftIn (zipped (now (at .entry)) (now (words .entry)))
-        (writeResult 1 (now (image .entry)) (now (heads .entry)) (now (next .entry)) state Insert key (now (value .entry))))
-        (writeCompared 1 (now (image .entry)) (now (heads .entry)) (now (next .entry)) key (length (now (value .entry)))) ⌝ }
+        ≡ buffersAfter (zipped (now (at .entry)) (now (words .entry)))
+        (writeResult 1 (now (image .entry)) (indexOf (now (heads .entry)) (now (next .entry)) state) Insert key (now (value .entry))) ⌝ }
     ensures moved { λ r. ⌜ r .moved ≡ writeMoved (r .outcome) (length (now (value .entry))) ⌝ }
 {
     write_in(
@@ -59,10 +58,8 @@ pub fn replace(
     words: &mut [u64; 16],
 ) -> Change
     ensures result { λ r. ⌜ changeEnd r (now (at .exit)) (now (words .exit)) (now (heads .exit)) (now (next .exit))
-        ≡ reported
-        (leftIn (zipped (now (at .entry)) (now (words .entry)))
-        (writeResult 1 (now (image .entry)) (now (heads .entry)) (now (next .entry)) state Replace key (now (value .entry))))
-        (writeCompared 1 (now (image .entry)) (now (heads .entry)) (now (next .entry)) key (length (now (value .entry)))) ⌝ }
+        ≡ buffersAfter (zipped (now (at .entry)) (now (words .entry)))
+        (writeResult 1 (now (image .entry)) (indexOf (now (heads .entry)) (now (next .entry)) state) Replace key (now (value .entry))) ⌝ }
     ensures moved { λ r. ⌜ r .moved ≡ writeMoved (r .outcome) (length (now (value .entry))) ⌝ }
 {
     write_in(
@@ -94,10 +91,8 @@ pub fn insert2(
     words: &mut [u64; 16],
 ) -> Change
     ensures result { λ r. ⌜ changeEnd r (now (at .exit)) (now (words .exit)) (now (heads .exit)) (now (next .exit))
-        ≡ reported
-        (leftIn (zipped (now (at .entry)) (now (words .entry)))
-        (writeResult 2 (now (image .entry)) (now (heads .entry)) (now (next .entry)) state Insert (keyWith low high) (now (value .entry))))
-        (writeCompared 2 (now (image .entry)) (now (heads .entry)) (now (next .entry)) (keyWith low high) (length (now (value .entry)))) ⌝ }
+        ≡ buffersAfter (zipped (now (at .entry)) (now (words .entry)))
+        (writeResult 2 (now (image .entry)) (indexOf (now (heads .entry)) (now (next .entry)) state) Insert (keyWith low high) (now (value .entry))) ⌝ }
     ensures moved { λ r. ⌜ r .moved ≡ writeMoved (r .outcome) (length (now (value .entry))) ⌝ }
 {
     write_in(
@@ -129,10 +124,8 @@ pub fn replace2(
     words: &mut [u64; 16],
 ) -> Change
     ensures result { λ r. ⌜ changeEnd r (now (at .exit)) (now (words .exit)) (now (heads .exit)) (now (next .exit))
-        ≡ reported
-        (leftIn (zipped (now (at .entry)) (now (words .entry)))
-        (writeResult 2 (now (image .entry)) (now (heads .entry)) (now (next .entry)) state Replace (keyWith low high) (now (value .entry))))
-        (writeCompared 2 (now (image .entry)) (now (heads .entry)) (now (next .entry)) (keyWith low high) (length (now (value .entry)))) ⌝ }
+        ≡ buffersAfter (zipped (now (at .entry)) (now (words .entry)))
+        (writeResult 2 (now (image .entry)) (indexOf (now (heads .entry)) (now (next .entry)) state) Replace (keyWith low high) (now (value .entry))) ⌝ }
     ensures moved { λ r. ⌜ r .moved ≡ writeMoved (r .outcome) (length (now (value .entry))) ⌝ }
 {
     write_in(

@@ -3,8 +3,8 @@ ghost use mathlib.Core.Path.{_≡_};
 ghost use Rattle.layout.specs.Record.{Layout, keyWith};
 ghost use Rattle.layout.specs.Layouts.{layoutNumber};
 ghost use Rattle.stores.specs.Store.{zipped};
-ghost use Rattle.calls.specs.Compared.{reported, keyCompared};
-ghost use Rattle.calls.specs.Change.{changeEnd, leftIn, removeResultBy};
+ghost use Rattle.index.specs.Index.{indexOf};
+ghost use Rattle.calls.specs.Change.{changeEnd, buffersAfter, removeResultBy};
 use calls::Change;
 use calls::Outcome;
 use change_lookup_code::remove::remove_lookup;
@@ -16,7 +16,8 @@ use index_code::change::remove_held;
 use record_code::record::remove_stores;
 use search_code::head::head_of;
 
-// Remove, in layout l. The stores are lent: at is their word numbers, words their values; own tells whether the call is for the owner of its index.
+// Remove, in layout l. The stores are lent: at is their word numbers, words their values; own tells whether the call is
+// for the owner of its index.
 pub fn remove_in(
     image: &[u8],
     l: usize,
@@ -31,10 +32,8 @@ pub fn remove_in(
 ) -> Change
     requires { ⌜ Layout l ⌝ }
     ensures result { λ r. ⌜ changeEnd r (now (at .exit)) (now (words .exit)) (now (heads .exit)) (now (next .exit))
-        ≡ reported
-        (leftIn (zipped (now (at .entry)) (now (words .entry)))
-        (removeResultBy own l (now (image .entry)) (now (heads .entry)) (now (next .entry)) state (keyWith low high)))
-        (keyCompared l (now (image .entry)) (now (heads .entry)) (now (next .entry)) (keyWith low high)) ⌝ }
+        ≡ buffersAfter (zipped (now (at .entry)) (now (words .entry)))
+        (removeResultBy own l (now (image .entry)) (indexOf (now (heads .entry)) (now (next .entry)) state) (keyWith low high)) ⌝ }
     ensures moved { λ r. ⌜ r .moved ≡ 0 ⌝ }
 {
     let lookup = remove_lookup(image, l, heads, next, state, low, high, own);
@@ -45,7 +44,7 @@ pub fn remove_in(
             compared,
             moved: 0,
         },
-        Lookup::Allowed { place, compared } => match place {
+        Lookup::Accepted { place, compared } => match place {
             Place::NotHeld { prev: _ } => Change {
                 outcome: Outcome::Absent,
                 state,
@@ -94,10 +93,8 @@ pub fn remove_in_layout(
     own: bool,
 ) -> Change
     ensures result { λ r. ⌜ changeEnd r (now (at .exit)) (now (words .exit)) (now (heads .exit)) (now (next .exit))
-        ≡ reported
-        (leftIn (zipped (now (at .entry)) (now (words .entry)))
-        (removeResultBy own (layoutNumber wide) (now (image .entry)) (now (heads .entry)) (now (next .entry)) state (keyWith low high)))
-        (keyCompared (layoutNumber wide) (now (image .entry)) (now (heads .entry)) (now (next .entry)) (keyWith low high)) ⌝ }
+        ≡ buffersAfter (zipped (now (at .entry)) (now (words .entry)))
+        (removeResultBy own (layoutNumber wide) (now (image .entry)) (indexOf (now (heads .entry)) (now (next .entry)) state) (keyWith low high)) ⌝ }
     ensures moved { λ r. ⌜ r .moved ≡ 0 ⌝ }
 {
     remove_in(

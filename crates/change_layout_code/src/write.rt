@@ -4,9 +4,9 @@ ghost use lib.ListN.{length};
 ghost use Rattle.layout.specs.Record.{Layout, keyWith};
 ghost use Rattle.layout.specs.Layouts.{layoutNumber};
 ghost use Rattle.stores.specs.Store.{zipped};
-ghost use Rattle.calls.specs.Compared.{reported};
+ghost use Rattle.index.specs.Index.{indexOf};
 ghost use Rattle.calls.specs.Moved.{writeMoved};
-ghost use Rattle.calls.specs.Change.{changeEnd, leftIn, writeResultBy, writeCompared};
+ghost use Rattle.calls.specs.Change.{changeEnd, buffersAfter, writeResultBy};
 use calls::Change;
 use calls::Outcome;
 use change_lookup_code::write::write_lookup;
@@ -18,7 +18,8 @@ use index_code::change::write_place;
 use record_code::record::record_stores;
 use search_code::head::head_of;
 
-// Insert or replace, in layout l. The stores are lent: at is their word numbers, words their values; own tells whether the call is for the owner of its index.
+// Insert or replace, in layout l. The stores are lent: at is their word numbers, words their values; own tells whether
+// the call is for the owner of its index.
 pub fn write_in(
     image: &[u8],
     l: usize,
@@ -35,10 +36,8 @@ pub fn write_in(
 ) -> Change
     requires { ⌜ Layout l ⌝ }
     ensures result { λ r. ⌜ changeEnd r (now (at .exit)) (now (words .exit)) (now (heads .exit)) (now (next .exit))
-        ≡ reported
-        (leftIn (zipped (now (at .entry)) (now (words .entry)))
-        (writeResultBy own l (now (image .entry)) (now (heads .entry)) (now (next .entry)) state mode (keyWith low high) (now (value .entry))))
-        (writeCompared l (now (image .entry)) (now (heads .entry)) (now (next .entry)) (keyWith low high) (length (now (value .entry)))) ⌝ }
+        ≡ buffersAfter (zipped (now (at .entry)) (now (words .entry)))
+        (writeResultBy own l (now (image .entry)) (indexOf (now (heads .entry)) (now (next .entry)) state) mode (keyWith low high) (now (value .entry))) ⌝ }
     ensures moved { λ r. ⌜ r .moved ≡ writeMoved (r .outcome) (length (now (value .entry))) ⌝ }
 {
     let lookup = write_lookup(
@@ -60,7 +59,7 @@ pub fn write_in(
             compared,
             moved: 0,
         },
-        Lookup::Allowed { place, compared } => {
+        Lookup::Accepted { place, compared } => {
             let h = head_of(low, heads.len());
             let after = write_place(heads, next, state, h, place);
             let moved = record_stores(
@@ -105,10 +104,9 @@ pub fn write_in_layout(
     own: bool,
 ) -> Change
     ensures result { λ r. ⌜ changeEnd r (now (at .exit)) (now (words .exit)) (now (heads .exit)) (now (next .exit))
-        ≡ reported
-        (leftIn (zipped (now (at .entry)) (now (words .entry)))
-        (writeResultBy own (layoutNumber wide) (now (image .entry)) (now (heads .entry)) (now (next .entry)) state mode (keyWith low high) (now (value .entry))))
-        (writeCompared (layoutNumber wide) (now (image .entry)) (now (heads .entry)) (now (next .entry)) (keyWith low high) (length (now (value .entry)))) ⌝ }
+        ≡ buffersAfter (zipped (now (at .entry)) (now (words .entry)))
+        (writeResultBy own (layoutNumber wide) (now (image .entry)) (indexOf (now (heads .entry)) (now (next .entry)) state) mode (keyWith low high)
+        (now (value .entry))) ⌝ }
     ensures moved { λ r. ⌜ r .moved ≡ writeMoved (r .outcome) (length (now (value .entry))) ⌝ }
 {
     write_in(

@@ -1,5 +1,6 @@
 // What a remove reads before it writes.
 ghost use Rattle.layout.specs.Record.{Layout, keyWith};
+ghost use Rattle.index.specs.Index.{indexOf};
 ghost use Rattle.calls.specs.inner.Lookup.{RemoveLookup};
 use crate::store::store_fault;
 use index::Found;
@@ -11,7 +12,8 @@ use layout_code::header::slot_count;
 use search_code::search::find;
 use search_code::search::unless_refused;
 
-// What a remove reads before it writes. One match gives both the refusal and the place, so that few values live at once.
+// What a remove reads before it writes. One match gives both the refusal and the place, so that few values live at
+// once.
 pub fn remove_lookup(
     image: &[u8],
     l: usize,
@@ -23,7 +25,7 @@ pub fn remove_lookup(
     own: bool,
 ) -> Lookup
     requires { ⌜ Layout l ⌝ }
-    ensures { λ r. ⌜ RemoveLookup own l (now (image .entry)) (now (heads .entry)) (now (next .entry)) state (keyWith low high) r ⌝ }
+    ensures result { λ r. ⌜ RemoveLookup own l (now (image .entry)) (indexOf (now (heads .entry)) (now (next .entry)) state) (keyWith low high) r ⌝ }
 {
     let lent = lent_fault(image, l, heads.len(), next.len());
     if lent != 0 {
@@ -43,7 +45,7 @@ pub fn remove_lookup(
             let fault = store_fault(image, l, next, n, state, 0, 1, own);
             unless_refused(fault, Place::Held { slot, prev }, compared)
         }
-        Found::Missing { prev, compared } => Lookup::Allowed {
+        Found::Missing { prev, compared } => Lookup::Accepted {
             place: Place::NotHeld { prev },
             compared,
         },

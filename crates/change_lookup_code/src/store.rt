@@ -1,16 +1,17 @@
 // The refusals of a call that stores and is not refused for its key.
 ghost use mathlib.Core.Path.{_≡_};
-ghost use Rattle.taking.specs.Taking.{takingBy};
-ghost use Rattle.taking.specs.inner.Takeable.{Walkable};
+ghost use Rattle.allocation.specs.Allocation.{allocationBy};
+ghost use Rattle.allocation.specs.inner.Takeable.{Walkable};
 ghost use Rattle.calls.specs.Change.{storeFault};
+use allocation_code::take::full_fault;
+use allocation_code::take::take_fault_by;
 use index::State;
 use line_code::line::version_fault;
 use search_code::fault::ends_fault;
 use search_code::fault::live_fault;
-use taking_code::take::full_fault;
-use taking_code::take::take_fault_by;
 
-// 11 (reuse, or fewer live than are removed), 28 or 9 for a call that takes one slot, else 0; own tells whether it is for the owner of its index.
+// 11 (reuse, or fewer live than are removed), 28 or 9 for a call that takes one slot, else 0; own tells whether it is
+// for the owner of its index.
 pub fn store_fault(
     image: &[u8],
     l: usize,
@@ -22,8 +23,8 @@ pub fn store_fault(
     own: bool,
 ) -> u32
     requires { ⌜ Walkable (now image) (now next) l n ⌝ }
-    ensures { λ r. ⌜ r
-        ≡ storeFault (takingBy own l (now (image .entry)) (now (next .entry)) n (state .first) (state .newest) 1) n state inserts removes ⌝ }
+    ensures result { λ r. ⌜ r
+        ≡ storeFault (allocationBy own l (now (image .entry)) (now (next .entry)) n (state .first) (state .newest) 1) n state inserts removes ⌝ }
 {
     let ends = ends_fault(n as u32, state.first, state.last);
     if ends != 0 {

@@ -3,8 +3,9 @@ ghost use mathlib.Core.Path.{_≡_};
 ghost use Rattle.layout.specs.Record.{Layout, keyWith};
 ghost use Rattle.prelude.specs.Refusal.{orElse};
 ghost use Rattle.index.specs.Change.{keyFault};
-ghost use Rattle.taking.specs.Taking.{takingBy};
-ghost use Rattle.taking.specs.inner.Takeable.{Walkable};
+ghost use Rattle.index.specs.Index.{indexOf};
+ghost use Rattle.allocation.specs.Allocation.{allocationBy};
+ghost use Rattle.allocation.specs.inner.Takeable.{Walkable};
 ghost use Rattle.calls.specs.Change.{writeLentFault, insertsOf, storeFault};
 ghost use Rattle.calls.specs.inner.Lookup.{WriteLookup};
 use crate::store::store_fault;
@@ -59,7 +60,7 @@ fn write_store_fault(
     requires { ⌜ Walkable (now image) (now next) l n ⌝ }
     ensures { λ r. ⌜ r
         ≡ orElse (keyFault mode held)
-        (storeFault (takingBy own l (now (image .entry)) (now (next .entry)) n (state .first) (state .newest) 1) n state (insertsOf mode) 0) ⌝ }
+        (storeFault (allocationBy own l (now (image .entry)) (now (next .entry)) n (state .first) (state .newest) 1) n state (insertsOf mode) 0) ⌝ }
 {
     let key = key_fault(mode, held);
     if key != 0 {
@@ -82,7 +83,7 @@ pub fn write_lookup(
     own: bool,
 ) -> Lookup
     requires { ⌜ Layout l ⌝ }
-    ensures { λ r. ⌜ WriteLookup own l (now (image .entry)) (now (heads .entry)) (now (next .entry)) state mode (keyWith low high) size r ⌝ }
+    ensures result { λ r. ⌜ WriteLookup own l (now (image .entry)) (indexOf (now (heads .entry)) (now (next .entry)) state) mode (keyWith low high) size r ⌝ }
 {
     let lent = write_lent_fault(image, l, heads.len(), next.len(), size);
     if lent != 0 {

@@ -73,7 +73,8 @@ pub fn after_byte(p: Progress, out: &[u8]) -> Status
     }
 }
 
-// The bytes of one read, up to a write that fails, and the output of all of them is written; where there are no bytes, the input has ended.
+// The bytes of one read, up to a write that fails, and the output of all of them is written; where there are no bytes,
+// the input has ended.
 fn take_bytes(
     t: Status,
     input: &[u8],
@@ -110,7 +111,8 @@ fn take_bytes(
     }
 }
 
-// The session of the whole input: a line of output for each line. The reads are counted, since nothing says that the input ends.
+// The session of the whole input: a line of output for each line. The reads are counted, since nothing says that the
+// input ends.
 pub fn run_session() {
     let mut input = [0u8; 4096];
     let mut out = [0u8; 4096];

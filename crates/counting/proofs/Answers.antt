@@ -18,12 +18,13 @@ use Rattle.layout.proofs.Lents.{lent-sized}
 use Rattle.table.specs.Complete.{tableOf}
 use Rattle.index.specs.declared.State.{State}
 use Rattle.stores.specs.Store.{Store}
-use Rattle.stores.specs.Opening.{openingStores}
-use Rattle.recovery.specs.Recover.{Result, recoverEnd, slotsFault, recoverFault, recoverResult, recovered, recoveredState}
-use Rattle.recovery.specs.Opening.{voidSlots}
+use Rattle.stores.specs.Invalidation.{invalidatingStores}
+use Rattle.index.specs.Chained.{chained}
+use Rattle.recovery.specs.Recover.{recoveredIndex, Recovery, recoverEnd, slotsFault, recoverFault, recoverResult, recovered}
+use Rattle.recovery.specs.Invalidation.{voidSlots}
 use Rattle.recovery.specs.inner.Scan.{Classed}
 use Rattle.recovery.specs.declared.Classes.{Classes}
-use Rattle.recovery.specs.declared.Openings.{Openings}
+use Rattle.recovery.specs.declared.Invalidations.{Invalidations}
 use Rattle.recovery.specs.declared.Recovered.{Recovered}
 use Rattle.recovery.specs.declared.Recovered.the-variants.{Rebuilt, Refused}
 use Rattle.recovery.proofs.Clear.{slots-clear}
@@ -39,21 +40,21 @@ module _ (l : ℕ) (image heads next : List ℕ) where
   fault = recoverFault l image (length heads) (length next)
 
   -- the result of counting with this answer, and with the slot and the index of this recovery
-  abbrev with-answer : Answer → Result → CountResult
-  with-answer a r = record { answer = a; slot = r .slot; heads = r .heads; next = r .next }
+  abbrev with-answer : Answer → Recovery → CountResult
+  with-answer a r = record { answer = a; slot = r .slot; lists = record { heads = r .index .heads; next = r .index .next } }
 
   refused-answer : (fault ≡ 0 → ⊥) → recoverResult l image heads next .answer ≡ refused fault
   unfolding recoverResult
-  refused-answer nz = ap (λ (r : Result). r .answer) (refused-keeps _ _ fault nz)
+  refused-answer nz = ap (λ (r : Recovery). r .answer) (refused-keeps _ _ fault nz)
 
   refusal-is : refusalIn (recoverResult l image heads next .answer) ≡ fault
   unfolding refusalIn recovered
   refusal-is =
-      by-cases (ℕ-discrete fault 0) (λ z. ap (λ (r : Result). refusalIn (r .answer)) (recovery-taken l image heads next z) ∙ sym z)
+      by-cases (ℕ-discrete fault 0) (λ z. ap (λ (r : Recovery). refusalIn (r .answer)) (recovery-taken l image heads next z) ∙ sym z)
       (λ nz. ap refusalIn (refused-answer nz))
 
   -- a refusal of recovery is one of counting
-  module _ (number slot : ℕ) (x : Recovered) (d : x ≡ Refused number slot) (o : Openings) (heads′ next′ : List ℕ)
+  module _ (number slot : ℕ) (x : Recovered) (d : x ≡ Refused number slot) (o : Invalidations) (heads′ next′ : List ℕ)
       (left : recoverEnd x o heads′ next′ ≡ recoverResult l image heads next) where
     e : recoverEnd (Refused number slot) o heads′ next′ ≡ recoverResult l image heads next
     e = ap (λ (y : Recovered). recoverEnd y o heads′ next′) (sym d) ∙ left
@@ -63,43 +64,43 @@ module _ (l : ℕ) (image heads next : List ℕ) where
     count-refused =
         by-cases (ℕ-discrete fault 0) (λ z. absurd (never z))
         (λ nz.
-        ap (λ (r : Result). with-answer (r .answer) r) e
+        ap (λ (r : Recovery). with-answer (r .answer) r) e
         ∙ ap (λ (a : Answer). with-answer a (recoverResult l image heads next)) (refused-answer nz ∙ sym (refused-keeps _ _ fault nz)))
       where
         never : fault ≡ 0 → ⊥
         never z =
-            let a = ap (λ (r : Result). r .answer) (e ∙ recovery-taken l image heads next z) in
+            let a = ap (λ (r : Recovery). r .answer) (e ∙ recovery-taken l image heads next z) in
             let z : _≡_ {A = ℕ} 0 1 = cc in
             omega arith
 
-  module _ (s : State) (x : Recovered) (d : x ≡ Rebuilt s) (o : Openings) (heads′ next′ : List ℕ)
+  module _ (s : State) (x : Recovered) (d : x ≡ Rebuilt s) (o : Invalidations) (heads′ next′ : List ℕ)
       (left : recoverEnd x o heads′ next′ ≡ recoverResult l image heads next) where
     rebuilt : recoverEnd (Rebuilt s) o heads′ next′ ≡ recoverResult l image heads next
     rebuilt = ap (λ (y : Recovered). recoverEnd y o heads′ next′) (sym d) ∙ left
 
     accepted-fault : fault ≡ 0
     unfolding recoverEnd refusalIn
-    accepted-fault = sym refusal-is ∙ sym (ap (λ (r : Result). refusalIn (r .answer)) rebuilt)
+    accepted-fault = sym refusal-is ∙ sym (ap (λ (r : Recovery). refusalIn (r .answer)) rebuilt)
 
     -- what recovery accepted may be counted
     pub accepted : Layout l → (all : Classes) → (recoverFault l image (length heads) (length next) ≡ 0 → Classed (contentsOf l image) (slotsIn image) all)
         → Countable image l all (s .live) o
-    unfolding recoverEnd recovered recoveredState recoverFault
+    unfolding recoverEnd recovered recoveredIndex chained recoverFault
     accepted lay all classed =
         record {
           classed = classed accepted-fault;
-          live-is = ap (λ (r : Result). r .state .live) taken;
+          live-is = ap (λ (r : Recovery). r .index .state .live) taken;
           opens =
               record {
                 layout = lay;
                 image-size = size .image-size;
-                opened = ap (λ (r : Result). r .openings) taken;
+                opened = ap (λ (r : Recovery). r .invalidations) taken;
                 few = few-void l (word image) (slotsIn image) (slots-clear l (word image) (slotsIn image) (parts .1) .few-broken);
               };
         }
       where
         stores : List Store
-        stores = openingStores (word image) (voidSlots l (word image) (slotsIn image))
+        stores = invalidatingStores (word image) (voidSlots l (word image) (slotsIn image))
 
         taken : recoverEnd (Rebuilt s) o heads′ next′ ≡ recovered (tableOf l image) (slotsIn image) (length heads) stores
         taken = rebuilt ∙ recovery-taken l image heads next accepted-fault

@@ -7,11 +7,11 @@ use Rattle.prelude.specs.Range.{count}
 use Rattle.prelude.proofs.Choice.{pick-true, pick-false, true-false, is-false, both-left, false-left}
 use Rattle.prelude.proofs.Count.{count-same, count-fewer, count-both}
 use Rattle.layout.specs.Size.{slotsIn}
-use Rattle.layout.specs.Content.{Content, broken, empty, putRecord, removeRecord, Table, contentsOf, numbersOf}
+use Rattle.layout.specs.Content.{Content, broken, empty, putRecord, removeRecord, Table, contentsOf, sizeFieldsOf}
 use Rattle.table.specs.Table.{isRecord, live, liveCount}
 use Rattle.table.specs.Class.{isEmpty, isPut}
-use Rattle.table.specs.Taking.{isRemove}
-use Rattle.table.specs.Complete.{Numbers, isVoid, settled}
+use Rattle.table.specs.Takeable.{isRemove}
+use Rattle.table.specs.Complete.{SizeFields, isVoid, settled}
 use Rattle.table.proofs.Classes.{classes-add}
 use Rattle.table.proofs.Complete.{void-record, settled-void, settled-same}
 use Rattle.table.proofs.Map.{Live, lives, live-is}
@@ -58,7 +58,7 @@ puts-split f n = count-both (live f n) (hiddenPut f n) (λ s. isPut (f s)) n (λ
         go-none true d = d
         go-none false d = refl
 
-module _ (f : Table) (num : Numbers) (n : ℕ) where
+module _ (f : Table) (num : SizeFields) (n : ℕ) where
   -- ---- void records stand apart from the others
 
   empty-same : count (λ s. isEmpty (settled f num n s)) n ≡ count (λ s. isEmpty (f s)) n
@@ -165,4 +165,4 @@ module _ (f : Table) (num : Numbers) (n : ℕ) where
 -- THE SIX ADD UP to N
 pub six-add-up : SixAddUp
 unfolding countsIn
-six-add-up l image = add-up (contentsOf l image) (numbersOf l image) (slotsIn image)
+six-add-up l image = add-up (contentsOf l image) (sizeFieldsOf l image) (slotsIn image)

@@ -21,17 +21,17 @@ use Rattle.sorting.proofs.Order.{filter-in, filter-holds, at-in}
 use Rattle.layout.specs.Size.{slotsIn}
 use Rattle.layout.specs.Line.{lineA, lineB}
 use Rattle.layout.specs.Record.{kindOf}
-use Rattle.layout.specs.Content.{content, contentOf, contentsOf, numbersOf}
+use Rattle.layout.specs.Content.{content, contentOf, contentsOf, sizeFieldsOf}
 use Rattle.layout.proofs.Content.{Reading, reads-broken, reads-empty, reads-put, reads-remove, reading}
 use Rattle.table.specs.Table.{isRecord}
-use Rattle.table.specs.Taking.{isRemove}
+use Rattle.table.specs.Takeable.{isRemove}
 use Rattle.table.specs.Complete.{isVoid}
 use Rattle.table.proofs.Complete.{void-record}
 use Rattle.stores.specs.Play.{wordNumbers}
-use Rattle.stores.specs.Opening.{openingStore, openingStores}
-use Rattle.recovery.specs.Opening.{voidSlots, openingsOf}
-use Rattle.recovery.specs.declared.Openings.{Openings}
-use Rattle.recovery.proofs.OpeningStores.{openings-length}
+use Rattle.stores.specs.Invalidation.{invalidatingStore, invalidatingStores}
+use Rattle.recovery.specs.Invalidation.{voidSlots, invalidationsOf}
+use Rattle.recovery.specs.declared.Invalidations.{Invalidations}
+use Rattle.recovery.proofs.InvalidatingStores.{invalidations-length}
 use Rattle.counting.specs.inner.Countable.{voidRemoves, OpensVoid}
 
 -- a valid slot holds a remove where its kind is 2
@@ -46,8 +46,8 @@ kind-remove l m s r = go (reading l (lineA m s) (lineB m s))
     go (reads-remove at e) = ap isRemove e ∙ sym (eq-eqb _ 2 (at .kind))
 
 -- the words that are stored to
-opened-words : (m : ℕ → ℕ) (slots : List ℕ) (i : ℕ) → i < length slots → getD (wordNumbers (openingStores m slots)) i 0 ≡ 16 * getD slots i 0
-unfolding wordNumbers openingStores openingStore
+opened-words : (m : ℕ → ℕ) (slots : List ℕ) (i : ℕ) → i < length slots → getD (wordNumbers (invalidatingStores m slots)) i 0 ≡ 16 * getD slots i 0
+unfolding wordNumbers invalidatingStores invalidatingStore
 opened-words m [] i h = absurd (omega arith)
 opened-words m (s ∷ slots) zero h = refl
 opened-words m (s ∷ slots) (suc i) h = opened-words m slots i (omega arith)
@@ -73,10 +73,10 @@ pub record Removing (image : List ℕ) (l i removes : ℕ) : Type 0 where
   pub few : removes ≤ i
   pub so-far : removes ≡ length (filter (λ s. isRemove (contentsOf l image s)) (take i (slots image l)))
 
-module _ (image : List ℕ) (l : ℕ) (o : Openings) (g : OpensVoid image l o) where
+module _ (image : List ℕ) (l : ℕ) (o : Invalidations) (g : OpensVoid image l o) where
   pub opened-count : o .count ≡ length (slots image l)
-  unfolding openingsOf
-  opened-count = ap (λ (x : Openings). x .count) (g .opened) ∙ openings-length (word image) (slots image l)
+  unfolding invalidationsOf
+  opened-count = ap (λ (x : Invalidations). x .count) (g .opened) ∙ invalidations-length (word image) (slots image l)
 
   pub removing-start : Removing image l 0 0
   unfolding filter
@@ -88,11 +88,11 @@ module _ (image : List ℕ) (l : ℕ) (o : Openings) (g : OpensVoid image l o) w
     h = omega (arith, opened-count)
 
     opened-at : getD (o .at) i 0 ≡ 16 * getD (slots image l) i 0
-    unfolding openingsOf
+    unfolding invalidationsOf
     opened-at =
-        ap (λ (x : Openings). getD (x .at) i 0) (g .opened)
-        ∙ tabulate-get (λ j. getD (wordNumbers (openingStores (word image) (slots image l))) j 0) 0 8 i (omega (arith, h, g .few))
-        ∙ ap (λ (j : ℕ). getD (wordNumbers (openingStores (word image) (slots image l))) j 0) (omega arith)
+        ap (λ (x : Invalidations). getD (x .at) i 0) (g .opened)
+        ∙ tabulate-get (λ j. getD (wordNumbers (invalidatingStores (word image) (slots image l))) j 0) 0 8 i (omega (arith, h, g .few))
+        ∙ ap (λ (j : ℕ). getD (wordNumbers (invalidatingStores (word image) (slots image l))) j 0) (omega arith)
         ∙ opened-words (word image) (slots image l) i h
 
     slot-is : getD (o .at) i 0 / 16 ≡ getD (slots image l) i 0
@@ -105,7 +105,7 @@ module _ (image : List ℕ) (l : ℕ) (o : Openings) (g : OpensVoid image l o) w
     unfolding voidSlots
     void-slot = slots-in (slotsIn image) _ (filter-in _ _ (slotNumbers (slotsIn image)) here)
 
-    is-void : isVoid (contentsOf l image) (numbersOf l image) (slotsIn image) (getD (slots image l) i 0) ≡ true
+    is-void : isVoid (contentsOf l image) (sizeFieldsOf l image) (slotsIn image) (getD (slots image l) i 0) ≡ true
     unfolding voidSlots
     is-void = filter-holds _ _ (slotNumbers (slotsIn image)) here
 
@@ -116,7 +116,7 @@ module _ (image : List ℕ) (l : ℕ) (o : Openings) (g : OpensVoid image l o) w
     removes-by : (kind : ℕ) → kind ≡ kindOf (lineA (word image) (getD (o .at) i 0 / 16) (l + 1))
         → isRemove (contentsOf l image (getD (slots image l) i 0)) ≡ eqb kind 2
     removes-by kind k =
-        kind-remove l (word image) (getD (slots image l) i 0) (void-record _ (numbersOf l image) (slotsIn image) _ is-void)
+        kind-remove l (word image) (getD (slots image l) i 0) (void-record _ (sizeFieldsOf l image) (slotsIn image) _ is-void)
         ∙ ap (λ (x : ℕ). eqb x 2) (ap (λ (s : ℕ). kindOf (lineA (word image) s (l + 1))) (sym slot-is) ∙ sym k)
 
     -- one void record more
@@ -154,11 +154,11 @@ module _ (image : List ℕ) (l : ℕ) (o : Openings) (g : OpensVoid image l o) w
           }
 
   pub removing-end : (i removes : ℕ) → Removing image l i removes → o .count ≤ i
-      → removes ≡ voidRemoves (contentsOf l image) (numbersOf l image) (slotsIn image)
+      → removes ≡ voidRemoves (contentsOf l image) (sizeFieldsOf l image) (slotsIn image)
   unfolding voidRemoves voidSlots
   removing-end i removes so h =
       so .so-far
       ∙ ap (λ (xs : List ℕ). length (filter (λ s. isRemove (contentsOf l image s)) xs)) (take-all i (slots image l) (omega (arith, opened-count)))
       ∙ sym
-      (count-filter (λ s. isVoid (contentsOf l image) (numbersOf l image) (slotsIn image) s && isRemove (contentsOf l image s)) (slotsIn image)
-      ∙ ap length (filter-both (isVoid (contentsOf l image) (numbersOf l image) (slotsIn image)) (λ s. isRemove (contentsOf l image s)) (slotNumbers (slotsIn image))))
+      (count-filter (λ s. isVoid (contentsOf l image) (sizeFieldsOf l image) (slotsIn image) s && isRemove (contentsOf l image s)) (slotsIn image)
+      ∙ ap length (filter-both (isVoid (contentsOf l image) (sizeFieldsOf l image) (slotsIn image)) (λ s. isRemove (contentsOf l image s)) (slotNumbers (slotsIn image))))

@@ -1,5 +1,6 @@
--- How many slots of an accepted image are of each class. Document 02, A.8: "For an accepted image support wants a report of live slots, hidden puts, remove
--- records, void, broken and empty slots. Each is counted by its definition, and the six add up to N."
+-- How many slots of an accepted image are of each class. Document 02, A.8: "For an accepted image support wants a
+-- report of live slots, hidden puts, remove records, void, broken and empty slots. Each is counted by its definition,
+-- and the six add up to N."
 use mathlib.Core.Path.{_≡_}
 use mathlib.Core.Bool.{Bool, not, _&&_}
 use mathlib.Core.List.{List, [], _∷_}
@@ -9,22 +10,23 @@ use Rattle.prelude.specs.Refusal.{unlessRefused}
 use Rattle.prelude.specs.Answer.{Answer, gives, refused}
 use Rattle.prelude.specs.Range.{count}
 use Rattle.layout.specs.Size.{slotsIn}
-use Rattle.layout.specs.Content.{Table, contentsOf, numbersOf}
+use Rattle.layout.specs.Content.{Table, contentsOf, sizeFieldsOf}
 use Rattle.table.specs.Table.{live, liveCount, brokenCount}
 use Rattle.table.specs.Class.{isEmpty, isPut}
-use Rattle.table.specs.Taking.{isRemove}
-use Rattle.table.specs.Complete.{Numbers, isVoid, settled}
+use Rattle.table.specs.Takeable.{isRemove}
+use Rattle.table.specs.Complete.{SizeFields, isVoid, settled}
 use Rattle.recovery.specs.Recover.{recoverFault, recoverResult}
 use Rattle.counting.specs.declared.SlotCounts.{SlotCounts}
 use Rattle.counting.specs.declared.CountAnswer.{CountAnswer}
 use Rattle.counting.specs.declared.CountAnswer.the-variants.{Counted, Refused}
+use Rattle.index.specs.Index.{Lists}
 
 -- a put that is not live: a later record of its key hides it. f is a settled table, in which void records do not stand
 unfoldable pub hiddenPut : Table → (n s : ℕ) → Bool
 hiddenPut f n s = isPut (f s) && not (live f n s)
 
 -- how many of the slots 1 to n are of each class; f is their contents, num the numbers in their kind words
-unfoldable pub countsOf : Table → Numbers → (n : ℕ) → SlotCounts
+unfoldable pub countsOf : Table → SizeFields → (n : ℕ) → SlotCounts
 countsOf f num n =
     record {
       -- "Such a deciding put is live" (document 01)
@@ -42,7 +44,7 @@ countsOf f num n =
 
 -- and of the slots of an image
 unfoldable pub countsIn : (l : ℕ) → (image : List ℕ) → SlotCounts
-countsIn l image = countsOf (contentsOf l image) (numbersOf l image) (slotsIn image)
+countsIn l image = countsOf (contentsOf l image) (sizeFieldsOf l image) (slotsIn image)
 
 -- "and the six add up to N"
 abbrev pub AddUp : SlotCounts → (n : ℕ) → Type 0
@@ -54,12 +56,11 @@ SixAddUp = (l : ℕ) (image : List ℕ) → AddUp (countsIn l image) (slotsIn im
 
 -- ---- the call
 
--- its answer, the slot that a refusal names (0 for none), and the index that it leaves
+-- its answer, the slot that a refusal names (0 for none), and heads and next as it leaves them
 pub record CountResult : Type 0 where
   pub answer : Answer
   pub slot : ℕ
-  pub heads : List ℕ
-  pub next : List ℕ
+  pub lists : Lists
 
 -- the answer's values: "the six in this order"
 unfoldable pub countValues : SlotCounts → List ℕ
@@ -67,8 +68,8 @@ countValues c = c .live ∷ c .hidden ∷ c .removes ∷ c .void ∷ c .broken �
 
 -- what a call with this answer left
 unfoldable pub countEnd : CountAnswer → (heads next : List ℕ) → CountResult
-countEnd (Counted c) heads next = record { answer = gives (countValues c); slot = 0; heads = heads; next = next }
-countEnd (Refused number slot) heads next = record { answer = refused number; slot = slot; heads = heads; next = next }
+countEnd (Counted c) heads next = record { answer = gives (countValues c); slot = 0; lists = record { heads = heads; next = next } }
+countEnd (Refused number slot) heads next = record { answer = refused number; slot = slot; lists = record { heads = heads; next = next } }
 
 -- the six, or recovery's refusal
 unfoldable pub countSays : (l : ℕ) → (image : List ℕ) → (heads next : ℕ) → Answer
@@ -81,6 +82,5 @@ countResult l image heads next =
     record {
       answer = countSays l image (length heads) (length next);
       slot = recoverResult l image heads next .slot;
-      heads = recoverResult l image heads next .heads;
-      next = recoverResult l image heads next .next;
+      lists = record { heads = recoverResult l image heads next .index .heads; next = recoverResult l image heads next .index .next };
     }

@@ -10,16 +10,23 @@ use counting::CountAnswer;
 use counting::SlotCounts;
 use recover_code::recover_in;
 use recovery::Classes;
-use recovery::Openings;
+use recovery::Invalidations;
 use recovery::Recovered;
 
-// The counts of an image that recovery accepted, with the classes of its slots, its live count and the stores that open its void slots.
-fn count_accepted(image: &[u8], l: usize, all: Classes, live: u32, openings: Openings) -> SlotCounts
-    requires { ⌜ Countable (now image) l all live openings ⌝ }
+// The counts of an image that recovery accepted, with the classes of its slots, its live count and the stores that open
+// its void slots.
+fn count_accepted(
+    image: &[u8],
+    l: usize,
+    all: Classes,
+    live: u32,
+    invalidations: Invalidations,
+) -> SlotCounts
+    requires { ⌜ Countable (now image) l all live invalidations ⌝ }
     ensures { λ r. ⌜ r ≡ countsIn l (now (image .entry)) ⌝ }
 {
-    let void = openings.count;
-    let removes = void_removes(image, l, openings);
+    let void = invalidations.count;
+    let removes = void_removes(image, l, invalidations);
     SlotCounts {
         live,
         hidden: all.puts - (void - removes) - live,
@@ -38,7 +45,7 @@ fn count_slots_in(image: &[u8], l: usize, heads: &mut [u32], next: &mut [u32]) -
     let report = recover_in(image, l, heads, next);
     let classes = report.classes;
     let answer = report.answer;
-    let openings = answer.openings;
+    let invalidations = answer.invalidations;
     let recovered = answer.recovered;
     match recovered {
         Recovered::Rebuilt(state) => CountAnswer::Counted(count_accepted(
@@ -46,23 +53,23 @@ fn count_slots_in(image: &[u8], l: usize, heads: &mut [u32], next: &mut [u32]) -
             l,
             classes,
             state.live,
-            openings,
+            invalidations,
         )),
         Recovered::Refused { number, slot } => CountAnswer::Refused { number, slot },
     }
 }
 
-// How many slots of an accepted image are live, hidden puts, remove records, void, broken and empty; or recovery's refusal. Heads and next are those
-// that recovery leaves, and a refusal changes neither.
+// How many slots of an accepted image are live, hidden puts, remove records, void, broken and empty; or recovery's
+// refusal. Heads and next are those that recovery leaves, and a refusal changes neither.
 pub fn count_slots(image: &[u8], heads: &mut [u32], next: &mut [u32]) -> CountAnswer
-    ensures { λ r. ⌜ countEnd r (now (heads .exit)) (now (next .exit)) ≡ countResult 1 (now (image .entry)) (now (heads .entry)) (now (next .entry)) ⌝ }
+    ensures result { λ r. ⌜ countEnd r (now (heads .exit)) (now (next .exit)) ≡ countResult 1 (now (image .entry)) (now (heads .entry)) (now (next .entry)) ⌝ }
 {
     count_slots_in(image, 1, heads, next)
 }
 
 // The same in layout 2.
 pub fn count_slots2(image: &[u8], heads: &mut [u32], next: &mut [u32]) -> CountAnswer
-    ensures { λ r. ⌜ countEnd r (now (heads .exit)) (now (next .exit)) ≡ countResult 2 (now (image .entry)) (now (heads .entry)) (now (next .entry)) ⌝ }
+    ensures result { λ r. ⌜ countEnd r (now (heads .exit)) (now (next .exit)) ≡ countResult 2 (now (image .entry)) (now (heads .entry)) (now (next .entry)) ⌝ }
 {
     count_slots_in(image, 2, heads, next)
 }

@@ -12,16 +12,17 @@ use borrow.Author.Tests.{eq-eqb, le-ltb}
 use Rattle.words.specs.Word.{word}
 use Rattle.prelude.specs.Refusal.{orElse}
 use Rattle.prelude.specs.Answer.{refusalIn}
-use Rattle.prelude.proofs.Refusals.{say-false, orElse-zero, refused-keeps}
+use Rattle.prelude.proofs.Refusals.{refuseIf-false, orElse-zero, refused-keeps}
 use Rattle.layout.specs.Size.{slotsIn}
 use Rattle.layout.specs.Header.{imageFault, indexFault, lentFault}
 use Rattle.table.specs.Complete.{tableOf}
 use Rattle.index.specs.declared.State.{State}
 use Rattle.stores.specs.Store.{Store}
-use Rattle.stores.specs.Opening.{openingStores}
-use Rattle.recovery.specs.Opening.{voidSlots}
-use Rattle.recovery.specs.Recover.{Result, recoverEnd, slotsFault, recoverFault, recovered, recoveredState, recoverResult}
-use Rattle.recovery.specs.declared.Openings.{Openings}
+use Rattle.stores.specs.Invalidation.{invalidatingStores}
+use Rattle.recovery.specs.Invalidation.{voidSlots}
+use Rattle.index.specs.Chained.{chained}
+use Rattle.recovery.specs.Recover.{recoveredIndex, Recovery, recoverEnd, slotsFault, recoverFault, recovered, recoverResult}
+use Rattle.recovery.specs.declared.Invalidations.{Invalidations}
 use Rattle.recovery.specs.declared.Recovered.{Recovered}
 use Rattle.recovery.specs.declared.Recovered.the-variants.{Rebuilt, Refused}
 use Rattle.recovery.proofs.Lent.{recovery-taken}
@@ -35,8 +36,8 @@ use Rattle.cutcount.specs.declared.Indexed.the-variants.{Map, Nothing}
 pub index-sizes : (n heads next : ℕ) → 1 ≤ heads → heads ≤ 65536 → next ≡ n + 1 → indexFault n heads next ≡ 0
 unfolding indexFault
 index-sizes n heads next low high e =
-    say-false (ltb heads 1) 4 _ (le-ltb heads 1 low) ∙ say-false (ltb 65536 heads) 4 _ (le-ltb 65536 heads high)
-    ∙ say-false (not (eqb next (n + 1))) 4 0 (ap not (eq-eqb next (n + 1) e))
+    refuseIf-false (ltb heads 1) 4 _ (le-ltb heads 1 low) ∙ refuseIf-false (ltb 65536 heads) 4 _ (le-ltb 65536 heads high)
+    ∙ refuseIf-false (not (eqb next (n + 1))) 4 0 (ap not (eq-eqb next (n + 1) e))
 
 pub index-fine : (n : ℕ) → indexFault n 1 (n + 1) ≡ 0
 index-fine n = index-sizes n 1 (n + 1) (omega arith) (omega arith) refl
@@ -53,14 +54,14 @@ module _ (l : ℕ) (image heads next : List ℕ) (fits : FitsIndex image heads n
   refusal-is : refusalIn (recoverResult l image heads next .answer) ≡ fault
   unfolding refusalIn recovered recoverResult
   refusal-is =
-      by-cases (ℕ-discrete fault 0) (λ z. ap (λ (r : Result). refusalIn (r .answer)) (recovery-taken l image heads next z) ∙ sym z)
-      (λ nz. ap (λ (r : Result). refusalIn (r .answer)) (refused-keeps _ _ fault nz))
+      by-cases (ℕ-discrete fault 0) (λ z. ap (λ (r : Recovery). refusalIn (r .answer)) (recovery-taken l image heads next z) ∙ sym z)
+      (λ nz. ap (λ (r : Recovery). refusalIn (r .answer)) (refused-keeps _ _ fault nz))
 
   pub accepted-clear : refusalIn (recoverResult l image heads next .answer) ≡ 0 → acceptanceFault l image ≡ 0
   accepted-clear e = sym fault-is ∙ sym refusal-is ∙ e
 
-  module _ (x : Recovered) (o : Openings) (heads′ next′ : List ℕ) (left : recoverEnd x o heads′ next′ ≡ recoverResult l image heads next) where
-    abbrev end-with : Recovered → Result
+  module _ (x : Recovered) (o : Invalidations) (heads′ next′ : List ℕ) (left : recoverEnd x o heads′ next′ ≡ recoverResult l image heads next) where
+    abbrev end-with : Recovered → Recovery
     end-with y = recoverEnd y o heads′ next′
 
     pub recovery-refused : (number slot : ℕ) → x ≡ Refused number slot → IndexedBy l image heads′ next′ (Nothing number)
@@ -71,35 +72,35 @@ module _ (l : ℕ) (image heads next : List ℕ) (fits : FitsIndex image heads n
         e = ap end-with (sym d) ∙ left
 
         refusal : number ≡ fault
-        refusal = ap (λ (r : Result). refusalIn (r .answer)) e ∙ refusal-is
+        refusal = ap (λ (r : Recovery). refusalIn (r .answer)) e ∙ refusal-is
 
         never : fault ≡ 0 → ⊥
         never z =
-            let a = ap (λ (r : Result). r .answer) (e ∙ recovery-taken l image heads next z) in
+            let a = ap (λ (r : Recovery). r .answer) (e ∙ recovery-taken l image heads next z) in
             let y : _≡_ {A = ℕ} 0 1 = cc in
             omega arith
 
     pub recovery-maps : length heads′ ≡ length heads → length next′ ≡ length next → (s : State) → x ≡ Rebuilt s
         → IndexedBy l image heads′ next′ (Map (s .live))
-    unfolding recoverEnd refusalIn recovered recoveredState
+    unfolding recoverEnd refusalIn recovered recoveredIndex chained
     recovery-maps same-heads same-next s d =
         is-map (record {
           index = record {
             clear = ap₂ (recoverFault l image) same-heads same-next ∙ clear;
-            heads-are = ap (λ (r : Result). r .heads) taken;
-            next-are = ap (λ (r : Result). r .next) taken;
+            heads-are = ap (λ (r : Recovery). r .index .heads) taken;
+            next-are = ap (λ (r : Recovery). r .index .next) taken;
           };
-          live-is = ap (λ (r : Result). r .state .live) taken;
+          live-is = ap (λ (r : Recovery). r .index .state .live) taken;
         })
       where
         e : end-with (Rebuilt s) ≡ recoverResult l image heads next
         e = ap end-with (sym d) ∙ left
 
         clear : fault ≡ 0
-        clear = sym refusal-is ∙ sym (ap (λ (r : Result). refusalIn (r .answer)) e)
+        clear = sym refusal-is ∙ sym (ap (λ (r : Recovery). refusalIn (r .answer)) e)
 
         stores : List Store
-        stores = openingStores (word image) (voidSlots l (word image) (slotsIn image))
+        stores = invalidatingStores (word image) (voidSlots l (word image) (slotsIn image))
 
         taken : end-with (Rebuilt s) ≡ recovered (tableOf l image) (slotsIn image) (length heads′) stores
         taken =

@@ -8,13 +8,13 @@ use native.Mathlib.Omega.{arith}
 use lib.Dec.{eqb}
 use lib.ListN.{length, take, replicate, length-replicate}
 use borrow.Author.Tests.{eq-eqb, ne-eqb, eqb-true, not-false}
-use Rattle.prelude.specs.Refusal.{say, unlessRefused}
+use Rattle.prelude.specs.Refusal.{refuseIf, unlessRefused}
 use Rattle.prelude.specs.Answer.{gives, refused}
 use Rattle.prelude.specs.Range.{count}
 use Rattle.prelude.proofs.Choice.{false-left, false-right}
 use Rattle.prelude.proofs.Count.{count-most}
 use Rattle.prelude.proofs.Lists.{front-length}
-use Rattle.prelude.proofs.Refusals.{say-true, say-false, say-zero, orElse-first, orElse-later, orElse-zero, taken-leaves, refused-keeps}
+use Rattle.prelude.proofs.Refusals.{refuseIf-true, refuseIf-false, refuseIf-zero, orElse-first, orElse-later, orElse-zero, taken-leaves, refused-keeps}
 use Rattle.layout.specs.Size.{slotsOf, slotsIn}
 use Rattle.layout.specs.Header.{indexFault}
 use Rattle.table.specs.Complete.{tableOf}
@@ -215,29 +215,29 @@ module _ (len : ℕ) (at : List ℕ) (copy later fault : ℕ) (e : fault ≡ pla
   play-refuses ne = e ∙ sym (orElse-first (playFault len at 8 8) _ (λ z. ne (e ∙ z)))
 
   module _ (z : fault ≡ 0) where
-    past-play : say (not (eqb copy len)) 1 (say (not (eqb later len)) 1 0) ≡ argumentsFault len at copy later
+    past-play : refuseIf (not (eqb copy len)) 1 (refuseIf (not (eqb later len)) 1 0) ≡ argumentsFault len at copy later
     unfolding argumentsFault
     past-play = sym (orElse-later (playFault len at 8 8) _ (sym e ∙ z))
 
     pub copy-other : (copy ≡ len → ⊥) → 1 ≡ argumentsFault len at copy later
-    copy-other ne = sym (say-true (not (eqb copy len)) 1 _ (ap not (ne-eqb copy len ne))) ∙ past-play
+    copy-other ne = sym (refuseIf-true (not (eqb copy len)) 1 _ (ap not (ne-eqb copy len ne))) ∙ past-play
 
     module _ (same : copy ≡ len) where
-      past-copy : say (not (eqb later len)) 1 0 ≡ argumentsFault len at copy later
-      past-copy = sym (say-false (not (eqb copy len)) 1 _ (ap not (eq-eqb copy len same))) ∙ past-play
+      past-copy : refuseIf (not (eqb later len)) 1 0 ≡ argumentsFault len at copy later
+      past-copy = sym (refuseIf-false (not (eqb copy len)) 1 _ (ap not (eq-eqb copy len same))) ∙ past-play
 
       pub later-other : (later ≡ len → ⊥) → 1 ≡ argumentsFault len at copy later
-      later-other ne = sym (say-true (not (eqb later len)) 1 _ (ap not (ne-eqb later len ne))) ∙ past-copy
+      later-other ne = sym (refuseIf-true (not (eqb later len)) 1 _ (ap not (ne-eqb later len ne))) ∙ past-copy
 
       pub copies-fine : later ≡ len → 0 ≡ argumentsFault len at copy later
-      copies-fine d = sym (say-false (not (eqb later len)) 1 _ (ap not (eq-eqb later len d))) ∙ past-copy
+      copies-fine d = sym (refuseIf-false (not (eqb later len)) 1 _ (ap not (eq-eqb later len d))) ∙ past-copy
 
 -- slices that are not refused are as long as the image
 pub copies-long : (len : ℕ) (at : List ℕ) (copy later fault : ℕ) → fault ≡ argumentsFault len at copy later → fault ≡ 0 → (copy ≡ len) × (later ≡ len)
 unfolding argumentsFault
 copies-long len at copy later fault e z =
-    let a = say-zero (not (eqb copy len)) 1 _ (orElse-zero (playFault len at 8 8) _ (sym e ∙ z) .1) (omega arith) in
-    let b = say-zero (not (eqb later len)) 1 _ (a .1) (omega arith) in
+    let a = refuseIf-zero (not (eqb copy len)) 1 _ (orElse-zero (playFault len at 8 8) _ (sym e ∙ z) .1) (omega arith) in
+    let b = refuseIf-zero (not (eqb later len)) 1 _ (a .1) (omega arith) in
     (eqb-true copy len (not-false _ (a .0)), eqb-true later len (not-false _ (b .0)))
 
 -- ---- the answer

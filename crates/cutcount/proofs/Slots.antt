@@ -17,7 +17,7 @@ use Rattle.layout.specs.Size.{slotsIn}
 use Rattle.layout.specs.Line.{lineA, lineB}
 use Rattle.layout.specs.Record.{Layout, valueOf, keyWith}
 use Rattle.layout.specs.Header.{lentFault}
-use Rattle.layout.specs.Content.{content, contentsOf, numbersOf}
+use Rattle.layout.specs.Content.{content, contentsOf, sizeFieldsOf}
 use Rattle.layout.specs.inner.Inside.{SlotInside}
 use Rattle.layout.specs.inner.Key.{highWord}
 use Rattle.layout.specs.inner.Sized.{Sized}
@@ -59,7 +59,7 @@ module _ (l : ℕ) (image heads next : List ℕ) (own : OwnIndex l image heads n
     where
       go : Live (tableOf l image) (slotsIn image) s → Keeps l image key s
       go (lives w k v d b) =
-          let at = put-at l (lineA (word image) s) (lineB (word image) s) w k v (settled-put (contentsOf l image) (numbersOf l image) (slotsIn image) s w k v d) in
+          let at = put-at l (lineA (word image) s) (lineB (word image) s) w k v (settled-put (contentsOf l image) (sizeFieldsOf l image) (slotsIn image) s w k v d) in
           record {
             slot = i;
             value = e ∙ ap valueIn d ∙ ap some (sym (at .value));

@@ -12,7 +12,7 @@ use lib.ListN.{length, getD}
 use borrow.Author.Tests.{eqb-true, not-false}
 use Rattle.prelude.specs.Range.{tabulate}
 use Rattle.prelude.proofs.Choice.{is-false}
-use Rattle.prelude.proofs.Refusals.{orElse-zero, say-zero}
+use Rattle.prelude.proofs.Refusals.{orElse-zero, refuseIf-zero}
 use Rattle.prelude.proofs.Tabulate.{tabulate-get}
 use Rattle.prelude.proofs.Any.{any-none}
 use Rattle.layout.specs.Record.{limit, lengthOf, valueWord, valueByte, valueFront, valueOf}
@@ -97,7 +97,7 @@ module _ (l : ℕ) (A B C D : ℕ → ℕ) where
   module _ (f : faultOf l A B ≡ 0) (g : faultOf l C D ≡ 0) (size other : ℕ) (a-size : size ≡ lengthOf (A (l + 1))) (an-other : other ≡ lengthOf (C (l + 1))) where
     tail-clear : (X Y : ℕ → ℕ) → faultOf l X Y ≡ 0 → tailFault l X Y (lengthOf (X (l + 1))) ≡ false
     unfolding faultOf
-    tail-clear X Y e = say-zero _ 24 0 (orElse-zero (wordFault l (X (l + 1))) _ e .1) (omega arith) .0
+    tail-clear X Y e = refuseIf-zero _ 24 0 (orElse-zero (wordFault l (X (l + 1))) _ e .1) (omega arith) .0
 
     pub lengths-apart : (size ≡ other → ⊥) → true ≡ not (sameBytes (valueOf l A B) (valueOf l C D))
     lengths-apart ne =

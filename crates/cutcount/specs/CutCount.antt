@@ -1,11 +1,12 @@
--- Power cuts tried on paper. Document 02, A.9: "try all 81 pairs of counts for its two lines, recover each, and print how many gave the earlier map and how many
--- the later"; "for any accepted image and any sixteen stores that play takes: what recovery then refuses has no map and counts for neither".
+-- Power cuts tried on paper. Document 02, A.9: "try all 81 pairs of counts for its two lines, recover each, and print
+-- how many gave the earlier map and how many the later"; "for any accepted image and any sixteen stores that play
+-- takes: what recovery then refuses has no map and counts for neither".
 use mathlib.Core.Bool.{Bool, not, _&&_}
 use mathlib.Core.List.{List, [], _∷_}
 use Prim.Native.Nat.{ℕ, _+_, _-_, _/_, _%_}
 use lib.Dec.{eqb}
 use lib.ListN.{length}
-use Rattle.prelude.specs.Refusal.{say, orElse, unlessRefused}
+use Rattle.prelude.specs.Refusal.{refuseIf, orElse, unlessRefused}
 use Rattle.prelude.specs.Answer.{Answer, gives, refused}
 use Rattle.prelude.specs.Range.{count}
 use Rattle.layout.specs.Size.{slotsIn}
@@ -50,7 +51,7 @@ laterCount l image at value = countPairs (λ a b. haveOneMap l (cutImage image a
 -- by what is given beside the image: play's refusal; then 1 for a slice that has not the image's length
 unfoldable pub argumentsFault : (len : ℕ) → (at : List ℕ) → (copy later : ℕ) → ℕ
 argumentsFault len at copy later =
-    orElse (playFault len at 8 8) (say (not (eqb copy len)) 1 (say (not (eqb later len)) 1 0))
+    orElse (playFault len at 8 8) (refuseIf (not (eqb copy len)) 1 (refuseIf (not (eqb later len)) 1 0))
 
 -- recovery's refusal comes first
 unfoldable pub cutCountFault : (l : ℕ) → (image at : List ℕ) → (copy later : ℕ) → ℕ

@@ -17,7 +17,8 @@ fn count_cuts_in(
     later: &mut [u8],
 ) -> CutCounts
     requires { ⌜ Layout l ⌝ }
-    ensures { λ r. ⌜ cutCountEnd r (now (copy .exit)) (now (later .exit)) ≡ cutCountResult l (now (image .entry)) (stores .at) (stores .value) (now (copy .entry)) (now (later .entry)) ⌝ }
+    ensures { λ r. ⌜ cutCountEnd r (now (copy .exit)) (now (later .exit))
+        ≡ cutCountResult l (now (image .entry)) (stores .at) (stores .value) (now (copy .entry)) (now (later .entry)) ⌝ }
 {
     let n = slot_count(image.len());
     if n < 512 {
@@ -26,10 +27,12 @@ fn count_cuts_in(
     count_65536(image, l, stores, copy, later, n)
 }
 
-// How many of the 81 cuts leave the map of the image and how many that of the image with all stores played; or a refusal, which changes nothing.
-// Both lent slices have the length of the image, and then hold it with all stores played.
+// How many of the 81 cuts leave the map of the image and how many that of the image with all stores played; or a
+// refusal, which changes nothing. Both lent slices have the length of the image, and then hold it with all stores
+// played.
 pub fn count_cuts(image: &[u8], stores: Stores, copy: &mut [u8], later: &mut [u8]) -> CutCounts
-    ensures { λ r. ⌜ cutCountEnd r (now (copy .exit)) (now (later .exit)) ≡ cutCountResult 1 (now (image .entry)) (stores .at) (stores .value) (now (copy .entry)) (now (later .entry)) ⌝ }
+    ensures result { λ r. ⌜ cutCountEnd r (now (copy .exit)) (now (later .exit))
+        ≡ cutCountResult 1 (now (image .entry)) (stores .at) (stores .value) (now (copy .entry)) (now (later .entry)) ⌝ }
 {
     count_cuts_in(image, 1, stores, copy, later)
 }

@@ -18,7 +18,7 @@ use recovery::Recovered;
 // The index of an image, where recovery accepts it.
 pub fn index_image(image: &[u8], l: usize, heads: &mut [u32], next: &mut [u32]) -> Indexed
     requires { ⌜ Layout l × FitsIndex (now image) (now heads) (now next) ⌝ }
-    ensures { λ r. ⌜ IndexedBy l (now (image .entry)) (now (heads .exit)) (now (next .exit)) r ⌝ }
+    ensures result { λ r. ⌜ IndexedBy l (now (image .entry)) (now (heads .exit)) (now (next .exit)) r ⌝ }
 {
     let report = recover_in(image, l, heads, next);
     let answer = report.answer;
@@ -41,8 +41,10 @@ fn same_map(
     second_live: u32,
     l: usize,
 ) -> bool
-    requires { ⌜ Layout l × Mapped l (now first) (now «first_heads») (now «first_next») «first_live» × Mapped l (now second) (now «second_heads») (now «second_next») «second_live» ⌝ }
-    ensures { λ r. ⌜ r ≡ sameMap (tableOf l (now (first .entry))) (slotsIn (now (first .entry))) (tableOf l (now (second .entry))) (slotsIn (now (second .entry))) ⌝ }
+    requires { ⌜ Layout l × Mapped l (now first) (now «first_heads») (now «first_next») «first_live»
+        × Mapped l (now second) (now «second_heads») (now «second_next») «second_live» ⌝ }
+    ensures { λ r. ⌜ r ≡ sameMap (tableOf l (now (first .entry))) (slotsIn (now (first .entry))) (tableOf l (now (second .entry)))
+        (slotsIn (now (second .entry))) ⌝ }
 {
     if first_live != second_live {
         return false;
@@ -82,8 +84,9 @@ pub fn have_one_map(
     second_index: Indexed,
     l: usize,
 ) -> bool
-    requires { ⌜ Layout l × IndexedBy l (now first) (now «first_heads») (now «first_next») «first_index» × IndexedBy l (now second) (now «second_heads») (now «second_next») «second_index» ⌝ }
-    ensures { λ r. ⌜ r ≡ haveOneMap l (now (first .entry)) (now (second .entry)) ⌝ }
+    requires indexed { ⌜ Layout l × IndexedBy l (now first) (now «first_heads») (now «first_next») «first_index»
+        × IndexedBy l (now second) (now «second_heads») (now «second_next») «second_index» ⌝ }
+    ensures result { λ r. ⌜ r ≡ haveOneMap l (now (first .entry)) (now (second .entry)) ⌝ }
 {
     match first_index {
         Indexed::Map(first_live) => match second_index {

@@ -44,7 +44,8 @@ pub fn differ_at(
     high: u64,
 ) -> bool
     requires { ⌜ Layout l × OwnIndex l (now first) (now «first_heads») (now «first_next») × OwnIndex l (now second) (now «second_heads») (now «second_next») ⌝ }
-    ensures { λ r. ⌜ r ≡ differAt (tableOf l (now (first .entry))) (slotsIn (now (first .entry))) (tableOf l (now (second .entry))) (slotsIn (now (second .entry))) (keyWith low high) ⌝ }
+    ensures result { λ r. ⌜ r ≡ differAt (tableOf l (now (first .entry))) (slotsIn (now (first .entry))) (tableOf l (now (second .entry)))
+        (slotsIn (now (second .entry))) (keyWith low high) ⌝ }
 {
     let s = slot_of(first, first_heads, first_next, l, low, high);
     let t = slot_of(second, second_heads, second_next, l, low, high);

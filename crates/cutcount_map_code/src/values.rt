@@ -12,8 +12,11 @@ use layout_code::value::value_word;
 
 // Has slot s of the first image another value than slot t of the second? Their records have no fault.
 pub fn values_differ(first: &[u8], s: usize, second: &[u8], t: usize, l: usize) -> bool
-    requires { ⌜ SlotInside (now first) l s × SlotInside (now second) l t × (faultOf l (lineA (word (now first)) s) (lineB (word (now first)) s) ≡ 0) × (faultOf l (lineA (word (now second)) t) (lineB (word (now second)) t) ≡ 0) ⌝ }
-    ensures { λ r. ⌜ r ≡ not (sameBytes (valueOf l (lineA (word (now (first .entry))) s) (lineB (word (now (first .entry))) s)) (valueOf l (lineA (word (now (second .entry))) t) (lineB (word (now (second .entry))) t))) ⌝ }
+    requires sound { ⌜ SlotInside (now first) l s × SlotInside (now second) l t
+        × (faultOf l (lineA (word (now first)) s) (lineB (word (now first)) s) ≡ 0)
+        × (faultOf l (lineA (word (now second)) t) (lineB (word (now second)) t) ≡ 0) ⌝ }
+    ensures result { λ r. ⌜ r ≡ not (sameBytes (valueOf l (lineA (word (now (first .entry))) s) (lineB (word (now (first .entry))) s))
+        (valueOf l (lineA (word (now (second .entry))) t) (lineB (word (now (second .entry))) t))) ⌝ }
 {
     let size = slot_length(first, l, s);
     if size != slot_length(second, l, t) {

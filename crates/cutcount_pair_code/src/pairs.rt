@@ -38,7 +38,8 @@ pub fn cut_copy(
     next: &mut [u32],
 ) -> Indexed
     requires { ⌜ Layout l × (length (now copy) ≡ length (now image)) × FitsIndex (now image) (now heads) (now next) ⌝ }
-    ensures { λ r. ⌜ (now (copy .exit) ≡ cutImage (now (image .entry)) (stores .at) (stores .value) a b) × IndexedBy l (now (copy .exit)) (now (heads .exit)) (now (next .exit)) r ⌝ }
+    ensures result { λ r. ⌜ (now (copy .exit) ≡ cutImage (now (image .entry)) (stores .at) (stores .value) a b)
+        × IndexedBy l (now (copy .exit)) (now (heads .exit)) (now (next .exit)) r ⌝ }
 {
     copy_bytes(image, copy);
     play(copy, stores, a, b);
@@ -83,8 +84,11 @@ pub fn count_pairs(
     copy_heads: &mut [u32],
     copy_next: &mut [u32],
 ) -> Tally
-    requires { ⌜ Layout l × IndexedBy l (now image) (now heads) (now next) index × IndexedBy l (now later) (now «later_heads») (now «later_next») «later_index» × (length (now copy) ≡ length (now image)) × FitsIndex (now image) (now «copy_heads») (now «copy_next») ⌝ }
-    ensures { λ r. ⌜ (r ≡ tallyOf l (now (image .entry)) (stores .at) (stores .value) (now (later .entry)) 81) × (now (copy .exit) ≡ cutImage (now (image .entry)) (stores .at) (stores .value) 8 8) ⌝ }
+    requires indexed { ⌜ Layout l × IndexedBy l (now image) (now heads) (now next) index
+        × IndexedBy l (now later) (now «later_heads») (now «later_next») «later_index» × (length (now copy) ≡ length (now image))
+        × FitsIndex (now image) (now «copy_heads») (now «copy_next») ⌝ }
+    ensures result { λ r. ⌜ (r ≡ tallyOf l (now (image .entry)) (stores .at) (stores .value) (now (later .entry)) 81)
+        × (now (copy .exit) ≡ cutImage (now (image .entry)) (stores .at) (stores .value) 8 8) ⌝ }
 {
     let mut t = Tally {
         earlier: 0,

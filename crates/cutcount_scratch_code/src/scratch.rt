@@ -1,4 +1,5 @@
-// The three indexes, of the image, of the image with all stores played and of each cut: as long as the number of slots asks for.
+// The three indexes, of the image, of the image with all stores played and of each cut: as long as the number of slots
+// asks for.
 ghost use mathlib.Core.Path.{_≡_};
 ghost use Prim.Native.Nat.{_<_};
 ghost use lib.ListN.{length};
@@ -49,8 +50,12 @@ fn tally(
     copy_heads: &mut [u32],
     copy_next: &mut [u32],
 ) -> Tally
-    requires { ⌜ Layout l × IndexedBy l (now image) (now heads) (now next) index × (length (now copy) ≡ length (now image)) × (length (now later) ≡ length (now image)) × FitsIndex (now image) (now «later_heads») (now «later_next») × FitsIndex (now image) (now «copy_heads») (now «copy_next») ⌝ }
-    ensures { λ r. ⌜ (r ≡ tallyOf l (now (image .entry)) (stores .at) (stores .value) (now (later .exit)) 81) × (now (copy .exit) ≡ cutImage (now (image .entry)) (stores .at) (stores .value) 8 8) × (now (later .exit) ≡ cutImage (now (image .entry)) (stores .at) (stores .value) 8 8) ⌝ }
+    requires { ⌜ Layout l × IndexedBy l (now image) (now heads) (now next) index × (length (now copy) ≡ length (now image))
+        × (length (now later) ≡ length (now image)) × FitsIndex (now image) (now «later_heads») (now «later_next»)
+        × FitsIndex (now image) (now «copy_heads») (now «copy_next») ⌝ }
+    ensures { λ r. ⌜ (r ≡ tallyOf l (now (image .entry)) (stores .at) (stores .value) (now (later .exit)) 81)
+        × (now (copy .exit) ≡ cutImage (now (image .entry)) (stores .at) (stores .value) 8 8)
+        × (now (later .exit) ≡ cutImage (now (image .entry)) (stores .at) (stores .value) 8 8) ⌝ }
 {
     let later_index = cut_copy(image, l, stores, 8, 8, later, later_heads, later_next);
     count_pairs(
@@ -84,8 +89,10 @@ fn count_with(
     copy_heads: &mut [u32],
     copy_next: &mut [u32],
 ) -> CutCounts
-    requires { ⌜ Layout l × FitsIndex (now image) (now heads) (now next) × FitsIndex (now image) (now «later_heads») (now «later_next») × FitsIndex (now image) (now «copy_heads») (now «copy_next») ⌝ }
-    ensures { λ r. ⌜ cutCountEnd r (now (copy .exit)) (now (later .exit)) ≡ cutCountResult l (now (image .entry)) (stores .at) (stores .value) (now (copy .entry)) (now (later .entry)) ⌝ }
+    requires { ⌜ Layout l × FitsIndex (now image) (now heads) (now next) × FitsIndex (now image) (now «later_heads») (now «later_next»)
+        × FitsIndex (now image) (now «copy_heads») (now «copy_next») ⌝ }
+    ensures { λ r. ⌜ cutCountEnd r (now (copy .exit)) (now (later .exit))
+        ≡ cutCountResult l (now (image .entry)) (stores .at) (stores .value) (now (copy .entry)) (now (later .entry)) ⌝ }
 {
     let index = index_image(image, l, heads, next);
     match index {
@@ -127,7 +134,8 @@ pub fn count_512(
     n: usize,
 ) -> CutCounts
     requires { ⌜ Layout l × (n ≡ slotsIn (now image)) × (n < 512) ⌝ }
-    ensures { λ r. ⌜ cutCountEnd r (now (copy .exit)) (now (later .exit)) ≡ cutCountResult l (now (image .entry)) (stores .at) (stores .value) (now (copy .entry)) (now (later .entry)) ⌝ }
+    ensures result { λ r. ⌜ cutCountEnd r (now (copy .exit)) (now (later .exit))
+        ≡ cutCountResult l (now (image .entry)) (stores .at) (stores .value) (now (copy .entry)) (now (later .entry)) ⌝ }
 {
     let m = n + 1;
     let mut heads = [0u32; 512];
@@ -161,7 +169,8 @@ pub fn count_65536(
     n: usize,
 ) -> CutCounts
     requires { ⌜ Layout l × (n ≡ slotsIn (now image)) × (n < 65536) ⌝ }
-    ensures { λ r. ⌜ cutCountEnd r (now (copy .exit)) (now (later .exit)) ≡ cutCountResult l (now (image .entry)) (stores .at) (stores .value) (now (copy .entry)) (now (later .entry)) ⌝ }
+    ensures result { λ r. ⌜ cutCountEnd r (now (copy .exit)) (now (later .exit))
+        ≡ cutCountResult l (now (image .entry)) (stores .at) (stores .value) (now (copy .entry)) (now (later .entry)) ⌝ }
 {
     let m = n + 1;
     let mut heads = [0u32; 65536];

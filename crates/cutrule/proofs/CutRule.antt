@@ -5,20 +5,20 @@ use Prim.Native.Nat.{ℕ}
 use Rattle.prelude.specs.Answer.{refuses}
 use Rattle.prelude.specs.Members.{All}
 use Rattle.prelude.proofs.Histories.{throughout}
-use Rattle.face.specs.Set.{World, PlainMap, called, slotsIn, restarted}
-use Rattle.face.specs.Event.{Event, done, struck, Cut, Leaving, leaving, imageCut, basketLeaves, requestOf, stepBy, isWhole, plainEvent, FitsBy, done-fits, struck-fits}
-use Rattle.face.specs.Plays.{PlaysSingle, PlaysList}
-use Rattle.face.specs.Recovers.{RecoversAlong}
-use Rattle.face.specs.Laws.{CallLaws, SetLaws}
-use Rattle.face.proofs.SetLaws.{call-laws, set-laws}
+use Rattle.interface.specs.Set.{World, PlainMap, callResult, slotsIn, restarted}
+use Rattle.interface.specs.Event.{Event, done, struck, Cut, Effects, effectsOf, imageCut, basketEffects, requestOf, stepBy, isWhole, plainEvent, FitsBy, done-fits, struck-fits}
+use Rattle.interface.specs.Plays.{PlaysSingle, PlaysList}
+use Rattle.interface.specs.Recovers.{RecoversAlways}
+use Rattle.interface.specs.Laws.{CallLaws, SetLaws}
+use Rattle.interface.proofs.SetLaws.{call-laws, set-laws}
 use Rattle.book.proofs.Steps.{step-right}
-use Rattle.book.specs.Plain.{bookLeaving, stepLeaves}
+use Rattle.book.specs.Plain.{bookEffects, stepEffects}
 use Rattle.book.proofs.OwnSteps.{either-booked}
-use Rattle.book.proofs.StepEvents.{step-event-keeps, step-event-plays, step-event-slots, step-along}
-use Rattle.cutrule.specs.Request.{Request, a-call, a-basket, a-step, requestLeaves, requestFault, requestUpdates, RequestRight, TypedRequest, worldAfterRequest, mapAfterRequest}
-use Rattle.cutrule.specs.Rule.{CutRight, PlaysRight, AllRight, CutRuleIn, CutRule}
+use Rattle.book.proofs.StepEvents.{step-event-keeps, step-event-plays, step-event-slots, step-always}
+use Rattle.cutrule.specs.Request.{Request, a-call, a-basket, a-step, requestEffects, requestFault, requestUpdates, RequestCorrect, TypedRequest, worldAfterRequest, mapAfterRequest}
+use Rattle.cutrule.specs.Rule.{CrashCorrect, PlaysCorrect, HistoryCorrect, CutRuleIn, CutRule}
 
-typed-request : (l n : ℕ) (event : Event Request) → FitsBy (TypedRequest l) n event → TypedRequest l (requestOf event)
+pub typed-request : (l n : ℕ) (event : Event Request) → FitsBy (TypedRequest l) n event → TypedRequest l (requestOf event)
 typed-request l n (done request) (done-fits t) = t
 typed-request l n (struck request cut) (struck-fits t c) = t
 
@@ -26,51 +26,51 @@ module _ (l : ℕ) (Inv : World → PlainMap → Type 0) (laws : SetLaws l Inv) 
   -- ---- one event
 
   module _ (w : World) (m : PlainMap) (i : Inv w m) where
-    pub right : (request : Request) → TypedRequest l request → RequestRight l w m request
+    pub right : (request : Request) → TypedRequest l request → RequestCorrect l w m request
     right (a-call own call) t = (laws .answers w m i call t, laws .either-call w m i own call)
     right (a-basket own b) t = (laws .answers-basket w m i b t, laws .either-basket w m i own b)
     right (a-step own step) t = (step-right l Inv laws w m i step t, either-booked l Inv laws w m i own step)
 
     -- what the call of document 01 leaves
-    abbrev pub exactLeaves : World → Request → Leaving
-    exactLeaves v (a-call own call) = leaving (called l w call)
-    exactLeaves v (a-basket own b) = basketLeaves l w b
-    exactLeaves v (a-step own step) = stepLeaves l w step
+    abbrev pub exactLeaves : World → Request → Effects
+    exactLeaves v (a-call own call) = effectsOf (callResult l w call)
+    exactLeaves v (a-basket own b) = basketEffects l w b
+    exactLeaves v (a-step own step) = stepEffects l w step
 
     -- what a request leaves here
-    abbrev pub leavesHere : World → Request → Leaving
-    leavesHere v request = requestLeaves l w request
+    abbrev pub leavesHere : World → Request → Effects
+    leavesHere v request = requestEffects l w request
 
     -- they are the same: what holds of an event of the one holds of that of the other
     same-leaves : (v : World) (request : Request) → exactLeaves v request ≡ leavesHere v request
-    unfolding requestLeaves
-    same-leaves v (a-call own call) = ap leaving (sym (laws .either-call w m i own call))
-    same-leaves v (a-basket own b) = ap leaving (sym (laws .either-basket w m i own b))
-    same-leaves v (a-step own step) = ap bookLeaving (sym (either-booked l Inv laws w m i own step))
+    unfolding requestEffects
+    same-leaves v (a-call own call) = ap effectsOf (sym (laws .either-call w m i own call))
+    same-leaves v (a-basket own b) = ap effectsOf (sym (laws .either-basket w m i own b))
+    same-leaves v (a-step own step) = ap bookEffects (sym (either-booked l Inv laws w m i own step))
 
-    pub of-either : (P : (World → Request → Leaving) → Type 0) → P exactLeaves → P leavesHere
+    pub of-either : (P : (World → Request → Effects) → Type 0) → P exactLeaves → P leavesHere
     of-either P p = subst P (fun-ext (λ v. fun-ext (same-leaves v))) p
 
     -- of an event, by what its request leaves: the invariant after it, the number of slots, and the play of its stores, by counts or as a list
-    abbrev pub KeepsBy : Event Request → (World → Request → Leaving) → Type 0
+    abbrev pub KeepsBy : Event Request → (World → Request → Effects) → Type 0
     KeepsBy event leaves =
         Inv (stepBy l leaves w event)
         (plainEvent (isWhole leaves w event) (requestUpdates m (requestOf event)) (refuses (requestFault l w m (requestOf event))) m)
 
-    abbrev pub SlotsBy : Event Request → (World → Request → Leaving) → Type 0
+    abbrev pub SlotsBy : Event Request → (World → Request → Effects) → Type 0
     SlotsBy event leaves = slotsIn (stepBy l leaves w event .image) ≡ slotsIn (w .image)
 
-    abbrev pub SingleBy : Event Request → (World → Request → Leaving) → Type 0
+    abbrev pub SingleBy : Event Request → (World → Request → Effects) → Type 0
     SingleBy event leaves = PlaysSingle l leaves w event
 
-    abbrev pub ListBy : Event Request → (World → Request → Leaving) → Type 0
+    abbrev pub ListBy : Event Request → (World → Request → Effects) → Type 0
     ListBy event leaves = PlaysList l leaves w event
 
     -- and recovery after a cut
-    abbrev pub AlongBy : Request → Cut → (World → Request → Leaving) → Type 0
-    AlongBy request cut leaves =
-        RecoversAlong l (imageCut w (leaves w request) cut)
-        (plainEvent (isWhole leaves w (struck request cut)) (requestUpdates m request) (refuses (requestFault l w m request)) m) (cut .restart .rounds)
+    abbrev pub AlwaysBy : Request → Cut → (World → Request → Effects) → Type 0
+    AlwaysBy request cut leaves =
+        RecoversAlways l (imageCut w (leaves w request) cut)
+        (plainEvent (isWhole leaves w (struck request cut)) (requestUpdates m request) (refuses (requestFault l w m request)) m)
 
     keeps : (event : Event Request) → FitsBy (TypedRequest l) (slotsIn (w .image)) event
         → Inv (worldAfterRequest l w event) (mapAfterRequest l w m event)
@@ -82,14 +82,14 @@ module _ (l : ℕ) (Inv : World → PlainMap → Type 0) (laws : SetLaws l Inv) 
     keeps (struck (a-basket own b) cut) (struck-fits t c) = of-either (KeepsBy (struck (a-basket own b) cut)) (laws .keeps-basket w m i (struck b cut) (struck-fits t c))
     keeps (struck (a-step own step) cut) (struck-fits t c) = of-either (KeepsBy (struck (a-step own step) cut)) (step-event-keeps l Inv laws w m i (struck step cut) (struck-fits t c))
 
-    cut-right : (event : Event Request) → FitsBy (TypedRequest l) (slotsIn (w .image)) event → CutRight l w m event
+    cut-right : (event : Event Request) → FitsBy (TypedRequest l) (slotsIn (w .image)) event → CrashCorrect l w m event
     unfolding isWhole requestFault requestUpdates
     cut-right (done request) f = tt
-    cut-right (struck (a-call own call) cut) (struck-fits t c) = of-either (AlongBy (a-call own call) cut) (laws .keeps-along w m i call cut (struck-fits t c))
-    cut-right (struck (a-basket own b) cut) (struck-fits t c) = of-either (AlongBy (a-basket own b) cut) (laws .keeps-basket-along w m i b cut (struck-fits t c))
-    cut-right (struck (a-step own step) cut) (struck-fits t c) = of-either (AlongBy (a-step own step) cut) (step-along l Inv laws w m i step cut (struck-fits t c))
+    cut-right (struck (a-call own call) cut) (struck-fits t c) = of-either (AlwaysBy (a-call own call) cut) (laws .keeps-always w m i call cut (struck-fits t c))
+    cut-right (struck (a-basket own b) cut) (struck-fits t c) = of-either (AlwaysBy (a-basket own b) cut) (laws .keeps-basket-always w m i b cut (struck-fits t c))
+    cut-right (struck (a-step own step) cut) (struck-fits t c) = of-either (AlwaysBy (a-step own step) cut) (step-always l Inv laws w m i step cut (struck-fits t c))
 
-    plays-right : (event : Event Request) → FitsBy (TypedRequest l) (slotsIn (w .image)) event → PlaysRight l w event
+    plays-right : (event : Event Request) → FitsBy (TypedRequest l) (slotsIn (w .image)) event → PlaysCorrect l w event
     unfolding stepBy
     plays-right (done (a-call own call)) (done-fits t) = of-either (SingleBy (done (a-call own call))) (laws .plays-event w m i (done call) (done-fits t))
     plays-right (done (a-basket own b)) (done-fits t) = of-either (ListBy (done (a-basket own b))) (laws .plays-basket w m i (done b) (done-fits t))
@@ -127,7 +127,7 @@ module _ (l : ℕ) (Inv : World → PlainMap → Type 0) (laws : SetLaws l Inv) 
 
   -- EVERY LIST OF EVENTS is right
   pub all-right : (w : World) (m : PlainMap) (events : List (Event Request)) → Inv w m → All (FitsBy (TypedRequest l) (slotsIn (w .image))) events
-      → AllRight l w m events
+      → HistoryCorrect l w m events
   all-right w m events i fit =
       throughout _ _ _ _ (InvOf (slotsIn (w .image))) (FitsBy (TypedRequest l) (slotsIn (w .image)))
       (λ v p j. laws .recovers v p (j .0))
@@ -139,7 +139,7 @@ module _ (l : ℕ) (Inv : World → PlainMap → Type 0) (laws : SetLaws l Inv) 
 
   from-recovery : CallLaws l → CutRuleIn l
   from-recovery calls image start z restart events fit = (
-    laws .along image start z restart,
+    laws .always image z,
     all-right (restarted l image start) _ events (laws .after-recovery image start z restart)
         (subst (λ (n : ℕ). All (FitsBy (TypedRequest l) n) events) (sym (calls .restart-slots image start)) fit),
   )

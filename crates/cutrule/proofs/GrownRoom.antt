@@ -5,12 +5,12 @@ use Prim.Native.Nat.{ℕ}
 use lib.ListN.{length}
 use Rattle.prelude.specs.Members.{All}
 use Rattle.prelude.proofs.Histories.{throughout}
-use Rattle.face.specs.Set.{World, PlainMap, Layout, slotsIn, slotsOf, formatted, Restart, restarted, recoverFault}
-use Rattle.face.specs.Event.{Event, done, struck, Leaving, requestOf, stepBy, RestartFits, FitsBy, done-fits, struck-fits}
-use Rattle.face.specs.Laws.{CallLaws, SetLaws}
-use Rattle.face.proofs.defs.RoomLaws.{RoomLaws}
-use Rattle.face.proofs.SetLaws.{call-laws, set-laws}
-use Rattle.face.proofs.Rooms.{room-laws}
+use Rattle.interface.specs.Set.{World, PlainMap, Layout, slotsIn, slotsOf, formatted, Restart, restarted, Accepted}
+use Rattle.interface.specs.Event.{Event, done, struck, Effects, requestOf, stepBy, RestartFits, FitsBy, done-fits, struck-fits}
+use Rattle.interface.specs.Laws.{CallLaws, SetLaws}
+use Rattle.interface.proofs.defs.RoomLaws.{RoomLaws}
+use Rattle.interface.proofs.SetLaws.{call-laws, set-laws}
+use Rattle.interface.proofs.Rooms.{room-laws}
 use Rattle.book.proofs.StepRoom.{step-room, step-event-room}
 use Rattle.cutrule.specs.Request.{Request, a-call, a-basket, a-step, TypedRequest, worldAfterRequest}
 use Rattle.cutrule.specs.GrownRoom.{RequestRoom, RoomThroughout, GrownRoomIn, GrownRoom}
@@ -25,7 +25,7 @@ module _ (l : ℕ) (lay : Layout l) (Inv : World → PlainMap → Type 0) (Room 
     room-right (a-step own step) = step-room l lay w m (rooms .room-right w m i room) step
 
     -- room after an event, by what its request leaves
-    abbrev pub RoomBy : Event Request → (World → Request → Leaving) → Type 0
+    abbrev pub RoomBy : Event Request → (World → Request → Effects) → Type 0
     RoomBy event leaves = Room (stepBy l leaves w event .image)
 
     -- an event keeps room
@@ -55,8 +55,7 @@ module _ (l : ℕ) (lay : Layout l) (Inv : World → PlainMap → Type 0) (Room 
   from-format calls len some start restart events fit =
       let same : slotsIn (formatted l len) ≡ slotsOf len = ap slotsOf (calls .formatted-length len) in
       let fits = subst (λ (n : ℕ). RestartFits n start) (sym same) restart in
-      let z : recoverFault l (formatted l len) (length (start .heads)) (length (start .next)) ≡ 0
-      = laws .fresh len (start .heads) (start .next) some (restart .size) .0 in
+      let z : Accepted l (formatted l len) = laws .fresh len (start .lent .heads) (start .lent .next) some (restart .size) .0 in
       room-throughout (slotsOf len) (restarted l (formatted l len) start) _ events
       (laws .after-recovery (formatted l len) start z fits, calls .restart-slots (formatted l len) start ∙ same)
       (rooms .restart-room (formatted l len) start z fits (rooms .fresh-room len some)) fit

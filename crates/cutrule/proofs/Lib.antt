@@ -1,2 +1,3 @@
 pub mod CutRule
 pub mod GrownRoom
+pub mod AllocationRule

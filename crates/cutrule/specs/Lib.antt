@@ -1,3 +1,4 @@
 pub mod Request
 pub mod Rule
 pub mod GrownRoom
+pub mod AllocationRule

@@ -1,9 +1,11 @@
-// Recovers an image of three slots and one of nine, as they are and with one or two bytes changed, and prints the answer, the opening stores and the
-// index each time. Every refusal of recovery is among them, with the slot that it names.
+// Recovers an image of three slots and one of nine, as they are and with one or two bytes changed, and prints the
+// answer, the invalidating stores and the index each time. Every refusal of recovery is among them, with the slot that
+// it names.
 use orderset::Recovered;
 use orderset::recover;
 
-// Slot 1: a put of key 7, version 2, one byte. Slot 2: its remove, version 4. Slot 3: a put of key 8, version 3, no bytes.
+// Slot 1: a put of key 7, version 2, one byte. Slot 2: its remove, version 4. Slot 3: a put of key 8, version 3, no
+// bytes.
 fn image() -> [u8; 512] {
     let mut a = [0u8; 512];
     a[0] = 3;
@@ -47,8 +49,8 @@ fn show_recover(image: &[u8], heads: &mut [u32], next: &mut [u32]) {
     let r = answer.recovered;
     show::recovered(r);
     show_slot(r);
-    let stores = answer.openings;
-    show::openings(stores);
+    let stores = answer.invalidations;
+    show::invalidations(stores);
     show::index(heads, next);
 }
 
@@ -104,7 +106,8 @@ fn short_next() {
     show_recover(&a, &mut heads, &mut next);
 }
 
-// Nine slots, all broken: the mark of line A is 1. Without that, slots 1 to 8 are empty, and slot 9 is a put of key 9, version 1, no bytes, number 2.
+// Nine slots, all broken: the mark of line A is 1. Without that, slots 1 to 8 are empty, and slot 9 is a put of key 9,
+// version 1, no bytes, number 2.
 fn nine_slots() -> [u8; 1280] {
     let mut a = [0u8; 1280];
     a[0] = 9;

@@ -7,60 +7,63 @@ use native.Mathlib.Omega.{arith}
 use lib.ListN.{length, getD, replicate}
 use Rattle.words.specs.Word.{AreBytes, word, setBytes, setWord}
 use Rattle.prelude.specs.Members.{All, none-left, one-more, slotNumbers}
-use Rattle.prelude.specs.Refusal.{say, orElse, unlessRefused}
+use Rattle.prelude.specs.Refusal.{refuseIf, orElse, unlessRefused}
 use Rattle.prelude.specs.Range.{anyOf, tabulate, greatest, topmost, lowest, atLowest, count}
 use Rattle.prelude.specs.Filter.{filter, anyIn}
 use Rattle.prelude.proofs.Fills.{zeros}
 use Rattle.layout.specs.Size.{slotsOf, slotsIn}
-use Rattle.layout.specs.Line.{lineTop, versionFault}
-use Rattle.layout.specs.Slot.{paired, slotTop, verdictOf, lineVerdict, isValid}
+use Rattle.layout.specs.Line.{wholeVersion, versionFault}
+use Rattle.layout.specs.Slot.{paired, highestWholeOf, verdictOf, lineVerdict, isValid}
 use Rattle.layout.specs.Record.{keyFrom, keyOf, valuePlace, slotWord, valueWord, valueByte, valueFront, valueOf}
-use Rattle.layout.specs.Content.{made, contentBy, contentOf, content, topOf, top}
+use Rattle.layout.specs.Content.{contentOfRecord, contentBy, contentOf, content, highestWholeIn, highestWhole}
 use Rattle.layout.specs.Header.{headerWord, headerFault, imageFault, indexFault, lentFault}
 use Rattle.layout.specs.Fault.{markFault, kindFault, kindLimit, wordFault, tailFault, faultOf, recordFault, bitsFault}
 use Rattle.stores.specs.Store.{zipped, played, less, standing}
 use Rattle.stores.specs.Written.{marked, placedWord, bodyA, bodyB, run, lineStores, recordStores}
 use Rattle.stores.specs.Basket.{basketStores}
 use Rattle.stores.specs.Play.{wordNumbers, values}
-use Rattle.stores.specs.Opening.{openingStore, openingStores}
+use Rattle.stores.specs.Invalidation.{invalidatingStore, invalidatingStores}
 use Rattle.sorting.specs.Sorted.{insert, sorted}
-use Rattle.table.specs.Table.{isRecord, keyIn, weight, nextVersion, decider, decidingPut, live, spare, liveCount, isBroken, brokenCount, brokenLimit, manyBroken, allLive}
+use Rattle.table.specs.Table.{isRecord, keyIn, rankForKey, nextVersion, decider, decidingPut, live, spare, liveCount, isBroken, brokenCount, brokenLimit, manyBroken, allLive}
 use Rattle.table.specs.Order.{rankOf, ordered, chainOf, reuseOf}
-use Rattle.table.specs.Complete.{said, numberFor, hasVersion, sharers, complete, versionIfComplete, highestComplete, isVoid, settled}
+use Rattle.table.specs.Complete.{basketSize, sizeFieldFor, hasVersion, sharers, complete, versionIfComplete, highestComplete, isVoid, settled}
 use Rattle.table.specs.Shared.{clashes, sharersFault}
-use Rattle.table.specs.Taking.{validVersion, highestValid, isRemove, older, mayTake, mayTakeAfter, takeableIf}
-use Rattle.index.specs.Index.{setNext, setStart, setLast, link}
+use Rattle.table.specs.Takeable.{validVersion, highestValid, isRemove, older, mayTake, mayTakeAfter, takeableIf}
+use Rattle.index.specs.Index.{setNext, setStart, setLast, link, noState}
 use Rattle.index.specs.Chained.{firstOf, lastOf, after, nextIn, chained}
 use Rattle.index.specs.Change.{takeFirst, linkNew, append, keyFault, isFound, insertAt, replaceAt, removeAt}
 use Rattle.index.specs.Walk.{walk, search, chainFault}
-use Rattle.index.specs.Taking.{withTaken, atEnd, takeWalk, takeFrom, endsFault, linkFault, fewFault, reuseFault, roomFault}
+use Rattle.index.specs.Allocation.{withTaken, atEnd, allocationWalk, allocateFrom, endsFault, linkFault, fewFault, reuseFault, roomFault}
 use Rattle.index.specs.Basket.{takeSlot, takeAll, takenSlots, slotBefore, beforeIn, linkBy, linkItem, linkAll, basketIndex}
 use Rattle.index.specs.declared.Action.{Action}
 use Rattle.index.specs.declared.Mode.the-variants.{Insert}
-use Rattle.taking.specs.Taking.{takingOf, choiceOf, choiceBy, takingBy, mayTakeBelow, namedVersion, ownTaking}
-use Rattle.recovery.specs.Recover.{slotsFault, recoverFault, chainsOf, placeOf, recoveredIndex, recoveredState, recovered, recoverResult, noState, settledFault, slotsNamed, recoverSlot}
-use Rattle.recovery.specs.Opening.{voidSlots, openingsOf, storesIn}
+use Rattle.allocation.specs.Allocation.{allocationByRule, allocationChosen, allocationChosenBy, allocationBy, mayTakeBelow, namedVersion, ownAllocation}
+use Rattle.recovery.specs.Recover.{slotsFault, recoverFault, chainsOf, placeOf, recoveredIndex, recovered, recoverResult, settledFault, slotsNamed, recoverSlot}
+use Rattle.recovery.specs.Invalidation.{voidSlots, invalidationsOf, storesIn}
 use Rattle.calls.specs.Format.{formatted}
-use Rattle.calls.specs.Change.{unchanged, changed, writeLentFault, writeLaterFault, writeFault, writeDone, writeUnless, writeResult, storeFault, insertsOf, writeFaultBy, writeResultBy}
+use Rattle.calls.specs.Change.{changed, writeLentFault, writeLaterFault, writeFault, writeDone, writeUnless, writeResult, storeFault, insertsOf, writeFaultBy, writeResultBy}
+use Rattle.calls.specs.Result.{unchanged}
+use Rattle.calls.specs.BasketItems.{highIn, itemKey, itemAt, itemValue, changeAt, changesFrom, changesOf}
+use Rattle.calls.specs.BasketRefusals.{keyCountFault, among, anyTwice, listsFault, givenFault, firstFault, valueFault, actionFault, basketLentFault, keysFault, insertsBy, removesBy, sumOver, basketFault, basketFaultBy}
 use Rattle.calls.specs.Get.{lengthFault, getLaterFault, getFault, getDone, getResult}
-use Rattle.calls.specs.Basket.{highIn, itemKey, itemAt, itemValue, changeAt, changesFrom, changesOf, keyCountFault, among, anyTwice, listsFault, givenFault, firstFault, valueFault, actionFault, basketLentFault, keysFault, insertsBy, removesBy, sumOver, basketFault, kindBy, valueBy, recordsFor, oldIn, itemsFor, indexAfter, basketMade, basketDone, basketUnless, basketResult, basketFaultBy, basketResultBy}
+use Rattle.calls.specs.Basket.{kindBy, valueBy, recordsFor, oldIn, itemsFor, indexAfter, basketMade, basketDone, basketUnless, basketResult, basketResultBy}
 use Rattle.calls.specs.declared.BasketItem.{BasketItem}
-use Rattle.plainmap.specs.World.{write, calledChange, calledGet, called, calledBy, worldAfter, afterRound, afterRounds, openedWorld, restarted}
-use Rattle.plainmap.specs.Baskets.{TypedItem, basketCalledBy}
+use Rattle.plainmap.specs.World.{write, callResult, callResultBy, worldAfter, afterRound, afterRounds, invalidatedWorld, restarted, readsOnly}
+use Rattle.plainmap.specs.Baskets.{TypedItem, basketCallResultBy}
 use Rattle.plainmap.specs.Claims.{Typed, write-typed, get-typed, slotsMap}
-use Rattle.face.specs.Event.{RestartFits, done-fits, struck-fits, FitsBy, stepBy, imageCut}
-use Rattle.face.proofs.SetLaws.{layout-1, call-laws}
-use Rattle.cutrule.specs.Request.{a-basket, TypedRequest, requestLeaves}
-use Rattle.cutrule.specs.Rule.{AllRight}
+use Rattle.interface.specs.Event.{RestartFits, done-fits, struck-fits, FitsBy, stepBy, imageCut}
+use Rattle.interface.proofs.SetLaws.{layout-1, call-laws}
+use Rattle.cutrule.specs.Request.{a-basket, TypedRequest, requestEffects}
+use Rattle.cutrule.specs.Rule.{HistoryCorrect}
 use Rattle.cutrule.proofs.CutRule.{cut-rule}
 use Rattle.examples.specs.Trial.{small, oneHead, recovering}
-use Rattle.examples.specs.TornBasket.{answerTo, answersTo, item, eightyBytes, basketBytes, basketGiven, threeItems, twoItems, fourSlots, tearing, openingCut, twoCuts, emptyFour, afterTearing, tornHistory, tornAnswers, tornImage, voidCount}
+use Rattle.examples.specs.TornBasket.{answerTo, answersTo, item, eightyBytes, basketBytes, basketGiven, threeItems, twoItems, fourSlots, tearing, invalidationCut, twoCuts, emptyFour, afterTearing, tornHistory, tornAnswers, tornImage, voidCount}
 use Rattle.examples.proofs.Trial.{small-bytes}
 
 -- the answers; the void records after each of the two cuts; recovery accepts the formatted image, which has four slots
-torn-computed : (answersTo emptyFour tornHistory ≡ tornAnswers) × (voidCount tornImage ≡ 2) × (voidCount (afterRound 1 tornImage openingCut) ≡ 1)
+torn-computed : (answersTo emptyFour tornHistory ≡ tornAnswers) × (voidCount tornImage ≡ 2) × (voidCount (afterRound 1 tornImage invalidationCut) ≡ 1)
     × (recoverFault 1 (formatted 1 640) (length oneHead) (length fourSlots) ≡ 0) × (slotsIn (formatted 1 640) ≡ 4)
-unfolding word setBytes setWord filter slotNumbers anyOf tabulate greatest topmost lowest atLowest count say orElse unlessRefused made contentBy contentOf content top topOf markFault kindFault kindLimit bitsFault wordFault tailFault faultOf recordFault headerWord headerFault imageFault indexFault lentFault lineTop versionFault keyFrom keyOf valuePlace slotWord valueWord valueByte valueFront valueOf slotsOf paired slotTop verdictOf lineVerdict isValid insert sorted openingStore openingStores wordNumbers values zipped played less standing marked placedWord bodyA bodyB run lineStores recordStores said hasVersion sharers complete versionIfComplete highestComplete isVoid settled rankOf ordered chainOf reuseOf clashes sharersFault isRecord isBroken keyIn weight nextVersion decider decidingPut live spare liveCount brokenCount brokenLimit manyBroken allLive validVersion highestValid isRemove older mayTake firstOf lastOf after nextIn chained takeFirst linkNew append insertAt replaceAt removeAt keyFault isFound setNext setStart setLast link withTaken atEnd takeWalk takeFrom endsFault linkFault fewFault reuseFault roomFault walk search chainFault takingOf voidSlots openingsOf storesIn noState settledFault slotsFault slotsNamed recoverFault recoverSlot chainsOf placeOf recoveredIndex recoveredState recovered recoverResult unchanged storeFault changed writeLentFault insertsOf writeLaterFault writeFaultBy takingBy writeDone writeUnless writeResultBy formatted lengthFault getLaterFault getFault getDone getResult calledChange calledGet called calledBy worldAfter afterRound afterRounds openedWorld restarted imageCut stepBy takeableIf highIn itemKey itemAt itemValue changeAt changesFrom changesOf keyCountFault among anyTwice listsFault givenFault firstFault valueFault actionFault basketLentFault keysFault insertsBy removesBy sumOver basketFaultBy kindBy valueBy recordsFor oldIn itemsFor indexAfter basketMade basketDone basketUnless basketResultBy choiceBy basketCalledBy ownTaking mayTakeBelow namedVersion takeSlot takeAll takenSlots slotBefore beforeIn linkBy linkItem linkAll basketIndex basketStores numberFor choiceOf mayTakeAfter anyIn answerTo answersTo item eightyBytes basketBytes basketGiven threeItems twoItems fourSlots tearing openingCut twoCuts emptyFour afterTearing tornHistory tornAnswers tornImage voidCount small oneHead recovering requestLeaves
+unfolding word setBytes setWord filter slotNumbers anyOf tabulate greatest topmost lowest atLowest count refuseIf orElse unlessRefused contentOfRecord contentBy contentOf content highestWhole highestWholeIn markFault kindFault kindLimit bitsFault wordFault tailFault faultOf recordFault headerWord headerFault imageFault indexFault lentFault wholeVersion versionFault keyFrom keyOf valuePlace slotWord valueWord valueByte valueFront valueOf slotsOf paired highestWholeOf verdictOf lineVerdict isValid insert sorted invalidatingStore invalidatingStores wordNumbers values zipped played less standing marked placedWord bodyA bodyB run lineStores recordStores basketSize hasVersion sharers complete versionIfComplete highestComplete isVoid settled rankOf ordered chainOf reuseOf clashes sharersFault isRecord isBroken keyIn rankForKey nextVersion decider decidingPut live spare liveCount brokenCount brokenLimit manyBroken allLive validVersion highestValid isRemove older mayTake firstOf lastOf after nextIn chained takeFirst linkNew append insertAt replaceAt removeAt keyFault isFound setNext setStart setLast link withTaken atEnd allocationWalk allocateFrom endsFault linkFault fewFault reuseFault roomFault walk search chainFault allocationByRule voidSlots invalidationsOf storesIn noState settledFault slotsFault slotsNamed recoverFault recoverSlot chainsOf placeOf recoveredIndex recovered recoverResult unchanged storeFault changed writeLentFault insertsOf writeLaterFault writeFaultBy allocationBy writeDone writeUnless writeResultBy formatted lengthFault getLaterFault getFault getDone getResult readsOnly callResult callResultBy worldAfter afterRound afterRounds invalidatedWorld restarted imageCut stepBy takeableIf highIn itemKey itemAt itemValue changeAt changesFrom changesOf keyCountFault among anyTwice listsFault givenFault firstFault valueFault actionFault basketLentFault keysFault insertsBy removesBy sumOver basketFaultBy kindBy valueBy recordsFor oldIn itemsFor indexAfter basketMade basketDone basketUnless basketResultBy allocationChosenBy basketCallResultBy ownAllocation mayTakeBelow namedVersion takeSlot takeAll takenSlots slotBefore beforeIn linkBy linkItem linkAll basketIndex basketStores sizeFieldFor allocationChosen mayTakeAfter anyIn answerTo answersTo item eightyBytes basketBytes basketGiven threeItems twoItems fourSlots tearing invalidationCut twoCuts emptyFour afterTearing tornHistory tornAnswers tornImage voidCount small oneHead recovering requestEffects
 torn-computed = (refl, refl, refl, refl, refl)
 
 -- THE ANSWERS
@@ -68,13 +71,13 @@ pub torn-answers : answersTo emptyFour tornHistory ≡ tornAnswers
 torn-answers = torn-computed .0
 
 -- THE VOID RECORDS: two after the first cut, and one after the second
-pub torn-voids : (voidCount tornImage ≡ 2) × (voidCount (afterRound 1 tornImage openingCut) ≡ 1)
+pub torn-voids : (voidCount tornImage ≡ 2) × (voidCount (afterRound 1 tornImage invalidationCut) ≡ 1)
 torn-voids = (torn-computed .1, torn-computed .2)
 
 -- ---- the hypotheses of the cut rule
 
 right-size : indexFault 4 (length oneHead) (length fourSlots) ≡ 0
-unfolding indexFault say oneHead fourSlots
+unfolding indexFault refuseIf oneHead fourSlots
 right-size = refl
 
 start-fits : RestartFits 4 (recovering fourSlots)
@@ -82,7 +85,7 @@ unfolding recovering
 start-fits = record { rounds = none-left; size = right-size }
 
 cuts-fit : RestartFits 4 (twoCuts .restart)
-unfolding twoCuts openingCut
+unfolding twoCuts invalidationCut
 cuts-fit = record { rounds = one-more right-size none-left; size = right-size }
 
 -- bytes
@@ -138,8 +141,8 @@ torn-fits =
     (one-more (done-fits (basket-typed false 2 twoItems two-typed)) (one-more (done-fits get-typed) (one-more (done-fits get-typed) none-left)))))
 
 -- AN INSTANCE of the cut rule
-pub torn-holds : AllRight 1 emptyFour (slotsMap 1 (formatted 1 640)) tornHistory
+pub torn-holds : HistoryCorrect 1 emptyFour (slotsMap 1 (formatted 1 640)) tornHistory
 unfolding emptyFour recovering
 torn-holds =
-    cut-rule 1 layout-1 (formatted 1 640) (recovering fourSlots) (torn-computed .3) (rw (torn-computed .4) start-fits) tornHistory
+    cut-rule 1 layout-1 (formatted 1 640) (recovering fourSlots) (call-laws 1 layout-1 .accepted (formatted 1 640) (length oneHead) (length fourSlots) (torn-computed .3)) (rw (torn-computed .4) start-fits) tornHistory
     (rw (torn-computed .4) torn-fits) .1

@@ -1,4 +1,5 @@
--- Examples E1 to E12 of document 01 and examples of layout 2: one or more rows for each, with what the definitions give and what the documents say, as lists of numbers.
+-- Examples E1 to E12 of document 01 and examples of layout 2: one or more rows for each, with what the definitions give
+-- and what the documents say, as lists of numbers.
 use mathlib.Core.Bool.{Bool, true, false, cond, _&&_}
 use mathlib.Core.Option.{Option, some, none}
 use mathlib.Core.List.{List, [], _∷_, _++_}
@@ -21,7 +22,7 @@ use Rattle.table.specs.Table.{nextVersion, liveCount, mapOf}
 use Rattle.calls.specs.Format.{FormatResult, formatResult}
 use Rattle.index.specs.Index.{headOf}
 use Rattle.index.specs.declared.Mode.the-variants.{Insert, Replace}
-use Rattle.plainmap.specs.World.{World, Call, write, remove, get, called, finished, openedWorld}
+use Rattle.plainmap.specs.World.{World, Call, write, remove, get, callResult, finished, invalidatedWorld}
 use Rattle.layout.specs.Size.{slotsIn}
 
 -- ---- results as numbers
@@ -74,9 +75,9 @@ leftover = words (18 ∷ 1 ∷ 23 ∷ 4 ∷ 31 ∷ 4 ∷ 39 ∷ 6 ∷ 47 ∷ 1 �
 
 -- ---- sets of three slots
 
--- an image with the index, of one head, and the state that recovery in layout l leaves, its opening stores played
+-- an image with the index, of one head, and the state that recovery in layout l leaves, its invalidating stores played
 unfoldable pub recoveredIn : (l : ℕ) → (image : List ℕ) → World
-recoveredIn l image = openedWorld l image (0 ∷ []) (replicate 4 0)
+recoveredIn l image = invalidatedWorld l image (0 ∷ []) (replicate 4 0)
 
 abbrev pub recoveredSet : (image : List ℕ) → World
 recoveredSet image = recoveredIn 1 image
@@ -89,14 +90,14 @@ afterCalls w (call ∷ calls) = afterCalls (finished 1 w call) calls
 -- what calls of layout l answer, one after the other
 unfoldable pub answersIn : (l : ℕ) → World → List Call → List ℕ
 answersIn l w [] = []
-answersIn l w (call ∷ calls) = answer (called l w call .answer) ++ answersIn l (finished l w call) calls
+answersIn l w (call ∷ calls) = answer (callResult l w call .answer) ++ answersIn l (finished l w call) calls
 
 abbrev pub callAnswers : World → List Call → List ℕ
 callAnswers w calls = answersIn 1 w calls
 
 -- the live count by the state and by the slots
 unfoldable pub liveCounts : World → List ℕ
-liveCounts w = w .state .live ∷ liveCount (tableOf 1 (w .image)) (slotsIn (w .image)) ∷ []
+liveCounts w = w .index .state .live ∷ liveCount (tableOf 1 (w .image)) (slotsIn (w .image)) ∷ []
 
 -- a formatted image of three slots
 unfoldable pub blank : List ℕ
@@ -176,11 +177,13 @@ examples =
     ∷ row (verdict (slotVerdict (word (afterCalls lateSet (write Insert 8 [] ∷ []) .image)) 2)) (0 ∷ (2 ^ 63 - 1) ∷ [])
     ∷ row (callAnswers lateSet (write Insert 8 [] ∷ write Replace 7 [] ∷ [])) (0 ∷ 2 ∷ (2 ^ 63 - 1) ∷ 2 ∷ 9 ∷ [])
     ∷ row (callAnswers lateSet (write Insert 8 [] ∷ remove 7 ∷ [])) (0 ∷ 2 ∷ (2 ^ 63 - 1) ∷ 2 ∷ 9 ∷ [])
-    -- E12: key 7 put at version 2, removed at 4: absent, by the slots and by get, with the calls' index and with recovery's
+    -- E12: key 7 put at version 2, removed at 4: absent, by the slots and by get, with the calls' index and with
+    -- recovery's
     ∷ row (callAnswers emptySet removal) (0 ∷ 1 ∷ 1 ∷ 0 ∷ 2 ∷ 2 ∷ 0 ∷ 3 ∷ 3 ∷ 0 ∷ 1 ∷ 4 ∷ [])
     ∷ row (held (mapOf (tableOf 1 (removedSet .image)) 3 7)) (1 ∷ [])
     ∷ row (callAnswers removedSet get7 ++ callAnswers (recoveredSet (removedSet .image)) get7) (1 ∷ 1 ∷ [])
-    -- document 02, A.11: "format is told which to write"; "32 when format is asked for a layout other than 1 or 2, after 1"
+    -- document 02, A.11: "format is told which to write"; "32 when format is asked for a layout other than 1 or 2,
+    -- after 1"
     ∷ row (formatNumbers (formatResult 2 (replicate 384 9))) ((0 ∷ 2 ∷ 2 ∷ replicate 7 0) ++ (2 ∷ replicate 375 0))
     ∷ row (formatNumbers (formatResult 0 (replicate 384 9))) (2 ∷ 32 ∷ replicate 384 9)
     ∷ row (formatNumbers (formatResult 3 (replicate 384 9))) (2 ∷ 32 ∷ replicate 384 9)

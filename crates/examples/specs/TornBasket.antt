@@ -1,5 +1,6 @@
--- A history on four slots: one power cut tears a basket, a second one strikes among recovery's opening stores, and other calls follow. Document 02, A.7: "with
--- fewer valid records than it says, all of them are void"; "these are played and fenced before any other call, and a cut among them is covered".
+-- A history on four slots: one power cut tears a basket, a second one strikes among recovery's invalidating stores, and
+-- other calls follow. Document 02, A.7: "with fewer valid records than it says, all of them are void"; "these are
+-- played and fenced before any other call, and a cut among them is covered".
 use mathlib.Core.Bool.{true, false, cond}
 use mathlib.Core.List.{List, [], _∷_, _++_}
 use Prim.Native.Nat.{ℕ}
@@ -7,18 +8,18 @@ use lib.Dec.{eqb}
 use lib.ListN.{length, replicate}
 use Rattle.prelude.specs.Answer.{Answer, gives, absent, refused}
 use Rattle.recovery.specs.Recover.{recoverResult}
-use Rattle.recovery.specs.Opening.{storesIn}
+use Rattle.recovery.specs.Invalidation.{storesIn}
 use Rattle.index.specs.declared.Action.{Action}
 use Rattle.index.specs.declared.Action.the-variants.{Insert, Replace}
 use Rattle.index.specs.declared.Mode.the-variants.{Insert as InsertMode}
 use Rattle.calls.specs.Format.{formatted}
-use Rattle.calls.specs.Basket.{changesOf}
+use Rattle.calls.specs.BasketItems.{changesOf}
 use Rattle.calls.specs.declared.BasketItem.{BasketItem}
-use Rattle.plainmap.specs.World.{World, write, get, calledBy, Round, afterRound, Restart, restarted}
-use Rattle.plainmap.specs.Baskets.{Basket, basketCalledBy}
-use Rattle.face.specs.Event.{Cut, Event, done, struck, imageCut, requestOf}
+use Rattle.plainmap.specs.World.{World, write, get, callResultBy, Round, afterRound, Restart, restarted}
+use Rattle.plainmap.specs.Baskets.{Basket, basketCallResultBy}
+use Rattle.interface.specs.Event.{Cut, Event, done, struck, imageCut, requestOf}
 use Rattle.book.specs.Steps.{BookAnswer, taken, already, declined, bookedBy}
-use Rattle.cutrule.specs.Request.{Request, a-call, a-basket, a-step, requestLeaves, worldAfterRequest}
+use Rattle.cutrule.specs.Request.{Request, a-call, a-basket, a-step, requestEffects, worldAfterRequest}
 use Rattle.examples.specs.Trial.{small, oneHead, recovering}
 
 -- the book's answer as an answer of the set
@@ -29,8 +30,8 @@ bookAnswerAs (declined number) = refused number
 
 -- what a request answers
 unfoldable pub answerTo : World → Request → Answer
-answerTo w (a-call own call) = calledBy own 1 w call .answer
-answerTo w (a-basket own b) = basketCalledBy own 1 w b .answer
+answerTo w (a-call own call) = callResultBy own 1 w call .answer
+answerTo w (a-basket own b) = basketCallResultBy own 1 w b .answer
 answerTo w (a-step own step) = bookAnswerAs (bookedBy own 1 w step .answer)
 
 -- what each request of a list answers
@@ -69,24 +70,25 @@ twoItems = item Replace 8 ∷ item Insert 7 ∷ replicate 6 (item Insert 0)
 unfoldable pub fourSlots : List ℕ
 fourSlots = 9 ∷ 9 ∷ 9 ∷ 9 ∷ 9 ∷ []
 
--- of the basket's lines, those of slots 1, 2 and 3, all stores stand but of the last one's: the records in slots 1 and 2 are whole, that in slot 3 is broken
+-- of the basket's lines, those of slots 1, 2 and 3, all stores stand but of the last one's: the records in slots 1 and
+-- 2 are whole, that in slot 3 is broken
 unfoldable pub tearing : ℕ → ℕ
 tearing n = cond (eqb n 7) 3 8
 
 -- recovery hands out a store for slot 1 and one for slot 2; a cut leaves the first
-unfoldable pub openingCut : Round
-openingCut = record { heads = oneHead; next = fourSlots; counts = λ n. cond (eqb n 2) 1 0 }
+unfoldable pub invalidationCut : Round
+invalidationCut = record { lent = record { heads = oneHead; next = fourSlots }; counts = λ n. cond (eqb n 2) 1 0 }
 
 -- and recovery runs again
 unfoldable pub twoCuts : Cut
-twoCuts = record { counts = tearing; restart = record { rounds = openingCut ∷ []; heads = oneHead; next = fourSlots } }
+twoCuts = record { counts = tearing; restart = record { rounds = invalidationCut ∷ []; lent = record { heads = oneHead; next = fourSlots } } }
 
 -- an empty set of four slots
 unfoldable pub emptyFour : World
 emptyFour = restarted 1 (formatted 1 640) (recovering fourSlots)
 
--- key 7 is asked for; key 8 is inserted, by the call for the owner of the index; the basket of two keys is done, by the call for any index; keys 7 and 9 are
--- asked for
+-- key 7 is asked for; key 8 is inserted, by the call for the owner of the index; the basket of two keys is done, by the
+-- call for any index; keys 7 and 9 are asked for
 unfoldable pub afterTearing : List (Event Request)
 afterTearing =
     done (a-call false (get 7 (replicate 8 0))) ∷ done (a-call true (write InsertMode 8 (small 5))) ∷ done (a-basket false (basketGiven 2 twoItems))
@@ -96,8 +98,8 @@ afterTearing =
 unfoldable pub tornHistory : List (Event Request)
 tornHistory = struck (a-basket true (basketGiven 3 threeItems)) twoCuts ∷ afterTearing
 
--- the torn basket answered version 1 and slots 1, 2 and 3, and nothing of it is there; the insert takes slot 1 and version 2; the basket takes slots 2 and 3
--- and version 3
+-- the torn basket answered version 1 and slots 1, 2 and 3, and nothing of it is there; the insert takes slot 1 and
+-- version 2; the basket takes slots 2 and 3 and version 3
 unfoldable pub tornAnswers : List Answer
 tornAnswers = gives (1 ∷ 1 ∷ 2 ∷ 3 ∷ []) ∷ absent ∷ gives (1 ∷ 2 ∷ []) ∷ gives (3 ∷ 2 ∷ 3 ∷ []) ∷ gives (8 ∷ []) ∷ absent ∷ []
 
@@ -105,8 +107,8 @@ tornAnswers = gives (1 ∷ 1 ∷ 2 ∷ 3 ∷ []) ∷ absent ∷ gives (1 ∷ 2 �
 
 -- the image that the first cut leaves
 unfoldable pub tornImage : List ℕ
-tornImage = imageCut emptyFour (requestLeaves 1 emptyFour (a-basket true (basketGiven 3 threeItems))) twoCuts
+tornImage = imageCut emptyFour (requestEffects 1 emptyFour (a-basket true (basketGiven 3 threeItems))) twoCuts
 
 -- how many stores recovery hands out, one for each void record
 unfoldable pub voidCount : (image : List ℕ) → ℕ
-voidCount image = length (storesIn (recoverResult 1 image oneHead fourSlots .openings))
+voidCount image = length (storesIn (recoverResult 1 image oneHead fourSlots .invalidations))

@@ -8,19 +8,19 @@ use Rattle.prelude.specs.Answer.{Answer, gives, absent, refused}
 use Rattle.layout.specs.Record.{keyWith}
 use Rattle.calls.specs.Format.{formatted}
 use Rattle.index.specs.declared.Mode.the-variants.{Insert, Replace}
-use Rattle.plainmap.specs.World.{World, Call, write, remove, get, called, Restart, restarted}
+use Rattle.plainmap.specs.World.{World, Call, write, remove, get, callResult, Restart, restarted}
 use Rattle.cutrule.specs.Request.{Request, a-call}
-use Rattle.face.specs.Event.{Cut, Event, done, struck, requestOf, step}
+use Rattle.interface.specs.Event.{Cut, Event, done, struck, requestOf, step}
 
 -- what each call of a list answers
 unfoldable pub answers : (l : ℕ) → World → List (Event Call) → List Answer
 answers l w [] = []
-answers l w (event ∷ events) = called l w (requestOf event) .answer ∷ answers l (step l w event) events
+answers l w (event ∷ events) = callResult l w (requestOf event) .answer ∷ answers l (step l w event) events
 
 -- and the output that each leaves; a get alone has one
 unfoldable pub outputs : (l : ℕ) → World → List (Event Call) → List (List ℕ)
 outputs l w [] = []
-outputs l w (event ∷ events) = called l w (requestOf event) .out ∷ outputs l (step l w event) events
+outputs l w (event ∷ events) = callResult l w (requestOf event) .out ∷ outputs l (step l w event) events
 
 -- the 8 bytes of a small number
 unfoldable pub small : ℕ → List ℕ
@@ -34,11 +34,12 @@ oneHead = 9 ∷ []
 unfoldable pub twoSlots : List ℕ
 twoSlots = 9 ∷ 9 ∷ 9 ∷ []
 
--- a recovery with one head and no cut among its opening stores
+-- a recovery with one head and no cut among its invalidating stores
 unfoldable pub recovering : (next : List ℕ) → Restart
-recovering next = record { rounds = []; heads = oneHead; next = next }
+recovering next = record { rounds = []; lent = record { heads = oneHead; next = next } }
 
--- a cut that leaves a stores of line A and b of line B, and the recovery after it: line n of the image is line A of a slot where n is even
+-- a cut that leaves a stores of line A and b of line B, and the recovery after it: line n of the image is line A of a
+-- slot where n is even
 unfoldable pub cutAt : (a b : ℕ) → (next : List ℕ) → Cut
 cutAt a b next = record { counts = λ n. cond (eqb (n % 2) 0) a b; restart = recovering next }
 
@@ -66,8 +67,8 @@ asRequests [] = []
 asRequests (done call ∷ events) = done (a-call false call) ∷ asRequests events
 asRequests (struck call cut ∷ events) = struck (a-call false call) cut ∷ asRequests events
 
--- "ok 1 1 / no 12 / ok 2 2 / cut 8 3 / ok 1 3 / found 101 / ok 1 4 / absent / ok 2 5", with 28 "in place of 12 .. in the trial too" (document 02, A.7): `c 8 3` is no
--- call, and for `found` a get answers the length
+-- "ok 1 1 / no 12 / ok 2 2 / cut 8 3 / ok 1 3 / found 101 / ok 1 4 / absent / ok 2 5", with 28 "in place of 12 .. in
+-- the trial too" (document 02, A.7): `c 8 3` is no call, and for `found` a get answers the length
 unfoldable pub expected : List Answer
 expected =
     gives (1 ∷ 1 ∷ []) ∷ refused 28 ∷ gives (2 ∷ 2 ∷ []) ∷ gives (1 ∷ 3 ∷ []) ∷ gives (8 ∷ []) ∷ gives (1 ∷ 4 ∷ []) ∷ absent

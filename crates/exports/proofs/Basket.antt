@@ -14,8 +14,8 @@ use Rattle.prelude.specs.Range.{tabulate, anyOf}
 use Rattle.prelude.proofs.Choice.{pick-true, pick-false}
 use Rattle.prelude.proofs.Any.{any-whole}
 use Rattle.prelude.proofs.Tabulate.{tabulate-list}
-use Rattle.face.specs.Set.{Layout, State, BasketAnswer, BasketLeft, basketEnd, basketSays, changesOf, TypedItem, TypedChange}
-use Rattle.face.proofs.SetLaws.{call-laws}
+use Rattle.interface.specs.Set.{Layout, State, BasketAnswer, BasketBuffers, basketEnd, basketSays, changesOf, TypedItem, TypedChange}
+use Rattle.interface.proofs.SetLaws.{call-laws}
 use Rattle.exports.specs.Basket.{isKind, unknownKind, keysAsked, givenItem, givenItems, BasketCall, basketCallLeft, basketAnswered, basketCall}
 
 -- ---- the number of keys
@@ -71,7 +71,7 @@ eight-listed xs e =
     sym (ap (tabulate (λ i. getD xs i 0) 0) e) ∙ tabulate-list (λ i. getD xs i 0) xs 0 (λ i h. ap (λ (k : ℕ). getD xs k 0) (omega arith))
 
 -- what the exported basket leaves
-pub basket-called : (code : ℕ) (answer lent-answer : List ℕ) (s : State) (at words heads next : List ℕ) (count : ℕ) (r : BasketAnswer) (left : BasketLeft)
+pub basket-called : (code : ℕ) (answer lent-answer : List ℕ) (s : State) (at words heads next : List ℕ) (count : ℕ) (r : BasketAnswer) (left : BasketBuffers)
     → basketEnd count r at words heads next ≡ left
     → ((taken : List ℕ) → (code ≡ refusalIn (basketSays taken (r .outcome))) × (answer ≡ basketAnswered (basketSays taken (r .outcome)) (r .slots) lent-answer) × (s ≡ r .state))
     → basketCallLeft code answer s at words heads next ≡ basketCall left lent-answer
@@ -80,4 +80,4 @@ basket-called code answer lent-answer s at words heads next count r left e h =
     ap (λ (k : ℕ). basketCallLeft k answer s at words heads next) (h (take count (r .slots)) .0)
     ∙ ap₂ (λ (a : List ℕ) (t : State). basketCallLeft (refusalIn (basketSays (take count (r .slots)) (r .outcome))) a t at words heads next)
     (h (take count (r .slots)) .1) (h (take count (r .slots)) .2)
-    ∙ ap (λ (x : BasketLeft). basketCall x lent-answer) e
+    ∙ ap (λ (x : BasketBuffers). basketCall x lent-answer) e

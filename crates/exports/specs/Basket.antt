@@ -6,7 +6,7 @@ use lib.Dec.{eqb, ltb}
 use lib.ListN.{getD}
 use Rattle.prelude.specs.Answer.{Answer, gives, absent, refused, refusalIn}
 use Rattle.prelude.specs.Range.{anyOf}
-use Rattle.face.specs.Set.{State, Action, Inserting, Replacing, Removing, BasketItem, BasketLeft}
+use Rattle.interface.specs.Set.{State, Action, Inserting, Replacing, Removing, BasketItem, BasketBuffers, Index, indexOf}
 
 -- ---- what is asked
 
@@ -20,7 +20,8 @@ actionOf kind = cond (eqb kind 1) Inserting (cond (eqb kind 2) Replacing Removin
 unfoldable pub unknownKind : (kinds : List ℕ) → (count : ℕ) → Bool
 unknownKind kinds count = anyOf (λ i. not (isKind (getD kinds i 0))) 0 count
 
--- the papers have no number for a kind that is none of the three: such a basket, and one of more than 8 keys, counts as one of none, so that 26 comes "first of all"
+-- the papers have no number for a kind that is none of the three: such a basket, and one of more than 8 keys, counts as
+-- one of none, so that 26 comes "first of all"
 unfoldable pub keysAsked : (count : ℕ) → (kinds : List ℕ) → ℕ
 keysAsked count kinds = cond (ltb 8 count) 0 (cond (unknownKind kinds count) 0 count)
 
@@ -47,32 +48,29 @@ givenItems kinds lows highs lengths =
 pub record BasketCall : Type 0 where
   pub returns : ℕ
   pub answer : List ℕ
-  pub state : State
   pub at : List ℕ
   pub words : List ℕ
-  pub heads : List ℕ
-  pub next : List ℕ
+  pub index : Index
 
 -- what a basket left, with this code
 abbrev pub basketCallLeft : (code : ℕ) → (answer : List ℕ) → State → (at words heads next : List ℕ) → BasketCall
 basketCallLeft code answer s at words heads next =
-    record { returns = code; answer = answer; state = s; at = at; words = words; heads = heads; next = next }
+    record { returns = code; answer = answer; at = at; words = words; index = indexOf heads next s }
 
--- "It answers its version and slots": the lent answer is the version and eight slots, zeros after those taken; a refusal changes nothing lent
+-- "It answers its version and slots": the lent answer is the version and eight slots, zeros after those taken; a
+-- refusal changes nothing lent
 unfoldable pub basketAnswered : Answer → (slots lent : List ℕ) → List ℕ
 basketAnswered (gives values) slots lent = getD values 0 0 ∷ slots
 basketAnswered absent slots lent = lent
 basketAnswered (refused number) slots lent = lent
 
 -- the same, by what the basket leaves and the lent answer
-unfoldable pub basketCall : BasketLeft → (answer : List ℕ) → BasketCall
+unfoldable pub basketCall : BasketBuffers → (answer : List ℕ) → BasketCall
 basketCall r answer =
     record {
       returns = refusalIn (r .answer);
       answer = basketAnswered (r .answer) (r .slots) answer;
-      state = r .state;
       at = r .at;
       words = r .words;
-      heads = r .heads;
-      next = r .next;
+      index = r .index;
     }

@@ -1,12 +1,14 @@
--- What the exported book steps return and leave in the lent numbers, by the results that the steps promise. Document 02, A.1.
+-- What the exported book steps return and leave in the lent numbers, by the results that the steps promise. Document
+-- 02, A.1.
 use mathlib.Core.List.{List, _∷_}
 use Prim.Native.Nat.{ℕ}
-use Rattle.face.specs.Set.{Store, handedOut}
+use Rattle.interface.specs.Set.{Store, storesAfter}
 use Rattle.book.specs.Steps.{BookAnswer, taken, already, declined, BookResult}
 use Rattle.book.specs.Plain.{refusalNumber}
 use Rattle.exports.specs.Call.{ChangeCall}
 
--- the lent answer: 1, the slot taken and the version; 2, the slot and the version of an order that was acknowledged before; a refusal changes nothing lent
+-- the lent answer: 1, the slot taken and the version; 2, the slot and the version of an order that was acknowledged
+-- before; a refusal changes nothing lent
 unfoldable pub bookAnswered : BookAnswer → (lent : List ℕ) → List ℕ
 bookAnswered (taken values) lent = 1 ∷ values
 bookAnswered (already values) lent = 2 ∷ values
@@ -17,8 +19,6 @@ bookCall r answer stores =
     record {
       returns = refusalNumber (r .answer);
       answer = bookAnswered (r .answer) answer;
-      state = r .state;
-      stores = handedOut (r .stores) stores;
-      heads = r .heads;
-      next = r .next;
+      stores = storesAfter (r .stores) stores;
+      index = r .index;
     }

@@ -1,11 +1,13 @@
--- What the exported functions return and leave in the lent numbers, by the results that the public calls promise. Document 01, "What each operation may say no to".
+-- What the exported functions return and leave in the lent numbers, by the results that the public calls promise.
+-- Document 01, "What each operation may say no to".
 use mathlib.Core.List.{List, [], _∷_, _++_}
 use Prim.Native.Nat.{ℕ, _+_, _*_, _^_}
 use lib.ListN.{replicate}
 use Rattle.prelude.specs.Answer.{Answer, gives, absent, refused, refusalIn}
-use Rattle.face.specs.Set.{Store, State, Openings, Result, FormatResult, handedOut, ChangeResult, GetResult}
+use Rattle.interface.specs.Set.{Store, State, Invalidations, FormatResult, storesAfter, Recovery, CallResult, ReadOnlyResult, indexOf, Index}
 
--- the lent answer of n words: 1 and the values that the call gives, or zeros for absent. "A refused call changes no lent byte, index number or state"
+-- the lent answer of n words: 1 and the values that the call gives, or zeros for absent. "A refused call changes no
+-- lent byte, index number or state"
 unfoldable pub answered : (n : ℕ) → Answer → (lent : List ℕ) → List ℕ
 answered n (gives values) lent = 1 ∷ values
 answered n absent lent = replicate n 0
@@ -41,18 +43,17 @@ formatCall r answer = record { returns = refusalIn (r .answer); answer = answere
 
 -- ---- recover
 
--- what a call of recover returns, 0 or a refusal's number and slot, and the lent state, opening stores and index after it
+-- what a call of recover returns, 0 or a refusal's number and slot, and the lent state, invalidating stores and index
+-- after it
 pub record RecoverCall : Type 0 where
   pub returns : ℕ
-  pub state : State
-  pub openings : Openings
-  pub heads : List ℕ
-  pub next : List ℕ
+  pub invalidations : Invalidations
+  pub index : Index
 
 -- what a call of recover with this code left
-abbrev pub recoverLeft : (code : ℕ) → State → Openings → (heads next : List ℕ) → RecoverCall
-recoverLeft code s openings heads next =
-    record { returns = code; state = s; openings = openings; heads = heads; next = next }
+abbrev pub recoverLeft : (code : ℕ) → State → Invalidations → (heads next : List ℕ) → RecoverCall
+recoverLeft code s invalidations heads next =
+    record { returns = code; invalidations = invalidations; index = indexOf heads next s }
 
 -- what a call gives, or what was lent where it gives nothing
 unfoldable pub givenOrLent : {A : Type 0} → Answer → (given lent : A) → A
@@ -60,43 +61,38 @@ givenOrLent (gives values) given lent = given
 givenOrLent absent given lent = lent
 givenOrLent (refused number) given lent = lent
 
--- the same, by the result of recover and the lent state and opening stores
-unfoldable pub recoverCall : Result → State → Openings → RecoverCall
-recoverCall r s openings =
+-- the same, by the result of recover and the lent state and invalidating stores
+unfoldable pub recoverCall : Recovery → State → Invalidations → RecoverCall
+recoverCall r s invalidations =
     record {
       returns = returnedWith (r .answer) (r .slot);
-      state = givenOrLent (r .answer) (r .state) s;
-      openings = givenOrLent (r .answer) (r .openings) openings;
-      heads = r .heads;
-      next = r .next;
+      invalidations = givenOrLent (r .answer) (r .invalidations) invalidations;
+      index = indexOf (r .index .heads) (r .index .next) (givenOrLent (r .answer) (r .index .state) s);
     }
 
 -- ---- insert, replace and remove
 
--- what a call that writes returns, 0 or a refusal's number with the slots compared, and the lent answer, state, stores and index after it
+-- what a call that writes returns, 0 or a refusal's number with the slots compared, and the lent answer, state, stores
+-- and index after it
 pub record ChangeCall : Type 0 where
   pub returns : ℕ
   pub answer : List ℕ
-  pub state : State
   pub stores : List Store
-  pub heads : List ℕ
-  pub next : List ℕ
+  pub index : Index
 
 -- what a call that writes left, with this code
 abbrev pub changeLeft : (code : ℕ) → (answer : List ℕ) → State → List Store → (heads next : List ℕ) → ChangeCall
 changeLeft code answer s stores heads next =
-    record { returns = code; answer = answer; state = s; stores = stores; heads = heads; next = next }
+    record { returns = code; answer = answer; stores = stores; index = indexOf heads next s }
 
 -- the same, by the result of the call and the lent answer and stores
-unfoldable pub changeCall : ChangeResult → (compared : ℕ) → (answer : List ℕ) → (stores : List Store) → ChangeCall
-changeCall r compared answer stores =
+unfoldable pub changeCall : CallResult → (answer : List ℕ) → (stores : List Store) → ChangeCall
+changeCall r answer stores =
     record {
-      returns = returnedWith (r .answer) compared;
-      answer = answeredWith 3 (r .answer) compared answer;
-      state = r .state;
-      stores = handedOut (r .stores) stores;
-      heads = r .heads;
-      next = r .next;
+      returns = returnedWith (r .answer) (r .compared);
+      answer = answeredWith 3 (r .answer) (r .compared) answer;
+      stores = storesAfter (r .stores) stores;
+      index = r .index;
     }
 
 -- ---- get
@@ -112,9 +108,9 @@ abbrev pub getLeft : (code : ℕ) → (answer out : List ℕ) → GetCall
 getLeft code answer out = record { returns = code; answer = answer; out = out }
 
 -- the same, by the result of get and the lent answer
-unfoldable pub getCall : GetResult → (compared : ℕ) → (answer : List ℕ) → GetCall
-getCall r compared answer =
-    record { returns = returnedWith (r .answer) compared; answer = answeredWith 2 (r .answer) compared answer; out = r .out }
+unfoldable pub getCall : ReadOnlyResult → (answer : List ℕ) → GetCall
+getCall r answer =
+    record { returns = returnedWith (r .answer) (r .compared); answer = answeredWith 2 (r .answer) (r .compared) answer; out = r .out }
 
 -- ---- locate
 
@@ -127,5 +123,5 @@ abbrev pub locateLeft : (code : ℕ) → (answer : List ℕ) → LocateCall
 locateLeft code answer = record { returns = code; answer = answer }
 
 -- the code, and the answer: 1, slot and version, or zeros for absent, and the slots compared
-unfoldable pub locateCall : Answer → (compared : ℕ) → (answer : List ℕ) → LocateCall
-locateCall r compared answer = record { returns = returnedWith r compared; answer = answeredWith 3 r compared answer }
+unfoldable pub locateCall : ReadOnlyResult → (answer : List ℕ) → LocateCall
+locateCall r answer = record { returns = returnedWith (r .answer) (r .compared); answer = answeredWith 3 (r .answer) (r .compared) answer }

@@ -1,6 +1,6 @@
 pub mod Call
 pub mod Count
 pub mod State
-pub mod Opening
+pub mod Invalidation
 pub mod Book
 pub mod Basket

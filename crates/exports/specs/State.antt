@@ -1,8 +1,9 @@
--- The state in lent numbers. Document 01, "The index": "A state beside them holds the reuse chain's first and last slot, the live count and the next version".
+-- The state in lent numbers. Document 01, "The index": "A state beside them holds the reuse chain's first and last
+-- slot, the live count and the next version".
 use mathlib.Core.List.{List}
 use Prim.Native.Nat.{ℕ}
 use lib.ListN.{getD}
-use Rattle.face.specs.Set.{State}
+use Rattle.interface.specs.Set.{State}
 
 -- first, last, live count and the newest slot stand in one lent slice, the next version in another
 unfoldable pub stateFrom : (state version : List ℕ) → State

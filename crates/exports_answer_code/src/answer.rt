@@ -1,6 +1,6 @@
 // Answers as a return code and lent numbers.
 ghost use mathlib.Core.Path.{_≡_};
-ghost use Rattle.face.specs.Set.{changeSays, getSays, locateSays};
+ghost use Rattle.interface.specs.Set.{changeSays, getSays, locateSays};
 ghost use Rattle.exports.specs.State.{stateFrom};
 ghost use Rattle.exports.specs.Call.{answeredWith, returnedWith};
 ghost use Prim.Native.Nat.{_*_};
@@ -19,13 +19,15 @@ use orderset::Located;
 use orderset::Outcome;
 
 // What a call that writes gives back goes into the lent numbers.
-pub fn hand_out(
+pub fn write_answer(
     change: Change,
     state: &mut [u32; 4],
     version: &mut [u64; 1],
     answer: &mut [u64; 4],
 ) -> u64
-    ensures { λ r. ⌜ (r ≡ returnedWith (changeSays (change .outcome)) (change .compared)) × (now (answer .exit) ≡ answeredWith 3 (changeSays (change .outcome)) (change .compared) (now (answer .entry))) × (stateFrom (now (state .exit)) (now (version .exit)) ≡ change .state) ⌝ }
+    ensures result { λ r. ⌜ (r ≡ returnedWith (changeSays (change .outcome)) (change .compared)) ×
+        (now (answer .exit) ≡ answeredWith 3 (changeSays (change .outcome)) (change .compared) (now (answer .entry))) ×
+        (stateFrom (now (state .exit)) (now (version .exit)) ≡ change .state) ⌝ }
 {
     let after = change.state;
     keep_state(after, state, version);
@@ -47,13 +49,15 @@ pub fn hand_out(
 }
 
 // What a book step gives back goes into the lent numbers.
-pub fn hand_out_step(
+pub fn write_answer_step(
     change: BookChange,
     state: &mut [u32; 4],
     version: &mut [u64; 1],
     answer: &mut [u64; 3],
 ) -> u32
-    ensures { λ r. ⌜ (r ≡ refusalNumber (bookSays (change .outcome))) × (now (answer .exit) ≡ bookAnswered (bookSays (change .outcome)) (now (answer .entry))) × (stateFrom (now (state .exit)) (now (version .exit)) ≡ change .state) ⌝ }
+    ensures result { λ r. ⌜ (r ≡ refusalNumber (bookSays (change .outcome))) ×
+        (now (answer .exit) ≡ bookAnswered (bookSays (change .outcome)) (now (answer .entry))) ×
+        (stateFrom (now (state .exit)) (now (version .exit)) ≡ change .state) ⌝ }
 {
     let after = change.state;
     keep_state(after, state, version);
@@ -78,8 +82,9 @@ pub fn hand_out_step(
 }
 
 // What a get gives back goes into the lent numbers.
-pub fn hand_out_got(r: GetAnswer, answer: &mut [u64; 3]) -> u64
-    ensures { λ code. ⌜ (code ≡ returnedWith (getSays (r .got)) (r .compared)) × (now (answer .exit) ≡ answeredWith 2 (getSays (r .got)) (r .compared) (now (answer .entry))) ⌝ }
+pub fn write_answer_got(r: GetAnswer, answer: &mut [u64; 3]) -> u64
+    ensures result { λ code. ⌜ (code ≡ returnedWith (getSays (r .got)) (r .compared)) ×
+        (now (answer .exit) ≡ answeredWith 2 (getSays (r .got)) (r .compared) (now (answer .entry))) ⌝ }
 {
     let got = r.got;
     match got {
@@ -96,8 +101,9 @@ pub fn hand_out_got(r: GetAnswer, answer: &mut [u64; 3]) -> u64
 }
 
 // What a locate gives back goes into the lent numbers.
-pub fn hand_out_located(r: LocateAnswer, answer: &mut [u64; 4]) -> u64
-    ensures { λ code. ⌜ (code ≡ returnedWith (locateSays (r .located)) (r .compared)) × (now (answer .exit) ≡ answeredWith 3 (locateSays (r .located)) (r .compared) (now (answer .entry))) ⌝ }
+pub fn write_answer_located(r: LocateAnswer, answer: &mut [u64; 4]) -> u64
+    ensures result { λ code. ⌜ (code ≡ returnedWith (locateSays (r .located)) (r .compared)) ×
+        (now (answer .exit) ≡ answeredWith 3 (locateSays (r .located)) (r .compared) (now (answer .entry))) ⌝ }
 {
     let located = r.located;
     match located {

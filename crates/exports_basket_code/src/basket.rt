@@ -3,7 +3,7 @@ ghost use mathlib.Core.Path.{_≡_};
 ghost use mathlib.Core.List.{List, _∷_};
 ghost use Prim.Native.Nat.{ℕ, _≤_, _<_};
 ghost use Rattle.prelude.specs.Answer.{refusalIn};
-ghost use Rattle.face.specs.Set.{basketSays};
+ghost use Rattle.interface.specs.Set.{basketSays};
 ghost use Rattle.exports.specs.State.{stateFrom};
 ghost use Rattle.exports.specs.Basket.{isKind, actionOf, unknownKind, keysAsked, givenItem, givenItems, basketAnswered};
 use exports_code::state::keep_state;
@@ -55,7 +55,7 @@ fn unknown_kind(kinds: &[u32; 8], count: usize) -> bool
 
 // The number of keys, 0 for a basket that is refused by its count or its kinds.
 pub fn keys_asked(count: usize, kinds: &[u32; 8]) -> usize
-    ensures { λ r. ⌜ r ≡ keysAsked count (now (kinds .entry)) ⌝ }
+    ensures result { λ r. ⌜ r ≡ keysAsked count (now (kinds .entry)) ⌝ }
 {
     if 8 < count {
         return 0;
@@ -92,7 +92,7 @@ pub fn given_items(
     highs: &[u64; 8],
     lengths: &[usize; 8],
 ) -> [BasketItem; 8]
-    ensures { λ r. ⌜ r ≡ givenItems (now (kinds .entry)) (now (lows .entry)) (now (highs .entry)) (now (lengths .entry)) ⌝ }
+    ensures result { λ r. ⌜ r ≡ givenItems (now (kinds .entry)) (now (lows .entry)) (now (highs .entry)) (now (lengths .entry)) ⌝ }
 {
     [
         given_item(kinds, lows, highs, lengths, 0),
@@ -131,13 +131,16 @@ fn answer_of(version: u64, slots: [u32; 8]) -> [u64; 9]
 }
 
 // What a basket gives back goes into the lent numbers.
-pub fn hand_out_basket(
+pub fn write_answer_basket(
     basket: BasketAnswer,
     state: &mut [u32; 4],
     version: &mut [u64; 1],
     answer: &mut [u64; 9],
 ) -> u32
-    ensures { λ r. ⌜ ((taken : List ℕ) → (r ≡ refusalIn (basketSays taken (basket .outcome))) × (now (answer .exit) ≡ basketAnswered (basketSays taken (basket .outcome)) (basket .slots) (now (answer .entry))) × (stateFrom (now (state .exit)) (now (version .exit)) ≡ basket .state)) ⌝ }
+    ensures result { λ r. ⌜
+        ((taken : List ℕ) → (r ≡ refusalIn (basketSays taken (basket .outcome))) ×
+        (now (answer .exit) ≡ basketAnswered (basketSays taken (basket .outcome)) (basket .slots) (now (answer .entry))) ×
+        (stateFrom (now (state .exit)) (now (version .exit)) ≡ basket .state)) ⌝ }
 {
     let after = basket.state;
     let slots = basket.slots;

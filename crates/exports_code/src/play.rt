@@ -1,12 +1,12 @@
 // Play, with lent numbers for the sixteen stores.
 ghost use mathlib.Core.Path.{_≡_};
-ghost use Rattle.face.specs.Set.{playEnd, playResult};
+ghost use Rattle.interface.specs.Set.{playEnd, playResult};
 use orderset::Stores;
 use orderset::play;
 
 // The first a stores of the first half and the first b of the second are made.
 pub fn play_lent(image: &mut [u8], at: &[u32; 16], value: &[u64; 16], a: usize, b: usize) -> u32
-    ensures { λ r. ⌜ playEnd r (now (image .exit)) ≡ playResult (now (image .entry)) (now (at .entry)) (now (value .entry)) a b ⌝ }
+    ensures result { λ r. ⌜ playEnd r (now (image .exit)) ≡ playResult (now (image .entry)) (now (at .entry)) (now (value .entry)) a b ⌝ }
 {
     let places = *at;
     let words = *value;

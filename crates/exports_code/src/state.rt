@@ -5,7 +5,7 @@ use orderset::State;
 
 // The state in the lent numbers.
 pub fn state_from(state: &[u32; 4], version: &[u64; 1]) -> State
-    ensures { λ r. ⌜ r ≡ stateFrom (now (state .entry)) (now (version .entry)) ⌝ }
+    ensures result { λ r. ⌜ r ≡ stateFrom (now (state .entry)) (now (version .entry)) ⌝ }
 {
     State {
         first: state[0],
@@ -18,7 +18,7 @@ pub fn state_from(state: &[u32; 4], version: &[u64; 1]) -> State
 
 // The lent numbers become those of the state.
 pub fn keep_state(after: State, state: &mut [u32; 4], version: &mut [u64; 1])
-    ensures { λ _. ⌜ stateFrom (now (state .exit)) (now (version .exit)) ≡ after ⌝ }
+    ensures result { λ _. ⌜ stateFrom (now (state .exit)) (now (version .exit)) ≡ after ⌝ }
 {
     *state = [after.first, after.last, after.live, after.newest];
     *version = [after.version];

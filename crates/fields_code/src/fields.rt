@@ -5,7 +5,7 @@ ghost use lib.Dec.{eqb};
 ghost use lib.ListN.{length};
 ghost use Rattle.words.specs.Word.{word};
 ghost use Rattle.layout.specs.Line.{lineA, lineB};
-ghost use Rattle.layout.specs.Record.{keyOf, keyWith, kindOf, lengthOf, recordNumber, limit};
+ghost use Rattle.layout.specs.Record.{keyOf, keyWith, kindOf, lengthOf, sizeField, limit};
 ghost use Rattle.layout.specs.Layouts.{layoutNumber};
 ghost use Rattle.layout.specs.Fault.{bitsFault, kindFault, kindLimit, wordFault, tailFault, faultOf};
 ghost use Rattle.layout.specs.inner.Inside.{SlotInside};
@@ -16,7 +16,7 @@ use words_code::read_word;
 // The low word of the key in slot s.
 pub fn slot_low(image: &[u8], s: usize) -> u64
     requires { ⌜ 128 * (s + 1) ≤ length (now image) ⌝ }
-    ensures { λ r. ⌜ r ≡ lineA (word (now (image .entry))) s 1 ⌝ }
+    ensures result { λ r. ⌜ r ≡ lineA (word (now (image .entry))) s 1 ⌝ }
 {
     read_word(image, 16 * s + 1)
 }
@@ -24,7 +24,7 @@ pub fn slot_low(image: &[u8], s: usize) -> u64
 // The high word of the key in slot s, 0 in layout 1.
 pub fn slot_high(image: &[u8], l: usize, s: usize) -> u64
     requires { ⌜ SlotInside (now image) l s ⌝ }
-    ensures { λ r. ⌜ r ≡ highWord l (lineA (word (now (image .entry))) s) ⌝ }
+    ensures result { λ r. ⌜ r ≡ highWord l (lineA (word (now (image .entry))) s) ⌝ }
 {
     if l == 1 {
         return 0;
@@ -35,7 +35,7 @@ pub fn slot_high(image: &[u8], l: usize, s: usize) -> u64
 // Is the key with these words that of slot s?
 pub fn has_key(image: &[u8], l: usize, s: usize, low: u64, high: u64) -> bool
     requires { ⌜ SlotInside (now image) l s ⌝ }
-    ensures { λ r. ⌜ r ≡ eqb (keyOf l (lineA (word (now (image .entry))) s)) (keyWith low high) ⌝ }
+    ensures result { λ r. ⌜ r ≡ eqb (keyOf l (lineA (word (now (image .entry))) s)) (keyWith low high) ⌝ }
 {
     if slot_low(image, s) != low {
         return false;
@@ -67,7 +67,7 @@ fn length_of(w: u64) -> usize
 
 // The number of the layout: 2 where keys are wide, of 16 bytes, else 1.
 pub fn layout_number(wide: bool) -> usize
-    ensures { λ r. ⌜ r ≡ layoutNumber wide ⌝ }
+    ensures result { λ r. ⌜ r ≡ layoutNumber wide ⌝ }
 {
     if wide {
         return 2;
@@ -78,7 +78,7 @@ pub fn layout_number(wide: bool) -> usize
 // The greatest length of a value.
 pub fn value_limit(l: usize) -> usize
     requires { ⌜ l ≤ 2 ⌝ }
-    ensures { λ r. ⌜ r ≡ limit l ⌝ }
+    ensures result { λ r. ⌜ r ≡ limit l ⌝ }
 {
     88 - 8 * l
 }
@@ -86,7 +86,7 @@ pub fn value_limit(l: usize) -> usize
 // The kind in slot s.
 pub fn slot_kind(image: &[u8], l: usize, s: usize) -> u64
     requires { ⌜ SlotInside (now image) l s ⌝ }
-    ensures { λ r. ⌜ r ≡ kindOf (lineA (word (now (image .entry))) s (l + 1)) ⌝ }
+    ensures result { λ r. ⌜ r ≡ kindOf (lineA (word (now (image .entry))) s (l + 1)) ⌝ }
 {
     kind_of(kind_word(image, l, s))
 }
@@ -94,7 +94,7 @@ pub fn slot_kind(image: &[u8], l: usize, s: usize) -> u64
 // The length of the value in slot s.
 pub fn slot_length(image: &[u8], l: usize, s: usize) -> usize
     requires { ⌜ SlotInside (now image) l s ⌝ }
-    ensures { λ r. ⌜ r ≡ lengthOf (lineA (word (now (image .entry))) s (l + 1)) ⌝ }
+    ensures result { λ r. ⌜ r ≡ lengthOf (lineA (word (now (image .entry))) s (l + 1)) ⌝ }
 {
     length_of(kind_word(image, l, s))
 }
@@ -102,7 +102,7 @@ pub fn slot_length(image: &[u8], l: usize, s: usize) -> usize
 // The number in slot s: of how many records share its version.
 pub fn slot_number(image: &[u8], l: usize, s: usize) -> u64
     requires { ⌜ SlotInside (now image) l s ⌝ }
-    ensures { λ r. ⌜ r ≡ recordNumber (lineA (word (now (image .entry))) s (l + 1)) ⌝ }
+    ensures result { λ r. ⌜ r ≡ sizeField (lineA (word (now (image .entry))) s (l + 1)) ⌝ }
 {
     kind_word(image, l, s) / 65536 % 256
 }
@@ -185,7 +185,7 @@ fn tail_fault(image: &[u8], l: usize, s: usize, size: usize) -> bool
 // The fault of the record in slot s: 6, 22, 23 or 24, else 0. Asked of valid slots.
 pub fn record_fault(image: &[u8], l: usize, s: usize) -> u32
     requires { ⌜ SlotInside (now image) l s ⌝ }
-    ensures { λ r. ⌜ r ≡ faultOf l (lineA (word (now (image .entry))) s) (lineB (word (now (image .entry))) s) ⌝ }
+    ensures result { λ r. ⌜ r ≡ faultOf l (lineA (word (now (image .entry))) s) (lineB (word (now (image .entry))) s) ⌝ }
 {
     let w = kind_word(image, l, s);
     let fault = word_fault(l, w);

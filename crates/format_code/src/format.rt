@@ -35,7 +35,7 @@ fn format_fault(l: u64, n: usize) -> u32
 
 // The bytes become an empty image of layout l: the number of its slots, or refusal 1 or 32, which changes no byte.
 pub fn format(image: &mut [u8], l: u64) -> Formatted
-    ensures { λ r. ⌜ formatEnd r (now (image .exit)) ≡ formatResult l (now (image .entry)) ⌝ }
+    ensures result { λ r. ⌜ formatEnd r (now (image .exit)) ≡ formatResult l (now (image .entry)) ⌝ }
 {
     let n = slot_count(image.len());
     let fault = format_fault(l, n);

@@ -2,7 +2,6 @@
 ghost use mathlib.Core.Path.{_≡_};
 ghost use Rattle.layout.specs.Record.{Layout, keyWith};
 ghost use Rattle.layout.specs.Layouts.{layoutNumber};
-ghost use Rattle.calls.specs.Compared.{reported, keyCompared};
 ghost use Rattle.calls.specs.Moved.{getMoved};
 ghost use Rattle.calls.specs.Get.{getEnd, lengthFault, getLaterFault, getResult};
 ghost use Rattle.calls.specs.inner.Lookup.{FoundInside, GetLookup};
@@ -90,9 +89,7 @@ pub fn get_in(
 ) -> GetAnswer
     requires { ⌜ Layout l ⌝ }
     ensures result { λ r. ⌜ getEnd r (now (out .exit))
-        ≡ reported
-        (getResult l (now (image .entry)) (now (heads .entry)) (now (next .entry)) (keyWith low high) (now (out .entry)))
-        (keyCompared l (now (image .entry)) (now (heads .entry)) (now (next .entry)) (keyWith low high)) ⌝ }
+        ≡ getResult l (now (image .entry)) (now (heads .entry)) (now (next .entry)) (keyWith low high) (now (out .entry)) ⌝ }
     ensures moved { λ r. ⌜ r .moved ≡ getMoved (r .got) ⌝ }
 {
     let lookup = get_lookup(image, l, heads, next, low, high, out.len());
@@ -102,7 +99,7 @@ pub fn get_in(
             compared,
             moved: 0,
         },
-        Lookup::Allowed { place, compared } => match place {
+        Lookup::Accepted { place, compared } => match place {
             Place::NotHeld { prev: _ } => GetAnswer {
                 got: Got::Absent,
                 compared,
@@ -132,21 +129,17 @@ pub fn get_in_layout(
     out: &mut [u8],
 ) -> GetAnswer
     ensures result { λ r. ⌜ getEnd r (now (out .exit))
-        ≡ reported
-        (getResult (layoutNumber wide) (now (image .entry)) (now (heads .entry)) (now (next .entry)) (keyWith low high) (now (out .entry)))
-        (keyCompared (layoutNumber wide) (now (image .entry)) (now (heads .entry)) (now (next .entry)) (keyWith low high)) ⌝ }
+        ≡ getResult (layoutNumber wide) (now (image .entry)) (now (heads .entry)) (now (next .entry)) (keyWith low high) (now (out .entry)) ⌝ }
     ensures moved { λ r. ⌜ r .moved ≡ getMoved (r .got) ⌝ }
 {
     get_in(image, layout_number(wide), heads, next, low, high, out)
 }
 
-// The value of the key fills the front of out: its length, absent, or a refusal. Neither of the last two changes out. Each has the slots compared and
-// the words moved.
+// The value of the key fills the front of out: its length, absent, or a refusal. Neither of the last two changes out.
+// Each has the slots compared and the words moved.
 pub fn get(image: &[u8], heads: &[u32], next: &[u32], key: u64, out: &mut [u8]) -> GetAnswer
     ensures result { λ r. ⌜ getEnd r (now (out .exit))
-        ≡ reported
-        (getResult 1 (now (image .entry)) (now (heads .entry)) (now (next .entry)) key (now (out .entry)))
-        (keyCompared 1 (now (image .entry)) (now (heads .entry)) (now (next .entry)) key) ⌝ }
+        ≡ getResult 1 (now (image .entry)) (now (heads .entry)) (now (next .entry)) key (now (out .entry)) ⌝ }
     ensures moved { λ r. ⌜ r .moved ≡ getMoved (r .got) ⌝ }
 {
     get_in(image, 1, heads, next, key, 0, out)
@@ -162,9 +155,7 @@ pub fn get2(
     out: &mut [u8],
 ) -> GetAnswer
     ensures result { λ r. ⌜ getEnd r (now (out .exit))
-        ≡ reported
-        (getResult 2 (now (image .entry)) (now (heads .entry)) (now (next .entry)) (keyWith low high) (now (out .entry)))
-        (keyCompared 2 (now (image .entry)) (now (heads .entry)) (now (next .entry)) (keyWith low high)) ⌝ }
+        ≡ getResult 2 (now (image .entry)) (now (heads .entry)) (now (next .entry)) (keyWith low high) (now (out .entry)) ⌝ }
     ensures moved { λ r. ⌜ r .moved ≡ getMoved (r .got) ⌝ }
 {
     get_in(image, 2, heads, next, low, high, out)

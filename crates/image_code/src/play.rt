@@ -6,9 +6,10 @@ use stores_code::make::make_stores;
 use stores_code::play::list_fault;
 use stores_code::play::play_fault;
 
-// The first a stores of the first half and the first b of the second are made: 0, or refusal 1, 14 or 15, which changes no byte.
+// The first a stores of the first half and the first b of the second are made: 0, or refusal 1, 14 or 15, which changes
+// no byte.
 pub fn play(image: &mut [u8], stores: Stores, a: usize, b: usize) -> u32
-    ensures { λ r. ⌜ playEnd r (now (image .exit)) ≡ playResult (now (image .entry)) (stores .at) (stores .value) a b ⌝ }
+    ensures result { λ r. ⌜ playEnd r (now (image .exit)) ≡ playResult (now (image .entry)) (stores .at) (stores .value) a b ⌝ }
 {
     let at = stores.at;
     let value = stores.value;
@@ -23,7 +24,7 @@ pub fn play(image: &mut [u8], stores: Stores, a: usize, b: usize) -> u32
 
 // All stores of a list are made, in order: 0, or refusal 15, which changes no byte.
 pub fn play_list(image: &mut [u8], at: &[u32], value: &[u64]) -> u32
-    ensures { λ r. ⌜ playEnd r (now (image .exit)) ≡ playListResult (now (image .entry)) (now (at .entry)) (now (value .entry)) ⌝ }
+    ensures result { λ r. ⌜ playEnd r (now (image .exit)) ≡ playListResult (now (image .entry)) (now (at .entry)) (now (value .entry)) ⌝ }
 {
     let fault = list_fault(image.len(), at, value.len());
     if fault != 0 {

@@ -11,7 +11,7 @@ use Rattle.prelude.specs.Members.{All, none-left, one-more, In, Once}
 use Rattle.prelude.proofs.defs.Among.{member}
 use Rattle.prelude.proofs.Among.{member-in, not-member}
 use Rattle.prelude.proofs.Choice.{split}
-use Rattle.layout.specs.Content.{broken, content, numberIn, topOf}
+use Rattle.layout.specs.Content.{broken, content, sizeFieldIn, highestWholeIn}
 use Rattle.layout.proofs.Content.{top-is}
 use Rattle.stores.specs.Store.{Store, allStand, onLine}
 use Rattle.stores.specs.Written.{run, lineStores}
@@ -20,7 +20,7 @@ use Rattle.stores.specs.Cut.{SlotCut, now-old, now-new, now-broken, SlotWritten
 use Rattle.stores.proofs.AllStand.{stand-lines, lines-stand}
 use Rattle.stores.proofs.Basket.{basket-off, Holds, basket-holds}
 use Rattle.table.specs.Table.{isRecord}
-use Rattle.table.specs.Complete.{numberFor}
+use Rattle.table.specs.Complete.{sizeFieldFor}
 use Rattle.table.proofs.defs.Struck.{SlotAfter, kept, lost, done, Struck, Finished}
 use Rattle.images.proofs.defs.Entries.{recordOf, recordAt}
 use Rattle.images.proofs.Entries.{slots-length, EntryAt, entry-at, made-record}
@@ -30,7 +30,7 @@ unfolding lineStores run
 line-eight n words = refl
 
 module _ (l : ℕ) (m m′ : ℕ → ℕ) (number version : ℕ) (es : List BasketRecord) (counts : ℕ → ℕ) (once : Once (basketSlots es))
-    (fine : All (LawfulRecord l m number version) es) (is-number : number ≡ numberFor (length es)) (w : AllWritten l m m′ number version es counts) where
+    (fine : All (LawfulRecord l m number version) es) (is-number : number ≡ sizeFieldFor (length es)) (w : AllWritten l m m′ number version es counts) where
   -- what is known of an entry
   record Was (e : BasketRecord) : Type 0 where
     written : SlotWritten l m m′ (e .slot) (e .key) (e .kind) number (e .value) version (counts (2 * e .slot)) (counts (2 * e .slot + 1))
@@ -46,40 +46,40 @@ module _ (l : ℕ) (m m′ : ℕ → ℕ) (number version : ℕ) (es : List Bask
   was : (t : ℕ) → In t (basketSlots es) → EntryAt Was version es t
   was t i = entry-at version es once (all-was (w .each) fine (basket-holds l m number version es once)) t i
 
-  counted : numberFor (length (basketSlots es)) ≡ number
-  counted = ap numberFor (slots-length es) ∙ sym is-number
+  counted : sizeFieldFor (length (basketSlots es)) ≡ number
+  counted = ap sizeFieldFor (slots-length es) ∙ sym is-number
 
   after-slot : (t : ℕ) → In t (basketSlots es)
-      → SlotAfter (content l m t) (recordAt version es t) (content l m′ t) (numberIn l m t) (numberFor (length (basketSlots es))) (numberIn l m′ t)
+      → SlotAfter (content l m t) (recordAt version es t) (content l m′ t) (sizeFieldIn l m t) (sizeFieldFor (length (basketSlots es))) (sizeFieldIn l m′ t)
   after-slot t i = go (was t i)
     where
       go : EntryAt Was version es t
-          → SlotAfter (content l m t) (recordAt version es t) (content l m′ t) (numberIn l m t) (numberFor (length (basketSlots es))) (numberIn l m′ t)
+          → SlotAfter (content l m t) (recordAt version es t) (content l m′ t) (sizeFieldIn l m t) (sizeFieldFor (length (basketSlots es))) (sizeFieldIn l m′ t)
       go r =
           subst
-          (λ (x : ℕ). SlotAfter (content l m x) (recordAt version es t) (content l m′ x) (numberIn l m x) (numberFor (length (basketSlots es))) (numberIn l m′ x))
+          (λ (x : ℕ). SlotAfter (content l m x) (recordAt version es t) (content l m′ x) (sizeFieldIn l m x) (sizeFieldFor (length (basketSlots es))) (sizeFieldIn l m′ x))
           (r .slot-is) (by (r .holds .written .cut))
         where
           by : SlotCut (content l m (r .entry .slot)) (recordOf version (r .entry)) (content l m′ (r .entry .slot)) version (counts (2 * r .entry .slot)) (counts (2 * r .entry .slot + 1))
-              → SlotAfter (content l m (r .entry .slot)) (recordAt version es t) (content l m′ (r .entry .slot)) (numberIn l m (r .entry .slot)) (numberFor (length (basketSlots es))) (numberIn l m′ (r .entry .slot))
+              → SlotAfter (content l m (r .entry .slot)) (recordAt version es t) (content l m′ (r .entry .slot)) (sizeFieldIn l m (r .entry .slot)) (sizeFieldFor (length (basketSlots es))) (sizeFieldIn l m′ (r .entry .slot))
           by (now-old a b e) = kept e (r .holds .written .number-old a)
           by (now-new a b e) = done (e ∙ sym (r .here)) (r .holds .written .number-new a ∙ sym counted)
           by (now-broken x y top h e) = lost top e
 
   -- THE CUT in the table
-  pub cut-struck : (n : ℕ) → Struck (content l m) (content l m′) (numberIn l m) (numberIn l m′) n (basketSlots es) (recordAt version es)
+  pub cut-struck : (n : ℕ) → Struck (content l m) (content l m′) (sizeFieldIn l m) (sizeFieldIn l m′) n (basketSlots es) (recordAt version es)
   cut-struck n =
       record { outside = λ t i h. w .rest .others t h; numbers = λ t i h. w .rest .numbers t h; after = after-slot }
 
   -- ---- all stores stand exactly where all records are written
 
   pub stand-finished : allStand counts (basketStores l m number version es) ≡ true
-      → Finished (content l m′) (numberIn l m′) (basketSlots es) (recordAt version es)
+      → Finished (content l m′) (sizeFieldIn l m′) (basketSlots es) (recordAt version es)
   stand-finished all t i = go (was t i)
     where
-      go : EntryAt Was version es t → (content l m′ t ≡ recordAt version es t) × (numberIn l m′ t ≡ numberFor (length (basketSlots es)))
+      go : EntryAt Was version es t → (content l m′ t ≡ recordAt version es t) × (sizeFieldIn l m′ t ≡ sizeFieldFor (length (basketSlots es)))
       go r =
-          subst (λ (x : ℕ). (content l m′ x ≡ recordAt version es t) × (numberIn l m′ x ≡ numberFor (length (basketSlots es)))) (r .slot-is)
+          subst (λ (x : ℕ). (content l m′ x ≡ recordAt version es t) × (sizeFieldIn l m′ x ≡ sizeFieldFor (length (basketSlots es)))) (r .slot-is)
           (by (r .holds .written .cut))
         where
           at-A : 8 ≤ counts (2 * r .entry .slot)
@@ -99,7 +99,7 @@ module _ (l : ℕ) (m m′ : ℕ → ℕ) (number version : ℕ) (es : List Bask
               )
 
           by : SlotCut (content l m (r .entry .slot)) (recordOf version (r .entry)) (content l m′ (r .entry .slot)) version (counts (2 * r .entry .slot)) (counts (2 * r .entry .slot + 1))
-              → (content l m′ (r .entry .slot) ≡ recordAt version es t) × (numberIn l m′ (r .entry .slot) ≡ numberFor (length (basketSlots es)))
+              → (content l m′ (r .entry .slot) ≡ recordAt version es t) × (sizeFieldIn l m′ (r .entry .slot) ≡ sizeFieldFor (length (basketSlots es)))
           by (now-old a b e) = absurd (omega (arith, at-A, a))
           by (now-new a b e) = (e ∙ sym (r .here), r .holds .written .number-new a ∙ sym counted)
           by (now-broken x y top h e) = absurd (y at-A at-B)
@@ -128,7 +128,7 @@ module _ (l : ℕ) (m m′ : ℕ → ℕ) (number version : ℕ) (es : List Bask
             arith,
             r .holds .writable .above,
             top-is l m (r .entry .slot),
-            ap topOf (sym e ∙ new),
+            ap highestWholeIn (sym e ∙ new),
             made-record (r .entry .kind) version (r .entry .key) (r .entry .value) .tops,
           ))
       by (now-new a b e) = (
@@ -144,7 +144,7 @@ module _ (l : ℕ) (m m′ : ℕ → ℕ) (number version : ℕ) (es : List Bask
           not-broken : (t : ℕ) → true ≡ isRecord (broken t) → ⊥
           not-broken t z = let k : _≡_ {A = ℕ} 0 1 = cc in omega arith
 
-  pub finished-stand : Finished (content l m′) (numberIn l m′) (basketSlots es) (recordAt version es)
+  pub finished-stand : Finished (content l m′) (sizeFieldIn l m′) (basketSlots es) (recordAt version es)
       → allStand counts (basketStores l m number version es) ≡ true
   finished-stand z = lines-stand counts (basketStores l m number version es) (λ n. go n (split (member (basketSlots es) (n / 2))))
     where

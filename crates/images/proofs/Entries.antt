@@ -10,7 +10,7 @@ use lib.ListN.{length}
 use borrow.Author.Tests.{eq-eqb, ne-eqb}
 use Rattle.prelude.specs.Members.{All, none-left, one-more, In, Once}
 use Rattle.prelude.proofs.Choice.{pick-true, pick-false}
-use Rattle.layout.specs.Content.{Content, putRecord, removeRecord, made}
+use Rattle.layout.specs.Content.{Content, putRecord, removeRecord, contentOfRecord}
 use Rattle.stores.specs.Basket.{BasketRecord, basketSlots}
 use Rattle.table.specs.Table.{keyIn}
 use Rattle.table.proofs.defs.Write.{Record}
@@ -46,16 +46,16 @@ entry-at {P} version (e ∷ es) once (one-more h hs) t (inr i) = go (entry-at ve
           holds = r .holds;
         }
 
-pub made-record : (kind version key : ℕ) (value : List ℕ) → Record (made kind version key value) version key
-unfolding made
+pub made-record : (kind version key : ℕ) (value : List ℕ) → Record (contentOfRecord kind version key value) version key
+unfolding contentOfRecord
 made-record kind version key value = go (eqb kind 2)
   where
     go : (t : Bool) → Record (cond t (removeRecord version key) (putRecord version key value)) version key
     go true = remove-record version key
     go false = put-record version key value
 
-pub made-key : (kind version key : ℕ) (value : List ℕ) → keyIn (made kind version key value) ≡ key
-unfolding made keyIn
+pub made-key : (kind version key : ℕ) (value : List ℕ) → keyIn (contentOfRecord kind version key value) ≡ key
+unfolding contentOfRecord keyIn
 made-key kind version key value = go (eqb kind 2)
   where
     go : (t : Bool) → keyIn (cond t (removeRecord version key) (putRecord version key value)) ≡ key

@@ -1,5 +1,5 @@
 pub mod defs
 pub mod Entries
 pub mod Cuts
-pub mod Openings
+pub mod Invalidations
 pub mod Right

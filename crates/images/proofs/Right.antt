@@ -1,4 +1,4 @@
--- What an accepted image's slots are, and that a call's stores and opening stores leave such slots, whatever a cut leaves of them. Assumes nothing.
+-- What an accepted image's slots are, and that a call's stores and invalidating stores leave such slots, whatever a cut leaves of them. Assumes nothing.
 use mathlib.Core.Path.{_≡_, sym, ap, _∙_}
 use mathlib.Core.List.{List}
 use Prim.Native.Nat.{ℕ, _+_, _*_, _≤_, _<_}
@@ -10,13 +10,13 @@ use Rattle.prelude.proofs.Choice.{pick-true}
 use Rattle.layout.specs.Line.{lineA, lineB}
 use Rattle.layout.specs.Slot.{lineVerdict, isValid}
 use Rattle.layout.specs.Record.{Layout}
-use Rattle.layout.specs.Content.{content, numberIn}
+use Rattle.layout.specs.Content.{content, sizeFieldIn}
 use Rattle.layout.specs.Fault.{faultOf, recordFault}
 use Rattle.layout.proofs.Content.{ValidAt, verdict-valid}
 use Rattle.stores.specs.Basket.{BasketRecord, basketSlots}
 use Rattle.stores.specs.Cut.{Confined, LawfulRecord, AllWritten}
 use Rattle.table.specs.Table.{mapOf, liveCount}
-use Rattle.table.specs.Complete.{numberFor, settled, NoneVoid}
+use Rattle.table.specs.Complete.{sizeFieldFor, settled, NoneVoid}
 use Rattle.table.proofs.Complete.{settled-same}
 use Rattle.table.proofs.Alike.{alike-count}
 use Rattle.table.proofs.defs.Basket.{Basket, putsIn, heldIn}
@@ -26,7 +26,7 @@ use Rattle.table.proofs.Accepted.{struck-accepted}
 use Rattle.table.proofs.Opened.{opened-accepted}
 use Rattle.images.proofs.defs.Entries.{recordAt}
 use Rattle.images.proofs.Cuts.{cut-struck}
-use Rattle.images.proofs.Openings.{openedImage, all-opened, opened-at}
+use Rattle.images.proofs.Invalidations.{openedImage, all-opened, opened-at}
 
 -- the marks of a slot are 0 or 1
 abbrev pub BitMarks : (ℕ → ℕ) → ℕ → Type 0
@@ -36,7 +36,7 @@ BitMarks m s = (lineA m s 0 ≤ 1) × (lineB m s 0 ≤ 1)
 pub record RightSlots (l : ℕ) (m : ℕ → ℕ) (n : ℕ) : Type 0 where
   pub marks : (s : ℕ) → Slot n s → BitMarks m s
   pub records : (s : ℕ) → Slot n s → recordFault l m s ≡ 0
-  pub table : AcceptedTable (content l m) (numberIn l m) n
+  pub table : AcceptedTable (content l m) (sizeFieldIn l m) n
 
 -- a valid slot without a fault has none by its lines
 pub valid-fault : (l : ℕ) (m : ℕ → ℕ) (s v : ℕ) → ValidAt (lineA m s) (lineB m s) v → recordFault l m s ≡ 0 → faultOf l (lineA m s) (lineB m s) ≡ 0
@@ -49,7 +49,7 @@ valid-fault l m s v h e =
 
 -- stores that leave the table accepted leave right slots
 confined-right : (l : ℕ) (m m′ : ℕ → ℕ) (n : ℕ) (written : ℕ → Type 0) → Confined l m m′ written → RightSlots l m n
-    → AcceptedTable (content l m′) (numberIn l m′) n → RightSlots l m′ n
+    → AcceptedTable (content l m′) (sizeFieldIn l m′) n → RightSlots l m′ n
 confined-right l m m′ n written c r table =
     record {
       marks = λ t i. (c .marks (2 * t) (r .marks t i .0), c .marks (2 * t + 1) (r .marks t i .1));
@@ -58,14 +58,14 @@ confined-right l m m′ n written c r table =
     }
 
 -- a table without void records has its own live slots
-pub settled-count : (l : ℕ) (m : ℕ → ℕ) (n : ℕ) → NoneVoid (content l m) (numberIn l m) n
-    → liveCount (settled (content l m) (numberIn l m) n) n ≡ liveCount (content l m) n
-settled-count l m n none = alike-count (content l m) (settled (content l m) (numberIn l m) n) n (λ t i. settled-same (content l m) (numberIn l m) n t (none t i))
+pub settled-count : (l : ℕ) (m : ℕ → ℕ) (n : ℕ) → NoneVoid (content l m) (sizeFieldIn l m) n
+    → liveCount (settled (content l m) (sizeFieldIn l m) n) n ≡ liveCount (content l m) n
+settled-count l m n none = alike-count (content l m) (settled (content l m) (sizeFieldIn l m) n) n (λ t i. settled-same (content l m) (sizeFieldIn l m) n t (none t i))
 
 -- A CALL'S STORES
 pub right-cut : (l : ℕ) (m m′ : ℕ → ℕ) (n number version : ℕ) (es : List BasketRecord) (counts : ℕ → ℕ) → Once (basketSlots es)
-    → All (LawfulRecord l m number version) es → number ≡ numberFor (length es) → AllWritten l m m′ number version es counts → RightSlots l m n
-    → Basket (content l m) (numberIn l m) n version (basketSlots es) (recordAt version es) → BrokenTaken (content l m) n (basketSlots es)
+    → All (LawfulRecord l m number version) es → number ≡ sizeFieldFor (length es) → AllWritten l m m′ number version es counts → RightSlots l m n
+    → Basket (content l m) (sizeFieldIn l m) n version (basketSlots es) (recordAt version es) → BrokenTaken (content l m) n (basketSlots es)
     → liveCount (content l m) n + putsIn (basketSlots es) (recordAt version es) < n + heldIn (basketSlots es) (recordAt version es) (mapOf (content l m) n)
     → RightSlots l m′ n
 right-cut l m m′ n number version es counts once fine is-number w r b first room =
@@ -78,5 +78,5 @@ pub right-opened : (l : ℕ) (lay : Layout l) (image : List ℕ) (n : ℕ) (size
     → RightSlots l (word (openedImage l lay image n size counts)) n
 right-opened l lay image n size counts r =
     confined-right l (word image) _ n _ (all-opened l lay image n size counts .rest) r
-    (opened-accepted {f = content l (word image)} {f′ = content l (word (openedImage l lay image n size counts))} {num = numberIn l (word image)}
-    {num′ = numberIn l (word (openedImage l lay image n size counts))} {n = n} (opened-at l lay image n size counts) (r .table))
+    (opened-accepted {f = content l (word image)} {f′ = content l (word (openedImage l lay image n size counts))} {num = sizeFieldIn l (word image)}
+    {num′ = sizeFieldIn l (word (openedImage l lay image n size counts))} {n = n} (opened-at l lay image n size counts) (r .table))

@@ -10,7 +10,7 @@ use borrow.Author.Tests.{eqb-true, eqb-false, ltb-false}
 use Rattle.prelude.specs.Members.{All, none-left, one-more}
 use Rattle.index.specs.Index.{Index, setLast}
 use Rattle.index.specs.Change.{append, linkNew, insertAt, replaceAt, removeAt}
-use Rattle.index.specs.Taking.{Taken, Taking, taken, tooFew, badLink, withTaken, atEnd, takeWalk, takeFrom}
+use Rattle.index.specs.Allocation.{Taken, Allocation, taken, tooFew, badLink, withTaken, atEnd, allocationWalk, allocateFrom}
 use Rattle.index.specs.Basket.{slotBefore, Item, linkBy, linkItem}
 use Rattle.index.specs.declared.Action.{Action}
 use Rattle.index.specs.declared.Action.the-variants.{Insert, Replace, Remove}
@@ -25,12 +25,12 @@ pub record TakenInside (n : ℕ) (t : Taken) : Type 0 where
   pub prev-high : t .prev ≤ n
 
 -- what is taken is inside, and as many as are wanted
-abbrev TakingWithin : (n wanted : ℕ) → Taking → Type 0
+abbrev TakingWithin : (n wanted : ℕ) → Allocation → Type 0
 TakingWithin n wanted (taken ts) = All (TakenInside n) ts × (length ts ≡ wanted)
 TakingWithin n wanted tooFew = Unit
 TakingWithin n wanted badLink = Unit
 
-either-way : (n wanted : ℕ) (b : Bool) (x y : Taking) → (b ≡ true → TakingWithin n wanted x) → (b ≡ false → TakingWithin n wanted y)
+either-way : (n wanted : ℕ) (b : Bool) (x y : Allocation) → (b ≡ true → TakingWithin n wanted x) → (b ≡ false → TakingWithin n wanted y)
     → TakingWithin n wanted (cond b x y)
 either-way n wanted true x y f g = f refl
 either-way n wanted false x y f g = g refl
@@ -39,7 +39,7 @@ end-within : (n wanted : ℕ) → TakingWithin n wanted (atEnd wanted)
 unfolding atEnd
 end-within n wanted = either-way n wanted (eqb wanted 0) _ _ (λ e. (none-left, omega (arith, eqb-true wanted 0 e))) (λ e. tt)
 
-with-within : (n wanted at prev : ℕ) (rest : Taking) → 0 < at → at ≤ n → prev ≤ n → 0 < wanted → TakingWithin n (wanted - 1) rest
+with-within : (n wanted at prev : ℕ) (rest : Allocation) → 0 < at → at ≤ n → prev ≤ n → 0 < wanted → TakingWithin n (wanted - 1) rest
     → TakingWithin n wanted (withTaken at prev rest)
 unfolding withTaken
 with-within n wanted at prev (taken ts) l m p w r =
@@ -48,8 +48,8 @@ with-within n wanted at prev tooFew l m p w r = tt
 with-within n wanted at prev badLink l m p w r = tt
 
 walk-within : (may : List ℕ → ℕ → Bool) (next : List ℕ) (n left wanted prev at : ℕ) (chosen : List ℕ) → prev ≤ n
-    → TakingWithin n wanted (takeWalk may next n left wanted prev at chosen)
-unfolding takeWalk
+    → TakingWithin n wanted (allocationWalk may next n left wanted prev at chosen)
+unfolding allocationWalk
 walk-within may next n zero wanted prev at chosen p = either-way n wanted (eqb at 0) _ _ (λ e. end-within n wanted) (λ e. tt)
 walk-within may next n (suc left) wanted prev at chosen p =
     either-way n wanted (eqb at 0) _ _ (λ e. end-within n wanted)
@@ -62,13 +62,13 @@ walk-within may next n (suc left) wanted prev at chosen p =
     (λ k.
     either-way n wanted (may chosen at) _ _
     (λ t.
-    with-within n wanted at prev (takeWalk may next n left (wanted - 1) prev (getD next at 0) (at ∷ chosen)) low high p (omega (arith, eqb-false wanted 0 k))
+    with-within n wanted at prev (allocationWalk may next n left (wanted - 1) prev (getD next at 0) (at ∷ chosen)) low high p (omega (arith, eqb-false wanted 0 k))
     (walk-within may next n left (wanted - 1) prev (getD next at 0) (at ∷ chosen) p))
     (λ t. walk-within may next n left wanted at (getD next at 0) chosen high))))
 
-pub taking-inside : (may : List ℕ → ℕ → Bool) (next : List ℕ) (n first wanted : ℕ) (ts : List Taken) → takeFrom may next n first wanted ≡ taken ts
+pub taking-inside : (may : List ℕ → ℕ → Bool) (next : List ℕ) (n first wanted : ℕ) (ts : List Taken) → allocateFrom may next n first wanted ≡ taken ts
     → All (TakenInside n) ts × (length ts ≡ wanted)
-unfolding takeFrom
+unfolding allocateFrom
 taking-inside may next n first wanted ts e = subst (TakingWithin n wanted) e (walk-within may next n n wanted 0 first [] (omega arith))
 
 -- ---- the last slot of reuse
@@ -77,13 +77,13 @@ choose-high : (n : ℕ) (b : Bool) (x y : ℕ) → x ≤ n → y ≤ n → cond 
 choose-high n true x y a c = a
 choose-high n false x y a c = c
 
-link-by-last : (n : ℕ) (i : Index) (a : Action) (h old s : ℕ) → i .last ≤ n → old ≤ n → s ≤ n → linkBy n i a h old s .last ≤ n
+link-by-last : (n : ℕ) (i : Index) (a : Action) (h old s : ℕ) → i .state .last ≤ n → old ≤ n → s ≤ n → linkBy n i a h old s .state .last ≤ n
 unfolding linkBy insertAt replaceAt removeAt append linkNew setLast
 link-by-last n i Insert h old s l o k = rw (link-last, set-last) l
 link-by-last n i Replace h old s l o k = omega arith
 link-by-last n i Remove h old s l o k = omega arith
 
-pub link-item-last : (n : ℕ) (i : Index) (k : Item) → i .last ≤ n → k .old ≤ n → k .slot ≤ n → linkItem n i k .last ≤ n
+pub link-item-last : (n : ℕ) (i : Index) (k : Item) → i .state .last ≤ n → k .old ≤ n → k .slot ≤ n → linkItem n i k .state .last ≤ n
 unfolding linkItem
 link-item-last n i k l o s = link-by-last n i (k .action) (k .key-head) (k .old) (k .slot) l o s
 

@@ -4,7 +4,7 @@ use mathlib.Core.List.{List, [], _∷_}
 use Prim.Native.Nat.{ℕ}
 use lib.ListN.{length}
 use Rattle.index.specs.Index.{Index, setLast}
-use Rattle.index.specs.Taking.{Taken}
+use Rattle.index.specs.Allocation.{Taken}
 use Rattle.index.specs.Basket.{takeSlot, takeAll, Item, linkBy, linkItem, linkAll, basketIndex}
 use Rattle.index.specs.declared.Action.{Action}
 use Rattle.index.specs.declared.Action.the-variants.{Insert, Replace, Remove}

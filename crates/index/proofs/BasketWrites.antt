@@ -10,9 +10,9 @@ use borrow.Author.Tests.{eq-eqb, ne-eqb, lt-ltb, le-ltb}
 use Rattle.prelude.proofs.Choice.{pick-true, pick-false}
 use Rattle.index.specs.Index.{Index, reuse, head, indexOf, setNext, setStart, setLast, link}
 use Rattle.index.specs.Change.{append, linkNew, insertAt, replaceAt, removeAt}
-use Rattle.index.specs.Taking.{Taken}
+use Rattle.index.specs.Allocation.{Taken}
 use Rattle.index.specs.Basket.{takeSlot, takeAll, slotBefore, beforeIn, linkBy}
-use Rattle.index.specs.inner.Parts.{PartsOf, linkHeads, linkNext, appendNext, appendState}
+use Rattle.index.specs.inner.Parts.{linkHeads, linkNext, appendNext, appendState}
 use Rattle.index.specs.inner.Basket.{takensFrom, leftState}
 use Rattle.index.specs.declared.State.{State}
 use Rattle.index.specs.declared.Action.{Action}
@@ -35,9 +35,6 @@ pub record Leaving (slots prevs : List ℕ) (count : ℕ) (next₀ : List ℕ) (
   pub size : length next ≡ length next₀
   pub rest : (heads : List ℕ) → takeAll (indexOf heads next s) (takensFrom slots prevs j (count - j))
       ≡ takeAll (indexOf heads next₀ s₀) (takensFrom slots prevs 0 count)
-  pub live-count : s .live ≡ s₀ .live
-  pub next-version : s .version ≡ s₀ .version
-  pub newest-slot : s .newest ≡ s₀ .newest
 
 module _ (slots prevs : List ℕ) (count : ℕ) (next₀ : List ℕ) (s₀ : State) where
   pub leaving-starts : Leaving slots prevs count next₀ s₀ next₀ s₀ 0
@@ -48,9 +45,6 @@ module _ (slots prevs : List ℕ) (count : ℕ) (next₀ : List ℕ) (s₀ : Sta
         rest =
             λ heads.
             let d : count - 0 ≡ count = omega arith in ap (λ (k : ℕ). takeAll (indexOf heads next₀ s₀) (takensFrom slots prevs 0 k)) d;
-        live-count = refl;
-        next-version = refl;
-        newest-slot = refl;
       }
 
   module _ (next : List ℕ) (s : State) (j : ℕ) (w : Leaving slots prevs count next₀ s₀ next s j) where
@@ -75,23 +69,14 @@ module _ (slots prevs : List ℕ) (count : ℕ) (next₀ : List ℕ) (s₀ : Sta
           position = omega arith;
           size = size ∙ w .size;
           rest = λ heads. (rw (et, en) (sym (one-left heads h))) ∙ w .rest heads;
-          live-count = ap (λ (u : State). u .live) et ∙ w .live-count;
-          next-version = ap (λ (u : State). u .version) et ∙ w .next-version;
-          newest-slot = ap (λ (u : State). u .newest) et ∙ w .newest-slot;
         }
 
     pub leaving-ends : count ≤ j → (heads : List ℕ)
-        → PartsOf heads next s (takeAll (indexOf heads next₀ s₀) (takensFrom slots prevs 0 count)) (s₀ .live) (s₀ .version) (s₀ .newest)
+        → indexOf heads next s ≡ takeAll (indexOf heads next₀ s₀) (takensFrom slots prevs 0 count)
     unfolding takensFrom takeAll
     leaving-ends h heads =
         let d : count - j ≡ 0 = omega (arith, w .position) in
-        record {
-          index =
-              sym (ap (λ (k : ℕ). takeAll (indexOf heads next s) (takensFrom slots prevs j k)) d) ∙ w .rest heads;
-          live-count = w .live-count;
-          next-version = w .next-version;
-          newest-slot = w .newest-slot;
-        }
+        sym (ap (λ (k : ℕ). takeAll (indexOf heads next s) (takensFrom slots prevs j k)) d) ∙ w .rest heads
 
 -- ---- the slot before a target: what is left of the search answers for the whole
 
@@ -156,58 +141,40 @@ before-within next n target first r e size = omega (arith, e, before-high next n
 module _ (n : ℕ) (heads next : List ℕ) (s : State) (h slot p : ℕ) (heads′ next₁ : List ℕ) where
   pub insert-linked : p ≡ slotBefore next n n 0 0 (getD heads h 0) → heads′ ≡ linkHeads heads h p slot
       → next₁ ≡ linkNext (set next slot 0) p slot
-      → PartsOf heads′ next₁ s (linkBy n (indexOf heads next s) Insert h 0 slot) (s .live) (s .version) (s .newest)
+      → indexOf heads′ next₁ s ≡ linkBy n (indexOf heads next s) Insert h 0 slot
   unfolding linkBy beforeIn insertAt linkNew setNext
   insert-linked ep eh en =
-      record {
-        index =
-            sym
-            (ap (λ (q : ℕ). link (setNext (indexOf heads next s) slot 0) (head h) q slot) (sym ep)
-            ∙ index-link heads (set next slot 0) s h p slot ∙ cc);
-        live-count = refl;
-        next-version = refl;
-        newest-slot = refl;
-      }
+      sym
+      (ap (λ (q : ℕ). link (setNext (indexOf heads next s) slot 0) (head h) q slot) (sym ep)
+      ∙ index-link heads (set next slot 0) s h p slot ∙ cc)
 
   module _ (old : ℕ) (ep : p ≡ slotBefore next n n old 0 (getD heads h 0)) (next₂ : List ℕ) (back : State) (eb : back ≡ appendState s old)
       (e₂ : next₂ ≡ appendNext next₁ s old) where
     pub replace-linked : heads′ ≡ linkHeads heads h p slot → next₁ ≡ linkNext (set next slot (getD next old 0)) p slot
-        → PartsOf heads′ next₂ back (linkBy n (indexOf heads next s) Replace h old slot) (s .live) (s .version) (s .newest)
+        → indexOf heads′ next₂ back ≡ linkBy n (indexOf heads next s) Replace h old slot
     unfolding linkBy beforeIn replaceAt linkNew setNext appendState
     replace-linked eh e₁ =
-        record {
-          index =
-              sym
-              (ap (λ (q : ℕ). append (link (setNext (indexOf heads next s) slot (getD next old 0)) (head h) q slot) old) (sym ep)
-              ∙ ap (λ (i : Index). append i old) (index-link heads (set next slot (getD next old 0)) s h p slot)
-              ∙ index-append _ _ s old ∙ cc);
-          live-count = ap (λ (u : State). u .live) eb;
-          next-version = ap (λ (u : State). u .version) eb;
-          newest-slot = ap (λ (u : State). u .newest) eb;
-        }
+        sym
+        (ap (λ (q : ℕ). append (link (setNext (indexOf heads next s) slot (getD next old 0)) (head h) q slot) old) (sym ep)
+        ∙ ap (λ (i : Index). append i old) (index-link heads (set next slot (getD next old 0)) s h p slot)
+        ∙ index-append _ _ s old ∙ cc)
 
     pub remove-linked : (next₃ : List ℕ) (all : State) → heads′ ≡ linkHeads heads h p (getD next old 0)
         → next₁ ≡ linkNext next p (getD next old 0) → all ≡ appendState back slot → next₃ ≡ appendNext next₂ back slot
-        → PartsOf heads′ next₃ all (linkBy n (indexOf heads next s) Remove h old slot) (s .live) (s .version) (s .newest)
+        → indexOf heads′ next₃ all ≡ linkBy n (indexOf heads next s) Remove h old slot
     unfolding linkBy beforeIn removeAt appendState
     remove-linked next₃ all eh e₁ ea e₃ =
-        record {
-          index =
-              sym
-              (ap (λ (q : ℕ). append (append (link (indexOf heads next s) (head h) q (getD next old 0)) old) slot) (sym ep)
-              ∙ ap (λ (i : Index). append (append i old) slot) (index-link heads next s h p (getD next old 0))
-              ∙ ap (λ (i : Index). append i slot) (index-append _ _ s old)
-              ∙ index-append _ _ (appendState s old) slot ∙ cc);
-          live-count = ap (λ (u : State). u .live) ea ∙ ap (λ (u : State). u .live) eb;
-          next-version = ap (λ (u : State). u .version) ea ∙ ap (λ (u : State). u .version) eb;
-          newest-slot = ap (λ (u : State). u .newest) ea ∙ ap (λ (u : State). u .newest) eb;
-        }
+        sym
+        (ap (λ (q : ℕ). append (append (link (indexOf heads next s) (head h) q (getD next old 0)) old) slot) (sym ep)
+        ∙ ap (λ (i : Index). append (append i old) slot) (index-link heads next s h p (getD next old 0))
+        ∙ ap (λ (i : Index). append i slot) (index-append _ _ s old)
+        ∙ index-append _ _ (appendState s old) slot ∙ cc)
 
 -- ---- by what is asked
 
 module _ (n : ℕ) (heads next : List ℕ) (s : State) (h old slot : ℕ) (heads′ next′ : List ℕ) (r : State) where
   abbrev linked : Action → ℕ → Type 0
-  linked by o = PartsOf heads′ next′ r (linkBy n (indexOf heads next s) by h o slot) (s .live) (s .version) (s .newest)
+  linked by o = indexOf heads′ next′ r ≡ linkBy n (indexOf heads next s) by h o slot
 
   pub inserted : {a : Action} → a ≡ Insert → linked Insert 0 → linked a old
   unfolding linkBy

@@ -15,7 +15,7 @@ use Rattle.prelude.proofs.Among.{in-member, out-member, member-tail}
 use Rattle.prelude.proofs.Choice.{pick-true, pick-false}
 use Rattle.prelude.proofs.Lists.{in-left, in-right}
 use Rattle.index.specs.Index.{Chain, reuse, head, Index}
-use Rattle.index.specs.Linked.{Owner, free, of, Entry, WellFormed, placed, Sits}
+use Rattle.index.specs.Linked.{Owner, free, of, Entry, WellFormed, placed, ChainsPartition}
 use Rattle.index.specs.Basket.{takeAll, takenSlots, Item, linkBy, linkItem, linkAll, basketIndex}
 use Rattle.index.specs.declared.Action.{Action}
 use Rattle.index.specs.declared.Action.the-variants.{Insert, Replace, Remove}
@@ -306,7 +306,7 @@ link-all n b (k ∷ ks) place i chains l g z eb =
 -- an index whose slots stand in their places, with this reuse chain
 pub record SitsWith (n b : ℕ) (place : ℕ → Chain) (i : Index) (reused : List ℕ) : Type 0 where
   pub chains : Chain → List ℕ
-  pub sits : Sits n b place i chains
+  pub sits : ChainsPartition n b place i chains
   pub reuse-is : chains reuse ≡ reused
 
 -- all slots stand in their places again
@@ -327,7 +327,7 @@ sits-all n b place place′ i xs ys t e same en eb =
     }
 
 -- THE BASKET: its slots taken from the reuse chain, for keys whose old records stand in their chains; place′ is where the slots stand after the moves
-pub sits-basket : (n b : ℕ) (place : ℕ → Chain) (i : Index) (chains : Chain → List ℕ) → Sits n b place i chains
+pub sits-basket : (n b : ℕ) (place : ℕ → Chain) (i : Index) (chains : Chain → List ℕ) → ChainsPartition n b place i chains
     → (may : ℕ → Bool) (wanted : ℕ) (ks : List Item) → itemSlots ks ≡ takenSlots (takesIn may 0 wanted (chains reuse))
     → All (Ready n b place) ks → Once (oldsOf ks)
     → (place′ : ℕ → Chain) → ((x : ℕ) → 0 < x → x ≤ n → place′ x ≡ movedBy ks place x)

@@ -21,13 +21,13 @@ use Rattle.index.proofs.Links.{set-here, set-else, set-heads, set-last,
 use Rattle.index.proofs.CallWrites.{linkNew-next, linkNew-heads}
 use Rattle.index.proofs.Relinks.{disjoint-set, disjoint-last, disjoint-insert}
 
-starts : (i : Index) → ((h : ℕ) → getD (i .heads) h 0 ≡ 0) → i .first ≡ 0 → (c : Chain) → ahead i c 0 ≡ 0
+starts : (i : Index) → ((h : ℕ) → getD (i .heads) h 0 ≡ 0) → i .state .first ≡ 0 → (c : Chain) → ahead i c 0 ≡ 0
 unfolding ahead start
 starts i h f reuse = f
 starts i h f (head k) = h k
 
 -- an index of empty chains
-pub formed-empty : (i : Index) → ((h : ℕ) → getD (i .heads) h 0 ≡ 0) → i .first ≡ 0 → i .last ≡ 0 → WellFormed i (λ _. free) (λ _. [])
+pub formed-empty : (i : Index) → ((h : ℕ) → getD (i .heads) h 0 ≡ 0) → i .state .first ≡ 0 → i .state .last ≡ 0 → WellFormed i (λ _. free) (λ _. [])
 formed-empty i h f l = record {
   disjoint =
       record {
@@ -58,9 +58,9 @@ pub formed-push : (i : Index) (owner : ℕ → Owner) (chains : Chain → List �
     → WellFormed (push i c s) (give owner s (of c)) (withChain chains c (s ∷ chains c))
 unfolding push setLast ahead start
 formed-push i owner chains reuse s g a t f = record {
-  disjoint = disjoint-last _ _ _ _ (disjoint-front _ _ _ reuse s (i .first) (g .disjoint) a t f refl);
+  disjoint = disjoint-last _ _ _ _ (disjoint-front _ _ _ reuse s (i .state .first) (g .disjoint) a t f refl);
   ends =
-      rw with-same (front-ends (i .last) s (chains reuse) (λ x m. g .disjoint .slot reuse x (g .disjoint .owned .mine reuse x m) .low)
+      rw with-same (front-ends (i .state .last) s (chains reuse) (λ x m. g .disjoint .slot reuse x (g .disjoint .owned .mine reuse x m) .low)
       (g .ends));
 }
 formed-push i owner chains (head h) s g a t f = record {

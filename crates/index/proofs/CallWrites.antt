@@ -21,7 +21,7 @@ use Rattle.index.proofs.Relinks.{disjoint-set, disjoint-last, disjoint-
 
 -- the first slot of reuse
 pub first-is : (i : Index) (owner : ℕ → Owner) (chains : Chain → List ℕ) (f : ℕ) (rest : List ℕ) → Disjoint i owner chains
-    → chains reuse ≡ f ∷ rest → i .first ≡ f
+    → chains reuse ≡ f ∷ rest → i .state .first ≡ f
 unfolding ahead start
 first-is i owner chains f rest w e =
     let r : Run (ahead i reuse) (ahead i reuse 0) (f ∷ rest) 0 = rw e at (w .runs reuse) in
@@ -49,16 +49,16 @@ pub formed-take : (i : Index) (owner : ℕ → Owner) (chains : Chain → List �
 unfolding takeFirst setLast link
 formed-take i owner chains f rest g e =
     let w = g .disjoint in
-    let d : i .first ≡ f = first-is _ _ _ _ _ w e in
+    let d : i .state .first ≡ f = first-is _ _ _ _ _ w e in
     let s : Entry i f = slot-of _ _ _ reuse [] f rest w e in
-    let n : ahead i reuse f ≡ getD (i .next) (i .first) 0 = ahead-next i reuse f (s .low) ∙ ap (λ (x : ℕ). getD (i .next) x 0) (sym d) in
+    let n : ahead i reuse f ≡ getD (i .next) (i .state .first) 0 = ahead-next i reuse f (s .low) ∙ ap (λ (x : ℕ). getD (i .next) x 0) (sym d) in
     let r : Run (ahead i reuse) (ahead i reuse 0) (f ∷ rest) 0 = rw e at (w .runs reuse) in
     record {
       disjoint =
           disjoint-last _ _ _ _
           (rw n at (disjoint-unlink _ _ _ reuse [] f rest w e));
       ends =
-          rw with-same (take-ends (getD (i .next) (i .first) 0) (i .last) f (ahead i reuse) rest (rw n at (r .1))
+          rw with-same (take-ends (getD (i .next) (i .state .first) 0) (i .state .last) f (ahead i reuse) rest (rw n at (r .1))
           (λ y m. w .slot reuse y (w .owned .mine reuse y (rw e (inr m))) .low) (rw e at (g .ends)));
     }
 
@@ -80,7 +80,7 @@ unfolding append setLast
 formed-append i owner chains s g t f = record {
   disjoint =
       disjoint-last _ _ _ s
-      (disjoint-end _ _ _ reuse s (i .last) (g .disjoint) tt t f (g .ends));
+      (disjoint-end _ _ _ reuse s (i .state .last) (g .disjoint) tt t f (g .ends));
   ends = rw with-same (sym (end-snoc 0 (chains reuse) s));
 }
 
@@ -279,7 +279,7 @@ module _
   took : WellFormed (takeFirst i) (give owner f free) (withChain chains reuse rest)
   took = formed-take _ _ _ _ _ g e
 
-  first : i .first ≡ f
+  first : i .state .first ≡ f
   first = first-is _ _ _ _ _ (g .disjoint) e
 
   spare : Entry (takeFirst i) f

@@ -10,11 +10,12 @@ use borrow.Author.Tests.{eq-eqb}
 use Rattle.prelude.proofs.Choice.{pick-true, pick-false}
 use Rattle.prelude.specs.Range.{tabulate}
 use Rattle.prelude.proofs.Tabulate.{tabulate-length, tabulate-get}
-use Rattle.index.specs.Index.{Index, Chain, reuse, head, start, ahead, setNext, setStart, setLast, link}
+use Rattle.index.specs.declared.State.{State}
+use Rattle.index.specs.Index.{Index, indexOf, noState, withEnds, withCounts, Chain, reuse, head, start, ahead, setNext, setStart, setLast, link}
 use Rattle.index.specs.Change.{linkNew}
 use Rattle.index.specs.Chained.{firstOf, lastOf, after, nextIn, chained}
 use Rattle.prelude.specs.Members.{In, Once}
-use Rattle.index.specs.Linked.{Run, endOf, Sits}
+use Rattle.index.specs.Linked.{Run, endOf, ChainsPartition}
 use Rattle.index.proofs.defs.Linked.{Room, chainsBy}
 use Rattle.index.specs.inner.Build.{push, build, unbuilt}
 use Rattle.index.proofs.Owners.{Told, is, isnt, told}
@@ -62,13 +63,11 @@ run-next f s a (x ∷ xs) r (inr m) = go (told x s) (run-next f s (f x) xs (r .1
 
 -- ---- an index whose slots stand in chains is the index of those chains
 
-same-parts : (heads heads′ next next′ : List ℕ) (first first′ last last′ : ℕ) → heads ≡ heads′ → next ≡ next′ → first ≡ first′
-    → last ≡ last′
-    → _≡_ {A = Index} (record { heads = heads; next = next; first = first; last = last })
-    (record { heads = heads′; next = next′; first = first′; last = last′ })
-same-parts heads heads′ next next′ first first′ last last′ a b c d = cc
+same-parts : (heads heads′ next next′ : List ℕ) (s : State) (first first′ last last′ : ℕ) → heads ≡ heads′ → next ≡ next′ → first ≡ first′
+    → last ≡ last′ → indexOf heads next (withEnds s first last) ≡ indexOf heads′ next′ (withEnds s first′ last′)
+same-parts heads heads′ next next′ s first first′ last last′ a b c d = cc
 
-module _ (n b : ℕ) (place : ℕ → Chain) (i : Index) (chains : Chain → List ℕ) (g : Sits n b place i chains) where
+module _ (n b : ℕ) (place : ℕ → Chain) (i : Index) (chains : Chain → List ℕ) (g : ChainsPartition n b place i chains) where
   starts : (c : Chain) → ahead i c 0 ≡ firstOf (chains c)
   starts c = run-first (ahead i c) (ahead i c 0) (chains c) (g .formed .disjoint .runs c)
 
@@ -76,7 +75,7 @@ module _ (n b : ℕ) (place : ℕ → Chain) (i : Index) (chains : Chain → Lis
   unfolding ahead start
   head-starts h = starts (head h)
 
-  first-starts : i .first ≡ firstOf (chains reuse)
+  first-starts : i .state .first ≡ firstOf (chains reuse)
   unfolding ahead start
   first-starts = starts reuse
 
@@ -89,10 +88,11 @@ module _ (n b : ℕ) (place : ℕ → Chain) (i : Index) (chains : Chain → Lis
       sym (ahead-next i c (suc s) low)
       ∙ run-next (ahead i c) (suc s) (ahead i c 0) (chains c) (g .formed .disjoint .runs c) (sits-has _ _ _ _ _ g (suc s) low h)
 
-  sits-chained : getD (i .next) 0 0 ≡ 0 → i ≡ chained n b chains place
+  sits-chained : getD (i .next) 0 0 ≡ 0 → (live version newest : ℕ)
+      → withCounts i live version newest ≡ chained n b chains place live version newest
   unfolding chained
-  sits-chained z =
-      same-parts (i .heads) _ (i .next) _ (i .first) _ (i .last) _
+  sits-chained z live version newest =
+      same-parts (i .heads) _ (i .next) _ (withCounts i live version newest .state) (i .state .first) _ (i .state .last) _
       (ext-getD 0 (i .heads) (tabulate (λ h. firstOf (chains (head h))) 0 b) (g .heads-size ∙ sym (tabulate-length _ 0 b))
       (λ h l.
       head-starts h ∙ ap (λ (k : ℕ). firstOf (chains (head k))) (omega arith)
@@ -108,7 +108,7 @@ module _ (n b : ℕ) (place : ℕ → Chain) (i : Index) (chains : Chain → Lis
 -- a push writes next at its slot alone
 push-else : (i : Index) (c : Chain) (s x : ℕ) → (x ≡ s → ⊥) → getD (push i c s .next) x 0 ≡ getD (i .next) x 0
 unfolding push linkNew link setNext setStart setLast
-push-else i reuse s x n = getD-set-other (i .next) s x (i .first) 0 n
+push-else i reuse s x n = getD-set-other (i .next) s x (i .state .first) 0 n
 push-else i (head h) s x n = getD-set-other (i .next) s x (getD (i .heads) h 0) 0 n
 
 build-zero : (place : ℕ → Chain) (i : Index) (order : List ℕ) → ((x : ℕ) → In x order → 0 < x)
@@ -126,7 +126,8 @@ room i (head k) h = h k refl
 pub built-sits : (n b : ℕ) (place : ℕ → Chain) (order heads next : List ℕ) → Once order
     → ((x : ℕ) → In x order → (0 < x) × (x ≤ n)) → ((x : ℕ) → 0 < x → x ≤ n → In x order)
     → ((s h : ℕ) → In s order → place s ≡ head h → h < b) → length heads ≡ b → length next ≡ n + 1
-    → ((h : ℕ) → getD heads h 0 ≡ 0) → Sits n b place (build place (unbuilt heads next) order) (chainsBy place order)
+    → ((h : ℕ) → getD heads h 0 ≡ 0) → ChainsPartition n b place (build place (unbuilt heads next) order) (chainsBy place order)
+unfolding noState
 built-sits n b place order heads next once inside all heads-in eb en zeros =
     let i = unbuilt heads next in
     sits-build n b place i order (formed-empty i zeros refl refl) en eb once inside all
@@ -134,6 +135,7 @@ built-sits n b place order heads next once inside all heads-in eb en zeros =
 
 pub built-chained : (n b : ℕ) (place : ℕ → Chain) (order heads next : List ℕ) (chains : Chain → List ℕ)
     → ((x : ℕ) → In x order → (0 < x) × (x ≤ n)) → getD next 0 0 ≡ 0
-    → Sits n b place (build place (unbuilt heads next) order) chains → build place (unbuilt heads next) order ≡ chained n b chains place
+    → ChainsPartition n b place (build place (unbuilt heads next) order) chains → (live version newest : ℕ)
+    → withCounts (build place (unbuilt heads next) order) live version newest ≡ chained n b chains place live version newest
 built-chained n b place order heads next chains inside z g =
     sits-chained n b place _ chains g (build-zero place (unbuilt heads next) order (λ x m. inside x m .0) ∙ z)

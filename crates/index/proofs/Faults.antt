@@ -4,8 +4,8 @@ use mathlib.Core.List.{List}
 use Prim.Native.Nat.{ℕ, _+_, _≤_, _<_}
 use native.Mathlib.Omega.{arith}
 use borrow.Author.Tests.{ltb-false, leb-false, eqb-false}
-use Rattle.prelude.proofs.Refusals.{say-zero, orElse-zero}
-use Rattle.index.specs.Taking.{Taking, endsFault, reuseFault, roomFault}
+use Rattle.prelude.proofs.Refusals.{refuseIf-zero, orElse-zero}
+use Rattle.index.specs.Allocation.{Allocation, endsFault, reuseFault, roomFault}
 
 -- the ends of a reuse chain from which a slot can be taken
 pub record Reusable (n first last : ℕ) : Type 0 where
@@ -17,10 +17,10 @@ pub record Reusable (n first last : ℕ) : Type 0 where
 pub reusable : (n first last : ℕ) → endsFault n first last ≡ 0 → Reusable n first last
 unfolding endsFault
 reusable n first last e =
-    let a = say-zero _ _ _ e (omega arith) in
-    let b = say-zero _ _ _ (a .1) (omega arith) in
-    let c = say-zero _ _ _ (b .1) (omega arith) in
-    let d = say-zero _ _ _ (c .1) (omega arith) in
+    let a = refuseIf-zero _ _ _ e (omega arith) in
+    let b = refuseIf-zero _ _ _ (a .1) (omega arith) in
+    let c = refuseIf-zero _ _ _ (b .1) (omega arith) in
+    let d = refuseIf-zero _ _ _ (c .1) (omega arith) in
     record {
       first-low = omega (arith, eqb-false first 0 (a .0));
       first-high = ltb-false _ _ (b .0);
@@ -28,7 +28,7 @@ reusable n first last e =
       last-high = ltb-false _ _ (d .0);
     }
 
-module _ (taking : Taking) (n live removes : ℕ) where
+module _ (taking : Allocation) (n live removes : ℕ) where
   pub reuse-ends : (first last : ℕ) → reuseFault taking n first last live removes ≡ 0 → Reusable n first last
   unfolding reuseFault
   reuse-ends first last e = reusable n first last (orElse-zero _ _ e .0)
@@ -36,9 +36,9 @@ module _ (taking : Taking) (n live removes : ℕ) where
   -- as many are live as are removed
   pub reuse-live : (first last : ℕ) → reuseFault taking n first last live removes ≡ 0 → removes ≤ live
   unfolding reuseFault
-  reuse-live first last e = ltb-false _ _ (say-zero _ _ _ (orElse-zero _ _ (orElse-zero _ _ e .1) .0) (omega arith) .0)
+  reuse-live first last e = ltb-false _ _ (refuseIf-zero _ _ _ (orElse-zero _ _ (orElse-zero _ _ e .1) .0) (omega arith) .0)
 
   -- a spare slot is left
   pub room-fine : (inserts : ℕ) → roomFault taking n live inserts removes ≡ 0 → live + inserts < n + removes
   unfolding roomFault
-  room-fine inserts e = leb-false _ _ (say-zero _ _ _ (orElse-zero _ _ e .1) (omega arith) .0)
+  room-fine inserts e = leb-false _ _ (refuseIf-zero _ _ _ (orElse-zero _ _ e .1) (omega arith) .0)

@@ -14,7 +14,7 @@ pub mod Relinks
 pub mod Paths
 pub mod CallWrites
 pub mod ChainLengths
-pub mod Takings
+pub mod Allocations
 pub mod TakeAll
 pub mod LinkItems
 pub mod BasketSizes

@@ -86,12 +86,12 @@ unfolding link setNext
 link-heads i c zero v = start-heads i c v
 link-heads i c (suc p) v = refl
 
-start-last : (i : Index) (c : Chain) (v : ℕ) → setStart i c v .last ≡ i .last
+start-last : (i : Index) (c : Chain) (v : ℕ) → setStart i c v .state .last ≡ i .state .last
 unfolding setStart
 start-last i reuse v = refl
 start-last i (head h) v = refl
 
-pub link-last : (i : Index) (c : Chain) (p v : ℕ) → link i c p v .last ≡ i .last
+pub link-last : (i : Index) (c : Chain) (p v : ℕ) → link i c p v .state .last ≡ i .state .last
 unfolding link setNext
 link-last i c zero v = start-last i c v
 link-last i c (suc p) v = refl
@@ -108,6 +108,6 @@ pub set-heads : (i : Index) (s v : ℕ) → length (setNext i s v .heads) ≡ le
 unfolding setNext
 set-heads i s v = refl
 
-pub set-last : (i : Index) (s v : ℕ) → setNext i s v .last ≡ i .last
+pub set-last : (i : Index) (s v : ℕ) → setNext i s v .state .last ≡ i .state .last
 unfolding setNext
 set-last i s v = refl

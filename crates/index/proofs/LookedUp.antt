@@ -10,22 +10,22 @@ use Rattle.index.specs.declared.Found.the-variants.{At, Missing, BadChai
 use Rattle.index.specs.declared.Place.{Place}
 use Rattle.index.specs.declared.Place.the-variants.{Held, NotHeld}
 use Rattle.index.specs.declared.Lookup.{Lookup}
-use Rattle.index.specs.declared.Lookup.the-variants.{Refused, Allowed}
+use Rattle.index.specs.declared.Lookup.the-variants.{Refused, Accepted}
 
 module _ (found : Found) (slot prev compared fault : ℕ) (e : found ≡ At slot prev compared) where
-  pub held-by-fault : unlessRefused fault (Allowed (Held slot prev) compared) (Refused fault compared) ≡ lookupBy fault found
+  pub held-by-fault : unlessRefused fault (Accepted (Held slot prev) compared) (Refused fault compared) ≡ lookupBy fault found
   unfolding lookupBy
   held-by-fault = sym (ap (lookupBy fault) e)
 
-  pub held-taken : fault ≡ 0 → Allowed (Held slot prev) compared ≡ lookupBy fault found
+  pub held-taken : fault ≡ 0 → Accepted (Held slot prev) compared ≡ lookupBy fault found
   held-taken z = sym (taken-leaves _ _ fault z) ∙ held-by-fault
 
 module _ (found : Found) (prev compared fault : ℕ) (e : found ≡ Missing prev compared) where
-  pub not-held-by-fault : unlessRefused fault (Allowed (NotHeld prev) compared) (Refused fault compared) ≡ lookupBy fault found
+  pub not-held-by-fault : unlessRefused fault (Accepted (NotHeld prev) compared) (Refused fault compared) ≡ lookupBy fault found
   unfolding lookupBy
   not-held-by-fault = sym (ap (lookupBy fault) e)
 
-  pub not-held-taken : fault ≡ 0 → Allowed (NotHeld prev) compared ≡ lookupBy fault found
+  pub not-held-taken : fault ≡ 0 → Accepted (NotHeld prev) compared ≡ lookupBy fault found
   not-held-taken z = sym (taken-leaves _ _ fault z) ∙ not-held-by-fault
 
 -- a refusal has the count of what was found
@@ -36,5 +36,5 @@ refused-by-fault (Missing prev compared) fault c ne e = ap (Refused fault) e ∙
 refused-by-fault BadChain fault c ne e = ap (Refused fault) e
 
 -- the lookup where the key is open, by its place
-pub allowed-at : {r : Lookup} {place known : Place} {compared : ℕ} → r ≡ Allowed place compared → place ≡ known → r ≡ Allowed known compared
-allowed-at {compared = compared} e q = e ∙ ap (λ (p : Place). Allowed p compared) q
+pub allowed-at : {r : Lookup} {place known : Place} {compared : ℕ} → r ≡ Accepted place compared → place ≡ known → r ≡ Accepted known compared
+allowed-at {compared = compared} e q = e ∙ ap (λ (p : Place). Accepted p compared) q

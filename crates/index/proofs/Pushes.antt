@@ -6,10 +6,9 @@ use native.Mathlib.Omega.{arith}
 use lib.ListN.{length, getD, set, drop}
 use lib.Seq.{drop-length, drop-cons}
 use borrow.Author.Tests.{eq-eqb, ne-eqb}
-use Rattle.index.specs.Index.{Index, indexOf, setNext, setStart, setLast, link}
+use Rattle.index.specs.Index.{Index, indexOf, noState, withEnds, setNext, setStart, setLast, link}
 use Rattle.index.specs.Change.{linkNew}
 use Rattle.index.specs.inner.Build.{push, build, chainFrom, placeIn, unbuilt}
-use Rattle.index.specs.inner.Parts.{PartsOf}
 use Rattle.index.specs.declared.State.{State}
 
 -- ---- push_front
@@ -17,31 +16,24 @@ use Rattle.index.specs.declared.State.{State}
 module _ (heads next : List ℕ) (s : State) (place slot : ℕ) where
   -- to the front of reuse, which was empty
   pub front-only : place ≡ 0 → s .last ≡ 0
-      → PartsOf heads (set next slot (s .first)) (record { first = slot; last = slot; live = s .live; version = s .version; newest = s .newest })
-      (push (indexOf heads next s) (chainFrom place) slot) (s .live) (s .version) (s .newest)
+      → indexOf heads (set next slot (s .first)) (withEnds s slot slot) ≡ push (indexOf heads next s) (chainFrom place) slot
   unfolding push chainFrom linkNew link setNext setStart setLast
-  front-only e l = record { index = rw (e, eq-eqb (s .last) 0 l) refl; live-count = refl; next-version = refl; newest-slot = refl }
+  front-only e l = rw (e, eq-eqb (s .last) 0 l) refl
 
   -- or was not
   pub front-reuse : place ≡ 0 → (s .last ≡ 0 → ⊥)
-      → PartsOf heads (set next slot (s .first)) (record { first = slot; last = s .last; live = s .live; version = s .version; newest = s .newest })
-      (push (indexOf heads next s) (chainFrom place) slot) (s .live) (s .version) (s .newest)
+      → indexOf heads (set next slot (s .first)) (withEnds s slot (s .last)) ≡ push (indexOf heads next s) (chainFrom place) slot
   unfolding push chainFrom linkNew link setNext setStart setLast
-  front-reuse e l = record { index = rw (e, ne-eqb (s .last) 0 l) refl; live-count = refl; next-version = refl; newest-slot = refl }
+  front-reuse e l = rw (e, ne-eqb (s .last) 0 l) refl
 
   -- to the front of a head's chain
   pub front-head : (place ≡ 0 → ⊥)
-      → PartsOf (set heads (place - 1) slot) (set next slot (getD heads (place - 1) 0)) s
-      (push (indexOf heads next s) (chainFrom place) slot) (s .live) (s .version) (s .newest)
+      → indexOf (set heads (place - 1) slot) (set next slot (getD heads (place - 1) 0)) s
+      ≡ push (indexOf heads next s) (chainFrom place) slot
   unfolding push chainFrom linkNew link setNext setStart
   front-head n =
       let e : place ≡ suc (place - 1) = omega arith in
-      record {
-        index = sym (ap (λ (p : ℕ). push (indexOf heads next s) (chainFrom p) slot) e);
-        live-count = refl;
-        next-version = refl;
-        newest-slot = refl;
-      }
+      sym (ap (λ (p : ℕ). push (indexOf heads next s) (chainFrom p) slot) e)
 
 -- ---- chain_up
 
@@ -50,17 +42,17 @@ pub record Going (heads₀ next₀ order places heads next : List ℕ) (s : Stat
   pub position : left ≤ length order
   pub heads-size : length heads ≡ length heads₀
   pub next-size : length next ≡ length next₀
-  pub done : PartsOf heads next s (build (placeIn places) (unbuilt heads₀ next₀) (drop left order)) 0 0 0
+  pub done : indexOf heads next s ≡ build (placeIn places) (unbuilt heads₀ next₀) (drop left order)
 
 pub going-starts : (heads next order places : List ℕ)
-    → Going heads next order places heads next (record { first = 0; last = 0; live = 0; version = 0; newest = 0 }) (length order)
+    → Going heads next order places heads next noState (length order)
 unfolding build
 going-starts heads next order places =
     record {
       position = omega arith;
       heads-size = refl;
       next-size = refl;
-      done = rw (drop-length order) (record { index = refl; live-count = refl; next-version = refl; newest-slot = refl });
+      done = rw (drop-length order) refl;
     }
 
 module _
@@ -70,8 +62,7 @@ module _
   going-slot h = omega (arith, g .position)
 
   pub going-on : (heads′ next′ : List ℕ) (s′ : State) → 0 < left → length heads′ ≡ length heads → length next′ ≡ length next
-      → PartsOf heads′ next′ s′
-      (push (indexOf heads next s) (chainFrom (getD places (getD order (left - 1) 0) 0)) (getD order (left - 1) 0)) (s .live) (s .version) (s .newest)
+      → indexOf heads′ next′ s′ ≡ push (indexOf heads next s) (chainFrom (getD places (getD order (left - 1) 0) 0)) (getD order (left - 1) 0)
       → Going heads₀ next₀ order places heads′ next′ s′ (left - 1)
   unfolding build placeIn
   going-on heads′ next′ s′ h lh ln p =
@@ -84,22 +75,11 @@ module _
         heads-size = lh ∙ g .heads-size;
         next-size = ln ∙ g .next-size;
         done =
-            record {
-              index =
-                  p .index ∙ ap (λ (i : Index). push i (chainFrom (getD places x 0)) x) (g .done .index)
-                  ∙ sym (ap (build (placeIn places) (unbuilt heads₀ next₀)) d);
-              live-count = p .live-count ∙ g .done .live-count;
-              next-version = p .next-version ∙ g .done .next-version;
-              newest-slot = p .newest-slot ∙ g .done .newest-slot;
-            };
+            p ∙ ap (λ (i : Index). push i (chainFrom (getD places x 0)) x) (g .done)
+            ∙ sym (ap (build (placeIn places) (unbuilt heads₀ next₀)) d);
       }
 
-  pub going-ends : left ≤ 0 → PartsOf heads next s (build (placeIn places) (unbuilt heads₀ next₀) order) 0 0 0
+  pub going-ends : left ≤ 0 → indexOf heads next s ≡ build (placeIn places) (unbuilt heads₀ next₀) order
   going-ends h =
       let e : left ≡ 0 = omega arith in
-      record {
-        index = g .done .index ∙ ap (λ (k : ℕ). build (placeIn places) (unbuilt heads₀ next₀) (drop k order)) e;
-        live-count = g .done .live-count;
-        next-version = g .done .next-version;
-        newest-slot = g .done .newest-slot;
-      }
+      g .done ∙ ap (λ (k : ℕ). build (placeIn places) (unbuilt heads₀ next₀) (drop k order)) e

@@ -9,11 +9,11 @@ use native.Mathlib.Omega.{arith}
 use lib.Dec.{eqb}
 use lib.ListN.{length, getD}
 use borrow.Author.Tests.{eq-eqb, ne-eqb, lt-ltb, le-ltb}
-use Rattle.index.specs.Index.{Chain, reuse, head, Index, ahead}
+use Rattle.index.specs.Index.{Chain, reuse, head, Index, withCounts, start, ahead}
 use Rattle.index.specs.inner.Parts.{insertNew, replaceHeld, removeHeld}
 use Rattle.index.specs.inner.Build.{build}
 use Rattle.prelude.specs.Members.{In, Once}
-use Rattle.index.specs.Linked.{Run, endOf, Owner, free, of, WellFormed, placed, Sits}
+use Rattle.index.specs.Linked.{Run, endOf, Owner, free, of, WellFormed, placed, ChainsPartition}
 use Rattle.index.proofs.defs.Linked.{give, withChain, Room, ownerOf, chainsBy}
 use Rattle.index.proofs.Paths.{end-in}
 use Rattle.index.proofs.Links.{ahead-next}
@@ -98,7 +98,7 @@ placed-two n place place′ s t h ls ms lt mt q r o =
     then x l m u (is a e) = rw a (ap place′ e ∙ q)
     then x l m u (isnt a v) = rw a (o x l m v u)
 
-module _ (n b : ℕ) (place : ℕ → Chain) (i : Index) (chains : Chain → List ℕ) (g : Sits n b place i chains) where
+module _ (n b : ℕ) (place : ℕ → Chain) (i : Index) (chains : Chain → List ℕ) (g : ChainsPartition n b place i chains) where
   -- a slot stands in just the chain that is its place, and once
   pub sits-in : (c : Chain) (x : ℕ) → In x (chains c) → (0 < x) × (x ≤ n) × (place x ≡ c)
   sits-in c x m = placed-of n place x c (g .formed .disjoint .owned .mine c x m)
@@ -109,25 +109,25 @@ module _ (n b : ℕ) (place : ℕ → Chain) (i : Index) (chains : Chain → Lis
   pub sits-once : (c : Chain) → Once (chains c)
   sits-once c = run-once (ahead i c) (ahead i c 0) (chains c) (λ y m. sits-in c y m .0) (g .formed .disjoint .runs c)
 
-  second : (f : ℕ) (rest : List ℕ) → chains reuse ≡ f ∷ rest → Run (ahead i reuse) (getD (i .next) (i .first) 0) rest 0
+  second : (f : ℕ) (rest : List ℕ) → chains reuse ≡ f ∷ rest → Run (ahead i reuse) (getD (i .next) (i .state .first) 0) rest 0
   second f rest e =
       let r : Run (ahead i reuse) (ahead i reuse 0) (f ∷ rest) 0 = rw e at (g .formed .disjoint .runs reuse) in
       let q = sits-in reuse f (rw e (inl refl)) in
-      let d : ahead i reuse f ≡ getD (i .next) (i .first) 0 =
+      let d : ahead i reuse f ≡ getD (i .next) (i .state .first) 0 =
       ahead-next i reuse f (q .0) ∙ ap (λ (x : ℕ). getD (i .next) x 0)
       (sym (first-is _ _ _ f rest (g .formed .disjoint) e)) in
       rw d at (r .1)
 
   -- the tests of the reuse chain pass
-  pub sits-first : (f : ℕ) (rest : List ℕ) → chains reuse ≡ f ∷ rest → (i .first ≡ f) × (0 < i .first) × (i .first ≤ n)
+  pub sits-first : (f : ℕ) (rest : List ℕ) → chains reuse ≡ f ∷ rest → (i .state .first ≡ f) × (0 < i .state .first) × (i .state .first ≤ n)
   sits-first f rest e =
-      let d : i .first ≡ f = first-is _ _ _ f rest (g .formed .disjoint) e in
+      let d : i .state .first ≡ f = first-is _ _ _ f rest (g .formed .disjoint) e in
       let q = sits-in reuse f (rw e (inl refl)) in
       (d, omega (arith, q .0), omega (arith, q .1))
 
-  pub sits-last : (f : ℕ) (rest : List ℕ) → chains reuse ≡ f ∷ rest → (0 < i .last) × (i .last ≤ n)
+  pub sits-last : (f : ℕ) (rest : List ℕ) → chains reuse ≡ f ∷ rest → (0 < i .state .last) × (i .state .last ≤ n)
   sits-last f rest e =
-      let d : i .last ≡ endOf f rest = g .formed .ends ∙ ap (endOf 0) e in
+      let d : i .state .last ≡ endOf f rest = g .formed .ends ∙ ap (endOf 0) e in
       let q = sits-in reuse (endOf f rest) (rw e (end-in f rest)) in
       (omega (arith, q .0), omega (arith, q .1))
 
@@ -137,7 +137,7 @@ module _ (n b : ℕ) (place : ℕ → Chain) (i : Index) (chains : Chain → Lis
 
     pub sits-new : h < b → prev ≡ endOf 0 (chains (head h)) → place′ f ≡ head h
         → ((x : ℕ) → 0 < x → x ≤ n → (x ≡ f → ⊥) → place′ x ≡ place x)
-        → Sits n b place′ (insertNew i h prev) (withChain (withChain chains reuse rest) (head h) (chains (head h) ++ f ∷ []))
+        → ChainsPartition n b place′ (insertNew i h prev) (withChain (withChain chains reuse rest) (head h) (chains (head h) ++ f ∷ []))
     sits-new l p q o = record {
       formed =
           formed-alike (insertNew i h prev) _ _ _ _ (ap (λ (c : Chain). give (placed n place) f (of c)) (sym q)
@@ -152,7 +152,7 @@ module _ (n b : ℕ) (place : ℕ → Chain) (i : Index) (chains : Chain → Lis
       old-in = placed-of n place old (head h) (owner-of _ _ _ (head h) xs old ys (g .formed .disjoint) d)
 
       pub sits-held : place′ f ≡ head h → place′ old ≡ reuse → ((x : ℕ) → 0 < x → x ≤ n → (x ≡ f → ⊥) → (x ≡ old → ⊥) → place′ x ≡ place x)
-          → Sits n b place′ (replaceHeld i h prev old) (withChain (withChain chains reuse (rest ++ old ∷ [])) (head h) (xs ++ f ∷ ys))
+          → ChainsPartition n b place′ (replaceHeld i h prev old) (withChain (withChain chains reuse (rest ++ old ∷ [])) (head h) (xs ++ f ∷ ys))
       sits-held q r o = record {
         formed =
             formed-alike (replaceHeld i h prev old) _ _ _ _
@@ -163,7 +163,7 @@ module _ (n b : ℕ) (place : ℕ → Chain) (i : Index) (chains : Chain → Lis
       }
 
       pub sits-remove : place′ old ≡ reuse → ((x : ℕ) → 0 < x → x ≤ n → (x ≡ old → ⊥) → place′ x ≡ place x)
-          → Sits n b place′ (removeHeld i h prev old) (withChain (withChain chains reuse (rest ++ old ∷ f ∷ [])) (head h) (xs ++ ys))
+          → ChainsPartition n b place′ (removeHeld i h prev old) (withChain (withChain chains reuse (rest ++ old ∷ f ∷ [])) (head h) (xs ++ ys))
       sits-remove q o = record {
         formed =
             formed-alike (removeHeld i h prev old) _ _ _ _
@@ -178,7 +178,7 @@ module _ (n b : ℕ) (place : ℕ → Chain) (i : Index) (chains : Chain → Lis
 pub sits-build : (n b : ℕ) (place : ℕ → Chain) (i : Index) (l : List ℕ) → WellFormed i (λ _. free) (λ _. []) → length (i .next) ≡ n + 1
     → length (i .heads) ≡ b → Once l
     → ((x : ℕ) → In x l → (0 < x) × (x ≤ n)) → ((x : ℕ) → 0 < x → x ≤ n → In x l) → ((x : ℕ) → In x l → Room i (place x))
-    → Sits n b place (build place i l) (chainsBy place l)
+    → ChainsPartition n b place (build place i l) (chainsBy place l)
 sits-build n b place i l g en eb a h k m = record {
   formed =
       formed-alike (build place i l) _ _ _ _ (placed-alike n (ownerOf place l) place (λ x u v. owner-in place l x (k x u v))
@@ -189,8 +189,8 @@ sits-build n b place i l g en eb a h k m = record {
 }
 
 -- another place that agrees on the slots serves as well
-pub sits-places : (n b : ℕ) (place place′ : ℕ → Chain) (i : Index) (chains : Chain → List ℕ) → Sits n b place i chains
-    → ((x : ℕ) → 0 < x → x ≤ n → place′ x ≡ place x) → Sits n b place′ i chains
+pub sits-places : (n b : ℕ) (place place′ : ℕ → Chain) (i : Index) (chains : Chain → List ℕ) → ChainsPartition n b place i chains
+    → ((x : ℕ) → 0 < x → x ≤ n → place′ x ≡ place x) → ChainsPartition n b place′ i chains
 sits-places n b place place′ i chains g h =
     record {
       formed =
@@ -207,3 +207,33 @@ sits-places n b place place′ i chains g h =
         go (nought z) = placed-zero n place x z
         go (past l) = placed-past n place x l
         go (within l m) = absurd (free-of (place′ x) (sym e ∙ placed-in n place′ x l m))
+
+-- ---- the counts beside the chains do not matter
+
+ahead-counts : (i : Index) (live version newest : ℕ) (c : Chain) (x : ℕ) → ahead i c x ≡ ahead (withCounts i live version newest) c x
+unfolding ahead start
+ahead-counts i live version newest reuse zero = refl
+ahead-counts i live version newest (head h) zero = refl
+ahead-counts i live version newest c (suc x) = refl
+
+pub sits-counts : (n b : ℕ) (place : ℕ → Chain) (i : Index) (chains : Chain → List ℕ) → ChainsPartition n b place i chains
+    → (live version newest : ℕ) → ChainsPartition n b place (withCounts i live version newest) chains
+sits-counts n b place i chains g live version newest =
+    record {
+      formed =
+          record {
+            disjoint =
+                record {
+                  runs =
+                      λ c.
+                      subst (λ (f : ℕ → ℕ). Run f (f 0) (chains c) 0) (fun-ext (ahead-counts i live version newest c))
+                      (g .formed .disjoint .runs c);
+                  owned = g .formed .disjoint .owned;
+                  slot =
+                      λ c x e. let s = g .formed .disjoint .slot c x e in record { low = s .low; high = s .high };
+                };
+            ends = g .formed .ends;
+          };
+      next-size = g .next-size;
+      heads-size = g .heads-size;
+    }

@@ -15,8 +15,8 @@ use Rattle.prelude.proofs.Among.{out-member, member-none, member-head, member-t
 use Rattle.prelude.proofs.Choice.{pick-true, pick-false}
 use Rattle.prelude.proofs.Lists.{in-right, filter-all}
 use Rattle.index.specs.Index.{Chain, reuse, Index, ahead, setStart, setLast, link}
-use Rattle.index.specs.Linked.{endOf, Owner, free, Entry, WellFormed, placed, Sits}
-use Rattle.index.specs.Taking.{Taken}
+use Rattle.index.specs.Linked.{endOf, Owner, free, Entry, WellFormed, placed, ChainsPartition}
+use Rattle.index.specs.Allocation.{Taken}
 use Rattle.index.specs.Change.{takeFirst}
 use Rattle.index.specs.Basket.{takeSlot, takeAll, takenSlots}
 use Rattle.index.proofs.defs.Linked.{give, withChain}
@@ -53,17 +53,17 @@ formed-take-slot i owner chains xs s ys prev g e p =
     record {
       disjoint = disjoint-last (link i reuse prev (getD (i .next) s 0)) _ _ _ (rw (p, ← ahead-next i reuse s (t .low)) (disjoint-unlink _ _ _ reuse xs s ys w e));
       ends =
-          rw (with-same, p) (last-after (i .last) s xs ys (g .ends ∙ ap (endOf 0) e)
+          rw (with-same, p) (last-after (i .state .last) s xs ys (g .ends ∙ ap (endOf 0) e)
           (stands-once (ahead i reuse) 0 xs s ys (part-pos _ _ _ w reuse xs (s ∷ ys) e) (part-run _ _ _ w reuse xs (s ∷ ys) e)));
     }
 
 -- the first slot is taken as a single call takes it
-pub take-first : (i : Index) (owner : ℕ → Owner) (chains : Chain → List ℕ) (rest : List ℕ) → WellFormed i owner chains → chains reuse ≡ i .first ∷ rest
-    → takeSlot i (record { slot = i .first; prev = 0 }) ≡ takeFirst i
+pub take-first : (i : Index) (owner : ℕ → Owner) (chains : Chain → List ℕ) (rest : List ℕ) → WellFormed i owner chains → chains reuse ≡ i .state .first ∷ rest
+    → takeSlot i (record { slot = i .state .first; prev = 0 }) ≡ takeFirst i
 unfolding takeSlot takeFirst setLast link
 take-first i owner chains rest g e =
-    ap (setLast (setStart i reuse (getD (i .next) (i .first) 0)))
-    (formed-take-slot i owner chains [] (i .first) rest 0 g e refl .ends ∙ sym (formed-take i owner chains (i .first) rest g e .ends))
+    ap (setLast (setStart i reuse (getD (i .next) (i .state .first) 0)))
+    (formed-take-slot i owner chains [] (i .state .first) rest 0 g e refl .ends ∙ sym (formed-take i owner chains (i .state .first) rest g e .ends))
 
 -- ---- the first of a list that may be taken
 
@@ -175,7 +175,7 @@ left-is may prev (suc wanted) (x ∷ xs) o = go (may x) (left-is may prev wanted
         ∙ sym (unfold filter in pick-true _ _ _ (ap not (out-member later x (λ m. o .0 (takes-in may x (suc wanted) xs x m)))))
 
 -- THE TAKING of a basket's slots: they are nobody's, the reuse chain is what is left, and the heads' chains stay
-module _ (n b : ℕ) (place : ℕ → Chain) (i : Index) (chains : Chain → List ℕ) (g : Sits n b place i chains) (may : ℕ → Bool) (wanted : ℕ) where
+module _ (n b : ℕ) (place : ℕ → Chain) (i : Index) (chains : Chain → List ℕ) (g : ChainsPartition n b place i chains) (may : ℕ → Bool) (wanted : ℕ) where
   pub sits-takes : WellFormed (takeAll i (takesIn may 0 wanted (chains reuse)))
       (freed (placed n place) (takenSlots (takesIn may 0 wanted (chains reuse))))
       (withChain chains reuse (filter (λ t. not (member (takenSlots (takesIn may 0 wanted (chains reuse))) t)) (chains reuse)))

@@ -8,7 +8,7 @@ use native.Mathlib.Omega.{arith}
 use lib.ListN.{length, getD, set}
 use lib.Seq.{getD-set-same, getD-set-other}
 use Rattle.prelude.specs.Members.{All, none-left, one-more}
-use Rattle.index.specs.Taking.{Taken}
+use Rattle.index.specs.Allocation.{Taken}
 use Rattle.index.specs.inner.Basket.{takensFrom}
 
 -- they depend on these entries alone

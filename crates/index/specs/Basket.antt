@@ -1,5 +1,5 @@
--- What a basket writes to the index. Document 02, A.7: "A basket takes all its slots before any other index change, then links and appends key by key; with an
--- index not the image's own, only refusals are fixed".
+-- What a basket writes to the index. Document 02, A.7: "A basket takes all its slots before any other index change,
+-- then links and appends key by key; with an index not the image's own, only refusals are fixed".
 use mathlib.Core.Bool.{cond}
 use mathlib.Core.List.{List, [], _∷_}
 use Prim.Native.Nat.{ℕ, zero, suc}
@@ -7,7 +7,7 @@ use lib.Dec.{eqb, ltb}
 use lib.ListN.{getD}
 use Rattle.index.specs.Index.{Index, reuse, setLast, link}
 use Rattle.index.specs.Change.{insertAt, replaceAt, removeAt}
-use Rattle.index.specs.Taking.{Taken}
+use Rattle.index.specs.Allocation.{Taken}
 use Rattle.index.specs.declared.Action.{Action}
 use Rattle.index.specs.declared.Action.the-variants.{Insert, Replace, Remove}
 
@@ -16,7 +16,7 @@ use Rattle.index.specs.declared.Action.the-variants.{Insert, Replace, Re
 -- one slot: the link to it becomes its next; where it was the last slot of reuse, the slot before it is, 0 for none
 unfoldable pub takeSlot : Index → Taken → Index
 takeSlot i t =
-    setLast (link i reuse (t .prev) (getD (i .next) (t .slot) 0)) (cond (eqb (i .last) (t .slot)) (t .prev) (i .last))
+    setLast (link i reuse (t .prev) (getD (i .next) (t .slot) 0)) (cond (eqb (i .state .last) (t .slot)) (t .prev) (i .state .last))
 
 -- all, in order
 unfoldable pub takeAll : Index → List Taken → Index
@@ -30,8 +30,9 @@ takenSlots (t ∷ ts) = t .slot ∷ takenSlots ts
 
 -- ---- "links and appends key by key"
 
--- the slot from which a link leads to `target`, which is 0 for a chain's end: from the link `at` on, with `prev` before it and `left` links that may still be
--- followed. A link that is 0 or above n ends it too, so that it is some slot of any index
+-- the slot from which a link leads to `target`, which is 0 for a chain's end: from the link `at` on, with `prev` before
+-- it and `left` links that may still be followed. A link that is 0 or above n ends it too, so that it is some slot of
+-- any index
 unfoldable pub slotBefore : (next : List ℕ) → (n left target prev at : ℕ) → ℕ
 slotBefore next n zero target prev at = prev
 slotBefore next n (suc left) target prev at =
@@ -44,7 +45,8 @@ slotBefore next n (suc left) target prev at =
 unfoldable pub beforeIn : Index → (n h target : ℕ) → ℕ
 beforeIn i n h target = slotBefore (i .next) n n target 0 (getD (i .heads) h 0)
 
--- one of a basket's keys: what is asked, the key's head, the slot of its old record (0 for an insert) and the slot taken for its new one
+-- one of a basket's keys: what is asked, the key's head, the slot of its old record (0 for an insert) and the slot
+-- taken for its new one
 pub record Item : Type 0 where
   pub action : Action
   pub key-head : ℕ

@@ -27,12 +27,18 @@ unfoldable pub nextIn : (chains : Chain → List ℕ) → (place : ℕ → Chain
 nextIn chains place zero = 0
 nextIn chains place (suc s) = after (suc s) (chains (place (suc s)))
 
--- the index of n slots and b heads with these chains
-unfoldable pub chained : (n b : ℕ) → (chains : Chain → List ℕ) → (place : ℕ → Chain) → Index
-chained n b chains place =
+-- the index of n slots and b heads with these chains, this live count, next version and newest slot
+unfoldable pub chained : (n b : ℕ) → (chains : Chain → List ℕ) → (place : ℕ → Chain) → (live version newest : ℕ) → Index
+chained n b chains place live version newest =
     record {
       heads = tabulate (λ h. firstOf (chains (head h))) 0 b;
       next = tabulate (nextIn chains place) 0 (n + 1);
-      first = firstOf (chains reuse);
-      last = lastOf (chains reuse);
+      state =
+          record {
+            first = firstOf (chains reuse);
+            last = lastOf (chains reuse);
+            live = live;
+            version = version;
+            newest = newest;
+          };
     }

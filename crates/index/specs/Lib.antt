@@ -3,6 +3,6 @@ pub mod Walk
 pub mod Change
 pub mod Chained
 pub mod Linked
-pub mod Taking
+pub mod Allocation
 pub mod Basket
 pub mod inner

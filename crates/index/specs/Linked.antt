@@ -51,7 +51,7 @@ pub record Disjoint (i : Index) (owner : ℕ → Owner) (chains : Chain → List
 -- and the last slot of reuse is where the index says
 pub record WellFormed (i : Index) (owner : ℕ → Owner) (chains : Chain → List ℕ) : Type 0 where
   pub disjoint : Disjoint i owner chains
-  pub ends : i .last ≡ endOf 0 (chains reuse)
+  pub ends : i .state .last ≡ endOf 0 (chains reuse)
 
 -- ---- the slots 1 to n, each in its place: the place of a slot is the chain in which it stands
 
@@ -60,7 +60,7 @@ unfoldable pub placed : (n : ℕ) → (place : ℕ → Chain) → ℕ → Owner
 placed n place x = cond (eqb x 0) free (cond (ltb n x) free (of (place x)))
 
 -- a well-formed index of n slots and b heads, whose slots stand where `place` says
-pub record Sits (n b : ℕ) (place : ℕ → Chain) (i : Index) (chains : Chain → List ℕ) : Type 0 where
+pub record ChainsPartition (n b : ℕ) (place : ℕ → Chain) (i : Index) (chains : Chain → List ℕ) : Type 0 where
   pub formed : WellFormed i (placed n place) chains
   pub next-size : length (i .next) ≡ n + 1
   pub heads-size : length (i .heads) ≡ b

@@ -1,5 +1,5 @@
--- Following a key's chain. Document 01, "What each operation may say no to", Put: "11 when, following the key's chain up to the first slot with that
--- key or the end, a link above N is met or N slots pass without the key".
+-- Following a key's chain. Document 01, "What each operation may say no to", Put: "11 when, following the key's chain
+-- up to the first slot with that key or the end, a link above N is met or N slots pass without the key".
 use mathlib.Core.Path.{_≡_}
 use mathlib.Core.Bool.{cond}
 use mathlib.Core.List.{List, _∷_, _++_}
@@ -15,7 +15,8 @@ use Rattle.index.specs.Index.{headOf}
 use Rattle.index.specs.declared.Found.{Found}
 use Rattle.index.specs.declared.Found.the-variants.{At, Missing, BadChain}
 
--- from slot `at`, with `prev` before it, `compared` slots compared and `left` that may still be; `keys` gives a slot's key
+-- from slot `at`, with `prev` before it, `compared` slots compared and `left` that may still be; `keys` gives a slot's
+-- key
 unfoldable pub walk : (keys : ℕ → ℕ) → (next : List ℕ) → (n key left compared prev at : ℕ) → Found
 walk keys next n key zero compared prev at = BadChain
 walk keys next n key (suc left) compared prev at =
@@ -39,8 +40,8 @@ comparedIn (At slot prev compared) = compared
 comparedIn (Missing prev compared) = compared
 comparedIn BadChain = 0
 
--- A.4: "The count of slots compared equals the place of the key in its chain, or the chain's whole length when it is absent": of key k and
--- a chain of slots, where `keys` gives a slot's key; the first slot of the chain has place 1
+-- A.4: "The count of slots compared equals the place of the key in its chain, or the chain's whole length when it is
+-- absent": of key k and a chain of slots, where `keys` gives a slot's key; the first slot of the chain has place 1
 pub data Counted (keys : ℕ → ℕ) (k : ℕ) (chain : List ℕ) : Found → Type 0 where
   at-place : {s prev compared : ℕ} (before behind : List ℕ) → chain ≡ before ++ s ∷ behind → keys s ≡ k
       → ((y : ℕ) → In y before → keys y ≡ k → ⊥) → compared ≡ length before + 1 → Counted keys k chain (At s prev compared)

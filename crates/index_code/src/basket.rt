@@ -8,7 +8,7 @@ ghost use lib.ListN.{length, getD};
 ghost use Rattle.index.specs.Index.{indexOf};
 ghost use Rattle.index.specs.Basket.{takeAll, slotBefore, linkBy};
 ghost use Rattle.index.specs.declared.Action.the-variants.{Insert, Replace, Remove};
-ghost use Rattle.index.specs.inner.Parts.{PartsOf, linkNext};
+ghost use Rattle.index.specs.inner.Parts.{linkNext};
 ghost use Rattle.index.specs.inner.Basket.{takensFrom, TakensInside, leftState, LinksInside};
 use crate::change::append;
 use crate::change::link;
@@ -28,7 +28,8 @@ fn last_without(last: u32, slot: u32, prev: u32) -> u32
 // A slot leaves the reuse chain; prev is the slot before it that stays, 0 for none.
 fn take_slot(next: &mut [u32], state: State, slot: u32, prev: u32) -> State
     requires { ⌜ (slot < length (now next)) × (prev < length (now next)) ⌝ }
-    ensures { λ r. ⌜ (r ≡ leftState (now (next .entry)) state slot prev) × (now (next .exit) ≡ linkNext (now (next .entry)) prev (getD (now (next .entry)) slot 0)) ⌝ }
+    ensures { λ r. ⌜ (r ≡ leftState (now (next .entry)) state slot prev) ×
+        (now (next .exit) ≡ linkNext (now (next .entry)) prev (getD (now (next .entry)) slot 0)) ⌝ }
 {
     let at = slot as usize;
     let follow = next[at];
@@ -62,7 +63,8 @@ pub fn take_all(
     count: usize,
 ) -> State
     requires { ⌜ TakensInside slots prevs count (length (now next)) ⌝ }
-    ensures { λ r. ⌜ ((heads : List ℕ) → PartsOf heads (now (next .exit)) r (takeAll (indexOf heads (now (next .entry)) state) (takensFrom slots prevs 0 count)) (state .live) (state .version) (state .newest)) ⌝ }
+    ensures result { λ r. ⌜
+        ((heads : List ℕ) → indexOf heads (now (next .exit)) r ≡ takeAll (indexOf heads (now (next .entry)) state) (takensFrom slots prevs 0 count)) ⌝ }
 {
     let mut rest = state;
     let mut j = 0;
@@ -109,7 +111,7 @@ fn insert_linked(
     slot: u32,
 ) -> State
     requires { ⌜ LinksInside (now heads) (now next) n state h 0 slot ⌝ }
-    ensures { λ r. ⌜ PartsOf (now (heads .exit)) (now (next .exit)) r (linkBy n (indexOf (now (heads .entry)) (now (next .entry)) state) Insert h 0 slot) (state .live) (state .version) (state .newest) ⌝ }
+    ensures { λ r. ⌜ indexOf (now (heads .exit)) (now (next .exit)) r ≡ linkBy n (indexOf (now (heads .entry)) (now (next .entry)) state) Insert h 0 slot ⌝ }
 {
     let prev = slot_before(next, n, 0, heads[h]);
     let at = slot as usize;
@@ -129,7 +131,7 @@ fn replace_linked(
     slot: u32,
 ) -> State
     requires { ⌜ LinksInside (now heads) (now next) n state h old slot ⌝ }
-    ensures { λ r. ⌜ PartsOf (now (heads .exit)) (now (next .exit)) r (linkBy n (indexOf (now (heads .entry)) (now (next .entry)) state) Replace h old slot) (state .live) (state .version) (state .newest) ⌝ }
+    ensures { λ r. ⌜ indexOf (now (heads .exit)) (now (next .exit)) r ≡ linkBy n (indexOf (now (heads .entry)) (now (next .entry)) state) Replace h old slot ⌝ }
 {
     let prev = slot_before(next, n, old, heads[h]);
     let from = old as usize;
@@ -151,7 +153,7 @@ fn remove_linked(
     slot: u32,
 ) -> State
     requires { ⌜ LinksInside (now heads) (now next) n state h old slot ⌝ }
-    ensures { λ r. ⌜ PartsOf (now (heads .exit)) (now (next .exit)) r (linkBy n (indexOf (now (heads .entry)) (now (next .entry)) state) Remove h old slot) (state .live) (state .version) (state .newest) ⌝ }
+    ensures { λ r. ⌜ indexOf (now (heads .exit)) (now (next .exit)) r ≡ linkBy n (indexOf (now (heads .entry)) (now (next .entry)) state) Remove h old slot ⌝ }
 {
     let prev = slot_before(next, n, old, heads[h]);
     let from = old as usize;
@@ -161,7 +163,8 @@ fn remove_linked(
     append(next, joined, slot)
 }
 
-// A key of head h is linked and appended, by what is asked for it; old is the slot of its old record, slot that of its new one.
+// A key of head h is linked and appended, by what is asked for it; old is the slot of its old record, slot that of its
+// new one.
 pub fn link_item(
     heads: &mut [u32],
     next: &mut [u32],
@@ -173,7 +176,8 @@ pub fn link_item(
     slot: u32,
 ) -> State
     requires { ⌜ LinksInside (now heads) (now next) n state h old slot ⌝ }
-    ensures { λ r. ⌜ PartsOf (now (heads .exit)) (now (next .exit)) r (linkBy n (indexOf (now (heads .entry)) (now (next .entry)) state) action h old slot) (state .live) (state .version) (state .newest) ⌝ }
+    ensures result { λ r. ⌜ indexOf (now (heads .exit)) (now (next .exit)) r
+        ≡ linkBy n (indexOf (now (heads .entry)) (now (next .entry)) state) action h old slot ⌝ }
 {
     match action {
         Action::Insert => insert_linked(heads, next, n, state, h, slot),

@@ -4,12 +4,11 @@ ghost use Prim.Native.Nat.{_≤_, _<_};
 ghost use lib.ListN.{length, replicate};
 ghost use Rattle.index.specs.Index.{indexOf};
 ghost use Rattle.index.specs.inner.Build.{push, build, chainFrom, placeIn, unbuilt, Ordered};
-ghost use Rattle.index.specs.inner.Parts.{PartsOf};
 use index::State;
 
 // Every number becomes zero.
 pub fn clear(list: &mut [u32])
-    ensures { λ _. ⌜ now (list .exit) ≡ replicate (length (now (list .entry))) 0 ⌝ }
+    ensures result { λ _. ⌜ now (list .exit) ≡ replicate (length (now (list .entry))) 0 ⌝ }
 {
     let mut i = 0;
     while i < list.len() {
@@ -21,7 +20,7 @@ pub fn clear(list: &mut [u32])
 // The slot goes to the front of its chain: place 0 is reuse, h + 1 the chain of head h.
 fn push_front(heads: &mut [u32], next: &mut [u32], state: State, place: u32, slot: u32) -> State
     requires { ⌜ (slot < length (now next)) × (place ≤ length (now heads)) ⌝ }
-    ensures { λ r. ⌜ PartsOf (now (heads .exit)) (now (next .exit)) r (push (indexOf (now (heads .entry)) (now (next .entry)) state) (chainFrom place) slot) (state .live) (state .version) (state .newest) ⌝ }
+    ensures { λ r. ⌜ indexOf (now (heads .exit)) (now (next .exit)) r ≡ push (indexOf (now (heads .entry)) (now (next .entry)) state) (chainFrom place) slot ⌝ }
 {
     let at = slot as usize;
     if place == 0 {
@@ -49,11 +48,12 @@ fn push_front(heads: &mut [u32], next: &mut [u32], state: State, place: u32, slo
     state
 }
 
-// The slots of an order, pushed from its end, each at the front of the chain that places has for it. For heads of zeros and a next that
-// starts with zero these are the chains of the order.
+// The slots of an order, pushed from its end, each at the front of the chain that places has for it. For heads of zeros
+// and a next that starts with zero these are the chains of the order.
 pub fn chain_up(heads: &mut [u32], next: &mut [u32], order: &[u32], places: &[u32]) -> State
     requires { ⌜ Ordered (now heads) (now next) (now order) (now places) ⌝ }
-    ensures { λ r. ⌜ PartsOf (now (heads .exit)) (now (next .exit)) r (build (placeIn (now (places .entry))) (unbuilt (now (heads .entry)) (now (next .entry))) (now (order .entry))) 0 0 0 ⌝ }
+    ensures result { λ r. ⌜ indexOf (now (heads .exit)) (now (next .exit)) r
+        ≡ build (placeIn (now (places .entry))) (unbuilt (now (heads .entry)) (now (next .entry))) (now (order .entry)) ⌝ }
 {
     let mut state = State {
         first: 0,

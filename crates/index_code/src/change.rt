@@ -2,15 +2,16 @@
 ghost use mathlib.Core.Path.{_≡_};
 ghost use Prim.Native.Nat.{_+_, _-_, _<_};
 ghost use lib.ListN.{length};
-ghost use Rattle.index.specs.Index.{indexOf};
-ghost use Rattle.index.specs.inner.Parts.{WritesInside, PlaceInside, PartsOf, insertNew, replaceHeld, removeHeld, writeAt, liveAt, linkHeads, linkNext, takeState, appendNext, appendState};
+ghost use Rattle.index.specs.Index.{indexOf, withCounts};
+ghost use Rattle.index.specs.inner.Parts.{WritesInside, PlaceInside, insertNew, replaceHeld, removeHeld, writeAt};
+ghost use Rattle.index.specs.inner.Parts.{liveAt, linkHeads, linkNext, takeState, appendNext, appendState};
 use index::Place;
 use index::State;
 
 // The link to what follows prev in the chain of head h becomes slot; prev 0 is the head itself.
 pub fn link(heads: &mut [u32], next: &mut [u32], h: usize, prev: u32, slot: u32)
     requires { ⌜ (h < length (now heads)) × (prev < length (now next)) ⌝ }
-    ensures { λ _. ⌜ (now (heads .exit) ≡ linkHeads (now (heads .entry)) h prev slot) × (now (next .exit) ≡ linkNext (now (next .entry)) prev slot) ⌝ }
+    ensures result { λ _. ⌜ (now (heads .exit) ≡ linkHeads (now (heads .entry)) h prev slot) × (now (next .exit) ≡ linkNext (now (next .entry)) prev slot) ⌝ }
 {
     if prev == 0 {
         heads[h] = slot;
@@ -48,7 +49,7 @@ fn take(next: &[u32], state: State) -> State
 // The slot joins the end of the reuse chain.
 pub fn append(next: &mut [u32], state: State, slot: u32) -> State
     requires { ⌜ (slot < length (now next)) × (state .last < length (now next)) ⌝ }
-    ensures { λ r. ⌜ (r ≡ appendState state slot) × (now (next .exit) ≡ appendNext (now (next .entry)) state slot) ⌝ }
+    ensures result { λ r. ⌜ (r ≡ appendState state slot) × (now (next .exit) ≡ appendNext (now (next .entry)) state slot) ⌝ }
 {
     let at = slot as usize;
     next[at] = 0;
@@ -75,7 +76,8 @@ pub fn append(next: &mut [u32], state: State, slot: u32) -> State
 // An insert: the first reuse slot is taken and linked after prev, the last slot of its chain.
 fn insert_new(heads: &mut [u32], next: &mut [u32], state: State, h: usize, prev: u32) -> State
     requires { ⌜ (WritesInside (now heads) (now next) state h prev prev) × (state .live < 65535) ⌝ }
-    ensures { λ r. ⌜ PartsOf (now (heads .exit)) (now (next .exit)) r (insertNew (indexOf (now (heads .entry)) (now (next .entry)) state) h prev) (state .live + 1) (state .version + 1) (state .first) ⌝ }
+    ensures { λ r. ⌜ indexOf (now (heads .exit)) (now (next .exit)) r
+        ≡ withCounts (insertNew (indexOf (now (heads .entry)) (now (next .entry)) state) h prev) (state .live + 1) (state .version + 1) (state .first) ⌝ }
 {
     let slot = state.first;
     let rest = take(next, state);
@@ -101,7 +103,9 @@ fn replace_held(
     old: u32,
 ) -> State
     requires { ⌜ WritesInside (now heads) (now next) state h prev old ⌝ }
-    ensures { λ r. ⌜ PartsOf (now (heads .exit)) (now (next .exit)) r (replaceHeld (indexOf (now (heads .entry)) (now (next .entry)) state) h prev old) (state .live) (state .version + 1) (state .first) ⌝ }
+    ensures { λ r. ⌜ indexOf (now (heads .exit)) (now (next .exit)) r
+        ≡ withCounts (replaceHeld (indexOf (now (heads .entry)) (now (next .entry)) state) h prev old) (state .live) (state .version + 1)
+        (state .first) ⌝ }
 {
     let slot = state.first;
     let rest = take(next, state);
@@ -129,7 +133,9 @@ pub fn write_place(
     place: Place,
 ) -> State
     requires { ⌜ PlaceInside (now heads) (now next) state h place ⌝ }
-    ensures { λ r. ⌜ PartsOf (now (heads .exit)) (now (next .exit)) r (writeAt (indexOf (now (heads .entry)) (now (next .entry)) state) h place) (liveAt (state .live) place) (state .version + 1) (state .first) ⌝ }
+    ensures result { λ r. ⌜ indexOf (now (heads .exit)) (now (next .exit)) r
+        ≡ withCounts (writeAt (indexOf (now (heads .entry)) (now (next .entry)) state) h place) (liveAt (state .live) place) (state .version + 1)
+        (state .first) ⌝ }
 {
     match place {
         Place::Held { slot, prev } => replace_held(heads, next, state, h, prev, slot),
@@ -137,7 +143,8 @@ pub fn write_place(
     }
 }
 
-// A remove: the first reuse slot is taken, old, which follows prev, is unlinked, and old and then the slot just taken join the reuse chain.
+// A remove: the first reuse slot is taken, old, which follows prev, is unlinked, and old and then the slot just taken
+// join the reuse chain.
 pub fn remove_held(
     heads: &mut [u32],
     next: &mut [u32],
@@ -147,7 +154,9 @@ pub fn remove_held(
     old: u32,
 ) -> State
     requires { ⌜ (WritesInside (now heads) (now next) state h prev old) × (0 < state .live) ⌝ }
-    ensures { λ r. ⌜ PartsOf (now (heads .exit)) (now (next .exit)) r (removeHeld (indexOf (now (heads .entry)) (now (next .entry)) state) h prev old) (state .live - 1) (state .version + 1) (state .first) ⌝ }
+    ensures result { λ r. ⌜ indexOf (now (heads .exit)) (now (next .exit)) r
+        ≡ withCounts (removeHeld (indexOf (now (heads .entry)) (now (next .entry)) state) h prev old) (state .live - 1) (state .version + 1)
+        (state .first) ⌝ }
 {
     let slot = state.first;
     let rest = take(next, state);

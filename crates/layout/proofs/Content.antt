@@ -9,10 +9,10 @@ use lib.ListN.{length}
 use lib.Dec.{eqb}
 use borrow.Author.Tests.{eq-eqb, ne-eqb, eqb-true, eqb-false}
 use Rattle.prelude.proofs.Choice.{pick-true, pick-false, split}
-use Rattle.layout.specs.Line.{lineA, lineB, whole, versionOf, lineTop}
-use Rattle.layout.specs.Slot.{paired, slotTop, verdictOf, lineVerdict}
+use Rattle.layout.specs.Line.{lineA, lineB, whole, versionOf, wholeVersion}
+use Rattle.layout.specs.Slot.{paired, highestWholeOf, verdictOf, lineVerdict}
 use Rattle.layout.specs.Record.{kindOf, lengthOf, keyOf, limit, valueByte, valueFront, valueOf}
-use Rattle.layout.specs.Content.{broken, empty, putRecord, removeRecord, made, contentBy, contentOf, content, top, topOf}
+use Rattle.layout.specs.Content.{broken, empty, putRecord, removeRecord, contentOfRecord, contentBy, contentOf, content, highestWhole, highestWholeIn}
 use Rattle.layout.specs.Fault.{wordFault, faultOf}
 use Rattle.layout.specs.declared.Verdict.the-variants.{Valid, Empty, Broken}
 use Rattle.prelude.proofs.Refusals.{orElse-zero}
@@ -21,12 +21,12 @@ use Rattle.prelude.proofs.Tabulate.{tabulate-length}
 
 -- ---- the top of a line
 
-pub top-whole : (mark stamp : ℕ) → whole mark stamp ≡ true → lineTop mark stamp ≡ versionOf stamp
-unfolding lineTop
+pub top-whole : (mark stamp : ℕ) → whole mark stamp ≡ true → wholeVersion mark stamp ≡ versionOf stamp
+unfolding wholeVersion
 top-whole mark stamp e = pick-true (whole mark stamp) (versionOf stamp) 0 e
 
-pub top-open : (mark stamp : ℕ) → whole mark stamp ≡ false → lineTop mark stamp ≡ 0
-unfolding lineTop
+pub top-open : (mark stamp : ℕ) → whole mark stamp ≡ false → wholeVersion mark stamp ≡ 0
+unfolding wholeVersion
 top-open mark stamp e = pick-false (whole mark stamp) (versionOf stamp) 0 e
 
 -- ---- pairs
@@ -81,8 +81,8 @@ module _ (A B : ℕ → ℕ) where
   verdict-empty p h =
       pick-true (paired (A 0) (A 7) (B 0) (B 7)) _ _ p ∙ pick-true (eqb (A 7 / 2) 0) _ _ (eq-eqb (A 7 / 2) 0 h)
 
-  pub verdict-broken : paired (A 0) (A 7) (B 0) (B 7) ≡ false → lineVerdict A B ≡ Broken (slotTop A B)
-  unfolding lineVerdict verdictOf slotTop
+  pub verdict-broken : paired (A 0) (A 7) (B 0) (B 7) ≡ false → lineVerdict A B ≡ Broken (highestWholeOf A B)
+  unfolding lineVerdict verdictOf highestWholeOf
   verdict-broken p = pick-false (paired (A 0) (A 7) (B 0) (B 7)) _ _ p
 
 -- ---- the four kinds of a slot
@@ -105,14 +105,14 @@ pub record RemoveAt (l : ℕ) (A B : ℕ → ℕ) (v k : ℕ) : Type 0 where
   pub key : keyOf l A ≡ k
 
 pub data Reading (l : ℕ) (A B : ℕ → ℕ) : Type 0 where
-  reads-broken : paired (A 0) (A 7) (B 0) (B 7) ≡ false → contentOf l A B ≡ broken (slotTop A B) → Reading l A B
+  reads-broken : paired (A 0) (A 7) (B 0) (B 7) ≡ false → contentOf l A B ≡ broken (highestWholeOf A B) → Reading l A B
   reads-empty : paired (A 0) (A 7) (B 0) (B 7) ≡ true → versionOf (A 7) ≡ 0 → contentOf l A B ≡ empty → Reading l A B
   reads-put : PutAt l A B (versionOf (A 7)) (keyOf l A) (valueOf l A B)
       → contentOf l A B ≡ putRecord (versionOf (A 7)) (keyOf l A) (valueOf l A B) → Reading l A B
   reads-remove : RemoveAt l A B (versionOf (A 7)) (keyOf l A) → contentOf l A B ≡ removeRecord (versionOf (A 7)) (keyOf l A) → Reading l A B
 
 module _ (l : ℕ) (A B : ℕ → ℕ) where
-  pub broken-content : paired (A 0) (A 7) (B 0) (B 7) ≡ false → contentOf l A B ≡ broken (slotTop A B)
+  pub broken-content : paired (A 0) (A 7) (B 0) (B 7) ≡ false → contentOf l A B ≡ broken (highestWholeOf A B)
   unfolding contentOf contentBy
   broken-content p = ap (contentBy l A B) (verdict-broken A B p)
 
@@ -121,12 +121,12 @@ module _ (l : ℕ) (A B : ℕ → ℕ) where
   empty-content p h = ap (contentBy l A B) (verdict-empty A B p h)
 
   pub valid-content : paired (A 0) (A 7) (B 0) (B 7) ≡ true → (versionOf (A 7) ≡ 0 → ⊥)
-      → contentOf l A B ≡ made (kindOf (A (l + 1))) (versionOf (A 7)) (keyOf l A) (valueOf l A B)
+      → contentOf l A B ≡ contentOfRecord (kindOf (A (l + 1))) (versionOf (A 7)) (keyOf l A) (valueOf l A B)
   unfolding contentOf contentBy
   valid-content p h = ap (contentBy l A B) (verdict-valid A B p h)
 
   pub reading : Reading l A B
-  unfolding made
+  unfolding contentOfRecord
   reading = go (split (paired (A 0) (A 7) (B 0) (B 7))) (split (eqb (A 7 / 2) 0)) (split (eqb (A (l + 1) % 256) 2))
     where
       valid : paired (A 0) (A 7) (B 0) (B 7) ≡ true → eqb (A 7 / 2) 0 ≡ false → ValidAt A B (versionOf (A 7))
@@ -145,25 +145,25 @@ module _ (l : ℕ) (A B : ℕ → ℕ) where
 
 -- ---- tops
 
-pair-top : (A B : ℕ → ℕ) → paired (A 0) (A 7) (B 0) (B 7) ≡ true → slotTop A B ≡ versionOf (A 7)
-unfolding slotTop
+pair-top : (A B : ℕ → ℕ) → paired (A 0) (A 7) (B 0) (B 7) ≡ true → highestWholeOf A B ≡ versionOf (A 7)
+unfolding highestWholeOf
 pair-top A B p =
     let both = a-pair (A 0) (A 7) (B 0) (B 7) p in
     omega (arith, top-whole (A 0) (A 7) (both .first), top-whole (B 0) (B 7) (both .second), both .one-version)
 
 -- the content's top is the highest version on a whole line
-pub top-content : (l : ℕ) (A B : ℕ → ℕ) → topOf (contentOf l A B) ≡ slotTop A B
-unfolding topOf
+pub top-content : (l : ℕ) (A B : ℕ → ℕ) → highestWholeIn (contentOf l A B) ≡ highestWholeOf A B
+unfolding highestWholeIn
 top-content l A B = go (reading l A B)
   where
-    go : Reading l A B → topOf (contentOf l A B) ≡ slotTop A B
-    go (reads-broken p e) = ap topOf e
-    go (reads-empty p z e) = ap topOf e ∙ sym (pair-top A B p ∙ z)
-    go (reads-put at e) = ap topOf e ∙ sym (pair-top A B (at .valid .pair))
-    go (reads-remove at e) = ap topOf e ∙ sym (pair-top A B (at .valid .pair))
+    go : Reading l A B → highestWholeIn (contentOf l A B) ≡ highestWholeOf A B
+    go (reads-broken p e) = ap highestWholeIn e
+    go (reads-empty p z e) = ap highestWholeIn e ∙ sym (pair-top A B p ∙ z)
+    go (reads-put at e) = ap highestWholeIn e ∙ sym (pair-top A B (at .valid .pair))
+    go (reads-remove at e) = ap highestWholeIn e ∙ sym (pair-top A B (at .valid .pair))
 
-pub top-is : (l : ℕ) (m : ℕ → ℕ) (s : ℕ) → topOf (content l m s) ≡ top m s
-unfolding content top
+pub top-is : (l : ℕ) (m : ℕ → ℕ) (s : ℕ) → highestWholeIn (content l m s) ≡ highestWhole m s
+unfolding content highestWhole
 top-is l m s = top-content l (lineA m s) (lineB m s)
 
 -- ---- from a content to its slot

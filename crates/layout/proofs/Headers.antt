@@ -16,7 +16,7 @@ use Rattle.layout.specs.Header.{headerWord, HeaderOf, headerFault, image
 use Rattle.prelude.proofs.Choice.{pick-false}
 use Rattle.prelude.proofs.Any.{any-some, any-none}
 use Rattle.prelude.proofs.Bits.{or-nonzero}
-use Rattle.prelude.proofs.Refusals.{say-true, say-false, say-zero, orElse-first, orElse-later}
+use Rattle.prelude.proofs.Refusals.{refuseIf-true, refuseIf-false, refuseIf-zero, orElse-first, orElse-later}
 
 -- a word that is not zero
 abbrev nonzero : (ℕ → ℕ) → ℕ → Bool
@@ -67,29 +67,29 @@ module _ (l n : ℕ) (m : ℕ → ℕ) (b : Bool) (f : b ≡ anyOf (λ i. not (e
   pub header-right : 1 ≤ n → b ≡ false → 0 ≡ headerFault l n m
   unfolding headerFault
   header-right some t =
-      sym (say-false _ _ _ (ne-eqb (m 0) 0 (λ q. omega (arith, some, q, first-same l n m (sym f ∙ t)))) ∙ say-false _ _ _ (sym f ∙ t))
+      sym (refuseIf-false _ _ _ (ne-eqb (m 0) 0 (λ q. omega (arith, some, q, first-same l n m (sym f ∙ t)))) ∙ refuseIf-false _ _ _ (sym f ∙ t))
 
   module _ (v : ℕ) (e : v ≡ m 0) where
     pub header-none : v ≡ 0 → 2 ≡ headerFault l n m
     unfolding headerFault
-    header-none z = sym (say-true _ _ _ (eq-eqb (m 0) 0 (sym e ∙ z)))
+    header-none z = sym (refuseIf-true _ _ _ (eq-eqb (m 0) 0 (sym e ∙ z)))
 
     pub header-other : (v ≡ 0 → ⊥) → b ≡ true → 3 ≡ headerFault l n m
     unfolding headerFault
     header-other ne t =
-        sym (say-false _ _ _ (ne-eqb (m 0) 0 (λ q. ne (e ∙ q))) ∙ say-true _ _ _ (sym f ∙ t))
+        sym (refuseIf-false _ _ _ (ne-eqb (m 0) 0 (λ q. ne (e ∙ q))) ∙ refuseIf-true _ _ _ (sym f ∙ t))
 
 -- image_fault: n is the slots of the image
 module _ (l : ℕ) (image : List ℕ) (n : ℕ) (e : n ≡ slotsIn image) where
   pub no-slots : n ≡ 0 → 1 ≡ imageFault l image
   unfolding imageFault
-  no-slots z = sym (say-true _ _ _ (eq-eqb (slotsIn image) 0 (sym e ∙ z)))
+  no-slots z = sym (refuseIf-true _ _ _ (eq-eqb (slotsIn image) 0 (sym e ∙ z)))
 
   pub by-header : (n ≡ 0 → ⊥) → (r : ℕ) → r ≡ headerFault l n (word image) → r ≡ imageFault l image
   unfolding imageFault
   by-header ne r f =
       f ∙ ap (λ (x : ℕ). headerFault l x (word image)) e
-      ∙ sym (say-false _ _ _ (ne-eqb (slotsIn image) 0 (λ q. ne (e ∙ q))))
+      ∙ sym (refuseIf-false _ _ _ (ne-eqb (slotsIn image) 0 (λ q. ne (e ∙ q))))
 
 -- lent_fault: fault is that of the image
 module _ (l : ℕ) (image : List ℕ) (heads next fault : ℕ) (e : fault ≡ imageFault l image) where
@@ -106,9 +106,9 @@ module _ (l other : ℕ) (image : List ℕ) (apart : other ≡ l → ⊥) (h : H
   pub other-image : imageFault l image ≡ 3
   unfolding imageFault headerFault headerWord
   other-image =
-      say-false _ 1 _ (ne-eqb (slotsIn image) 0 (h .some-slots))
-      ∙ say-false _ 2 _ (ne-eqb (word image 0) 0 (λ z. h .some-slots (sym (h .words 0 (omega arith)) ∙ z)))
-      ∙ say-true _ 3 0 (sym (second-other l (slotsIn image) (word image) other (sym (h .words 1 (omega arith))) apart))
+      refuseIf-false _ 1 _ (ne-eqb (slotsIn image) 0 (h .some-slots))
+      ∙ refuseIf-false _ 2 _ (ne-eqb (word image 0) 0 (λ z. h .some-slots (sym (h .words 0 (omega arith)) ∙ z)))
+      ∙ refuseIf-true _ 3 0 (sym (second-other l (slotsIn image) (word image) other (sym (h .words 1 (omega arith))) apart))
 
   pub other-lent : (heads next : ℕ) → lentFault l image heads next ≡ 3
   unfolding lentFault
@@ -118,9 +118,9 @@ module _ (l other : ℕ) (image : List ℕ) (apart : other ≡ l → ⊥) (h : H
 pub image-header : (l : ℕ) (image : List ℕ) → imageFault l image ≡ 0 → HeaderOf l image
 unfolding imageFault headerFault
 image-header l image z =
-    let a = say-zero _ 1 _ z (omega arith) in
-    let b = say-zero _ 2 _ (a .1) (omega arith) in
-    let c = say-zero _ 3 _ (b .1) (omega arith) in
+    let a = refuseIf-zero _ 1 _ z (omega arith) in
+    let b = refuseIf-zero _ 2 _ (a .1) (omega arith) in
+    let c = refuseIf-zero _ 3 _ (b .1) (omega arith) in
     record {
       some-slots = eqb-false (slotsIn image) 0 (a .0);
       words = λ i h.

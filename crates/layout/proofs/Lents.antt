@@ -7,22 +7,22 @@ use lib.ListN.{length}
 use borrow.Author.Tests.{ltb-false, eqb-true, eqb-false, not-false, leb-false}
 use Rattle.layout.specs.Size.{slotsIn}
 use Rattle.layout.specs.Header.{imageFault, indexFault, lentFault}
-use Rattle.prelude.proofs.Refusals.{say-zero, orElse-zero}
+use Rattle.prelude.proofs.Refusals.{refuseIf-zero, orElse-zero}
 use Rattle.layout.proofs.Size.{Long, long}
 use Rattle.layout.specs.inner.Sized.{Sized}
 use Rattle.layout.specs.Line.{versionFault}
 
 image-long : (l : ℕ) (image : List ℕ) → imageFault l image ≡ 0 → Long (length image)
 unfolding imageFault
-image-long l image e = long (length image) (eqb-false (slotsIn image) 0 (say-zero _ _ _ e (omega arith) .0))
+image-long l image e = long (length image) (eqb-false (slotsIn image) 0 (refuseIf-zero _ _ _ e (omega arith) .0))
 
 -- what an index that 4 does not refuse has for sizes
 pub index-sized : (n heads next : ℕ) → indexFault n heads next ≡ 0 → (1 ≤ heads) × (heads ≤ 65536) × (next ≡ n + 1)
 unfolding indexFault
 index-sized n heads next e =
-    let a = say-zero _ _ _ e (omega arith) in
-    let b = say-zero _ _ _ (a .1) (omega arith) in
-    let c = say-zero _ _ _ (b .1) (omega arith) in
+    let a = refuseIf-zero _ _ _ e (omega arith) in
+    let b = refuseIf-zero _ _ _ (a .1) (omega arith) in
+    let c = refuseIf-zero _ _ _ (b .1) (omega arith) in
     (ltb-false heads 1 (a .0), ltb-false 65536 heads (b .0), eqb-true next (n + 1) (not-false _ (c .0)))
 
 -- f is what lent_fault says, and it refuses nothing
@@ -52,4 +52,4 @@ module _ (l f : ℕ) (image heads next : List ℕ) (ef : f ≡ lentFault l image
 
 pub version-fine : (v : ℕ) → versionFault v ≡ 0 → v < 2 ^ 63
 unfolding versionFault
-version-fine v e = leb-false _ _ (say-zero _ _ _ e (omega arith) .0)
+version-fine v e = leb-false _ _ (refuseIf-zero _ _ _ e (omega arith) .0)

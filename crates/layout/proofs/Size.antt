@@ -8,9 +8,9 @@ use native.Mathlib.Decide.{decLt, ℕ-discrete}
 use native.Mathlib.Omega.{arith}
 use borrow.Author.Tests.{lt-ltb, le-ltb, eq-eqb}
 use Rattle.prelude.proofs.Tests.{tests}
-use Rattle.prelude.specs.Refusal.{say}
+use Rattle.prelude.specs.Refusal.{refuseIf}
 use Rattle.layout.specs.Size.{slotsOf}
-use Rattle.prelude.proofs.Refusals.{say-true, say-false}
+use Rattle.prelude.proofs.Refusals.{refuseIf-true, refuseIf-false}
 
 -- slot_count: the length turned by seven bits
 pub turned-fits : (len : ℕ) → len < 2 ^ 64 → len / 128 + len % 128 * 2 ^ 57 < 2 ^ 64
@@ -28,10 +28,10 @@ turned-fits len h = sum (len / 128) (len % 128 * 2 ^ 57) (high len h) (mul-le-mu
 module _ (len turned : ℕ) (e : turned ≡ len / 128 + len % 128 * 2 ^ 57) where
   pub turned-low : turned < 3 → 0 ≡ slotsOf len
   unfolding slotsOf
-  turned-low h = sym (say-true _ _ _ (lt-ltb len 384 (omega arith)))
+  turned-low h = sym (refuseIf-true _ _ _ (lt-ltb len 384 (omega arith)))
 
   pub turned-high : 65536 < turned → 0 ≡ slotsOf len
-  unfolding slotsOf say
+  unfolding slotsOf refuseIf
   turned-high h =
       by-cases (decLt len 384) (λ p. search tests)
       (λ p.
@@ -46,8 +46,8 @@ module _ (len turned : ℕ) (e : turned ≡ len / 128 + len % 128 * 2 ^ 57) wher
   unfolding slotsOf
   turned-right low high =
       sym
-      (say-false _ _ _ (le-ltb len 384 (omega arith)) ∙ say-false _ _ _ (le-ltb 8388608 len (omega arith))
-      ∙ say-false _ _ _ (ap not (eq-eqb (len % 128) 0 (omega arith))) ∙ omega arith)
+      (refuseIf-false _ _ _ (le-ltb len 384 (omega arith)) ∙ refuseIf-false _ _ _ (le-ltb 8388608 len (omega arith))
+      ∙ refuseIf-false _ _ _ (ap not (eq-eqb (len % 128) 0 (omega arith))) ∙ omega arith)
 
 -- what a length that has slots is
 pub record Long (len : ℕ) : Type 0 where
@@ -56,7 +56,7 @@ pub record Long (len : ℕ) : Type 0 where
   pub high : slotsOf len ≤ 65535
 
 pub long : (len : ℕ) → (slotsOf len ≡ 0 → ⊥) → Long len
-unfolding slotsOf say
+unfolding slotsOf refuseIf
 long len ne =
     by-cases (decLt len 384) (λ h. absurd (ne (search tests)))
     (λ h.
@@ -77,5 +77,5 @@ slots-high len = by-cases (ℕ-discrete (slotsOf len) 0) (λ e. omega arith) (λ
 pub sized : (n : ℕ) → 2 ≤ n → n ≤ 65535 → slotsOf (128 * (n + 1)) ≡ n
 unfolding slotsOf
 sized n low high =
-    say-false _ _ _ (le-ltb (128 * (n + 1)) 384 (omega arith)) ∙ say-false _ _ _ (le-ltb 8388608 (128 * (n + 1)) (omega arith))
-    ∙ say-false _ _ _ (ap not (eq-eqb (128 * (n + 1) % 128) 0 (omega arith))) ∙ omega arith
+    refuseIf-false _ _ _ (le-ltb (128 * (n + 1)) 384 (omega arith)) ∙ refuseIf-false _ _ _ (le-ltb 8388608 (128 * (n + 1)) (omega arith))
+    ∙ refuseIf-false _ _ _ (ap not (eq-eqb (128 * (n + 1) % 128) 0 (omega arith))) ∙ omega arith

@@ -5,7 +5,7 @@ use Prim.Native.Nat.{ℕ, _+_, _*_, _/_, _≤_, _<_, max}
 use native.Mathlib.Omega.{arith}
 use lib.Dec.{eqb, ltb}
 use borrow.Author.Tests.{eq-eqb, ne-eqb, lt-ltb, le-ltb}
-use Rattle.layout.specs.Line.{lineA, versionOf, whole, lineTop}
+use Rattle.layout.specs.Line.{lineA, versionOf, whole, wholeVersion}
 use Rattle.layout.specs.Slot.{paired, verdictOf, lineVerdict, slotVerdict}
 use Rattle.layout.specs.Fault.{markFault}
 use Rattle.layout.specs.declared.Verdict.{Verdict}
@@ -14,12 +14,12 @@ use Rattle.prelude.proofs.Choice.{pick-true, pick-false}
 
 -- line_top and is_pair: w says whether the line is whole
 module _ (mark stamp : ℕ) (w : Bool) (e : w ≡ whole mark stamp) where
-  pub top-whole : w ≡ true → (v : ℕ) → v ≡ versionOf stamp → v ≡ lineTop mark stamp
-  unfolding lineTop
+  pub top-whole : w ≡ true → (v : ℕ) → v ≡ versionOf stamp → v ≡ wholeVersion mark stamp
+  unfolding wholeVersion
   top-whole t v f = f ∙ sym (pick-true (whole mark stamp) _ _ (sym e ∙ t))
 
-  pub top-open : w ≡ false → 0 ≡ lineTop mark stamp
-  unfolding lineTop
+  pub top-open : w ≡ false → 0 ≡ wholeVersion mark stamp
+  unfolding wholeVersion
   top-open t = sym (pick-false (whole mark stamp) _ _ (sym e ∙ t))
 
   pub pair-open : w ≡ false → (mb sb : ℕ) → false ≡ paired mark stamp mb sb
@@ -50,7 +50,7 @@ module _ (ma sa mb sb : ℕ) (p : Bool) (e : p ≡ paired ma sa mb sb) where
         ap Valid f
         ∙ sym (pick-true (paired ma sa mb sb) _ _ (sym e ∙ t) ∙ pick-false (eqb (sa / 2) 0) _ _ (ne-eqb (sa / 2) 0 (λ q. z (f ∙ q))))
 
-  pub judged-broken : p ≡ false → (a b r : ℕ) → a ≡ lineTop ma sa → b ≡ lineTop mb sb → r ≡ max a b
+  pub judged-broken : p ≡ false → (a b r : ℕ) → a ≡ wholeVersion ma sa → b ≡ wholeVersion mb sb → r ≡ max a b
       → Broken r ≡ verdictOf ma sa mb sb
   unfolding verdictOf
   judged-broken t a b r x y z =

@@ -1,10 +1,12 @@
--- Lines. An image is given by its words, m : ℕ → ℕ. Document 01, "Lines, slots and words", "Which record counts" and "How a call writes".
+-- Lines. An image is given by its words, m : ℕ → ℕ. Document 01, "Lines, slots and words", "Which record counts" and
+-- "How a call writes".
 use mathlib.Core.Bool.{Bool, cond}
 use Prim.Native.Nat.{ℕ, _+_, _-_, _*_, _/_, _%_, _^_}
 use lib.Dec.{eqb, leb}
-use Rattle.prelude.specs.Refusal.{say}
+use Rattle.prelude.specs.Refusal.{refuseIf}
 
--- "A line is 64 bytes, 8 words numbered 0 to 7": word i of line n. i counts modulo 8, so that a line is a function of its own eight words alone
+-- "A line is 64 bytes, 8 words numbered 0 to 7": word i of line n. i counts modulo 8, so that a line is a function of
+-- its own eight words alone
 abbrev pub line : (ℕ → ℕ) → ℕ → ℕ → ℕ
 line m n i = m (8 * n + i % 8)
 
@@ -29,8 +31,8 @@ abbrev pub whole : (mark stamp : ℕ) → Bool
 whole mark stamp = eqb mark (closeBit stamp)
 
 -- the version on a whole line, 0 on an open one
-unfoldable pub lineTop : (mark stamp : ℕ) → ℕ
-lineTop mark stamp = cond (whole mark stamp) (versionOf stamp) 0
+unfoldable pub wholeVersion : (mark stamp : ℕ) → ℕ
+wholeVersion mark stamp = cond (whole mark stamp) (versionOf stamp) 0
 
 -- "Let c be the close bit now in that line. The first store makes the mark 1 − c": the stamp is the one now in the line
 abbrev pub firstWord : ℕ → ℕ
@@ -42,4 +44,4 @@ lastWord stamp version = version * 2 + firstWord stamp
 
 -- "9 when the next version is 2^63 or more"
 unfoldable pub versionFault : (version : ℕ) → ℕ
-versionFault version = say (leb (2 ^ 63) version) 9 0
+versionFault version = refuseIf (leb (2 ^ 63) version) 9 0

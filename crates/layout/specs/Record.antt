@@ -1,7 +1,8 @@
--- The fields of a record, for layout l (1 in document 01). Document 01, "Lines, slots and words": "In line A, word 1 is the key, word 2 is
--- kind + 256 × length (kind 1 put, 2 remove), words 3 to 6 are value bytes 0 to 31. In line B, words 1 to 6 are value bytes 32 to 79."
--- Layout l has l key words from word 1 on, the kind word at word l + 1, and the value from word l + 2 on. Document 02, A.11: "Layout 2 has the key in words 1 and 2
--- of line A, the kind word in word 3, and a value of at most 72 bytes from word 4 on."
+-- The fields of a record, for layout l (1 in document 01). Document 01, "Lines, slots and words": "In line A, word 1 is
+-- the key, word 2 is kind + 256 × length (kind 1 put, 2 remove), words 3 to 6 are value bytes 0 to 31. In line B, words
+-- 1 to 6 are value bytes 32 to 79." Layout l has l key words from word 1 on, the kind word at word l + 1, and the value
+-- from word l + 2 on. Document 02, A.11: "Layout 2 has the key in words 1 and 2 of line A, the kind word in word 3, and
+-- a value of at most 72 bytes from word 4 on."
 use mathlib.Core.Bool.{cond}
 use mathlib.Core.List.{List}
 use Prim.Native.Nat.{ℕ, zero, suc, _+_, _-_, _*_, _/_, _%_, _^_, _≤_}
@@ -43,15 +44,15 @@ abbrev pub lengthOf : ℕ → ℕ
 lengthOf w = w / 256 % 256
 
 -- and the number: the byte above the length, of how many records share the version
-abbrev pub recordNumber : ℕ → ℕ
-recordNumber w = w / 65536 % 256
+abbrev pub sizeField : ℕ → ℕ
+sizeField w = w / 65536 % 256
 
 -- the greatest length of a value: 80 in layout 1; "Limits of 80 read 72" in layout 2
 abbrev pub limit : ℕ → ℕ
 limit l = 88 - 8 * l
 
--- where word i of a value stands among a slot's 16 words, line A's before line B's: from word l + 2 of line A on, and after its word 6 from
--- word 1 of line B on
+-- where word i of a value stands among a slot's 16 words, line A's before line B's: from word l + 2 of line A on, and
+-- after its word 6 from word 1 of line B on
 unfoldable pub valuePlace : (l i : ℕ) → ℕ
 valuePlace l i = cond (ltb (l + 2 + i) 7) (l + 2 + i) (l + 4 + i)
 

@@ -10,10 +10,10 @@ ghost use Rattle.layout.specs.Size.{slotsOf};
 ghost use Rattle.layout.specs.Header.{headerWord, headerFault, imageFault, indexFault, lentFault};
 use words_code::read_word;
 
-// The slots of an image of len bytes, or 0 where no image has that length. The length is turned by seven bits, so that one range tests it: a
-// remainder by 128 makes the number large.
+// The slots of an image of len bytes, or 0 where no image has that length. The length is turned by seven bits, so that
+// one range tests it: a remainder by 128 makes the number large.
 pub fn slot_count(len: usize) -> usize
-    ensures { λ r. ⌜ r ≡ slotsOf len ⌝ }
+    ensures result { λ r. ⌜ r ≡ slotsOf len ⌝ }
 {
     let turned = len / 128 + len % 128 * 144115188075855872;
     if turned < 3 {
@@ -69,7 +69,7 @@ fn header_fault(image: &[u8], l: usize, n: u64) -> u32
 
 // 1, 2 or 3 by the image alone, else 0.
 pub fn image_fault(image: &[u8], l: usize) -> u32
-    ensures { λ r. ⌜ r ≡ imageFault l (now (image .entry)) ⌝ }
+    ensures result { λ r. ⌜ r ≡ imageFault l (now (image .entry)) ⌝ }
 {
     let n = slot_count(image.len());
     if n == 0 {
@@ -81,7 +81,7 @@ pub fn image_fault(image: &[u8], l: usize) -> u32
 // 4 by the sizes of the index, else 0.
 pub fn index_fault(n: usize, heads: usize, next: usize) -> u32
     requires { ⌜ n ≤ 65535 ⌝ }
-    ensures { λ r. ⌜ r ≡ indexFault n heads next ⌝ }
+    ensures result { λ r. ⌜ r ≡ indexFault n heads next ⌝ }
 {
     if heads < 1 {
         return 4;
@@ -97,7 +97,7 @@ pub fn index_fault(n: usize, heads: usize, next: usize) -> u32
 
 // 1, 2, 3 or 4 by what is lent, else 0.
 pub fn lent_fault(image: &[u8], l: usize, heads: usize, next: usize) -> u32
-    ensures { λ r. ⌜ r ≡ lentFault l (now (image .entry)) heads next ⌝ }
+    ensures result { λ r. ⌜ r ≡ lentFault l (now (image .entry)) heads next ⌝ }
 {
     let fault = image_fault(image, l);
     if fault != 0 {

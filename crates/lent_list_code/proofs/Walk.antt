@@ -47,6 +47,7 @@ use denote.Triple.Clauses.{Clauses, Lasts, closing, ensured, lasts}
 use denote.Triple.Table.{entered, cited}
 use denote.Triple.Walked.{says, Stays, stay-dropped, gave-slice, walkOf, goes-dropped, goes-gave-slice, Walks, ends-at, walked, walk-meets}
 use denote.Exit.{yes}
+use Rattle.index.specs.Index.{indexOf}
 use Rattle.mir_steps.proofs.Lent.{lentAt, OwnsMut}
 use Rattle.mir_steps.proofs.Locals.{block, allocates, freed, behind, sinks}
 use Rattle.mir_steps.proofs.Statements.{copied, field-of, sets}
@@ -56,7 +57,9 @@ use Rattle.stores.proofs.Store.Laws as T′
 use Rattle.index.specs.declared.State.{State}
 use Rattle.index.proofs.State as S
 use Rattle.index.proofs.State.Laws as S′
-use Rattle.calls.specs.Basket.{changesOf, basketResult, basketListEnd, leftInList}
+use Rattle.calls.specs.Basket.{basketResult}
+use Rattle.calls.specs.BasketItems.{changesOf}
+use Rattle.calls.specs.BasketList.{basketListEnd, buffersAfterList}
 use Rattle.calls.specs.declared.BasketItem.{BasketItem}
 use Rattle.calls.proofs.BasketItem as I
 use Rattle.calls.proofs.BasketItem.Laws as I′
@@ -133,7 +136,7 @@ clauses 𝓤 l κs a = record {
   requires = λ _. emp 𝓤;
   ensures = λ _ r e. fact 𝓤 (
       basketListEnd (a .1 .1 .1 .1 .0) (r .answer) (r .list) (now (e .1 .0)) (now (e .1 .1 .0))
-      ≡ leftInList (a .1 .1 .1 .1 .1 .1 .1 .0) (basketResult l (now (a .0)) (now (a .1 .0)) (now (a .1 .1 .0)) (a .1 .1 .1 .0) (changesOf l (a .1 .1 .1 .1
+      ≡ buffersAfterList (a .1 .1 .1 .1 .1 .1 .1 .0) (basketResult l (now (a .0)) (indexOf (now (a .1 .0)) (now (a .1 .1 .0)) (a .1 .1 .1 .0)) (changesOf l (a .1 .1 .1 .1
       .0) (a .1 .1 .1 .1 .1 .0) (a .1 .1 .1 .1 .1 .1 .0))
       (length (a .1 .1 .1 .1 .1 .1 .1 .0)) (length (a .1 .1 .1 .1 .1 .1 .1 .0)))
       );
@@ -274,7 +277,7 @@ module _ (l : ℕ) (callee : Name) {M : Type 1} (𝓤 : URA M) (H : Heap 𝓤) (
         move ! (1 ∷ 0 ∷ []) $ join ! $ nothing ! $ move ! (1 ∷ 0 ∷ []) $ join ! $ done !
 
   abbrev Result : BasketAnswer → List Store → List ℕ → List ℕ → Type 0
-  Result r zs hs ns = basketListEnd n r zs hs ns ≡ leftInList list (basketResult l image heads next st (changesOf l n items values) (length list) (length list))
+  Result r zs hs ns = basketListEnd n r zs hs ns ≡ buffersAfterList list (basketResult l image (indexOf heads next st) (changesOf l n items values) (length list) (length list))
 
   -- ---- `basket_listed`
 

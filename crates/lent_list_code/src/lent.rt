@@ -1,17 +1,20 @@
 // A local list of stores is lent to each call that takes one, and comes back by value.
 ghost use mathlib.Core.Path.{_≡_};
-ghost use Rattle.log.specs.Handed.{handedSays, logListEnd};
+ghost use Rattle.index.specs.Index.{indexOf};
+ghost use Rattle.log.specs.LogOutcome.{logAnswer, logListEnd};
 ghost use Rattle.log.specs.Append.{appendListResult};
 ghost use Rattle.log.specs.Recover.{logRecoverListResult};
 ghost use lib.ListN.{length};
-ghost use Rattle.calls.specs.Basket.{changesOf, basketResult, basketListEnd, leftInList};
+ghost use Rattle.calls.specs.Basket.{basketResult};
+ghost use Rattle.calls.specs.BasketItems.{changesOf};
+ghost use Rattle.calls.specs.BasketList.{basketListEnd, buffersAfterList};
 ghost use Rattle.stores.specs.Play.{wordNumbers, values as valuesOf, playEnd, playListResult};
 use basket_list_code::list::basket_list;
 use basket_list_code::list::basket_list2;
 use calls::BasketAnswer;
 use calls::BasketItem;
 use index::State;
-use log::Handed;
+use log::LogOutcome;
 use log_list_code::append_list;
 use log_list_code::recover_list;
 use store_list_code::play::play_stores;
@@ -19,18 +22,18 @@ use stores::Store;
 
 // The answer of a call of the log, and the list after it.
 pub struct LogListed {
-    pub answer: Handed,
+    pub answer: LogOutcome,
     pub list: [Store; 48],
 }
 
-fn log_listed(answer: Handed, list: [Store; 48]) -> LogListed
+fn log_listed(answer: LogOutcome, list: [Store; 48]) -> LogListed
     ensures result { λ r. ⌜ (r .answer ≡ answer) × (r .list ≡ list) ⌝ }
 {
     LogListed { answer, list }
 }
 
 pub fn append_lent(area: &[u8], message: &[u8], list: [Store; 48]) -> LogListed
-    ensures listed { λ r. ⌜ logListEnd (handedSays (r .answer)) (r .list) ≡ appendListResult (now (area .entry)) (now (message .entry)) list ⌝ }
+    ensures listed { λ r. ⌜ logListEnd (logAnswer (r .answer)) (r .list) ≡ appendListResult (now (area .entry)) (now (message .entry)) list ⌝ }
 {
     let mut lent = list;
     let answer = append_list(area, message, &mut lent);
@@ -38,7 +41,7 @@ pub fn append_lent(area: &[u8], message: &[u8], list: [Store; 48]) -> LogListed
 }
 
 pub fn recover_lent(area: &[u8], list: [Store; 48]) -> LogListed
-    ensures listed { λ r. ⌜ logListEnd (handedSays (r .answer)) (r .list) ≡ logRecoverListResult (now (area .entry)) list ⌝ }
+    ensures listed { λ r. ⌜ logListEnd (logAnswer (r .answer)) (r .list) ≡ logRecoverListResult (now (area .entry)) list ⌝ }
 {
     let mut lent = list;
     let answer = recover_list(area, &mut lent);
@@ -69,8 +72,9 @@ pub fn basket_lent(
 ) -> BasketListed
     ensures listed { λ r.
         ⌜ basketListEnd count (r .answer) (r .list) (now (heads .exit)) (now (next .exit))
-        ≡ leftInList list
-        (basketResult 1 (now (image .entry)) (now (heads .entry)) (now (next .entry)) state (changesOf 1 count items values) (length list) (length list)) ⌝ }
+        ≡ buffersAfterList list
+        (basketResult 1 (now (image .entry)) (indexOf (now (heads .entry)) (now (next .entry)) state) (changesOf 1 count items values)
+        (length list) (length list)) ⌝ }
 {
     let mut lent = list;
     let answer = basket_list(image, heads, next, state, count, items, values, &mut lent);
@@ -90,8 +94,9 @@ pub fn basket_lent2(
 ) -> BasketListed
     ensures listed { λ r.
         ⌜ basketListEnd count (r .answer) (r .list) (now (heads .exit)) (now (next .exit))
-        ≡ leftInList list
-        (basketResult 2 (now (image .entry)) (now (heads .entry)) (now (next .entry)) state (changesOf 2 count items values) (length list) (length list)) ⌝ }
+        ≡ buffersAfterList list
+        (basketResult 2 (now (image .entry)) (indexOf (now (heads .entry)) (now (next .entry)) state) (changesOf 2 count items values)
+        (length list) (length list)) ⌝ }
 {
     let mut lent = list;
     let answer = basket_list2(image, heads, next, state, count, items, values, &mut lent);

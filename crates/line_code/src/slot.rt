@@ -27,7 +27,7 @@ fn is_pair(mark_a: u64, stamp_a: u64, mark_b: u64, stamp_b: u64) -> bool
 
 // The verdict that marks and stamps give.
 pub fn judge(mark_a: u64, stamp_a: u64, mark_b: u64, stamp_b: u64) -> Verdict
-    ensures { λ r. ⌜ r ≡ verdictOf «mark_a» «stamp_a» «mark_b» «stamp_b» ⌝ }
+    ensures result { λ r. ⌜ r ≡ verdictOf «mark_a» «stamp_a» «mark_b» «stamp_b» ⌝ }
 {
     if is_pair(mark_a, stamp_a, mark_b, stamp_b) {
         let version = version_of(stamp_a);
@@ -42,7 +42,7 @@ pub fn judge(mark_a: u64, stamp_a: u64, mark_b: u64, stamp_b: u64) -> Verdict
 // The verdict on slot s.
 pub fn slot_verdict(image: &[u8], s: usize) -> Verdict
     requires { ⌜ 128 * (s + 1) ≤ length (now image) ⌝ }
-    ensures { λ r. ⌜ r ≡ slotVerdict (word (now (image .entry))) s ⌝ }
+    ensures result { λ r. ⌜ r ≡ slotVerdict (word (now (image .entry))) s ⌝ }
 {
     let mark_a = read_word(image, 16 * s);
     let stamp_a = read_word(image, 16 * s + 7);
@@ -54,7 +54,7 @@ pub fn slot_verdict(image: &[u8], s: usize) -> Verdict
 // Is a mark of slot s neither 0 nor 1?
 pub fn mark_fault(image: &[u8], s: usize) -> bool
     requires { ⌜ 128 * (s + 1) ≤ length (now image) ⌝ }
-    ensures { λ r. ⌜ r ≡ markFault (word (now (image .entry))) s ⌝ }
+    ensures result { λ r. ⌜ r ≡ markFault (word (now (image .entry))) s ⌝ }
 {
     if 1 < read_word(image, 16 * s) {
         return true;

@@ -11,9 +11,9 @@ use lib.ListN.{length, drop, length-take, length-drop}
 use borrow.Author.Tests.{lt-leb}
 use Rattle.words.specs.Word.{AreBytes, word}
 use Rattle.words.proofs.Laws.{word-same, word-range, word-take, word-drop}
-use Rattle.prelude.specs.Refusal.{say}
-use Rattle.prelude.proofs.Refusals.{say-false, orElse-later, taken-leaves}
-use Rattle.layout.specs.Line.{line, whole, versionOf, firstWord, lastWord, lineTop, versionFault}
+use Rattle.prelude.specs.Refusal.{refuseIf}
+use Rattle.prelude.proofs.Refusals.{refuseIf-false, orElse-later, taken-leaves}
+use Rattle.layout.specs.Line.{line, whole, versionOf, firstWord, lastWord, wholeVersion, versionFault}
 use Rattle.layout.specs.Slot.{paired, verdictOf, lineVerdict, slotVerdict}
 use Rattle.layout.specs.declared.Verdict.the-variants.{Valid, Empty, Broken}
 use Rattle.stores.specs.Store.{Store, onLine}
@@ -32,7 +32,7 @@ module _ (image lent : List ℕ) (n : ℕ) (inside : 64 * (n + 1) ≤ length ima
   line-length = length-take 64 (drop (64 * n) image) ∙ omega (arith, length-drop (64 * n) image)
 
   line-sized : sliceFault (length (lineBytes image n)) (length lent) ≡ 0
-  unfolding sliceFault say
+  unfolding sliceFault refuseIf
   line-sized = rw (line-length, room) refl
 
   line-word : (i : ℕ) → i < 8 → word (lineBytes image n) i ≡ line (word image) n i
@@ -51,7 +51,7 @@ module _ (image lent : List ℕ) (n : ℕ) (inside : 64 * (n + 1) ≤ length ima
 
   next-fine : (version : ℕ) → version < 2 ^ 63 → nextFault (length (lineBytes image n)) (length lent) version ≡ 0
   unfolding nextFault versionFault
-  next-fine version h = orElse-later _ _ line-sized ∙ say-false (leb (2 ^ 63) version) 9 0 (lt-leb (2 ^ 63) version h)
+  next-fine version h = orElse-later _ _ line-sized ∙ refuseIf-false (leb (2 ^ 63) version) 9 0 (lt-leb (2 ^ 63) version h)
 
   whole-answer : answerOf wholeQuery image lent n ≡ cond (whole (line (word image) n 0) (line (word image) n 7)) 1 0
   unfolding wholeQuery
@@ -107,7 +107,7 @@ by-answers false false va vb = refl
 
 verdict-answered : (ma sa mb sb : ℕ)
     → verdictBy (cond (whole ma sa) 1 0) (versionOf sa) (cond (whole mb sb) 1 0) (versionOf sb) ≡ verdictOf ma sa mb sb
-unfolding verdictOf paired lineTop
+unfolding verdictOf paired wholeVersion
 verdict-answered ma sa mb sb = by-answers (whole ma sa) (whole mb sb) (versionOf sa) (versionOf sb)
 
 -- ---- the stores of a line that is written over one with this stamp

@@ -5,7 +5,7 @@ use Prim.Native.Nat.{ℕ, _^_, _<_}
 use native.Mathlib.Omega.{arith}
 use borrow.Author.Tests.{eqb-true, not-false}
 use Rattle.words.specs.Word.{setWord}
-use Rattle.prelude.proofs.Refusals.{say-zero, orElse-first, orElse-later, orElse-zero, taken-leaves, refused-keeps}
+use Rattle.prelude.proofs.Refusals.{refuseIf-zero, orElse-first, orElse-later, orElse-zero, taken-leaves, refused-keeps}
 use Rattle.layout.specs.Line.{versionFault}
 use Rattle.layout.proofs.Lents.{version-fine}
 use Rattle.linequery.specs.Query.{sliceFault, nextFault, queryEnd, queried}
@@ -15,8 +15,8 @@ module _ (f line answer : ℕ) (e : f ≡ sliceFault line answer) where
   pub slices-sized : f ≡ 0 → (line ≡ 64) × (answer ≡ 8)
   unfolding sliceFault
   slices-sized z =
-      let a = say-zero _ _ _ (sym e ∙ z) (omega arith) in
-      let b = say-zero _ _ _ (a .1) (omega arith) in
+      let a = refuseIf-zero _ _ _ (sym e ∙ z) (omega arith) in
+      let b = refuseIf-zero _ _ _ (a .1) (omega arith) in
       (eqb-true line 64 (not-false _ (a .0)), eqb-true answer 8 (not-false _ (b .0)))
 
   pub slices-first : (version : ℕ) → (f ≡ 0 → ⊥) → f ≡ nextFault line answer version

@@ -1,4 +1,5 @@
--- WHAT IS ANSWERED OF A LINE, beside the set's own rules. Document 02, A.12: "They agree with the set's own rules on every line."
+-- WHAT IS ANSWERED OF A LINE, beside the set's own rules. Document 02, A.12: "They agree with the set's own rules on
+-- every line."
 use mathlib.Core.Path.{_≡_}
 use mathlib.Core.Bool.{Bool, false, cond}
 use mathlib.Core.List.{List}
@@ -23,7 +24,8 @@ lineBytes image n = take 64 (drop (64 * n) image)
 abbrev pub answerOf : (query : List ℕ → List ℕ → QueryResult) → (image lent : List ℕ) → (n : ℕ) → ℕ
 answerOf query image lent n = word (query (lineBytes image n) lent .answer) 0
 
--- of line n: no query gives 33 or, for a next version below 2^63, 9: each returns 0, and answers what the set's rules say of the line's mark and stamp
+-- of line n: no query gives 33 or, for a next version below 2^63, 9: each returns 0, and answers what the set's rules
+-- say of the line's mark and stamp
 pub record LineAgreement (image lent : List ℕ) (n : ℕ) : Type 0 where
   pub sized : sliceFault (length (lineBytes image n)) (length lent) ≡ 0
   pub is-whole : answerOf wholeQuery image lent n ≡ cond (whole (line (word image) n 0) (line (word image) n 7)) 1 0
@@ -39,8 +41,8 @@ pub record LineAgreement (image lent : List ℕ) (n : ℕ) : Type 0 where
 unfoldable pub pairedBy : (wholeA versionA wholeB versionB : ℕ) → Bool
 pairedBy wholeA versionA wholeB versionB = cond (eqb wholeA 1) (cond (eqb wholeB 1) (eqb versionA versionB) false) false
 
--- "A slot is valid when both lines are whole and carry the same version, at least 1. It is empty when both are whole with version 0.
--- Every other slot is broken": Broken has the highest version on a whole line
+-- "A slot is valid when both lines are whole and carry the same version, at least 1. It is empty when both are whole
+-- with version 0. Every other slot is broken": Broken has the highest version on a whole line
 unfoldable pub verdictBy : (wholeA versionA wholeB versionB : ℕ) → Verdict
 verdictBy wholeA versionA wholeB versionB =
     cond (pairedBy wholeA versionA wholeB versionB) (cond (eqb versionA 0) Empty (Valid versionA))
@@ -52,8 +54,8 @@ pub record Framed (words : List ℕ) (first last : ℕ) : Type 0 where
   pub begins : getD words 0 0 ≡ first
   pub ends : getD words 7 0 ≡ last
 
--- of slot s: the answers on its two lines give the slot's verdict; the first and the last word are those of the stores that a call hands out for the line,
--- whatever record it writes
+-- of slot s: the answers on its two lines give the slot's verdict; the first and the last word are those of the stores
+-- that a call hands out for the line, whatever record it writes
 pub record SlotAgreement (image lent : List ℕ) (s : ℕ) : Type 0 where
   pub verdict :
       verdictBy (answerOf wholeQuery image lent (2 * s)) (answerOf versionQuery image lent (2 * s))

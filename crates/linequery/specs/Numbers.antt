@@ -1,5 +1,5 @@
--- THE NUMBERS with which a query is refused, whatever it is given. Document 02, A.12: "33 when a slice has not its length, then 9 when the next version is
--- 2^63 or more."
+-- THE NUMBERS with which a query is refused, whatever it is given. Document 02, A.12: "33 when a slice has not its
+-- length, then 9 when the next version is 2^63 or more."
 use mathlib.Core.List.{List, [], _∷_}
 use Prim.Native.Nat.{ℕ}
 use Rattle.prelude.specs.Numbers.{ZeroOrOneOf}

@@ -5,12 +5,12 @@ use Prim.Native.Nat.{ℕ}
 use lib.Dec.{eqb}
 use lib.ListN.{length}
 use Rattle.words.specs.Word.{word, setWord}
-use Rattle.prelude.specs.Refusal.{say, orElse, unlessRefused}
+use Rattle.prelude.specs.Refusal.{refuseIf, orElse, unlessRefused}
 use Rattle.layout.specs.Line.{whole, versionOf, firstWord, lastWord, versionFault}
 
 -- "33 when a slice has not its length": the line's 64 bytes and the answer's 8
 unfoldable pub sliceFault : (line answer : ℕ) → ℕ
-sliceFault line answer = say (not (eqb line 64)) 33 (say (not (eqb answer 8)) 33 0)
+sliceFault line answer = refuseIf (not (eqb line 64)) 33 (refuseIf (not (eqb answer 8)) 33 0)
 
 -- "then 9 when the next version is 2^63 or more"
 unfoldable pub nextFault : (line answer version : ℕ) → ℕ
@@ -25,7 +25,8 @@ pub record QueryResult : Type 0 where
 abbrev pub queryEnd : (code : ℕ) → (answer : List ℕ) → QueryResult
 queryEnd code answer = record { returns = code; answer = answer }
 
--- "Each puts its answer .. in a lent slice of 8 bytes and returns 0 or the refusal": as a word; a refusal leaves the bytes as they were
+-- "Each puts its answer .. in a lent slice of 8 bytes and returns 0 or the refusal": as a word; a refusal leaves the
+-- bytes as they were
 unfoldable pub queried : (fault value : ℕ) → (lent : List ℕ) → QueryResult
 queried fault value lent = record { returns = fault; answer = unlessRefused fault (setWord lent 0 value) lent }
 

@@ -1,4 +1,5 @@
-// What a sender asks of a single line, lent as 64 bytes. Each answer is put as a word into 8 lent bytes; returned is 0 or the refusal.
+// What a sender asks of a single line, lent as 64 bytes. Each answer is put as a word into 8 lent bytes; returned is 0
+// or the refusal.
 ghost use mathlib.Core.Path.{_≡_};
 ghost use mathlib.Core.Bool.{cond};
 ghost use Rattle.layout.specs.Line.{whole};
@@ -47,7 +48,7 @@ fn whole_word(mark: u64, stamp: u64) -> u64
 
 // Is the line whole?
 pub fn whole_query(line: &[u8], answer: &mut [u8]) -> u32
-    ensures { λ r. ⌜ queryEnd r (now (answer .exit)) ≡ wholeQuery (now (line .entry)) (now (answer .entry)) ⌝ }
+    ensures result { λ r. ⌜ queryEnd r (now (answer .exit)) ≡ wholeQuery (now (line .entry)) (now (answer .entry)) ⌝ }
 {
     let fault = slice_fault(line.len(), answer.len());
     if fault != 0 {
@@ -63,7 +64,7 @@ pub fn whole_query(line: &[u8], answer: &mut [u8]) -> u32
 
 // The version of the line.
 pub fn version_query(line: &[u8], answer: &mut [u8]) -> u32
-    ensures { λ r. ⌜ queryEnd r (now (answer .exit)) ≡ versionQuery (now (line .entry)) (now (answer .entry)) ⌝ }
+    ensures result { λ r. ⌜ queryEnd r (now (answer .exit)) ≡ versionQuery (now (line .entry)) (now (answer .entry)) ⌝ }
 {
     let fault = slice_fault(line.len(), answer.len());
     if fault != 0 {
@@ -75,7 +76,7 @@ pub fn version_query(line: &[u8], answer: &mut [u8]) -> u32
 
 // The first word that a call of this version stores into the line.
 pub fn first_query(line: &[u8], version: u64, answer: &mut [u8]) -> u32
-    ensures { λ r. ⌜ queryEnd r (now (answer .exit)) ≡ firstQuery version (now (line .entry)) (now (answer .entry)) ⌝ }
+    ensures result { λ r. ⌜ queryEnd r (now (answer .exit)) ≡ firstQuery version (now (line .entry)) (now (answer .entry)) ⌝ }
 {
     let fault = next_fault(line.len(), answer.len(), version);
     if fault != 0 {
@@ -87,7 +88,7 @@ pub fn first_query(line: &[u8], version: u64, answer: &mut [u8]) -> u32
 
 // And the last.
 pub fn last_query(line: &[u8], version: u64, answer: &mut [u8]) -> u32
-    ensures { λ r. ⌜ queryEnd r (now (answer .exit)) ≡ lastQuery version (now (line .entry)) (now (answer .entry)) ⌝ }
+    ensures result { λ r. ⌜ queryEnd r (now (answer .exit)) ≡ lastQuery version (now (line .entry)) (now (answer .entry)) ⌝ }
 {
     let fault = next_fault(line.len(), answer.len(), version);
     if fault != 0 {

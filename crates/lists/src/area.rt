@@ -7,7 +7,7 @@ use crate::both::show_equal;
 use lent_list_code::lent::LogListed;
 use lent_list_code::lent::append_lent;
 use lent_list_code::lent::recover_lent;
-use log::Handed;
+use log::LogOutcome;
 use log_code::append;
 use log_code::recover_log;
 use orderset::Store;
@@ -25,15 +25,15 @@ pub fn area(both: Both, cells: u64) -> Both {
 }
 
 // What a call answered is printed; the count of stores.
-fn told(handed: Handed) -> usize {
+fn told(handed: LogOutcome) -> usize {
     match handed {
-        Handed::Given { number, count } => {
+        LogOutcome::Stored { number, count } => {
             show::text(b" ok");
             show::number(number);
             show::number(count as u64);
             count
         }
-        Handed::Refused(k) => {
+        LogOutcome::Refused(k) => {
             show::refused(k);
             0
         }

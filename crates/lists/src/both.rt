@@ -1,5 +1,5 @@
-// What the lines work on: two sides, each an image with its index or a log's area. The first is changed by the forms with number slices, the second by those
-// with a list of stores.
+// What the lines work on: two sides, each an image with its index or a log's area. The first is changed by the forms
+// with number slices, the second by those with a list of stores.
 use orderset::Action;
 use orderset::BasketItem;
 use orderset::State;
@@ -26,7 +26,8 @@ pub struct Named {
     pub byte: u8,
 }
 
-// Of each side so many first bytes are lent. `count` first entries of the two number lists, and of the list of stores, were handed out last.
+// Of each side so many first bytes are lent. `count` first entries of the two number lists, and of the list of stores,
+// were handed out last.
 pub struct Both {
     pub size: usize,
     pub layout: u64,

@@ -1,6 +1,7 @@
-// Prints the lines of its input and carries them out twice: by the forms of the calls that take number slices, on one image or log area, and by those that
-// take a list of stores, on another. A line is a name and numbers; one with another name is only printed. Of a call both answers are printed, the first
-// form's first, and then how many first entries of the lists, of 48, or after a play how many first bytes, of 2,176, are equal; after a basket both states
+// Prints the lines of its input and carries them out twice: by the forms of the calls that take number slices, on one
+// image or log area, and by those that take a list of stores, on another. A line is a name and numbers; one with
+// another name is only printed. Of a call both answers are printed, the first form's first, and then how many first
+// entries of the lists, of 48, or after a play how many first bytes, of 2,176, are equal; after a basket both states
 // and indexes.
 mod area;
 mod both;

@@ -6,7 +6,8 @@ pub const FORMAT: u64 = 0x74616d726f66;
 // area CELLS: both become a log's area of so many cells, all zeros
 pub const AREA: u64 = 0x61657261;
 
-// insert KEY LENGTH BYTE HIGH: names an item of the basket to come; every byte of the values becomes BYTE, and HIGH is the high word of its key
+// insert KEY LENGTH BYTE HIGH: names an item of the basket to come; every byte of the values becomes BYTE, and HIGH is
+// the high word of its key
 pub const INSERT: u64 = 0x747265736e69;
 
 // replace KEY LENGTH BYTE HIGH: the same

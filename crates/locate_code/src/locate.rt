@@ -2,7 +2,6 @@
 ghost use mathlib.Core.Path.{_≡_};
 ghost use Rattle.layout.specs.Record.{Layout, keyWith};
 ghost use Rattle.layout.specs.Layouts.{layoutNumber};
-ghost use Rattle.calls.specs.Compared.{reported, keyCompared};
 ghost use Rattle.calls.specs.Locate.{locateEnd, locateResult};
 use calls::LocateAnswer;
 use calls::Located;
@@ -23,7 +22,7 @@ pub fn locate_in(
     high: u64,
 ) -> LocateAnswer
     requires { ⌜ Layout l ⌝ }
-    ensures { λ r. ⌜ locateEnd r ≡ reported (locateResult l (now (image .entry)) (now (heads .entry)) (now (next .entry)) (keyWith low high)) (keyCompared l (now (image .entry)) (now (heads .entry)) (now (next .entry)) (keyWith low high)) ⌝ }
+    ensures result { λ r. ⌜ locateEnd r ≡ locateResult l (now (image .entry)) (now (heads .entry)) (now (next .entry)) (keyWith low high) ⌝ }
 {
     let lent = lent_fault(image, l, heads.len(), next.len());
     if lent != 0 {
@@ -66,23 +65,21 @@ pub fn locate_in_layout(
     high: u64,
 ) -> LocateAnswer
     ensures result { λ r. ⌜ locateEnd r
-        ≡ reported
-        (locateResult (layoutNumber wide) (now (image .entry)) (now (heads .entry)) (now (next .entry)) (keyWith low high))
-        (keyCompared (layoutNumber wide) (now (image .entry)) (now (heads .entry)) (now (next .entry)) (keyWith low high)) ⌝ }
+        ≡ locateResult (layoutNumber wide) (now (image .entry)) (now (heads .entry)) (now (next .entry)) (keyWith low high) ⌝ }
 {
     locate_in(image, layout_number(wide), heads, next, low, high)
 }
 
 // The slot that holds the key and the version on its line A; absent; or a refusal. Each has the slots compared.
 pub fn locate(image: &[u8], heads: &[u32], next: &[u32], key: u64) -> LocateAnswer
-    ensures { λ r. ⌜ locateEnd r ≡ reported (locateResult 1 (now (image .entry)) (now (heads .entry)) (now (next .entry)) key) (keyCompared 1 (now (image .entry)) (now (heads .entry)) (now (next .entry)) key) ⌝ }
+    ensures result { λ r. ⌜ locateEnd r ≡ locateResult 1 (now (image .entry)) (now (heads .entry)) (now (next .entry)) key ⌝ }
 {
     locate_in(image, 1, heads, next, key, 0)
 }
 
 // Locate in layout 2: a key of two words.
 pub fn locate2(image: &[u8], heads: &[u32], next: &[u32], low: u64, high: u64) -> LocateAnswer
-    ensures { λ r. ⌜ locateEnd r ≡ reported (locateResult 2 (now (image .entry)) (now (heads .entry)) (now (next .entry)) (keyWith low high)) (keyCompared 2 (now (image .entry)) (now (heads .entry)) (now (next .entry)) (keyWith low high)) ⌝ }
+    ensures result { λ r. ⌜ locateEnd r ≡ locateResult 2 (now (image .entry)) (now (heads .entry)) (now (next .entry)) (keyWith low high) ⌝ }
 {
     locate_in(image, 2, heads, next, low, high)
 }

@@ -10,7 +10,7 @@ use native.Mathlib.Omega.{arith}
 use lib.ListN.{length}
 use lib.Dec.{eqb, ltb}
 use borrow.Author.Tests.{eqb-false, ne-eqb, not-true, ltb-true, ltb-false}
-use Rattle.prelude.specs.Refusal.{say}
+use Rattle.prelude.specs.Refusal.{refuseIf}
 use Rattle.prelude.proofs.Choice.{same-test, split, both, both-left, both-of}
 use Rattle.prelude.proofs.Any.{any-none, any-place}
 use Rattle.words.specs.Word.{AreBytes, word}
@@ -56,7 +56,7 @@ module _ (area area′ : List ℕ) (fine : areaFault area ≡ 0) (bytes : AreByt
 
   fine′ : areaFault area′ ≡ 0
   unfolding areaFault
-  fine′ = ap (λ (k : ℕ). say (eqb k 0) 30 0) same-count ∙ fine
+  fine′ = ap (λ (k : ℕ). refuseIf (eqb k 0) 30 0) same-count ∙ fine
 
   room : (s : ℕ) → messageStart (s % K) + 384 ≤ length area
   room s = omega (arith, all .size, mod-lt s (let p : 0 < K = omega (arith, all .some) in p))

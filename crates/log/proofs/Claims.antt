@@ -10,10 +10,10 @@ use lib.ListN.{length, getD, take, drop, length-append, List·getD-append}
 use lib.Seq.{take-at, getD-at, take-all, take-suc, drop-nil, drop-append-le, length-take-le}
 use lib.Dec.{eqb}
 use borrow.Author.Tests.{ne-eqb, le-ltb}
-use Rattle.prelude.specs.Refusal.{say, orElse, unlessRefused}
+use Rattle.prelude.specs.Refusal.{refuseIf, orElse, unlessRefused}
 use Rattle.prelude.specs.Answer.{gives, refusalIn}
 use Rattle.prelude.proofs.Choice.{pick-true, pick-false, same-test, split, both, both-left}
-use Rattle.prelude.proofs.Refusals.{say-false, orElse-later, taken-leaves}
+use Rattle.prelude.proofs.Refusals.{refuseIf-false, orElse-later, taken-leaves}
 use Rattle.words.specs.Word.{AreBytes, word}
 use Rattle.layout.specs.Line.{versionFault}
 use Rattle.stores.specs.Store.{Store, zipped, played}
@@ -23,7 +23,7 @@ use Rattle.stores.proofs.Bytes.{standing-inside}
 use Rattle.stores.proofs.Lists.{zipped-back, numbers-length, values-length, list-inside}
 use Rattle.log.specs.Area.{cellsOf, cellsIn, areaFault}
 use Rattle.log.specs.Message.{isComplete, highest, inWindow, shown}
-use Rattle.log.specs.Handed.{shortFault, LogResult, handing, LogListResult, handingList}
+use Rattle.log.specs.LogOutcome.{shortFault, LogResult, handing, LogListResult, handingList}
 use Rattle.log.specs.Append.{messageFault, nextMessage, appendStores, appendFault, appendResult}
 use Rattle.log.specs.Recover.{recoveryStores, logRecoverFault, logRecoverResult, logRecoverListResult}
 use Rattle.log.specs.Read.{readFault, readPart, readEnd, readResult, partResult}
@@ -31,7 +31,7 @@ use Rattle.log.specs.Event.{LogCall, an-append, a-read, a-recovery, logS
 use Rattle.log.specs.Rule.{shownUpTo, shownMessages, lastMessages, PartHolds, Shows, countGiven, HandsOut, CallRight, StandingPlays}
 use Rattle.log.specs.Laws.{ShowsSame, ShowsMore}
 use Rattle.log.proofs.Cells.{Window, window, in-window}
-use Rattle.log.proofs.Openings.{recovery-few}
+use Rattle.log.proofs.Invalidations.{recovery-few}
 use Rattle.log.proofs.Parts.{read-fault, read-hidden}
 use Rattle.log.proofs.Readings.{part-holds, no-part}
 use Rattle.log.proofs.Lists.{append-agrees, recovery-agrees}
@@ -101,15 +101,15 @@ module _ (cells : ℕ) (low : 2 ≤ cells) (area : List ℕ) (log : Messages)
 module _ (cells : ℕ) (low : 2 ≤ cells) (area : List ℕ) (log : Messages) (size : cellsIn area ≡ cells) where
   pub cells-fine : areaFault area ≡ 0
   unfolding areaFault
-  cells-fine = say-false (eqb (cellsIn area) 0) 30 0 (ne-eqb _ _ (λ (e : cellsIn area ≡ 0). omega (arith, size)))
+  cells-fine = refuseIf-false (eqb (cellsIn area) 0) 30 0 (ne-eqb _ _ (λ (e : cellsIn area ≡ 0). omega (arith, size)))
 
   -- with lists of K entries recovery is not refused
   pub recovery-accepted : (ats vals : ℕ) → cells ≤ ats → cells ≤ vals → logRecoverFault area ats vals ≡ 0
   unfolding logRecoverFault shortFault
   recovery-accepted ats vals p q =
       orElse-later (areaFault area) _ cells-fine
-      ∙ say-false _ 13 _ (le-ltb ats (length (recoveryStores (cellsIn area) (word area))) (omega (arith, few)))
-      ∙ say-false _ 13 0 (le-ltb vals (length (recoveryStores (cellsIn area) (word area))) (omega (arith, few)))
+      ∙ refuseIf-false _ 13 _ (le-ltb ats (length (recoveryStores (cellsIn area) (word area))) (omega (arith, few)))
+      ∙ refuseIf-false _ 13 0 (le-ltb vals (length (recoveryStores (cellsIn area) (word area))) (omega (arith, few)))
     where
       few : length (recoveryStores (cellsIn area) (word area)) ≤ cells
       few = omega (arith, size, recovery-few (cellsIn area) (word area))
@@ -216,20 +216,20 @@ module _ (cells : ℕ) (low : 2 ≤ cells) (area : List ℕ) (log : Messages) (k
 
   read-due : (s : ℕ) → readFault area s ≡ logDueFault area log (a-read s)
   unfolding logDueFault
-  read-due s = read-fault area area-fine s ∙ ap (λ (t : Bool). say (not t) 31 0) (shown-in s)
+  read-due s = read-fault area area-fine s ∙ ap (λ (t : Bool). refuseIf (not t) 31 0) (shown-in s)
 
   read-part : (s : ℕ) → readPart area s ≡ unlessRefused (logDueFault area log (a-read s)) (getD log (s - 1) []) []
-  unfolding logDueFault unlessRefused say
+  unfolding logDueFault unlessRefused refuseIf
   read-part s = go (split (inWindow (cellsIn area) (length log) s))
     where
       go : (inWindow (cellsIn area) (length log) s ≡ true) ⊎ (inWindow (cellsIn area) (length log) s ≡ false)
-          → readPart area s ≡ unlessRefused (say (not (inWindow (cellsIn area) (length log) s)) 31 0) (getD log (s - 1) []) []
+          → readPart area s ≡ unlessRefused (refuseIf (not (inWindow (cellsIn area) (length log) s)) 31 0) (getD log (s - 1) []) []
       go (inl e) =
           keep .shows .bytes s (ap (λ (k : ℕ). inWindow k (length log) s) (sym (keep .shows .size)) ∙ e)
-          ∙ sym (ap (λ (t : Bool). unlessRefused (say (not t) 31 0) (getD log (s - 1) []) []) e)
+          ∙ sym (ap (λ (t : Bool). unlessRefused (refuseIf (not t) 31 0) (getD log (s - 1) []) []) e)
       go (inr e) =
           read-hidden area area-fine s (shown-in s ∙ e)
-          ∙ sym (ap (λ (t : Bool). unlessRefused (say (not t) 31 0) (getD log (s - 1) []) []) e)
+          ∙ sym (ap (λ (t : Bool). unlessRefused (refuseIf (not t) 31 0) (getD log (s - 1) []) []) e)
 
   -- EACH CALL IS RIGHT
   pub call-right : (call : LogCall) → FitsCall call → CallRight area log call

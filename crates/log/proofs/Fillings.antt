@@ -16,7 +16,7 @@ use Rattle.stores.specs.Store.{Store}
 use Rattle.stores.specs.Play.{wordNumbers, values}
 use Rattle.stores.specs.Written.{marked, run}
 use Rattle.stores.proofs.Lists.{numbers-length, values-length, numbers-append, values-append}
-use Rattle.log.specs.Handed.{logEnd, handing}
+use Rattle.log.specs.LogOutcome.{logEnd, handing}
 use Rattle.log.specs.Append.{markedBody}
 use Rattle.log.specs.inner.Needs.{Filled}
 

@@ -8,7 +8,7 @@ use native.Mathlib.Omega.{arith}
 use lib.ListN.{length}
 use lib.Dec.{eqb, ltb}
 use borrow.Author.Tests.{eqb-false, ltb-false, leb-false}
-use Rattle.prelude.proofs.Refusals.{say-zero, orElse-zero, orElse-first}
+use Rattle.prelude.proofs.Refusals.{refuseIf-zero, orElse-zero, orElse-first}
 use Rattle.words.specs.Word.{AreBytes, word}
 use Rattle.words.proofs.Laws.{word-range}
 use Rattle.layout.specs.Line.{versionFault}
@@ -19,7 +19,7 @@ use Rattle.log.specs.Area.{cellsIn, areaFault, markedLine, payloadLine}
 use Rattle.log.specs.Bit.{bitPair}
 use Rattle.log.specs.Message.{highest}
 use Rattle.log.specs.Append.{messageLine, lineCount, payloadStores, payloadsFrom, pairsWord, markedBody, messageStores, nextMessage, appendStores, messageFault, appendFault}
-use Rattle.log.specs.Recover.{isAbove, opener, openings, recoveryStores}
+use Rattle.log.specs.Recover.{isAbove, invalidation, invalidations, recoveryStores}
 use Rattle.log.proofs.Flexible.{count-within, pair-low, packed-low}
 use Rattle.log.proofs.Parts.{area-cells}
 
@@ -54,14 +54,14 @@ module _ (m : ℕ → ℕ) (m-fits : (i : ℕ) → m i < 2 ^ 64) (c : ℕ) (mess
       (run-inside n (8 * (7 * c)) _ 0 8 (omega arith) (marked-below (markedLine m c 7) s (markedBody (length message) (pairsWord m c message)) h (body-below l)))
       (from-inside n 0 6 (omega arith) room)
 
-openings-inside : (n : ℕ) (m : ℕ → ℕ) (h k j : ℕ) → 448 * (k + j) ≤ n → StoresInside n (openings m h k j)
-unfolding openings
-openings-inside n m h k zero l = nil-in
-openings-inside n m h k (suc j) l = go (isAbove m h k) (openings-inside n m h (suc k) j (omega arith))
+invalidations-inside : (n : ℕ) (m : ℕ → ℕ) (h k j : ℕ) → 448 * (k + j) ≤ n → StoresInside n (invalidations m h k j)
+unfolding invalidations
+invalidations-inside n m h k zero l = nil-in
+invalidations-inside n m h k (suc j) l = go (isAbove m h k) (invalidations-inside n m h (suc k) j (omega arith))
   where
-    go : (t : Bool) → StoresInside n (openings m h (suc k) j)
-        → StoresInside n (cond t (opener m k ∷ openings m h (suc k) j) (openings m h (suc k) j))
-    go true r = cons-in {s = opener m k} (omega arith) (omega arith) r
+    go : (t : Bool) → StoresInside n (invalidations m h (suc k) j)
+        → StoresInside n (cond t (invalidation m k ∷ invalidations m h (suc k) j) (invalidations m h (suc k) j))
+    go true r = cons-in {s = invalidation m k} (omega arith) (omega arith) r
     go false r = r
 
 -- ---- what an append is refused with first, and what an accepted one knows
@@ -86,12 +86,12 @@ accepted area message ats vals z =
     let size = orElse-zero _ _ z in
     let rest = orElse-zero _ _ (size .1) in
     let later = orElse-zero _ _ (rest .1) in
-    let long = say-zero (eqb (length message) 0) _ _ (rest .0) (omega arith) in
+    let long = refuseIf-zero (eqb (length message) 0) _ _ (rest .0) (omega arith) in
     record {
       area-fine = size .0;
       some = some-of (length message) (eqb-false (length message) 0 (long .0));
-      short = ltb-false 384 (length message) (say-zero (ltb 384 (length message)) _ _ (long .1) (omega arith) .0);
-      number = leb-false (2 ^ 63) (nextMessage (cellsIn area) (word area)) (say-zero _ _ _ (later .0) (omega arith) .0);
+      short = ltb-false 384 (length message) (refuseIf-zero (ltb 384 (length message)) _ _ (long .1) (omega arith) .0);
+      number = leb-false (2 ^ 63) (nextMessage (cellsIn area) (word area)) (refuseIf-zero _ _ _ (later .0) (omega arith) .0);
     }
 
 pub append-inside-area : (area message : List ℕ) → AreBytes area → AreBytes message → Accepted area message
@@ -106,4 +106,4 @@ append-inside-area area message bytes are-bytes ok =
 pub recovery-inside-area : (area : List ℕ) → areaFault area ≡ 0 → StoresInside (length area) (recoveryStores (cellsIn area) (word area))
 unfolding recoveryStores
 recovery-inside-area area fine =
-    openings-inside (length area) (word area) (highest (cellsIn area) (word area)) 0 (cellsIn area) (omega (arith, area-cells area fine .size))
+    invalidations-inside (length area) (word area) (highest (cellsIn area) (word area)) 0 (cellsIn area) (omega (arith, area-cells area fine .size))

@@ -2,7 +2,7 @@ pub mod Differences
 pub mod Flexible
 pub mod Cells
 pub mod Appends
-pub mod Openings
+pub mod Invalidations
 pub mod Shown
 pub mod Parts
 pub mod Inside

@@ -8,9 +8,9 @@ use native.Mathlib.Omega.{arith}
 use borrow.Author.Tests.{ltb-false}
 use native.Mathlib.Decide.{decLt}
 use lib.ListN.{length, take, drop}
-use Rattle.prelude.specs.Refusal.{say, orElse, unlessRefused}
+use Rattle.prelude.specs.Refusal.{refuseIf, orElse, unlessRefused}
 use Rattle.prelude.specs.Answer.{gives}
-use Rattle.prelude.proofs.Refusals.{orElse-zero, say-zero}
+use Rattle.prelude.proofs.Refusals.{orElse-zero, refuseIf-zero}
 use Rattle.prelude.proofs.Choice.{lesser-short}
 use Rattle.words.specs.Word.{word}
 use Rattle.layout.specs.Line.{versionFault}
@@ -21,14 +21,14 @@ use Rattle.stores.proofs.Lists.{numbers-length, values-length, numbers-append, 
 use Rattle.stores.proofs.ListPut.{zipped-length, front-stores}
 use Rattle.log.specs.Area.{cellsIn, areaFault}
 use Rattle.log.specs.Message.{highest}
-use Rattle.log.specs.Handed.{handedSays, shortFault, LogResult, logEnd, handing, LogListResult, logListEnd, handingList}
+use Rattle.log.specs.LogOutcome.{logAnswer, shortFault, LogResult, logEnd, handing, LogListResult, logListEnd, handingList}
 use Rattle.log.specs.Append.{nextMessage, appendStores, messageFault, appendFault, appendResult, appendListResult}
 use Rattle.log.specs.Recover.{recoveryStores, logRecoverFault, logRecoverResult, logRecoverListResult}
 use Rattle.log.specs.Rule.{countGiven, asNumbers, ListAgrees}
-use Rattle.log.specs.inner.List.{handedCount, storesHanded, StoresMade}
-use Rattle.log.specs.declared.Handed.{Handed}
-use Rattle.log.specs.declared.Handed.the-variants.{Given, Refused}
-use Rattle.log.proofs.Openings.{recovery-few}
+use Rattle.log.specs.inner.List.{storedCount, storesHanded, StoresMade}
+use Rattle.log.specs.declared.LogOutcome.{LogOutcome}
+use Rattle.log.specs.declared.LogOutcome.the-variants.{Stored, Refused}
+use Rattle.log.proofs.Invalidations.{recovery-few}
 use Rattle.log.proofs.Parts.{area-cells, is-area}
 use Rattle.log.proofs.Plans.{append-few}
 
@@ -36,23 +36,23 @@ use Rattle.log.proofs.Plans.{append-few}
 
 short-room : (count size room : ℕ) → count ≤ size → shortFault count (min size room) (min size room) ≡ shortFault count room room
 unfolding shortFault
-short-room count size room h = ap (λ (t : Bool). say t 13 (say t 13 0)) (lesser-short count size room h)
+short-room count size room h = ap (λ (t : Bool). refuseIf t 13 (refuseIf t 13 0)) (lesser-short count size room h)
 
 held : (count room : ℕ) → shortFault count room room ≡ 0 → count ≤ room
 unfolding shortFault
-held count room z = ltb-false room count (say-zero _ _ _ z (omega arith) .0)
+held count room z = ltb-false room count (refuseIf-zero _ _ _ z (omega arith) .0)
 
 -- ---- what a call that made its stores in arrays left
 
-says-count : (a : Handed) → handedCount a ≡ countGiven (handedSays a)
-unfolding handedCount handedSays countGiven
-says-count (Given number count) = refl
+says-count : (a : LogOutcome) → storedCount a ≡ countGiven (logAnswer a)
+unfolding storedCount logAnswer countGiven
+says-count (Stored number count) = refl
 says-count (Refused number) = refl
 
 -- from lists of which the arrays are the fronts
 made : (size room fault number : ℕ) (ss : List Store) → length ss ≤ size → (fault ≡ 0 → length ss ≤ room)
-    → (a : Handed) (at₀ value₀ at₁ value₁ rest rest′ : List ℕ) (stored : ℕ) → stored ≡ handedCount a
-    → logEnd (handedSays a) at₁ value₁ ≡ handing fault number ss at₀ value₀
+    → (a : LogOutcome) (at₀ value₀ at₁ value₁ rest rest′ : List ℕ) (stored : ℕ) → stored ≡ storedCount a
+    → logEnd (logAnswer a) at₁ value₁ ≡ handing fault number ss at₀ value₀
     → StoresMade size room fault number ss a stored (at₁ ++ rest) (value₁ ++ rest′)
 unfolding handing storesHanded unlessRefused countGiven zipped
 made size room zero number ss few fits a at₀ value₀ at₁ value₁ rest rest′ stored es e =
@@ -79,7 +79,7 @@ made size room (suc k) number ss few fits a at₀ value₀ at₁ value₁ rest r
     none : stored ≡ 0
     none = es ∙ says-count a ∙ ap (λ (r : LogResult). countGiven (r .answer)) e
 
-module _ (area : List ℕ) (room : ℕ) (a : Handed) (at₀ value₀ at₁ value₁ : List ℕ) (stored : ℕ) (rest rest′ : List ℕ) (es : stored ≡ handedCount a) where
+module _ (area : List ℕ) (room : ℕ) (a : LogOutcome) (at₀ value₀ at₁ value₁ : List ℕ) (stored : ℕ) (rest rest′ : List ℕ) (es : stored ≡ storedCount a) where
   -- ---- an append
 
   module _ (message : List ℕ) where
@@ -96,7 +96,7 @@ module _ (area : List ℕ) (room : ℕ) (a : Handed) (at₀ value₀ at₁ value
     unfolding appendFault
     append-fits z = held (length stores) room (orElse-zero _ _ (orElse-zero _ _ (orElse-zero _ _ z .1) .1) .1)
 
-    pub append-made : length at₀ ≡ min 56 room → length value₀ ≡ min 56 room → logEnd (handedSays a) at₁ value₁ ≡ appendResult area message at₀ value₀
+    pub append-made : length at₀ ≡ min 56 room → length value₀ ≡ min 56 room → logEnd (logAnswer a) at₁ value₁ ≡ appendResult area message at₀ value₀
         → StoresMade 56 room (appendFault area message room room) (nextMessage (cellsIn area) (word area)) stores a stored (at₁ ++ rest) (value₁ ++ rest′)
     unfolding appendResult
     append-made en em e =
@@ -122,7 +122,7 @@ module _ (area : List ℕ) (room : ℕ) (a : Handed) (at₀ value₀ at₁ value
   unfolding logRecoverFault
   recovery-fits z = held (length openers) room (orElse-zero _ _ z .1)
 
-  pub recovery-made : length at₀ ≡ min 1000 room → length value₀ ≡ min 1000 room → logEnd (handedSays a) at₁ value₁ ≡ logRecoverResult area at₀ value₀
+  pub recovery-made : length at₀ ≡ min 1000 room → length value₀ ≡ min 1000 room → logEnd (logAnswer a) at₁ value₁ ≡ logRecoverResult area at₀ value₀
       → StoresMade 1000 room (logRecoverFault area room room) (highest (cellsIn area) (word area)) openers a stored (at₁ ++ rest) (value₁ ++ rest′)
   unfolding logRecoverResult
   recovery-made en em e =
@@ -180,12 +180,12 @@ filled zero number ss list = refl
 filled (suc k) number ss list = refl
 
 -- the numbers that are put are those of the arrays
-pub in-list : (size room fault number : ℕ) (ss : List Store) (a : Handed) (stored : ℕ) (at value at′ value′ : List ℕ) → StoresMade size room fault number ss a stored at value
+pub in-list : (size room fault number : ℕ) (ss : List Store) (a : LogOutcome) (stored : ℕ) (at value at′ value′ : List ℕ) → StoresMade size room fault number ss a stored at value
     → at′ ≡ at → value′ ≡ value → length at′ ≡ size → length value′ ≡ size → (list zs : List Store) → zs ≡ storesPut at′ value′ stored list
-    → logListEnd (handedSays a) zs ≡ handingList fault number ss list
+    → logListEnd (logAnswer a) zs ≡ handingList fault number ss list
 in-list size room fault number ss a stored at value at′ value′ it ea ev na nv list zs e =
-    ap (logListEnd (handedSays a)) (e ∙ ap₂ (λ (x y : List ℕ). storesPut x y stored list) ea ev)
-    ∙ ap (λ (n : ℕ). logListEnd (handedSays a) (zipped (take stored at) (take stored value) ++ drop n list))
+    ap (logListEnd (logAnswer a)) (e ∙ ap₂ (λ (x y : List ℕ). storesPut x y stored list) ea ev)
+    ∙ ap (λ (n : ℕ). logListEnd (logAnswer a) (zipped (take stored at) (take stored value) ++ drop n list))
     (sym (zipped-length at value stored (omega (arith, it .in-arrays, ap length ea, na)) (omega (arith, it .in-arrays, ap length ev, nv))))
     ∙ ap (λ (r : LogListResult). logListEnd (r .answer) (r .list ++ drop (length (r .list)) list)) (it .left)
     ∙ filled fault number ss list

@@ -10,7 +10,7 @@ use Rattle.prelude.proofs.Numbers.{none-due, one-due, else-due, numbered}
 use Rattle.layout.specs.Line.{versionFault}
 use Rattle.stores.specs.Store.{Store}
 use Rattle.log.specs.Area.{areaFault}
-use Rattle.log.specs.Handed.{shortFault, LogResult, logEnd, handing, LogListResult, logListEnd, handingList}
+use Rattle.log.specs.LogOutcome.{shortFault, LogResult, logEnd, handing, LogListResult, logListEnd, handingList}
 use Rattle.log.specs.Append.{messageFault, appendFault, appendResult, appendListResult}
 use Rattle.log.specs.Recover.{logRecoverFault, logRecoverResult, logRecoverListResult}
 use Rattle.log.specs.Read.{readFault, readResult, partResult}
@@ -48,9 +48,9 @@ handed : (ks : List ℕ) (fault : ℕ) → ZeroOrOneOf ks fault → (number : �
 unfolding handing
 handed ks fault d number ss at value = numbered ks (λ (r : LogResult). r .answer) (λ k. logEnd (refused k) at value) (λ k. refl) fault d _ tt
 
-handed-list : (ks : List ℕ) (fault : ℕ) → ZeroOrOneOf ks fault → (number : ℕ) (ss list : List Store) → Numbered ks (handingList fault number ss list .answer)
+stored-list : (ks : List ℕ) (fault : ℕ) → ZeroOrOneOf ks fault → (number : ℕ) (ss list : List Store) → Numbered ks (handingList fault number ss list .answer)
 unfolding handingList
-handed-list ks fault d number ss list = numbered ks (λ (r : LogListResult). r .answer) (λ k. logListEnd (refused k) list) (λ k. refl) fault d _ tt
+stored-list ks fault d number ss list = numbered ks (λ (r : LogListResult). r .answer) (λ k. logListEnd (refused k) list) (λ k. refl) fault d _ tt
 
 -- THE NUMBERS of the log's calls
 pub log-numbers : LogNumbers
@@ -58,9 +58,9 @@ unfolding appendResult appendListResult logRecoverResult logRecoverListResult re
 log-numbers =
     record {
       append = λ area message at value. handed appendRefusals _ (append-due area message _ _) _ _ at value;
-      append-list = λ area message list. handed-list appendRefusals _ (append-due area message _ _) _ _ list;
+      append-list = λ area message list. stored-list appendRefusals _ (append-due area message _ _) _ _ list;
       recover = λ area at value. handed logRecoverRefusals _ (recover-due area _ _) _ _ at value;
-      recover-list = λ area list. handed-list logRecoverRefusals _ (recover-due area _ _) _ _ list;
+      recover-list = λ area list. stored-list logRecoverRefusals _ (recover-due area _ _) _ _ list;
       read = read-due;
       read-part = λ area number. numbered readRefusals (λ (a : Answer). a) (λ k. refused k) (λ k. refl) _ (read-due area number) _ tt;
     }

@@ -10,9 +10,9 @@ use lib.ListN.{length, getD, take, drop, length-drop}
 use lib.Seq.{length-take-le, getD-take, getD-drop, ext-getD}
 use lib.Dec.{eqb}
 use borrow.Author.Tests.{le-ltb, eq-eqb, ne-eqb, eqb-false}
-use Rattle.prelude.specs.Refusal.{say, unlessRefused}
+use Rattle.prelude.specs.Refusal.{refuseIf, unlessRefused}
 use Rattle.prelude.proofs.Tests.{tests}
-use Rattle.prelude.proofs.Refusals.{say-true, say-false, say-zero, orElse-later}
+use Rattle.prelude.proofs.Refusals.{refuseIf-true, refuseIf-false, refuseIf-zero, orElse-later}
 use Rattle.words.specs.Word.{AreBytes, word}
 use Rattle.words.proofs.Laws.{word-byte}
 use Rattle.log.specs.Area.{cellsOf, cellsIn, areaFault, markedLine, payloadLine}
@@ -27,11 +27,11 @@ use Rattle.log.proofs.Appends.{Message}
 pub cells-sized : (k : ℕ) → 2 ≤ k → k ≤ 1000 → cellsOf (448 * k) ≡ k
 unfolding cellsOf
 cells-sized k low high =
-    say-false _ _ _ (le-ltb (448 * k) 896 (omega arith)) ∙ say-false _ _ _ (le-ltb 448000 (448 * k) (omega arith))
-    ∙ say-false _ _ _ (ap not (eq-eqb (448 * k % 448) 0 (omega arith))) ∙ omega arith
+    refuseIf-false _ _ _ (le-ltb (448 * k) 896 (omega arith)) ∙ refuseIf-false _ _ _ (le-ltb 448000 (448 * k) (omega arith))
+    ∙ refuseIf-false _ _ _ (ap not (eq-eqb (448 * k % 448) 0 (omega arith))) ∙ omega arith
 
 cells-known : (len : ℕ) → (cellsOf len ≡ 0 → ⊥) → CellCount len (cellsOf len)
-unfolding cellsOf say
+unfolding cellsOf refuseIf
 cells-known len ne =
     by-cases (decLt len 896) (λ h. absurd (ne (search tests)))
     (λ h.
@@ -48,17 +48,17 @@ cells-known len ne =
 
 pub area-cells : (area : List ℕ) → areaFault area ≡ 0 → CellCount (length area) (cellsIn area)
 unfolding areaFault
-area-cells area z = cells-known (length area) (eqb-false (cellsIn area) 0 (say-zero _ _ _ z (omega arith) .0))
+area-cells area z = cells-known (length area) (eqb-false (cellsIn area) 0 (refuseIf-zero _ _ _ z (omega arith) .0))
 
 -- by a count that is known
 module _ (area : List ℕ) (k : ℕ) (e : k ≡ cellsIn area) where
   pub no-area : k ≡ 0 → areaFault area ≡ 30
   unfolding areaFault
-  no-area z = say-true (eqb (cellsIn area) 0) 30 0 (eq-eqb _ 0 (sym e ∙ z))
+  no-area z = refuseIf-true (eqb (cellsIn area) 0) 30 0 (eq-eqb _ 0 (sym e ∙ z))
 
   pub is-area : (k ≡ 0 → ⊥) → areaFault area ≡ 0
   unfolding areaFault
-  is-area ne = say-false (eqb (cellsIn area) 0) 30 0 (ne-eqb _ 0 (λ z. ne (e ∙ z)))
+  is-area ne = refuseIf-false (eqb (cellsIn area) 0) 30 0 (ne-eqb _ 0 (λ z. ne (e ∙ z)))
 
   pub cells-by : (k ≡ 0 → ⊥) → CellCount (length area) k
   cells-by ne = subst (CellCount (length area)) (sym e) (cells-known (length area) (λ z. ne (e ∙ z)))
@@ -122,16 +122,16 @@ same-part area area′ c b b′ room same short e =
 -- ---- a read
 
 module _ (area : List ℕ) (fine : areaFault area ≡ 0) (s : ℕ) where
-  pub read-fault : readFault area s ≡ say (not (shown (cellsIn area) (word area) s)) 31 0
+  pub read-fault : readFault area s ≡ refuseIf (not (shown (cellsIn area) (word area) s)) 31 0
   unfolding readFault
   read-fault = orElse-later (areaFault area) _ fine
 
   pub read-shown : shown (cellsIn area) (word area) s ≡ true → readPart area s ≡ messageIn area (s % cellsIn area)
-  unfolding readPart say unlessRefused
+  unfolding readPart refuseIf unlessRefused
   read-shown e =
-      ap (λ (f : ℕ). unlessRefused f (messageIn area (s % cellsIn area)) []) (read-fault ∙ ap (λ (t : Bool). say (not t) 31 0) e)
+      ap (λ (f : ℕ). unlessRefused f (messageIn area (s % cellsIn area)) []) (read-fault ∙ ap (λ (t : Bool). refuseIf (not t) 31 0) e)
 
   pub read-hidden : shown (cellsIn area) (word area) s ≡ false → readPart area s ≡ []
-  unfolding readPart say unlessRefused
+  unfolding readPart refuseIf unlessRefused
   read-hidden e =
-      ap (λ (f : ℕ). unlessRefused f (messageIn area (s % cellsIn area)) []) (read-fault ∙ ap (λ (t : Bool). say (not t) 31 0) e)
+      ap (λ (f : ℕ). unlessRefused f (messageIn area (s % cellsIn area)) []) (read-fault ∙ ap (λ (t : Bool). refuseIf (not t) 31 0) e)

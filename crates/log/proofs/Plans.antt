@@ -9,7 +9,7 @@ use lib.ListN.{length, length-append}
 use lib.Dec.{ltb}
 use borrow.Author.Tests.{ltb-false, leb-false}
 use Rattle.prelude.specs.Answer.{gives, refused}
-use Rattle.prelude.proofs.Refusals.{say-zero, orElse-first, orElse-later}
+use Rattle.prelude.proofs.Refusals.{refuseIf-zero, orElse-first, orElse-later}
 use Rattle.words.specs.Word.{AreBytes, word}
 use Rattle.words.proofs.Laws.{word-range}
 use Rattle.layout.specs.Line.{line, versionFault}
@@ -18,7 +18,7 @@ use Rattle.stores.proofs.Line.{run-length}
 use Rattle.log.specs.Area.{cellsIn, areaFault, payloadLine}
 use Rattle.log.specs.Bit.{differingPlace, storeCount, bitPair, packed}
 use Rattle.log.specs.Message.{highest}
-use Rattle.log.specs.Handed.{shortFault, logEnd}
+use Rattle.log.specs.LogOutcome.{shortFault, logEnd}
 use Rattle.log.specs.Append.{messageLine, lineCount, payloadStores, payloadsFrom, pairsWord, markedBody, markedWords, messageStores, nextMessage, appendStores, messageFault, appendFault, appendResult}
 use Rattle.log.specs.inner.Needs.{CellCount, Filled, ListRoom, PayloadPlanned, AppendReady, AppendPlanned}
 use Rattle.log.proofs.Flexible.{count-within, pair-low, packed-low}
@@ -261,7 +261,7 @@ module _ (area message : List ℕ) (ats vals k : ℕ) (e : k ≡ cellsIn area) w
 
             number-low : top + 1 < 2 ^ 63
             unfolding versionFault
-            number-low = leb-false (2 ^ 63) (top + 1) (say-zero _ _ _ (sym v ∙ fits) (omega arith) .0)
+            number-low = leb-false (2 ^ 63) (top + 1) (refuseIf-zero _ _ _ (sym v ∙ fits) (omega arith) .0)
 
             cell-is : cell ≡ nextMessage (cellsIn area) (word area) % cellsIn area
             cell-is = p ∙ ap₂ (λ (x y : ℕ). x % y) number-is e
@@ -284,8 +284,8 @@ module _ (area message : List ℕ) (ats vals k : ℕ) (e : k ≡ cellsIn area) w
                         (orElse-later (areaFault area) _ area-fine ∙ orElse-later (messageFault (length message)) _ (sym u ∙ fit)
                         ∙ orElse-later (versionFault (nextMessage (cellsIn area) (word area))) _ (ap versionFault (sym number-is) ∙ sym v ∙ fits));
                     ready = λ z.
-                        let one = say-zero (ltb ats (8 + stores)) _ _ (sym r ∙ z) (omega arith) in
-                        let two = say-zero (ltb vals (8 + stores)) _ _ (one .1) (omega arith) in
+                        let one = refuseIf-zero (ltb ats (8 + stores)) _ _ (sym r ∙ z) (omega arith) in
+                        let two = refuseIf-zero (ltb vals (8 + stores)) _ _ (one .1) (omega arith) in
                         record {
                           next = number-is;
                           there = cell-is;

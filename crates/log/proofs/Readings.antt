@@ -8,10 +8,10 @@ use native.Mathlib.Omega.{arith}
 use lib.ListN.{length, take, drop, length-drop}
 use lib.Seq.{length-take-le}
 use borrow.Author.Tests.{not-false}
-use Rattle.prelude.specs.Refusal.{say}
+use Rattle.prelude.specs.Refusal.{refuseIf}
 use Rattle.prelude.specs.Answer.{Answer, gives, refused}
 use Rattle.prelude.proofs.Choice.{both-right}
-use Rattle.prelude.proofs.Refusals.{say-zero, orElse-first, orElse-zero, taken-leaves, refused-keeps}
+use Rattle.prelude.proofs.Refusals.{refuseIf-zero, orElse-first, orElse-zero, taken-leaves, refused-keeps}
 use Rattle.words.specs.Word.{word}
 use Rattle.log.specs.Area.{cellsIn, areaFault, markedLine}
 use Rattle.log.specs.Message.{inWindow, highest, shown, messageStart, messageIn}
@@ -29,18 +29,18 @@ module _ (area : List ℕ) (number k : ℕ) (e : k ≡ cellsIn area) where
   read-no-area z = sym (orElse-first (areaFault area) _ (λ q. omega (arith, no-area area k e z)) ∙ no-area area k e z)
 
   module _ (ne : k ≡ 0 → ⊥) (t : Bool) (f : t ≡ shown k (word area) number) where
-    by-shown : readFault area number ≡ say (not t) 31 0
+    by-shown : readFault area number ≡ refuseIf (not t) 31 0
     by-shown =
         read-fault area (is-area area k e ne) number
-        ∙ ap (λ (u : Bool). say (not u) 31 0) (sym (f ∙ ap (λ (j : ℕ). shown j (word area) number) e))
+        ∙ ap (λ (u : Bool). refuseIf (not u) 31 0) (sym (f ∙ ap (λ (j : ℕ). shown j (word area) number) e))
 
     pub read-accepted : t ≡ true → 0 ≡ readFault area number
-    unfolding say
-    read-accepted q = sym (by-shown ∙ ap (λ (u : Bool). say (not u) 31 0) q)
+    unfolding refuseIf
+    read-accepted q = sym (by-shown ∙ ap (λ (u : Bool). refuseIf (not u) 31 0) q)
 
     pub read-not-shown : t ≡ false → 31 ≡ readFault area number
-    unfolding say
-    read-not-shown q = sym (by-shown ∙ ap (λ (u : Bool). say (not u) 31 0) q)
+    unfolding refuseIf
+    read-not-shown q = sym (by-shown ∙ ap (λ (u : Bool). refuseIf (not u) 31 0) q)
 
 -- ---- the part
 
@@ -56,7 +56,7 @@ module _ (area : List ℕ) (number f : ℕ) (e : f ≡ readFault area number) wh
     fine = orElse-zero _ _ (sym e ∙ z) .0
 
     is-shown : shown (cellsIn area) (word area) number ≡ true
-    is-shown = not-false _ (say-zero _ _ _ (sym (read-fault area fine number) ∙ sym e ∙ z) (omega arith) .0)
+    is-shown = not-false _ (refuseIf-zero _ _ _ (sym (read-fault area fine number) ∙ sym e ∙ z) (omega arith) .0)
 
     pub part-cells : (k : ℕ) → k ≡ cellsIn area → CellCount (length area) k
     part-cells k q = subst (CellCount (length area)) (sym q) (area-cells area fine)

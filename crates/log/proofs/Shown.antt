@@ -17,11 +17,11 @@ use Rattle.stores.specs.Cut.{afterCut}
 use Rattle.log.specs.Area.{markedLine}
 use Rattle.log.specs.Message.{holdsMessage, isComplete, highest}
 use Rattle.log.specs.Append.{messageStores, nextMessage, appendStores}
-use Rattle.log.specs.Recover.{isAbove, openings, recoveryStores}
+use Rattle.log.specs.Recover.{isAbove, invalidations, recoveryStores}
 use Rattle.log.specs.Laws.{Closed}
 use Rattle.log.proofs.Cells.{held, SameCell, same-holds, Highest, highest-is, highest-by, Window}
 use Rattle.log.proofs.Appends.{Message, AllStand, append-others, append-done, done-version, append-torn}
-use Rattle.log.proofs.Openings.{recovery-cell, recovery-closes}
+use Rattle.log.proofs.Invalidations.{recovery-cell, recovery-closes}
 
 -- the same numbers of the window are complete, and their cells are the same
 pub record KeepsShown (cells : ℕ) (m m′ : ℕ → ℕ) : Type 0 where
@@ -42,7 +42,7 @@ module _ (cells : ℕ) (many : 2 ≤ cells) (m : ℕ → ℕ) (counts : ℕ → 
   h = highest cells m
 
   abbrev restored : ℕ → ℕ
-  restored = afterCut counts (openings m h 0 cells) m
+  restored = afterCut counts (invalidations m h 0 cells) m
 
   -- the cell of s is the same, or open
   cell-of : (s : ℕ)

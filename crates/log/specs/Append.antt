@@ -4,7 +4,7 @@ use mathlib.Core.List.{List, [], _++_}
 use Prim.Native.Nat.{ℕ, zero, suc, _+_, _*_, _%_}
 use lib.Dec.{eqb, ltb}
 use lib.ListN.{length}
-use Rattle.prelude.specs.Refusal.{say, orElse}
+use Rattle.prelude.specs.Refusal.{refuseIf, orElse}
 use Rattle.words.specs.Word.{word}
 use Rattle.layout.specs.Line.{versionFault}
 use Rattle.stores.specs.Store.{Store}
@@ -12,7 +12,7 @@ use Rattle.stores.specs.Written.{marked, run, lineStores}
 use Rattle.log.specs.Area.{cellsIn, areaFault, markedLine, payloadLine}
 use Rattle.log.specs.Bit.{differingPlace, storeCount, bitPair, packed}
 use Rattle.log.specs.Message.{highest}
-use Rattle.log.specs.Handed.{shortFault, LogResult, handing, LogListResult, handingList}
+use Rattle.log.specs.LogOutcome.{shortFault, LogResult, handing, LogListResult, handingList}
 
 -- "Messages are padded with zeros": the words of payload line i
 abbrev pub messageLine : (message : List ℕ) → (i : ℕ) → ℕ → ℕ
@@ -57,9 +57,10 @@ appendStores cells m message = messageStores m (nextMessage cells m % cells) (ne
 
 -- "29 when a message is empty or over 384 bytes"
 unfoldable pub messageFault : (size : ℕ) → ℕ
-messageFault size = say (eqb size 0) 29 (say (ltb 384 size) 29 0)
+messageFault size = refuseIf (eqb size 0) 29 (refuseIf (ltb 384 size) 29 0)
 
--- "30 is tested first, and in an append 29, then 9 for a number of 2^63 or more, then 13 for a list shorter than the stores"; ats and vals are the lengths of the lists
+-- "30 is tested first, and in an append 29, then 9 for a number of 2^63 or more, then 13 for a list shorter than the
+-- stores"; ats and vals are the lengths of the lists
 unfoldable pub appendFault : (area message : List ℕ) → (ats vals : ℕ) → ℕ
 appendFault area message ats vals =
     orElse (areaFault area)

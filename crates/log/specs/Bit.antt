@@ -1,4 +1,5 @@
--- The flexible validity bit of a payload line (source document 000, section 3.1.3; document 02, A.10). A line is given by its words, ℕ → ℕ.
+-- The flexible validity bit of a payload line (source document 000, section 3.1.3; document 02, A.10). A line is given
+-- by its words, ℕ → ℕ.
 use mathlib.Core.Bool.{cond}
 use Prim.Native.Nat.{ℕ, zero, suc, _+_, _*_, _/_, _%_, _^_}
 use lib.Bits.{bitXor}
@@ -13,8 +14,8 @@ bitAt x i = x / 2 ^ i % 2
 abbrev pub lineBit : (L : ℕ → ℕ) → (position : ℕ) → ℕ
 lineBit L position = bitAt (L (position / 64)) (position % 64)
 
--- "old and new words are compared from word 7 down to word 0, and the search ends at the first that differs": the place of the highest of the first n words
--- that differs, or 8, the place of none, where they are equal
+-- "old and new words are compared from word 7 down to word 0, and the search ends at the first that differs": the place
+-- of the highest of the first n words that differs, or 8, the place of none, where they are equal
 unfoldable pub differingPlace : (n : ℕ) → (old new : ℕ → ℕ) → ℕ
 differingPlace zero old new = 8
 differingPlace (suc j) old new = cond (eqb (old j) (new j)) (differingPlace j old new) j

@@ -1,11 +1,12 @@
--- Calls on the log that a power cut may strike, and the plain machine beside it. Document 02, A.10: "The cut rule covers the log too, from an area of zeros, with recovery's
--- list long enough and cuts among recovery's stores included."
+-- Calls on the log that a power cut may strike, and the plain machine beside it. Document 02, A.10: "The cut rule
+-- covers the log too, from an area of zeros, with recovery's list long enough and cuts among recovery's stores
+-- included."
 use mathlib.Core.Bool.{Bool, false, cond, not}
 use mathlib.Core.List.{List, [], _∷_, _++_}
 use Prim.Native.Nat.{ℕ, suc, _*_, _≤_}
 use lib.Dec.{ltb}
 use lib.ListN.{length}
-use Rattle.prelude.specs.Refusal.{say, orElse, unlessRefused}
+use Rattle.prelude.specs.Refusal.{refuseIf, orElse, unlessRefused}
 use Rattle.prelude.specs.Answer.{refuses}
 use Rattle.prelude.specs.Range.{anyOf}
 use Rattle.words.specs.Word.{AreBytes, word}
@@ -13,7 +14,7 @@ use Rattle.layout.specs.Line.{versionFault}
 use Rattle.stores.specs.Store.{Store, played, standing, onLine}
 use Rattle.log.specs.Area.{cellsIn}
 use Rattle.log.specs.Message.{inWindow}
-use Rattle.log.specs.Handed.{shortFault}
+use Rattle.log.specs.LogOutcome.{shortFault}
 use Rattle.log.specs.Append.{messageFault, appendStores, appendFault}
 use Rattle.log.specs.Recover.{recoveryStores, logRecoverFault}
 
@@ -35,7 +36,8 @@ pub record LogRestart : Type 0 where
   pub at : List ℕ
   pub value : List ℕ
 
--- a call with all its stores played; or a call that a cut struck, so that line n holds its first `counts n` stores, and the restart after it
+-- a call with all its stores played; or a call that a cut struck, so that line n holds its first `counts n` stores, and
+-- the restart after it
 pub data LogEvent : Type 0 where
   call-done : LogCall → LogEvent
   call-cut : LogCall → (counts : ℕ → ℕ) → LogRestart → LogEvent
@@ -90,7 +92,7 @@ logDueFault area log (an-append message at value) =
     orElse (messageFault (length message))
     (orElse (versionFault (suc (length log)))
     (shortFault (length (appendStores (cellsIn area) (word area) message)) (length at) (length value)))
-logDueFault area log (a-read number) = say (not (inWindow (cellsIn area) (length log) number)) 31 0
+logDueFault area log (a-read number) = refuseIf (not (inWindow (cellsIn area) (length log) number)) 31 0
 logDueFault area log (a-recovery at value) =
     shortFault (length (recoveryStores (cellsIn area) (word area))) (length at) (length value)
 

@@ -1,7 +1,7 @@
 pub mod Area
 pub mod Bit
 pub mod Message
-pub mod Handed
+pub mod LogOutcome
 pub mod Append
 pub mod Recover
 pub mod Read

@@ -22,7 +22,8 @@ bitDiffers w L i = pairDiffers (pairIn w i) L
 unfoldable pub bitsDiffer : (m : ℕ → ℕ) → (c : ℕ) → Bool
 bitsDiffer m c = anyOf (λ i. bitDiffers (markedLine m c 2) (payloadLine m c i) i) 0 6
 
--- cell c holds message s: s is "at least 1", the "marked line is whole with version s, its length is 1 to 384 and all six bits match"
+-- cell c holds message s: s is "at least 1", the "marked line is whole with version s, its length is 1 to 384 and all
+-- six bits match"
 unfoldable pub holdsMessage : (m : ℕ → ℕ) → (c s : ℕ) → Bool
 holdsMessage m c s =
     leb 1 s && whole (markedLine m c 0) (markedLine m c 7) && eqb (versionOf (markedLine m c 7)) s

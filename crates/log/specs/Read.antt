@@ -1,8 +1,9 @@
--- Read: its refusals and its part. Document 02, A.10: "A read answers the message as the part of the lent area that holds it."
+-- Read: its refusals and its part. Document 02, A.10: "A read answers the message as the part of the lent area that
+-- holds it."
 use mathlib.Core.Bool.{not}
 use mathlib.Core.List.{List, [], _∷_}
 use Prim.Native.Nat.{ℕ, _%_}
-use Rattle.prelude.specs.Refusal.{say, orElse, unlessRefused}
+use Rattle.prelude.specs.Refusal.{refuseIf, orElse, unlessRefused}
 use Rattle.prelude.specs.Answer.{Answer, gives, refused}
 use Rattle.words.specs.Word.{word}
 use Rattle.log.specs.Area.{cellsIn, areaFault, markedLine}
@@ -12,7 +13,7 @@ use Rattle.log.specs.declared.Part.the-variants.{At, Refused}
 
 -- 30, then "31 when a number read is not shown"
 unfoldable pub readFault : (area : List ℕ) → (number : ℕ) → ℕ
-readFault area number = orElse (areaFault area) (say (not (shown (cellsIn area) (word area) number)) 31 0)
+readFault area number = orElse (areaFault area) (refuseIf (not (shown (cellsIn area) (word area) number)) 31 0)
 
 -- the message in the number's cell. "A refused read's part is empty."
 unfoldable pub readPart : (area : List ℕ) → (number : ℕ) → List ℕ

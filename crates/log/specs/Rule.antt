@@ -1,4 +1,5 @@
--- THE LOG RULE: the cut rule for the log, as one statement over every list of appends, reads, recoveries and cuts. Document 02, A.10.
+-- THE LOG RULE: the cut rule for the log, as one statement over every list of appends, reads, recoveries and cuts.
+-- Document 02, A.10.
 use mathlib.Core.Path.{_≡_}
 use mathlib.Core.Bool.{true, false, cond}
 use mathlib.Core.List.{List, [], _∷_, _++_}
@@ -13,7 +14,7 @@ use Rattle.stores.specs.Store.{Store, zipped, standing}
 use Rattle.stores.specs.Play.{playEnd, wordNumbers, values, playListResult}
 use Rattle.log.specs.Area.{cellsIn}
 use Rattle.log.specs.Message.{highest, inWindow, shown}
-use Rattle.log.specs.Handed.{LogResult, logEnd, LogListResult}
+use Rattle.log.specs.LogOutcome.{LogResult, logEnd, LogListResult}
 use Rattle.log.specs.Append.{appendResult, appendListResult}
 use Rattle.log.specs.Recover.{logRecoverResult, logRecoverListResult}
 use Rattle.log.specs.Read.{readPart, readEnd, readResult, partResult}
@@ -32,8 +33,8 @@ shownMessages cells area = shownUpTo cells area (highest cells (word area))
 unfoldable pub lastMessages : (n : ℕ) → Messages → Messages
 lastMessages n log = drop (length log - n) log
 
--- "A read answers the message as the part of the lent area that holds it", told by numbers, as C's read is answered: where the part starts and how many
--- bytes it has. Just so many stand there, and they are the message's
+-- "A read answers the message as the part of the lent area that holds it", told by numbers, as C's read is answered:
+-- where the part starts and how many bytes it has. Just so many stand there, and they are the message's
 pub record PartHolds (area message : List ℕ) (answer : Answer) : Type 0 where
   pub start : ℕ
   pub told : answer ≡ gives (start ∷ length message ∷ [])
@@ -51,7 +52,8 @@ pub record Shows (cells : ℕ) (area : List ℕ) (log : Messages) : Type 0 where
   pub parts : (s : ℕ) → inWindow cells (length log) s ≡ true → PartHolds area (getD log (s - 1) []) (partResult area s)
   -- "31 when a number read is not shown"; "A refused read's part is empty."
   pub hidden : (s : ℕ) → inWindow cells (length log) s ≡ false → (readResult area s ≡ readEnd [] 31) × (partResult area s ≡ refused 31)
-  -- "After each cut and after the last call recovery refuses nothing" (document 01), "with recovery's list long enough": K entries are, of two lists and of one
+  -- "After each cut and after the last call recovery refuses nothing" (document 01), "with recovery's list long
+  -- enough": K entries are, of two lists and of one
   pub recovers : (at value : List ℕ) → cells ≤ length at → cells ≤ length value → refusalIn (logRecoverResult area at value .answer) ≡ 0
   pub recovers-list : (list : List Store) → cells ≤ length list → refusalIn (logRecoverListResult area list .answer) ≡ 0
 
@@ -63,8 +65,8 @@ countGiven (gives values) = getD values 1 0
 countGiven absent = 0
 countGiven (refused number) = 0
 
--- a call that hands out stores: it is refused with this number, or else answers this number and the count of its stores; these stand at the front of the two
--- lists, and play takes them
+-- a call that hands out stores: it is refused with this number, or else answers this number and the count of its
+-- stores; these stand at the front of the two lists, and play takes them
 pub record HandsOut (area : List ℕ) (call : LogCall) (fault number : ℕ) (r : LogResult) : Type 0 where
   pub answer : r .answer ≡ unlessRefused fault (gives (number ∷ length (logStores area call) ∷ [])) (refused fault)
   pub stores : zipped (take (countGiven (r .answer)) (r .at)) (take (countGiven (r .answer)) (r .value)) ≡ logStores area call
@@ -74,13 +76,14 @@ pub record HandsOut (area : List ℕ) (call : LogCall) (fault number : ℕ) (r :
 unfoldable pub asNumbers : LogListResult → LogResult
 asNumbers r = logEnd (r .answer) (wordNumbers (r .list)) (values (r .list))
 
--- "The stores are lent as a list of records, each a word number and a value" (A.7): lent the records that have these word numbers and values, a call
--- answers and leaves what it does with the two lists
+-- "The stores are lent as a list of records, each a word number and a value" (A.7): lent the records that have these
+-- word numbers and values, a call answers and leaves what it does with the two lists
 abbrev pub ListAgrees : (at value : List ℕ) → (List Store → LogListResult) → LogResult → Type 0
 ListAgrees at value call r = (list : List Store) → wordNumbers list ≡ at → values list ≡ value → asNumbers (call list) ≡ r
 
--- each call answers as the plain machine does: an append gives the next number and a recovery how many messages there are, both with two lent lists and
--- with one; a read gives the message's bytes, or an empty part; and each is refused exactly where the rules refuse it
+-- each call answers as the plain machine does: an append gives the next number and a recovery how many messages there
+-- are, both with two lent lists and with one; a read gives the message's bytes, or an empty part; and each is refused
+-- exactly where the rules refuse it
 unfoldable pub CallRight : (area : List ℕ) → Messages → LogCall → Type 0
 CallRight area log (an-append message at value) =
     HandsOut area (an-append message at value) (logDueFault area log (an-append message at value)) (suc (length log))
@@ -95,15 +98,15 @@ CallRight area log (a-recovery at value) =
 
 -- ---- one event
 
--- "A cut may strike any call: play makes the counted stores, if there are any" (document 01): of a struck call the play of the list of the stores that
--- stand answers 0 and leaves just the area that recovery gets
+-- "A cut may strike any call: play makes the counted stores, if there are any" (document 01): of a struck call the play
+-- of the list of the stores that stand answers 0 and leaves just the area that recovery gets
 abbrev pub StandingPlays : (area : List ℕ) → LogCall → (counts : ℕ → ℕ) → Type 0
 StandingPlays area call counts =
     playListResult area (wordNumbers (standing counts (logStores area call))) (values (standing counts (logStores area call)))
     ≡ playEnd 0 (areaCut area call counts)
 
--- after a cut the list stays as it is: it is shown before each recovery, whatever stands of the stores of those before; each recovery answers right, and the
--- stores of it that stand are played
+-- after a cut the list stays as it is: it is shown before each recovery, whatever stands of the stores of those before;
+-- each recovery answers right, and the stores of it that stand are played
 abbrev pub RestartRight : (cells : ℕ) → (area : List ℕ) → Messages → LogRestart → Type 0
 RestartRight cells area log restart =
     Throughout areaAgain (λ a l r. l) (Shows cells)

@@ -1,8 +1,8 @@
 // The raw message log: types, definitions and laws. Document 02, A.10.
 
 // What append and recovery answer: a number and the count of the stores, or the number of the refusal.
-pub enum Handed {
-    Given { number: u64, count: usize },
+pub enum LogOutcome {
+    Stored { number: u64, count: usize },
     Refused(u32),
 }
 
@@ -18,8 +18,8 @@ pub struct Payload {
     pub count: usize,
 }
 
-// What an append reads before it writes: its refusal, 0 for none; and where there is none its number, its cell, word 2 of its marked line, and the
-// count of its stores.
+// What an append reads before it writes: its refusal, 0 for none; and where there is none its number, its cell, word 2
+// of its marked line, and the count of its stores.
 pub struct AppendPlan {
     pub fault: u32,
     pub number: u64,
@@ -28,9 +28,10 @@ pub struct AppendPlan {
     pub count: usize,
 }
 
-// What an append gives back, with its stores: the first `stored` numbers of `at` are their word numbers, and those of `value` their values.
+// What an append gives back, with its stores: the first `stored` numbers of `at` are their word numbers, and those of
+// `value` their values.
 pub struct AppendMade {
-    pub answer: Handed,
+    pub answer: LogOutcome,
     pub stored: usize,
     pub at: [u32; 56],
     pub value: [u64; 56],
@@ -38,7 +39,7 @@ pub struct AppendMade {
 
 // The same of a recovery, which has a store for each cell at most.
 pub struct RecoveryMade {
-    pub answer: Handed,
+    pub answer: LogOutcome,
     pub stored: usize,
     pub at: [u32; 1000],
     pub value: [u64; 1000],

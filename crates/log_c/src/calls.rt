@@ -4,13 +4,14 @@ ghost use Rattle.log.specs.Append.{appendResult};
 ghost use Rattle.log.specs.Recover.{logRecoverResult};
 ghost use Rattle.log.specs.Read.{partResult};
 ghost use Rattle.log_exports.specs.Call.{handLeft, handCall, partLeft, partCall};
-use log_code::Handed;
+use log_code::LogOutcome;
 use log_code::Part;
 use log_code::append;
 use log_code::find;
 use log_code::recover_log;
 
-// The message is appended; the answer is its number and the count of its stores, which fill the front of the lists and are to be made by the caller.
+// The message is appended; the answer is its number and the count of its stores, which fill the front of the lists and
+// are to be made by the caller.
 #[no_mangle]
 pub extern "C" fn orderset_raw_log_append(
     area: &[u8],
@@ -19,12 +20,13 @@ pub extern "C" fn orderset_raw_log_append(
     value: &mut [u64],
     answer: &mut [u64; 2],
 ) -> u32
-    ensures { λ r. ⌜ handLeft r (now (answer .exit)) (now (at .exit)) (now (value .exit)) ≡ handCall (appendResult (now (area .entry)) (now (message .entry)) (now (at .entry)) (now (value .entry))) (now (answer .entry)) ⌝ }
+    ensures result { λ r. ⌜ handLeft r (now (answer .exit)) (now (at .exit)) (now (value .exit))
+        ≡ handCall (appendResult (now (area .entry)) (now (message .entry)) (now (at .entry)) (now (value .entry))) (now (answer .entry)) ⌝ }
 {
     let handed = append(area, message, at, value);
     match handed {
-        Handed::Refused(refusal) => refusal,
-        Handed::Given { number, count } => {
+        LogOutcome::Refused(refusal) => refusal,
+        LogOutcome::Stored { number, count } => {
             *answer = [number, count as u64];
             0
         }
@@ -39,12 +41,13 @@ pub extern "C" fn orderset_raw_log_recover(
     value: &mut [u64],
     answer: &mut [u64; 2],
 ) -> u32
-    ensures { λ r. ⌜ handLeft r (now (answer .exit)) (now (at .exit)) (now (value .exit)) ≡ handCall (logRecoverResult (now (area .entry)) (now (at .entry)) (now (value .entry))) (now (answer .entry)) ⌝ }
+    ensures result { λ r. ⌜ handLeft r (now (answer .exit)) (now (at .exit)) (now (value .exit))
+        ≡ handCall (logRecoverResult (now (area .entry)) (now (at .entry)) (now (value .entry))) (now (answer .entry)) ⌝ }
 {
     let handed = recover_log(area, at, value);
     match handed {
-        Handed::Refused(fault) => fault,
-        Handed::Given { number: top, count } => {
+        LogOutcome::Refused(fault) => fault,
+        LogOutcome::Stored { number: top, count } => {
             *answer = [top, count as u64];
             0
         }
@@ -54,7 +57,7 @@ pub extern "C" fn orderset_raw_log_recover(
 // The message with this number; the answer is the byte of the area at which it starts and its length.
 #[no_mangle]
 pub extern "C" fn orderset_raw_log_read(area: &[u8], number: u64, answer: &mut [u64; 2]) -> u32
-    ensures { λ r. ⌜ partLeft r (now (answer .exit)) ≡ partCall (partResult (now (area .entry)) number) (now (answer .entry)) ⌝ }
+    ensures result { λ r. ⌜ partLeft r (now (answer .exit)) ≡ partCall (partResult (now (area .entry)) number) (now (answer .entry)) ⌝ }
 {
     let part = find(area, number);
     match part {

@@ -13,11 +13,11 @@ ghost use Rattle.log.specs.inner.Needs.{LineInside, Pairable};
 use words_code::padded_word;
 use words_code::read_word;
 
-// The place of the word in which old and new differ, or 8 where the lines are equal: the words are compared from word 7 down, and the search ends at the
-// first that differs.
+// The place of the word in which old and new differ, or 8 where the lines are equal: the words are compared from word 7
+// down, and the search ends at the first that differs.
 pub fn differing_word(area: &[u8], n: usize, message: &[u8], i: usize) -> usize
     requires { ⌜ LineInside (length (now area)) n i ⌝ }
-    ensures { λ r. ⌜ r ≡ differingPlace 8 (line (word (now (area .entry))) n) (messageLine (now (message .entry)) i) ⌝ }
+    ensures result { λ r. ⌜ r ≡ differingPlace 8 (line (word (now (area .entry))) n) (messageLine (now (message .entry)) i) ⌝ }
 {
     let mut left: usize = 8;
     let place = loop {
@@ -35,7 +35,7 @@ pub fn differing_word(area: &[u8], n: usize, message: &[u8], i: usize) -> usize
 // How many words of a line are stored: word 0 up to the one at this place, and none of equal lines.
 pub fn store_count(place: usize) -> usize
     requires { ⌜ place ≤ 8 ⌝ }
-    ensures { λ r. ⌜ r ≡ storeCount place ⌝ }
+    ensures result { λ r. ⌜ r ≡ storeCount place ⌝ }
 {
     if place == 8 {
         return 0;
@@ -70,7 +70,7 @@ fn pair_of(old: u64, new: u64, j: usize) -> u64
 // The pair of a line whose differing word is at this place; of equal lines it is bit 0 of word 0.
 pub fn line_pair(area: &[u8], n: usize, message: &[u8], i: usize, place: usize) -> u64
     requires { ⌜ Pairable (now area) n (now message) i place ⌝ }
-    ensures { λ r. ⌜ r ≡ bitPair (line (word (now (area .entry))) n) (messageLine (now (message .entry)) i) ⌝ }
+    ensures result { λ r. ⌜ r ≡ bitPair (line (word (now (area .entry))) n) (messageLine (now (message .entry)) i) ⌝ }
 {
     if place == 8 {
         return 512 * (padded_word(message, 8 * i) % 2);
@@ -83,7 +83,7 @@ pub fn line_pair(area: &[u8], n: usize, message: &[u8], i: usize, place: usize) 
 // Is the bit that the pair names in the line not the pair's value?
 pub fn pair_differs(area: &[u8], n: usize, pair: u64) -> bool
     requires { ⌜ (64 * n + 64 ≤ length (now area)) × (pair < 1024) ⌝ }
-    ensures { λ r. ⌜ r ≡ pairDiffers pair (line (word (now (area .entry))) n) ⌝ }
+    ensures result { λ r. ⌜ r ≡ pairDiffers pair (line (word (now (area .entry))) n) ⌝ }
 {
     let position = pair % 512;
     let held = read_word(area, 8 * n + (position / 64) as usize);

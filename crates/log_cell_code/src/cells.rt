@@ -1,4 +1,5 @@
-// Cells: how many an area has, the complete number of a cell, the highest complete number, and the numbers shown. k is the number of cells.
+// Cells: how many an area has, the complete number of a cell, the highest complete number, and the numbers shown. k is
+// the number of cells.
 ghost use mathlib.Core.Path.{_≡_};
 ghost use Prim.Native.Nat.{ℕ, _+_, _*_, _≤_, _<_, max};
 ghost use lib.ListN.{length};
@@ -12,7 +13,7 @@ use words_code::read_word;
 
 // The cells of an area of len bytes, or 0 where no area has that length.
 pub fn cell_count(len: usize) -> usize
-    ensures { λ r. ⌜ r ≡ cellsOf len ⌝ }
+    ensures result { λ r. ⌜ r ≡ cellsOf len ⌝ }
 {
     if len < 896 {
         return 0;
@@ -84,10 +85,11 @@ fn greater_in(area: &[u8], k: usize, c: usize, best: u64) -> u64
     greater(number_in(area, k, c), best)
 }
 
-// The highest complete number, 0 if none is complete. The last cell comes first: numbers rise with their cells, so that few bits are compared.
+// The highest complete number, 0 if none is complete. The last cell comes first: numbers rise with their cells, so that
+// few bits are compared.
 pub fn highest_number(area: &[u8], k: usize) -> u64
     requires { ⌜ CellCount (length (now area)) k ⌝ }
-    ensures { λ r. ⌜ r ≡ highest k (word (now (area .entry))) ⌝ }
+    ensures result { λ r. ⌜ r ≡ highest k (word (now (area .entry))) ⌝ }
 {
     let mut best = 0;
     let mut left = k;
@@ -101,7 +103,7 @@ pub fn highest_number(area: &[u8], k: usize) -> u64
 // Is this number shown?
 pub fn is_shown(area: &[u8], k: usize, number: u64) -> bool
     requires { ⌜ CellCount (length (now area)) k ⌝ }
-    ensures { λ r. ⌜ r ≡ shown k (word (now (area .entry))) number ⌝ }
+    ensures result { λ r. ⌜ r ≡ shown k (word (now (area .entry))) number ⌝ }
 {
     let top = highest_number(area, k);
     if number == 0 {

@@ -4,7 +4,7 @@ mod reading;
 mod recovering;
 
 pub use appending::append;
-pub use log::Handed;
+pub use log::LogOutcome;
 pub use log::Part;
 pub use reading::find;
 pub use reading::read;

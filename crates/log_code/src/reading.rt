@@ -47,7 +47,7 @@ fn no_part(area: &[u8]) -> &[u8]
 
 // The message with this number, unpadded, and 0 in refusal; or an empty part and the number of the refusal.
 pub fn read<'a>(area: &'a [u8], number: u64, refusal: &mut u32) -> &'a [u8]
-    ensures { λ r. ⌜ readEnd (now r) (now (refusal .exit)) ≡ readResult (now (area .entry)) number ⌝ }
+    ensures result { λ r. ⌜ readEnd (now r) (now (refusal .exit)) ≡ readResult (now (area .entry)) number ⌝ }
 {
     let fault = read_fault(area, number);
     *refusal = fault;
@@ -73,7 +73,7 @@ fn part_in(area: &[u8], c: usize) -> Part
 
 // Where the message with this number stands, or the refusal.
 pub fn find(area: &[u8], number: u64) -> Part
-    ensures { λ r. ⌜ partSays r ≡ partResult (now (area .entry)) number ⌝ }
+    ensures result { λ r. ⌜ partSays r ≡ partResult (now (area .entry)) number ⌝ }
 {
     let fault = read_fault(area, number);
     if fault != 0 {

@@ -1,17 +1,18 @@
 // An append and a recovery that fill a lent list of records.
 ghost use mathlib.Core.Path.{_≡_};
-ghost use Rattle.log.specs.Handed.{handedSays, logListEnd};
+ghost use Rattle.log.specs.LogOutcome.{logAnswer, logListEnd};
 ghost use Rattle.log.specs.Append.{appendListResult};
 ghost use Rattle.log.specs.Recover.{logRecoverListResult};
 use crate::made::append_made;
 use crate::made::recovery_made;
-use log::Handed;
+use log::LogOutcome;
 use store_list_code::list::put_stores;
 use stores::Store;
 
-// Appends a message: its number and the count of its stores, which fill the front of the lent list; or the refusal, which changes nothing.
-pub fn append_list(area: &[u8], message: &[u8], list: &mut [Store]) -> Handed
-    ensures { λ r. ⌜ logListEnd (handedSays r) (now (list .exit)) ≡ appendListResult (now (area .entry)) (now (message .entry)) (now (list .entry)) ⌝ }
+// Appends a message: its number and the count of its stores, which fill the front of the lent list; or the refusal,
+// which changes nothing.
+pub fn append_list(area: &[u8], message: &[u8], list: &mut [Store]) -> LogOutcome
+    ensures result { λ r. ⌜ logListEnd (logAnswer r) (now (list .exit)) ≡ appendListResult (now (area .entry)) (now (message .entry)) (now (list .entry)) ⌝ }
 {
     let made = append_made(area, message, list.len());
     let at = made.at;
@@ -20,9 +21,10 @@ pub fn append_list(area: &[u8], message: &[u8], list: &mut [Store]) -> Handed
     made.answer
 }
 
-// Recovers the log: the highest complete number and the count of the stores, which fill the front of the lent list; or the refusal, which changes nothing.
-pub fn recover_list(area: &[u8], list: &mut [Store]) -> Handed
-    ensures { λ r. ⌜ logListEnd (handedSays r) (now (list .exit)) ≡ logRecoverListResult (now (area .entry)) (now (list .entry)) ⌝ }
+// Recovers the log: the highest complete number and the count of the stores, which fill the front of the lent list; or
+// the refusal, which changes nothing.
+pub fn recover_list(area: &[u8], list: &mut [Store]) -> LogOutcome
+    ensures result { λ r. ⌜ logListEnd (logAnswer r) (now (list .exit)) ≡ logRecoverListResult (now (area .entry)) (now (list .entry)) ⌝ }
 {
     let made = recovery_made(area, list.len());
     let at = made.at;

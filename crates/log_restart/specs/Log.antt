@@ -1,5 +1,5 @@
--- THE RESTART RULE OF THE LOG: the log as a library of the machine, what it promises, and the rule. Document 02, A.10: "Its plain machine is the list of accepted
--- messages that no cut made absent".
+-- THE RESTART RULE OF THE LOG: the log as a library of the machine, what it promises, and the rule. Document 02, A.10:
+-- "Its plain machine is the list of accepted messages that no cut made absent".
 use mathlib.Core.Bool.{false}
 use mathlib.Core.List.{List, []}
 use Prim.Native.Nat.{ℕ, _*_, _≤_}
@@ -38,7 +38,7 @@ logPromise cells =
           plainAppend (refuses (logDueFault (taken .image) log call)) false call log;
       Recovers = Shows cells;
       RecoveryRight = λ area lent log. CallRight area log (a-recovery (lent .at) (lent .value));
-      RequestRight = λ area held log asked. CallRight area log (asked .call);
+      RequestCorrect = λ area held log asked. CallRight area log (asked .call);
     }
 
 -- THE RESTART RULE OF THE LOG: from an area of zeros that is durable, for every program that does its duties

@@ -4,7 +4,7 @@ ghost use Prim.Native.Nat.{ℕ, _+_, _*_, _≤_, _<_, _^_};
 ghost use lib.ListN.{length};
 ghost use Rattle.words.specs.Word.{word};
 ghost use Rattle.stores.specs.Written.{marked, run};
-ghost use Rattle.log.specs.Handed.{shortFault};
+ghost use Rattle.log.specs.LogOutcome.{shortFault};
 ghost use Rattle.log.specs.Append.{messageLine, markedBody, payloadsFrom, messageStores};
 ghost use Rattle.log.specs.inner.Needs.{Filled, MarkedRoom, LineRoom, PayloadRoom, MessageRoom};
 use line_code::line::first_word;
@@ -16,7 +16,7 @@ use words_code::read_word;
 
 // 13 where a list is shorter than the stores, else 0.
 pub fn short_fault(count: usize, ats: usize, vals: usize) -> u32
-    ensures { λ r. ⌜ r ≡ shortFault count ats vals ⌝ }
+    ensures result { λ r. ⌜ r ≡ shortFault count ats vals ⌝ }
 {
     if ats < count {
         return 13;
@@ -58,7 +58,8 @@ fn fill_marked(
     pairs: u64,
 )
     requires { ⌜ MarkedRoom (length (now at)) (length (now value)) c number ⌝ }
-    ensures { λ _. ⌜ Filled (now (at .entry)) (now (value .entry)) (now (at .exit)) (now (value .exit)) 0 (run (8 * (7 * c)) (marked stamp number (markedBody size pairs)) 0 8) ⌝ }
+    ensures { λ _. ⌜ Filled (now (at .entry)) (now (value .entry)) (now (at .exit)) (now (value .exit)) 0
+        (run (8 * (7 * c)) (marked stamp number (markedBody size pairs)) 0 8) ⌝ }
 {
     let mut j = 0;
     while j < 8 {
@@ -68,7 +69,8 @@ fn fill_marked(
     }
 }
 
-// The stores of the first count words of payload line i, which is line n of the area, from position from of the lists on.
+// The stores of the first count words of payload line i, which is line n of the area, from position from of the lists
+// on.
 fn fill_line(
     at: &mut [u32],
     value: &mut [u64],
@@ -79,7 +81,8 @@ fn fill_line(
     count: usize,
 )
     requires { ⌜ LineRoom (length (now at)) (length (now value)) from n i count ⌝ }
-    ensures { λ _. ⌜ Filled (now (at .entry)) (now (value .entry)) (now (at .exit)) (now (value .exit)) from (run (8 * n) (messageLine (now (message .entry)) i) 0 count) ⌝ }
+    ensures { λ _. ⌜ Filled (now (at .entry)) (now (value .entry)) (now (at .exit)) (now (value .exit)) from
+        (run (8 * n) (messageLine (now (message .entry)) i) 0 count) ⌝ }
 {
     let mut j = 0;
     while j < count {
@@ -93,7 +96,8 @@ fn fill_line(
 // The stores of the six payload lines of a message for cell c, from position 8 of the lists on.
 fn fill_payload(area: &[u8], message: &[u8], at: &mut [u32], value: &mut [u64], c: usize)
     requires { ⌜ PayloadRoom (now area) (now message) c (length (now at)) (length (now value)) ⌝ }
-    ensures { λ _. ⌜ Filled (now (at .entry)) (now (value .entry)) (now (at .exit)) (now (value .exit)) 8 (payloadsFrom (word (now (area .entry))) c (now (message .entry)) 0 6) ⌝ }
+    ensures { λ _. ⌜ Filled (now (at .entry)) (now (value .entry)) (now (at .exit)) (now (value .exit)) 8
+        (payloadsFrom (word (now (area .entry))) c (now (message .entry)) 0 6) ⌝ }
 {
     let mut k = 8;
     let mut i = 0;
@@ -117,7 +121,8 @@ pub fn fill_message(
     pairs: u64,
 )
     requires { ⌜ MessageRoom (now area) (now message) c number pairs (length (now at)) (length (now value)) ⌝ }
-    ensures { λ _. ⌜ Filled (now (at .entry)) (now (value .entry)) (now (at .exit)) (now (value .exit)) 0 (messageStores (word (now (area .entry))) c number (now (message .entry))) ⌝ }
+    ensures result { λ _. ⌜ Filled (now (at .entry)) (now (value .entry)) (now (at .exit)) (now (value .exit)) 0
+        (messageStores (word (now (area .entry))) c number (now (message .entry))) ⌝ }
 {
     let stamp = read_word(area, 8 * (7 * c) + 7);
     fill_marked(at, value, c, stamp, number, message.len(), pairs);

@@ -61,7 +61,7 @@ fn no_plan(fault: u32) -> AppendPlan
 
 // The plan of an append to lists of ats and vals entries.
 pub fn append_plan(area: &[u8], message: &[u8], ats: usize, vals: usize) -> AppendPlan
-    ensures { λ r. ⌜ AppendPlanned (now (area .entry)) (now (message .entry)) ats vals (r .fault) (r .number) (r .cell) (r .pairs) (r .count) ⌝ }
+    ensures result { λ r. ⌜ AppendPlanned (now (area .entry)) (now (message .entry)) ats vals (r .fault) (r .number) (r .cell) (r .pairs) (r .count) ⌝ }
 {
     let k = cell_count(area.len());
     if k == 0 {

@@ -1,6 +1,6 @@
 // The calls of the log, and play.
 use crate::lent::Log;
-use log_code::Handed;
+use log_code::LogOutcome;
 use log_code::append;
 use log_code::read;
 use log_code::recover_log;
@@ -11,15 +11,15 @@ use words_code::padded_word;
 use words_code::read_word;
 
 // What an append or a recovery answered is printed; the count of stores.
-fn told(handed: Handed) -> usize {
+fn told(handed: LogOutcome) -> usize {
     match handed {
-        Handed::Given { number, count } => {
+        LogOutcome::Stored { number, count } => {
             show::text(b" ok");
             show::number(number);
             show::number(count as u64);
             count
         }
-        Handed::Refused(k) => {
+        LogOutcome::Refused(k) => {
             show::refused(k);
             0
         }

@@ -1,4 +1,5 @@
-// The log that the lines work on: an area of at most three cells, and two lists with the stores handed out last. A call may be lent less than all of it.
+// The log that the lines work on: an area of at most three cells, and two lists with the stores handed out last. A call
+// may be lent less than all of it.
 use crate::names::FILL;
 use crate::names::LEND;
 

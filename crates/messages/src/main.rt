@@ -1,6 +1,6 @@
-// Prints the lines of its input and carries them out on a log of at most three cells: appends, recoveries, reads, plays and cuts. A line is a name and
-// numbers. One that ends in a colon is a call, and what it answers is printed after it; another sets a part of the log or, if it has no such name, is
-// only printed.
+// Prints the lines of its input and carries them out on a log of at most three cells: appends, recoveries, reads, plays
+// and cuts. A line is a name and numbers. One that ends in a colon is a call, and what it answers is printed after it;
+// another sets a part of the log or, if it has no such name, is only printed.
 mod actions;
 mod cut;
 mod lent;

@@ -1,7 +1,8 @@
-// The public calls of the set, with the types that they take and answer. None has a `requires`. Each contract is one equation; insert, replace, remove
-// and get have one more, on the words moved. A call whose name ends in 2 is layout 2's and the one of that name without it layout 1's; format and the
-// plays serve both. A call whose name begins with own_ is no call of document 01: it is for the owner of its index, one that comes from recovery and the
-// accepted calls since. With such an index it is the call without own_, by the laws either-call and either-basket.
+// The public calls of the set, with the types that they take and answer. None has a `requires`. Each contract is one
+// equation; insert, replace, remove and get have one more, on the words moved. A call whose name ends in 2 is layout
+// 2's and the one of that name without it layout 1's; format and the plays serve both. A call whose name begins with
+// own_ is no call of document 01: it is for the owner of its index, one that comes from recovery and the accepted calls
+// since. With such an index it is the call without own_, by the laws either-call and either-basket.
 pub mod layouts;
 
 pub use basket_code::basket::basket;
@@ -53,7 +54,7 @@ pub use own_change_code::own::own_replace;
 pub use own_change_code::own::own_replace2;
 pub use recover_code::recover;
 pub use recover_code::recover2;
-pub use recovery::Openings;
+pub use recovery::Invalidations;
 pub use recovery::RecoverAnswer;
 pub use recovery::Recovered;
 pub use store_list_code::play::play_stores;

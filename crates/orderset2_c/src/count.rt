@@ -1,12 +1,12 @@
 // Count the slots in layout 2.
 ghost use mathlib.Core.Path.{_≡_};
-ghost use Rattle.face.specs.Set.{countResult};
+ghost use Rattle.interface.specs.Set.{countResult};
 ghost use Rattle.exports.specs.Count.{countLeft, countCall};
-use exports_answer_code::count::hand_out_counted;
+use exports_answer_code::count::write_answer_counted;
 use orderset::count_slots2;
 
-// How many slots of the image are live, hidden puts, remove records, void, broken and empty. Heads and next are rebuilt, as recover does. Returned is 0, or
-// recovery's refusal + 2^32 × the slot that it names.
+// How many slots of the image are live, hidden puts, remove records, void, broken and empty. Heads and next are
+// rebuilt, as recover does. Returned is 0, or recovery's refusal + 2^32 × the slot that it names.
 #[no_mangle]
 pub extern "C" fn orderset2_count_slots(
     image: &[u8],
@@ -14,8 +14,9 @@ pub extern "C" fn orderset2_count_slots(
     next: &mut [u32],
     counts: &mut [u64; 6],
 ) -> u64
-    ensures { λ r. ⌜ countLeft r (now (counts .exit)) (now (heads .exit)) (now (next .exit)) ≡ countCall (countResult 2 (now (image .entry)) (now (heads .entry)) (now (next .entry))) (now (counts .entry)) ⌝ }
+    ensures result { λ r. ⌜ countLeft r (now (counts .exit)) (now (heads .exit)) (now (next .exit))
+        ≡ countCall (countResult 2 (now (image .entry)) (now (heads .entry)) (now (next .entry))) (now (counts .entry)) ⌝ }
 {
     let answer = count_slots2(image, heads, next);
-    hand_out_counted(answer, counts)
+    write_answer_counted(answer, counts)
 }

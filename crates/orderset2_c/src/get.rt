@@ -1,8 +1,8 @@
 // Get in layout 2.
 ghost use mathlib.Core.Path.{_≡_};
-ghost use Rattle.face.specs.Set.{keyWith, getResult, keyCompared};
+ghost use Rattle.interface.specs.Set.{keyWith, getResult};
 ghost use Rattle.exports.specs.Call.{getLeft, getCall};
-use exports_answer_code::answer::hand_out_got;
+use exports_answer_code::answer::write_answer_got;
 use orderset::get2;
 
 // The value of the key fills the front of out; the answer is its length, or absent, each with the slots compared.
@@ -16,8 +16,10 @@ pub extern "C" fn orderset2_get(
     out: &mut [u8],
     answer: &mut [u64; 3],
 ) -> u64
-    ensures { λ r. ⌜ getLeft r (now (answer .exit)) (now (out .exit)) ≡ getCall (getResult 2 (now (image .entry)) (now (heads .entry)) (now (next .entry)) (keyWith low high) (now (out .entry))) (keyCompared 2 (now (image .entry)) (now (heads .entry)) (now (next .entry)) (keyWith low high)) (now (answer .entry)) ⌝ }
+    ensures result { λ r. ⌜ getLeft r (now (answer .exit)) (now (out .exit))
+        ≡ getCall (getResult 2 (now (image .entry)) (now (heads .entry)) (now (next .entry)) (keyWith low high) (now (out .entry)))
+        (now (answer .entry)) ⌝ }
 {
     let got = get2(image, heads, next, low, high, out);
-    hand_out_got(got, answer)
+    write_answer_got(got, answer)
 }

@@ -1,4 +1,5 @@
-// The calls of layout 2 for a program in C, C++ or Rust: as those of orderset_c, with a key of two words. Format, play and the questions about a line are there.
+// The calls of layout 2 for a program in C, C++ or Rust: as those of orderset_c, with a key of two words. Format, play
+// and the questions about a line are there.
 pub mod basket;
 pub mod count;
 pub mod get;

@@ -1,8 +1,8 @@
 // Locate in layout 2.
 ghost use mathlib.Core.Path.{_≡_};
-ghost use Rattle.face.specs.Set.{keyWith, locateResult, keyCompared};
+ghost use Rattle.interface.specs.Set.{keyWith, locateResult};
 ghost use Rattle.exports.specs.Call.{locateLeft, locateCall};
-use exports_answer_code::answer::hand_out_located;
+use exports_answer_code::answer::write_answer_located;
 use orderset::locate2;
 
 // The answer is the slot that holds the key and its version, or absent, each with the slots compared.
@@ -15,8 +15,9 @@ pub extern "C" fn orderset2_locate(
     high: u64,
     answer: &mut [u64; 4],
 ) -> u64
-    ensures { λ r. ⌜ locateLeft r (now (answer .exit)) ≡ locateCall (locateResult 2 (now (image .entry)) (now (heads .entry)) (now (next .entry)) (keyWith low high)) (keyCompared 2 (now (image .entry)) (now (heads .entry)) (now (next .entry)) (keyWith low high)) (now (answer .entry)) ⌝ }
+    ensures result { λ r. ⌜ locateLeft r (now (answer .exit))
+        ≡ locateCall (locateResult 2 (now (image .entry)) (now (heads .entry)) (now (next .entry)) (keyWith low high)) (now (answer .entry)) ⌝ }
 {
     let located = locate2(image, heads, next, low, high);
-    hand_out_located(located, answer)
+    write_answer_located(located, answer)
 }

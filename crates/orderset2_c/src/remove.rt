@@ -1,13 +1,14 @@
 // Remove in layout 2.
 ghost use mathlib.Core.Path.{_≡_};
-ghost use Rattle.face.specs.Set.{keyWith, zipped, removeResult, keyCompared};
+ghost use Rattle.interface.specs.Set.{keyWith, zipped, removeResult, indexOf};
 ghost use Rattle.exports.specs.State.{stateFrom};
 ghost use Rattle.exports.specs.Call.{changeLeft, changeCall};
-use exports_answer_code::answer::hand_out;
+use exports_answer_code::answer::write_answer;
 use exports_code::state::state_from;
 use orderset::remove2;
 
-// The key is dropped; the answer is the slot taken and the version, or absent, each with the slots compared, and the stores are to be made by the caller.
+// The key is dropped; the answer is the slot taken and the version, or absent, each with the slots compared, and the
+// stores are to be made by the caller.
 #[no_mangle]
 pub extern "C" fn orderset2_remove(
     image: &[u8],
@@ -21,9 +22,14 @@ pub extern "C" fn orderset2_remove(
     value: &mut [u64; 16],
     answer: &mut [u64; 4],
 ) -> u64
-    ensures { λ r. ⌜ changeLeft r (now (answer .exit)) (stateFrom (now (state .exit)) (now (version .exit))) (zipped (now (at .exit)) (now (value .exit))) (now (heads .exit)) (now (next .exit)) ≡ changeCall (removeResult 2 (now (image .entry)) (now (heads .entry)) (now (next .entry)) (stateFrom (now (state .entry)) (now (version .entry))) (keyWith low high)) (keyCompared 2 (now (image .entry)) (now (heads .entry)) (now (next .entry)) (keyWith low high)) (now (answer .entry)) (zipped (now (at .entry)) (now (value .entry))) ⌝ }
+    ensures result { λ r. ⌜ changeLeft r (now (answer .exit)) (stateFrom (now (state .exit)) (now (version .exit)))
+        (zipped (now (at .exit)) (now (value .exit))) (now (heads .exit)) (now (next .exit))
+        ≡ changeCall
+        (removeResult 2 (now (image .entry)) (indexOf (now (heads .entry)) (now (next .entry)) (stateFrom (now (state .entry)) (now (version .entry))))
+        (keyWith low high))
+        (now (answer .entry)) (zipped (now (at .entry)) (now (value .entry))) ⌝ }
 {
     let before = state_from(state, version);
     let change = remove2(image, heads, next, before, low, high, at, value);
-    hand_out(change, state, version, answer)
+    write_answer(change, state, version, answer)
 }

@@ -1,15 +1,16 @@
 // Insert and replace in layout 2.
 ghost use mathlib.Core.Path.{_≡_};
 ghost use lib.ListN.{length};
-ghost use Rattle.face.specs.Set.{keyWith, zipped, Insert, Replace, writeResult, writeCompared};
+ghost use Rattle.interface.specs.Set.{keyWith, zipped, Insert, Replace, writeResult, indexOf};
 ghost use Rattle.exports.specs.State.{stateFrom};
 ghost use Rattle.exports.specs.Call.{changeLeft, changeCall};
-use exports_answer_code::answer::hand_out;
+use exports_answer_code::answer::write_answer;
 use exports_code::state::state_from;
 use orderset::insert2;
 use orderset::replace2;
 
-// A key that is not held gets the value; the answer is the slot taken, the version and the slots compared, and the stores are to be made by the caller.
+// A key that is not held gets the value; the answer is the slot taken, the version and the slots compared, and the
+// stores are to be made by the caller.
 #[no_mangle]
 pub extern "C" fn orderset2_insert(
     image: &[u8],
@@ -24,11 +25,16 @@ pub extern "C" fn orderset2_insert(
     value: &mut [u64; 16],
     answer: &mut [u64; 4],
 ) -> u64
-    ensures { λ r. ⌜ changeLeft r (now (answer .exit)) (stateFrom (now (state .exit)) (now (version .exit))) (zipped (now (at .exit)) (now (value .exit))) (now (heads .exit)) (now (next .exit)) ≡ changeCall (writeResult 2 (now (image .entry)) (now (heads .entry)) (now (next .entry)) (stateFrom (now (state .entry)) (now (version .entry))) Insert (keyWith low high) (now (bytes .entry))) (writeCompared 2 (now (image .entry)) (now (heads .entry)) (now (next .entry)) (keyWith low high) (length (now (bytes .entry)))) (now (answer .entry)) (zipped (now (at .entry)) (now (value .entry))) ⌝ }
+    ensures result { λ r. ⌜ changeLeft r (now (answer .exit)) (stateFrom (now (state .exit)) (now (version .exit)))
+        (zipped (now (at .exit)) (now (value .exit))) (now (heads .exit)) (now (next .exit))
+        ≡ changeCall
+        (writeResult 2 (now (image .entry)) (indexOf (now (heads .entry)) (now (next .entry)) (stateFrom (now (state .entry)) (now (version .entry))))
+        Insert (keyWith low high) (now (bytes .entry)))
+        (now (answer .entry)) (zipped (now (at .entry)) (now (value .entry))) ⌝ }
 {
     let before = state_from(state, version);
     let change = insert2(image, heads, next, before, low, high, bytes, at, value);
-    hand_out(change, state, version, answer)
+    write_answer(change, state, version, answer)
 }
 
 // A key that is held gets the value; the answer is as above.
@@ -46,9 +52,14 @@ pub extern "C" fn orderset2_replace(
     value: &mut [u64; 16],
     answer: &mut [u64; 4],
 ) -> u64
-    ensures { λ r. ⌜ changeLeft r (now (answer .exit)) (stateFrom (now (state .exit)) (now (version .exit))) (zipped (now (at .exit)) (now (value .exit))) (now (heads .exit)) (now (next .exit)) ≡ changeCall (writeResult 2 (now (image .entry)) (now (heads .entry)) (now (next .entry)) (stateFrom (now (state .entry)) (now (version .entry))) Replace (keyWith low high) (now (bytes .entry))) (writeCompared 2 (now (image .entry)) (now (heads .entry)) (now (next .entry)) (keyWith low high) (length (now (bytes .entry)))) (now (answer .entry)) (zipped (now (at .entry)) (now (value .entry))) ⌝ }
+    ensures result { λ r. ⌜ changeLeft r (now (answer .exit)) (stateFrom (now (state .exit)) (now (version .exit)))
+        (zipped (now (at .exit)) (now (value .exit))) (now (heads .exit)) (now (next .exit))
+        ≡ changeCall
+        (writeResult 2 (now (image .entry)) (indexOf (now (heads .entry)) (now (next .entry)) (stateFrom (now (state .entry)) (now (version .entry))))
+        Replace (keyWith low high) (now (bytes .entry)))
+        (now (answer .entry)) (zipped (now (at .entry)) (now (value .entry))) ⌝ }
 {
     let before = state_from(state, version);
     let change = replace2(image, heads, next, before, low, high, bytes, at, value);
-    hand_out(change, state, version, answer)
+    write_answer(change, state, version, answer)
 }

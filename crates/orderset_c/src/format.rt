@@ -1,15 +1,16 @@
 // Format.
 ghost use mathlib.Core.Path.{_≡_};
-ghost use Rattle.face.specs.Set.{formatResult};
+ghost use Rattle.interface.specs.Set.{formatResult};
 ghost use Rattle.exports.specs.Call.{formatLeft, formatCall};
-use exports_code::format::hand_out_formatted;
+use exports_code::format::write_answer_formatted;
 use orderset::format;
 
 // The bytes become an empty image of this layout; the answer is the number of its slots.
 #[no_mangle]
 pub extern "C" fn orderset_format(image: &mut [u8], layout: u64, answer: &mut [u64; 2]) -> u32
-    ensures { λ r. ⌜ formatLeft r (now (answer .exit)) (now (image .exit)) ≡ formatCall (formatResult layout (now (image .entry))) (now (answer .entry)) ⌝ }
+    ensures result { λ r. ⌜ formatLeft r (now (answer .exit)) (now (image .exit))
+        ≡ formatCall (formatResult layout (now (image .entry))) (now (answer .entry)) ⌝ }
 {
     let formatted = format(image, layout);
-    hand_out_formatted(formatted, answer)
+    write_answer_formatted(formatted, answer)
 }

@@ -1,8 +1,8 @@
 // Locate.
 ghost use mathlib.Core.Path.{_≡_};
-ghost use Rattle.face.specs.Set.{locateResult, keyCompared};
+ghost use Rattle.interface.specs.Set.{locateResult};
 ghost use Rattle.exports.specs.Call.{locateLeft, locateCall};
-use exports_answer_code::answer::hand_out_located;
+use exports_answer_code::answer::write_answer_located;
 use orderset::locate;
 
 // The answer is the slot that holds the key and its version, or absent, each with the slots compared.
@@ -14,8 +14,9 @@ pub extern "C" fn orderset_locate(
     key: u64,
     answer: &mut [u64; 4],
 ) -> u64
-    ensures { λ r. ⌜ locateLeft r (now (answer .exit)) ≡ locateCall (locateResult 1 (now (image .entry)) (now (heads .entry)) (now (next .entry)) key) (keyCompared 1 (now (image .entry)) (now (heads .entry)) (now (next .entry)) key) (now (answer .entry)) ⌝ }
+    ensures result { λ r. ⌜ locateLeft r (now (answer .exit))
+        ≡ locateCall (locateResult 1 (now (image .entry)) (now (heads .entry)) (now (next .entry)) key) (now (answer .entry)) ⌝ }
 {
     let located = locate(image, heads, next, key);
-    hand_out_located(located, answer)
+    write_answer_located(located, answer)
 }

@@ -1,19 +1,19 @@
-// The calls and the steps for the owner of an index, that is, of an index from recovery and the accepted calls since. They are no calls of document 01; the
-// answers are those of the calls without `own`.
+// The calls and the steps for the owner of an index, that is, of an index from recovery and the accepted calls since.
+// They are no calls of document 01; the answers are those of the calls without `own`.
 ghost use mathlib.Core.Path.{_≡_};
 ghost use lib.ListN.{length, replicate};
-ghost use Rattle.face.specs.Set.{Insert, Replace, basketResultBy, changesOf, keyCompared, leftInLists, removeResultBy, writeCompared, writeResultBy, zipped};
+ghost use Rattle.interface.specs.Set.{Insert, Replace, basketResultBy, changesOf, buffersAfterLists, removeResultBy, writeResultBy, zipped, indexOf};
 ghost use Rattle.exports.specs.State.{stateFrom};
 ghost use Rattle.exports.specs.Call.{changeCall, changeLeft};
 ghost use Rattle.exports.specs.Basket.{basketCall, basketCallLeft, givenItems, keysAsked};
 ghost use Rattle.book.specs.Steps.{acknowledgeResultBy, fillResultBy, newResultBy, withdrawResultBy};
 ghost use Rattle.exports.specs.Book.{bookCall};
 ghost use mathlib.Core.Bool.{true};
-use exports_answer_code::answer::hand_out;
-use exports_answer_code::answer::hand_out_step;
+use exports_answer_code::answer::write_answer;
+use exports_answer_code::answer::write_answer_step;
 use exports_basket_code::basket::given_items;
-use exports_basket_code::basket::hand_out_basket;
 use exports_basket_code::basket::keys_asked;
+use exports_basket_code::basket::write_answer_basket;
 use exports_code::state::state_from;
 use orderset::own_basket;
 use orderset::own_insert;
@@ -24,7 +24,8 @@ use own_book_code::own_fill;
 use own_book_code::own_new;
 use own_book_code::own_withdraw;
 
-// A key that is not held gets the value; the answer is the slot taken, the version and the slots compared, and the stores are to be made by the caller.
+// A key that is not held gets the value; the answer is the slot taken, the version and the slots compared, and the
+// stores are to be made by the caller.
 #[no_mangle]
 pub extern "C" fn orderset_own_insert(
     image: &[u8],
@@ -38,11 +39,16 @@ pub extern "C" fn orderset_own_insert(
     value: &mut [u64; 16],
     answer: &mut [u64; 4],
 ) -> u64
-    ensures { λ r. ⌜ changeLeft r (now (answer .exit)) (stateFrom (now (state .exit)) (now (version .exit))) (zipped (now (at .exit)) (now (value .exit))) (now (heads .exit)) (now (next .exit)) ≡ changeCall (writeResultBy true 1 (now (image .entry)) (now (heads .entry)) (now (next .entry)) (stateFrom (now (state .entry)) (now (version .entry))) Insert key (now (bytes .entry))) (writeCompared 1 (now (image .entry)) (now (heads .entry)) (now (next .entry)) key (length (now (bytes .entry)))) (now (answer .entry)) (zipped (now (at .entry)) (now (value .entry))) ⌝ }
+    ensures result { λ r. ⌜ changeLeft r (now (answer .exit)) (stateFrom (now (state .exit)) (now (version .exit)))
+        (zipped (now (at .exit)) (now (value .exit))) (now (heads .exit)) (now (next .exit))
+        ≡ changeCall
+        (writeResultBy true 1 (now (image .entry))
+        (indexOf (now (heads .entry)) (now (next .entry)) (stateFrom (now (state .entry)) (now (version .entry)))) Insert key (now (bytes .entry)))
+        (now (answer .entry)) (zipped (now (at .entry)) (now (value .entry))) ⌝ }
 {
     let before = state_from(state, version);
     let change = own_insert(image, heads, next, before, key, bytes, at, value);
-    hand_out(change, state, version, answer)
+    write_answer(change, state, version, answer)
 }
 
 // A key that is held gets the value; the answer is as above.
@@ -59,14 +65,20 @@ pub extern "C" fn orderset_own_replace(
     value: &mut [u64; 16],
     answer: &mut [u64; 4],
 ) -> u64
-    ensures { λ r. ⌜ changeLeft r (now (answer .exit)) (stateFrom (now (state .exit)) (now (version .exit))) (zipped (now (at .exit)) (now (value .exit))) (now (heads .exit)) (now (next .exit)) ≡ changeCall (writeResultBy true 1 (now (image .entry)) (now (heads .entry)) (now (next .entry)) (stateFrom (now (state .entry)) (now (version .entry))) Replace key (now (bytes .entry))) (writeCompared 1 (now (image .entry)) (now (heads .entry)) (now (next .entry)) key (length (now (bytes .entry)))) (now (answer .entry)) (zipped (now (at .entry)) (now (value .entry))) ⌝ }
+    ensures result { λ r. ⌜ changeLeft r (now (answer .exit)) (stateFrom (now (state .exit)) (now (version .exit)))
+        (zipped (now (at .exit)) (now (value .exit))) (now (heads .exit)) (now (next .exit))
+        ≡ changeCall
+        (writeResultBy true 1 (now (image .entry))
+        (indexOf (now (heads .entry)) (now (next .entry)) (stateFrom (now (state .entry)) (now (version .entry)))) Replace key (now (bytes .entry)))
+        (now (answer .entry)) (zipped (now (at .entry)) (now (value .entry))) ⌝ }
 {
     let before = state_from(state, version);
     let change = own_replace(image, heads, next, before, key, bytes, at, value);
-    hand_out(change, state, version, answer)
+    write_answer(change, state, version, answer)
 }
 
-// The key is dropped; the answer is the slot taken and the version, or absent, each with the slots compared, and the stores are to be made by the caller.
+// The key is dropped; the answer is the slot taken and the version, or absent, each with the slots compared, and the
+// stores are to be made by the caller.
 #[no_mangle]
 pub extern "C" fn orderset_own_remove(
     image: &[u8],
@@ -79,11 +91,16 @@ pub extern "C" fn orderset_own_remove(
     value: &mut [u64; 16],
     answer: &mut [u64; 4],
 ) -> u64
-    ensures { λ r. ⌜ changeLeft r (now (answer .exit)) (stateFrom (now (state .exit)) (now (version .exit))) (zipped (now (at .exit)) (now (value .exit))) (now (heads .exit)) (now (next .exit)) ≡ changeCall (removeResultBy true 1 (now (image .entry)) (now (heads .entry)) (now (next .entry)) (stateFrom (now (state .entry)) (now (version .entry))) key) (keyCompared 1 (now (image .entry)) (now (heads .entry)) (now (next .entry)) key) (now (answer .entry)) (zipped (now (at .entry)) (now (value .entry))) ⌝ }
+    ensures result { λ r. ⌜ changeLeft r (now (answer .exit)) (stateFrom (now (state .exit)) (now (version .exit)))
+        (zipped (now (at .exit)) (now (value .exit))) (now (heads .exit)) (now (next .exit))
+        ≡ changeCall
+        (removeResultBy true 1 (now (image .entry))
+        (indexOf (now (heads .entry)) (now (next .entry)) (stateFrom (now (state .entry)) (now (version .entry)))) key)
+        (now (answer .entry)) (zipped (now (at .entry)) (now (value .entry))) ⌝ }
 {
     let before = state_from(state, version);
     let change = own_remove(image, heads, next, before, key, at, value);
-    hand_out(change, state, version, answer)
+    write_answer(change, state, version, answer)
 }
 
 // is the version and the slots taken, and the stores, sixteen for each key, are to be made by the caller.
@@ -103,7 +120,16 @@ pub extern "C" fn orderset_own_basket(
     value: &mut [u64],
     answer: &mut [u64; 9],
 ) -> u32
-    ensures { λ r. ⌜ basketCallLeft r (now (answer .exit)) (stateFrom (now (state .exit)) (now (version .exit))) (now (at .exit)) (now (value .exit)) (now (heads .exit)) (now (next .exit)) ≡ basketCall (leftInLists (now (at .entry)) (now (value .entry)) (basketResultBy true 1 (now (image .entry)) (now (heads .entry)) (now (next .entry)) (stateFrom (now (state .entry)) (now (version .entry))) (changesOf 1 (keysAsked count (now (kinds .entry))) (givenItems (now (kinds .entry)) (now (keys .entry)) (replicate 8 0) (now (lengths .entry))) (now (values .entry))) (length (now (at .entry))) (length (now (value .entry))))) (now (answer .entry)) ⌝ }
+    ensures result { λ r. ⌜ basketCallLeft r (now (answer .exit)) (stateFrom (now (state .exit)) (now (version .exit))) (now (at .exit))
+        (now (value .exit)) (now (heads .exit)) (now (next .exit))
+        ≡ basketCall
+        (buffersAfterLists (now (at .entry)) (now (value .entry))
+        (basketResultBy true 1 (now (image .entry))
+        (indexOf (now (heads .entry)) (now (next .entry)) (stateFrom (now (state .entry)) (now (version .entry))))
+        (changesOf 1 (keysAsked count (now (kinds .entry)))
+        (givenItems (now (kinds .entry)) (now (keys .entry)) (replicate 8 0) (now (lengths .entry))) (now (values .entry)))
+        (length (now (at .entry))) (length (now (value .entry)))))
+        (now (answer .entry)) ⌝ }
 {
     let before = state_from(state, version);
     let asked = keys_asked(count, kinds);
@@ -111,10 +137,11 @@ pub extern "C" fn orderset_own_basket(
     let items = given_items(kinds, keys, &highs, lengths);
     let bytes = *values;
     let given = own_basket(image, heads, next, before, asked, items, bytes, at, value);
-    hand_out_basket(given, state, version, answer)
+    write_answer_basket(given, state, version, answer)
 }
 
-// A new order of this quantity; the answer is the slot taken and the version, and the stores are to be made by the caller.
+// A new order of this quantity; the answer is the slot taken and the version, and the stores are to be made by the
+// caller.
 #[no_mangle]
 pub extern "C" fn orderset_own_book_new(
     image: &[u8],
@@ -128,14 +155,20 @@ pub extern "C" fn orderset_own_book_new(
     value: &mut [u64; 16],
     answer: &mut [u64; 3],
 ) -> u32
-    ensures { λ r. ⌜ changeLeft r (now (answer .exit)) (stateFrom (now (state .exit)) (now (version .exit))) (zipped (now (at .exit)) (now (value .exit))) (now (heads .exit)) (now (next .exit)) ≡ bookCall (newResultBy true 1 (now (image .entry)) (now (heads .entry)) (now (next .entry)) (stateFrom (now (state .entry)) (now (version .entry))) key quantity) (now (answer .entry)) (zipped (now (at .entry)) (now (value .entry))) ⌝ }
+    ensures result { λ r. ⌜ changeLeft r (now (answer .exit)) (stateFrom (now (state .exit)) (now (version .exit)))
+        (zipped (now (at .exit)) (now (value .exit))) (now (heads .exit)) (now (next .exit))
+        ≡ bookCall
+        (newResultBy true 1 (now (image .entry))
+        (indexOf (now (heads .entry)) (now (next .entry)) (stateFrom (now (state .entry)) (now (version .entry)))) key quantity)
+        (now (answer .entry)) (zipped (now (at .entry)) (now (value .entry))) ⌝ }
 {
     let before = state_from(state, version);
     let change = own_new(image, heads, next, before, key, quantity, at, value);
-    hand_out_step(change, state, version, answer)
+    write_answer_step(change, state, version, answer)
 }
 
-// The order is acknowledged; the answer is as above, or, of an order that was acknowledged before, its slot and version.
+// The order is acknowledged; the answer is as above, or, of an order that was acknowledged before, its slot and
+// version.
 #[no_mangle]
 pub extern "C" fn orderset_own_book_acknowledge(
     image: &[u8],
@@ -148,14 +181,20 @@ pub extern "C" fn orderset_own_book_acknowledge(
     value: &mut [u64; 16],
     answer: &mut [u64; 3],
 ) -> u32
-    ensures { λ r. ⌜ changeLeft r (now (answer .exit)) (stateFrom (now (state .exit)) (now (version .exit))) (zipped (now (at .exit)) (now (value .exit))) (now (heads .exit)) (now (next .exit)) ≡ bookCall (acknowledgeResultBy true 1 (now (image .entry)) (now (heads .entry)) (now (next .entry)) (stateFrom (now (state .entry)) (now (version .entry))) key) (now (answer .entry)) (zipped (now (at .entry)) (now (value .entry))) ⌝ }
+    ensures result { λ r. ⌜ changeLeft r (now (answer .exit)) (stateFrom (now (state .exit)) (now (version .exit)))
+        (zipped (now (at .exit)) (now (value .exit))) (now (heads .exit)) (now (next .exit))
+        ≡ bookCall
+        (acknowledgeResultBy true 1 (now (image .entry))
+        (indexOf (now (heads .entry)) (now (next .entry)) (stateFrom (now (state .entry)) (now (version .entry)))) key)
+        (now (answer .entry)) (zipped (now (at .entry)) (now (value .entry))) ⌝ }
 {
     let before = state_from(state, version);
     let change = own_acknowledge(image, heads, next, before, key, at, value);
-    hand_out_step(change, state, version, answer)
+    write_answer_step(change, state, version, answer)
 }
 
-// This quantity of the order is filled; the answer is the slot taken and the version, and the stores are to be made by the caller.
+// This quantity of the order is filled; the answer is the slot taken and the version, and the stores are to be made by
+// the caller.
 #[no_mangle]
 pub extern "C" fn orderset_own_book_fill(
     image: &[u8],
@@ -169,11 +208,16 @@ pub extern "C" fn orderset_own_book_fill(
     value: &mut [u64; 16],
     answer: &mut [u64; 3],
 ) -> u32
-    ensures { λ r. ⌜ changeLeft r (now (answer .exit)) (stateFrom (now (state .exit)) (now (version .exit))) (zipped (now (at .exit)) (now (value .exit))) (now (heads .exit)) (now (next .exit)) ≡ bookCall (fillResultBy true 1 (now (image .entry)) (now (heads .entry)) (now (next .entry)) (stateFrom (now (state .entry)) (now (version .entry))) key quantity) (now (answer .entry)) (zipped (now (at .entry)) (now (value .entry))) ⌝ }
+    ensures result { λ r. ⌜ changeLeft r (now (answer .exit)) (stateFrom (now (state .exit)) (now (version .exit)))
+        (zipped (now (at .exit)) (now (value .exit))) (now (heads .exit)) (now (next .exit))
+        ≡ bookCall
+        (fillResultBy true 1 (now (image .entry))
+        (indexOf (now (heads .entry)) (now (next .entry)) (stateFrom (now (state .entry)) (now (version .entry)))) key quantity)
+        (now (answer .entry)) (zipped (now (at .entry)) (now (value .entry))) ⌝ }
 {
     let before = state_from(state, version);
     let change = own_fill(image, heads, next, before, key, quantity, at, value);
-    hand_out_step(change, state, version, answer)
+    write_answer_step(change, state, version, answer)
 }
 
 // The order is removed, with all that is open; the answer is as above.
@@ -189,9 +233,14 @@ pub extern "C" fn orderset_own_book_withdraw(
     value: &mut [u64; 16],
     answer: &mut [u64; 3],
 ) -> u32
-    ensures { λ r. ⌜ changeLeft r (now (answer .exit)) (stateFrom (now (state .exit)) (now (version .exit))) (zipped (now (at .exit)) (now (value .exit))) (now (heads .exit)) (now (next .exit)) ≡ bookCall (withdrawResultBy true 1 (now (image .entry)) (now (heads .entry)) (now (next .entry)) (stateFrom (now (state .entry)) (now (version .entry))) key) (now (answer .entry)) (zipped (now (at .entry)) (now (value .entry))) ⌝ }
+    ensures result { λ r. ⌜ changeLeft r (now (answer .exit)) (stateFrom (now (state .exit)) (now (version .exit)))
+        (zipped (now (at .exit)) (now (value .exit))) (now (heads .exit)) (now (next .exit))
+        ≡ bookCall
+        (withdrawResultBy true 1 (now (image .entry))
+        (indexOf (now (heads .entry)) (now (next .entry)) (stateFrom (now (state .entry)) (now (version .entry)))) key)
+        (now (answer .entry)) (zipped (now (at .entry)) (now (value .entry))) ⌝ }
 {
     let before = state_from(state, version);
     let change = own_withdraw(image, heads, next, before, key, at, value);
-    hand_out_step(change, state, version, answer)
+    write_answer_step(change, state, version, answer)
 }

@@ -1,6 +1,6 @@
 // Play, with two counts and of a list.
 ghost use mathlib.Core.Path.{_≡_};
-ghost use Rattle.face.specs.Set.{playEnd, playResult, playListResult};
+ghost use Rattle.interface.specs.Set.{playEnd, playResult, playListResult};
 use exports_code::play::play_lent;
 use orderset::play_list;
 
@@ -13,7 +13,7 @@ pub extern "C" fn orderset_play(
     a: usize,
     b: usize,
 ) -> u32
-    ensures { λ r. ⌜ playEnd r (now (image .exit)) ≡ playResult (now (image .entry)) (now (at .entry)) (now (value .entry)) a b ⌝ }
+    ensures result { λ r. ⌜ playEnd r (now (image .exit)) ≡ playResult (now (image .entry)) (now (at .entry)) (now (value .entry)) a b ⌝ }
 {
     play_lent(image, at, value, a, b)
 }
@@ -21,7 +21,7 @@ pub extern "C" fn orderset_play(
 // All stores of a list are made, in order.
 #[no_mangle]
 pub extern "C" fn orderset_play_list(image: &mut [u8], at: &[u32], value: &[u64]) -> u32
-    ensures { λ r. ⌜ playEnd r (now (image .exit)) ≡ playListResult (now (image .entry)) (now (at .entry)) (now (value .entry)) ⌝ }
+    ensures result { λ r. ⌜ playEnd r (now (image .exit)) ≡ playListResult (now (image .entry)) (now (at .entry)) (now (value .entry)) ⌝ }
 {
     play_list(image, at, value)
 }

@@ -1,14 +1,14 @@
 // Recover.
 ghost use mathlib.Core.Path.{_≡_};
-ghost use Rattle.face.specs.Set.{recoverResult};
+ghost use Rattle.interface.specs.Set.{recoverResult};
 ghost use Rattle.exports.specs.State.{stateFrom};
-ghost use Rattle.exports.specs.Opening.{openingsFrom};
+ghost use Rattle.exports.specs.Invalidation.{invalidationsFrom};
 ghost use Rattle.exports.specs.Call.{recoverLeft, recoverCall};
-use exports_answer_code::recover::hand_out_recovered;
+use exports_answer_code::recover::write_answer_recovered;
 use orderset::recover;
 
-// The index of the image is rebuilt; the answer is the state beside it, with the opening stores, which are to be made by the caller. Returned is 0, or
-// the refusal + 2^32 × the slot that it names.
+// The index of the image is rebuilt; the answer is the state beside it, with the invalidating stores, which are to be
+// made by the caller. Returned is 0, or the refusal + 2^32 × the slot that it names.
 #[no_mangle]
 pub extern "C" fn orderset_recover(
     image: &[u8],
@@ -20,8 +20,11 @@ pub extern "C" fn orderset_recover(
     at: &mut [u32; 8],
     value: &mut [u64; 8],
 ) -> u64
-    ensures { λ r. ⌜ recoverLeft r (stateFrom (now (state .exit)) (now (version .exit))) (openingsFrom (now (count .exit)) (now (at .exit)) (now (value .exit))) (now (heads .exit)) (now (next .exit)) ≡ recoverCall (recoverResult 1 (now (image .entry)) (now (heads .entry)) (now (next .entry))) (stateFrom (now (state .entry)) (now (version .entry))) (openingsFrom (now (count .entry)) (now (at .entry)) (now (value .entry))) ⌝ }
+    ensures result { λ r. ⌜ recoverLeft r (stateFrom (now (state .exit)) (now (version .exit)))
+        (invalidationsFrom (now (count .exit)) (now (at .exit)) (now (value .exit))) (now (heads .exit)) (now (next .exit))
+        ≡ recoverCall (recoverResult 1 (now (image .entry)) (now (heads .entry)) (now (next .entry)))
+        (stateFrom (now (state .entry)) (now (version .entry))) (invalidationsFrom (now (count .entry)) (now (at .entry)) (now (value .entry))) ⌝ }
 {
     let answer = recover(image, heads, next);
-    hand_out_recovered(answer, state, version, count, at, value)
+    write_answer_recovered(answer, state, version, count, at, value)
 }

@@ -1,15 +1,16 @@
 // Insert and replace.
 ghost use mathlib.Core.Path.{_≡_};
 ghost use lib.ListN.{length};
-ghost use Rattle.face.specs.Set.{zipped, Insert, Replace, writeResult, writeCompared};
+ghost use Rattle.interface.specs.Set.{zipped, Insert, Replace, writeResult, indexOf};
 ghost use Rattle.exports.specs.State.{stateFrom};
 ghost use Rattle.exports.specs.Call.{changeLeft, changeCall};
-use exports_answer_code::answer::hand_out;
+use exports_answer_code::answer::write_answer;
 use exports_code::state::state_from;
 use orderset::insert;
 use orderset::replace;
 
-// A key that is not held gets the value; the answer is the slot taken, the version and the slots compared, and the stores are to be made by the caller.
+// A key that is not held gets the value; the answer is the slot taken, the version and the slots compared, and the
+// stores are to be made by the caller.
 #[no_mangle]
 pub extern "C" fn orderset_insert(
     image: &[u8],
@@ -23,11 +24,16 @@ pub extern "C" fn orderset_insert(
     value: &mut [u64; 16],
     answer: &mut [u64; 4],
 ) -> u64
-    ensures { λ r. ⌜ changeLeft r (now (answer .exit)) (stateFrom (now (state .exit)) (now (version .exit))) (zipped (now (at .exit)) (now (value .exit))) (now (heads .exit)) (now (next .exit)) ≡ changeCall (writeResult 1 (now (image .entry)) (now (heads .entry)) (now (next .entry)) (stateFrom (now (state .entry)) (now (version .entry))) Insert key (now (bytes .entry))) (writeCompared 1 (now (image .entry)) (now (heads .entry)) (now (next .entry)) key (length (now (bytes .entry)))) (now (answer .entry)) (zipped (now (at .entry)) (now (value .entry))) ⌝ }
+    ensures result { λ r. ⌜ changeLeft r (now (answer .exit)) (stateFrom (now (state .exit)) (now (version .exit)))
+        (zipped (now (at .exit)) (now (value .exit))) (now (heads .exit)) (now (next .exit))
+        ≡ changeCall
+        (writeResult 1 (now (image .entry)) (indexOf (now (heads .entry)) (now (next .entry)) (stateFrom (now (state .entry)) (now (version .entry))))
+        Insert key (now (bytes .entry)))
+        (now (answer .entry)) (zipped (now (at .entry)) (now (value .entry))) ⌝ }
 {
     let before = state_from(state, version);
     let change = insert(image, heads, next, before, key, bytes, at, value);
-    hand_out(change, state, version, answer)
+    write_answer(change, state, version, answer)
 }
 
 // A key that is held gets the value; the answer is as above.
@@ -44,9 +50,14 @@ pub extern "C" fn orderset_replace(
     value: &mut [u64; 16],
     answer: &mut [u64; 4],
 ) -> u64
-    ensures { λ r. ⌜ changeLeft r (now (answer .exit)) (stateFrom (now (state .exit)) (now (version .exit))) (zipped (now (at .exit)) (now (value .exit))) (now (heads .exit)) (now (next .exit)) ≡ changeCall (writeResult 1 (now (image .entry)) (now (heads .entry)) (now (next .entry)) (stateFrom (now (state .entry)) (now (version .entry))) Replace key (now (bytes .entry))) (writeCompared 1 (now (image .entry)) (now (heads .entry)) (now (next .entry)) key (length (now (bytes .entry)))) (now (answer .entry)) (zipped (now (at .entry)) (now (value .entry))) ⌝ }
+    ensures result { λ r. ⌜ changeLeft r (now (answer .exit)) (stateFrom (now (state .exit)) (now (version .exit)))
+        (zipped (now (at .exit)) (now (value .exit))) (now (heads .exit)) (now (next .exit))
+        ≡ changeCall
+        (writeResult 1 (now (image .entry)) (indexOf (now (heads .entry)) (now (next .entry)) (stateFrom (now (state .entry)) (now (version .entry))))
+        Replace key (now (bytes .entry)))
+        (now (answer .entry)) (zipped (now (at .entry)) (now (value .entry))) ⌝ }
 {
     let before = state_from(state, version);
     let change = replace(image, heads, next, before, key, bytes, at, value);
-    hand_out(change, state, version, answer)
+    write_answer(change, state, version, answer)
 }

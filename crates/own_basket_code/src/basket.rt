@@ -2,13 +2,16 @@
 ghost use mathlib.Core.Path.{_≡_};
 ghost use lib.ListN.{length};
 ghost use mathlib.Core.Bool.{true};
-ghost use Rattle.calls.specs.Basket.{changesOf, basketResultBy, basketEnd, leftInLists};
+ghost use Rattle.index.specs.Index.{indexOf};
+ghost use Rattle.calls.specs.Basket.{basketResultBy};
+ghost use Rattle.calls.specs.BasketItems.{changesOf};
+ghost use Rattle.calls.specs.BasketBuffers.{basketEnd, buffersAfterLists};
 use basket_code::basket::basket_in;
 use calls::BasketAnswer;
 use calls::BasketItem;
 use index::State;
 
-// The basket for the owner of its index; it is no call of document 02, whose refusals hold for any index.
+// The basket for the owner of its index; it is no call of document 01, whose refusals hold for any index.
 pub fn own_basket(
     image: &[u8],
     heads: &mut [u32],
@@ -21,9 +24,9 @@ pub fn own_basket(
     words: &mut [u64],
 ) -> BasketAnswer
     ensures result { λ r. ⌜ basketEnd count r (now (at .exit)) (now (words .exit)) (now (heads .exit)) (now (next .exit))
-        ≡ leftInLists (now (at .entry)) (now (words .entry))
-        (basketResultBy true 1 (now (image .entry)) (now (heads .entry)) (now (next .entry)) state (changesOf 1 count items values) (length (now (at .entry)))
-        (length (now (words .entry)))) ⌝ }
+        ≡ buffersAfterLists (now (at .entry)) (now (words .entry))
+        (basketResultBy true 1 (now (image .entry)) (indexOf (now (heads .entry)) (now (next .entry)) state) (changesOf 1 count items values)
+        (length (now (at .entry))) (length (now (words .entry)))) ⌝ }
 {
     basket_in(
         image,
@@ -53,9 +56,9 @@ pub fn own_basket2(
     words: &mut [u64],
 ) -> BasketAnswer
     ensures result { λ r. ⌜ basketEnd count r (now (at .exit)) (now (words .exit)) (now (heads .exit)) (now (next .exit))
-        ≡ leftInLists (now (at .entry)) (now (words .entry))
-        (basketResultBy true 2 (now (image .entry)) (now (heads .entry)) (now (next .entry)) state (changesOf 2 count items values) (length (now (at .entry)))
-        (length (now (words .entry)))) ⌝ }
+        ≡ buffersAfterLists (now (at .entry)) (now (words .entry))
+        (basketResultBy true 2 (now (image .entry)) (indexOf (now (heads .entry)) (now (next .entry)) state) (changesOf 2 count items values)
+        (length (now (at .entry))) (length (now (words .entry)))) ⌝ }
 {
     basket_in(
         image,

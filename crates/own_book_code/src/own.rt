@@ -1,9 +1,10 @@
-// The steps for the owner of an index, that is, of an index from recovery and the accepted calls and steps since: each is the step of its name by a call for
-// the owner. A step whose name ends in 2 is layout 2's.
+// The steps for the owner of an index, that is, of an index from recovery and the accepted calls and steps since: each
+// is the step of its name by a call for the owner. Such calls are no calls of document 01, whose refusals hold for any
+// index. A step whose name ends in 2 is layout 2's.
 ghost use mathlib.Core.Path.{_≡_};
 ghost use mathlib.Core.Bool.{true};
-ghost use Rattle.face.specs.Set.{keyWith, zipped};
-ghost use Rattle.book.specs.Steps.{bookEnd, bookLeftIn, newResultBy, acknowledgeResultBy, fillResultBy, withdrawResultBy};
+ghost use Rattle.interface.specs.Set.{keyWith, zipped, indexOf};
+ghost use Rattle.book.specs.Steps.{bookEnd, bookBuffersAfter, newResultBy, acknowledgeResultBy, fillResultBy, withdrawResultBy};
 use book::BookChange;
 use book_change_code::change::carry_out;
 use book_plan_code::plans::acknowledge_plan;
@@ -23,7 +24,9 @@ pub fn own_new(
     at: &mut [u32; 16],
     words: &mut [u64; 16],
 ) -> BookChange
-    ensures { λ r. ⌜ bookEnd r (now (at .exit)) (now (words .exit)) (now (heads .exit)) (now (next .exit)) ≡ bookLeftIn (zipped (now (at .entry)) (now (words .entry))) (newResultBy true 1 (now (image .entry)) (now (heads .entry)) (now (next .entry)) state key quantity) ⌝ }
+    ensures result { λ r. ⌜ bookEnd r (now (at .exit)) (now (words .exit)) (now (heads .exit)) (now (next .exit))
+        ≡ bookBuffersAfter (zipped (now (at .entry)) (now (words .entry)))
+        (newResultBy true 1 (now (image .entry)) (indexOf (now (heads .entry)) (now (next .entry)) state) key quantity) ⌝ }
 {
     let plan = new_plan(image, false, heads, next, key, 0, quantity);
     carry_out(
@@ -51,7 +54,9 @@ pub fn own_acknowledge(
     at: &mut [u32; 16],
     words: &mut [u64; 16],
 ) -> BookChange
-    ensures { λ r. ⌜ bookEnd r (now (at .exit)) (now (words .exit)) (now (heads .exit)) (now (next .exit)) ≡ bookLeftIn (zipped (now (at .entry)) (now (words .entry))) (acknowledgeResultBy true 1 (now (image .entry)) (now (heads .entry)) (now (next .entry)) state key) ⌝ }
+    ensures result { λ r. ⌜ bookEnd r (now (at .exit)) (now (words .exit)) (now (heads .exit)) (now (next .exit))
+        ≡ bookBuffersAfter (zipped (now (at .entry)) (now (words .entry)))
+        (acknowledgeResultBy true 1 (now (image .entry)) (indexOf (now (heads .entry)) (now (next .entry)) state) key) ⌝ }
 {
     let plan = acknowledge_plan(image, false, heads, next, key, 0);
     carry_out(
@@ -80,7 +85,9 @@ pub fn own_fill(
     at: &mut [u32; 16],
     words: &mut [u64; 16],
 ) -> BookChange
-    ensures { λ r. ⌜ bookEnd r (now (at .exit)) (now (words .exit)) (now (heads .exit)) (now (next .exit)) ≡ bookLeftIn (zipped (now (at .entry)) (now (words .entry))) (fillResultBy true 1 (now (image .entry)) (now (heads .entry)) (now (next .entry)) state key quantity) ⌝ }
+    ensures result { λ r. ⌜ bookEnd r (now (at .exit)) (now (words .exit)) (now (heads .exit)) (now (next .exit))
+        ≡ bookBuffersAfter (zipped (now (at .entry)) (now (words .entry)))
+        (fillResultBy true 1 (now (image .entry)) (indexOf (now (heads .entry)) (now (next .entry)) state) key quantity) ⌝ }
 {
     let plan = fill_plan(image, false, heads, next, key, 0, quantity);
     carry_out(
@@ -108,7 +115,9 @@ pub fn own_withdraw(
     at: &mut [u32; 16],
     words: &mut [u64; 16],
 ) -> BookChange
-    ensures { λ r. ⌜ bookEnd r (now (at .exit)) (now (words .exit)) (now (heads .exit)) (now (next .exit)) ≡ bookLeftIn (zipped (now (at .entry)) (now (words .entry))) (withdrawResultBy true 1 (now (image .entry)) (now (heads .entry)) (now (next .entry)) state key) ⌝ }
+    ensures result { λ r. ⌜ bookEnd r (now (at .exit)) (now (words .exit)) (now (heads .exit)) (now (next .exit))
+        ≡ bookBuffersAfter (zipped (now (at .entry)) (now (words .entry)))
+        (withdrawResultBy true 1 (now (image .entry)) (indexOf (now (heads .entry)) (now (next .entry)) state) key) ⌝ }
 {
     let plan = withdraw_plan(image, false, heads, next, key, 0);
     carry_out(
@@ -138,7 +147,9 @@ pub fn own_new2(
     at: &mut [u32; 16],
     words: &mut [u64; 16],
 ) -> BookChange
-    ensures { λ r. ⌜ bookEnd r (now (at .exit)) (now (words .exit)) (now (heads .exit)) (now (next .exit)) ≡ bookLeftIn (zipped (now (at .entry)) (now (words .entry))) (newResultBy true 2 (now (image .entry)) (now (heads .entry)) (now (next .entry)) state (keyWith low high) quantity) ⌝ }
+    ensures result { λ r. ⌜ bookEnd r (now (at .exit)) (now (words .exit)) (now (heads .exit)) (now (next .exit))
+        ≡ bookBuffersAfter (zipped (now (at .entry)) (now (words .entry)))
+        (newResultBy true 2 (now (image .entry)) (indexOf (now (heads .entry)) (now (next .entry)) state) (keyWith low high) quantity) ⌝ }
 {
     let plan = new_plan(image, true, heads, next, low, high, quantity);
     carry_out(
@@ -167,7 +178,9 @@ pub fn own_acknowledge2(
     at: &mut [u32; 16],
     words: &mut [u64; 16],
 ) -> BookChange
-    ensures { λ r. ⌜ bookEnd r (now (at .exit)) (now (words .exit)) (now (heads .exit)) (now (next .exit)) ≡ bookLeftIn (zipped (now (at .entry)) (now (words .entry))) (acknowledgeResultBy true 2 (now (image .entry)) (now (heads .entry)) (now (next .entry)) state (keyWith low high)) ⌝ }
+    ensures result { λ r. ⌜ bookEnd r (now (at .exit)) (now (words .exit)) (now (heads .exit)) (now (next .exit))
+        ≡ bookBuffersAfter (zipped (now (at .entry)) (now (words .entry)))
+        (acknowledgeResultBy true 2 (now (image .entry)) (indexOf (now (heads .entry)) (now (next .entry)) state) (keyWith low high)) ⌝ }
 {
     let plan = acknowledge_plan(image, true, heads, next, low, high);
     carry_out(
@@ -197,7 +210,9 @@ pub fn own_fill2(
     at: &mut [u32; 16],
     words: &mut [u64; 16],
 ) -> BookChange
-    ensures { λ r. ⌜ bookEnd r (now (at .exit)) (now (words .exit)) (now (heads .exit)) (now (next .exit)) ≡ bookLeftIn (zipped (now (at .entry)) (now (words .entry))) (fillResultBy true 2 (now (image .entry)) (now (heads .entry)) (now (next .entry)) state (keyWith low high) quantity) ⌝ }
+    ensures result { λ r. ⌜ bookEnd r (now (at .exit)) (now (words .exit)) (now (heads .exit)) (now (next .exit))
+        ≡ bookBuffersAfter (zipped (now (at .entry)) (now (words .entry)))
+        (fillResultBy true 2 (now (image .entry)) (indexOf (now (heads .entry)) (now (next .entry)) state) (keyWith low high) quantity) ⌝ }
 {
     let plan = fill_plan(image, true, heads, next, low, high, quantity);
     carry_out(
@@ -226,7 +241,9 @@ pub fn own_withdraw2(
     at: &mut [u32; 16],
     words: &mut [u64; 16],
 ) -> BookChange
-    ensures { λ r. ⌜ bookEnd r (now (at .exit)) (now (words .exit)) (now (heads .exit)) (now (next .exit)) ≡ bookLeftIn (zipped (now (at .entry)) (now (words .entry))) (withdrawResultBy true 2 (now (image .entry)) (now (heads .entry)) (now (next .entry)) state (keyWith low high)) ⌝ }
+    ensures result { λ r. ⌜ bookEnd r (now (at .exit)) (now (words .exit)) (now (heads .exit)) (now (next .exit))
+        ≡ bookBuffersAfter (zipped (now (at .entry)) (now (words .entry)))
+        (withdrawResultBy true 2 (now (image .entry)) (indexOf (now (heads .entry)) (now (next .entry)) state) (keyWith low high)) ⌝ }
 {
     let plan = withdraw_plan(image, true, heads, next, low, high);
     carry_out(

@@ -1,16 +1,17 @@
-// Insert, replace and remove for the owner of an index, that is, for an index from recovery and the accepted calls since. They are no calls of document 01,
-// whose refusals hold for any index: these look at the key's chain, at the slots met along the reuse chain up to the one that is taken, and at line A of the
-// newest slot. Of their own index they are the calls for any index; of any other they are as safe, and refuse by these slots. `l` is the layout; a key is
-// two words, the high one 0 in layout 1.
+// Insert, replace and remove for the owner of an index, that is, for an index from recovery and the accepted calls
+// since. They are no calls of document 01, whose refusals hold for any index: these look at the key's chain, at the
+// slots met along the reuse chain up to the one that is taken, and at line A of the newest slot. Of their own index
+// they are the calls for any index; of any other they are as safe, and refuse by these slots. `l` is the layout; a key
+// is two words, the high one 0 in layout 1.
 ghost use mathlib.Core.Path.{_≡_};
 ghost use mathlib.Core.Bool.{true};
 ghost use lib.ListN.{length};
 ghost use Rattle.layout.specs.Record.{keyWith};
 ghost use Rattle.stores.specs.Store.{zipped};
 ghost use Rattle.index.specs.declared.Mode.the-variants.{Insert, Replace};
-ghost use Rattle.calls.specs.Compared.{reported, keyCompared};
+ghost use Rattle.index.specs.Index.{indexOf};
 ghost use Rattle.calls.specs.Moved.{writeMoved};
-ghost use Rattle.calls.specs.Change.{changeEnd, leftIn, writeResultBy, writeCompared, removeResultBy};
+ghost use Rattle.calls.specs.Change.{changeEnd, buffersAfter, writeResultBy, removeResultBy};
 use calls::Change;
 use change_layout_code::remove::remove_in;
 use change_layout_code::write::write_in;
@@ -29,10 +30,8 @@ pub fn own_insert(
     words: &mut [u64; 16],
 ) -> Change
     ensures result { λ r. ⌜ changeEnd r (now (at .exit)) (now (words .exit)) (now (heads .exit)) (now (next .exit))
-        ≡ reported
-        (leftIn (zipped (now (at .entry)) (now (words .entry)))
-        (writeResultBy true 1 (now (image .entry)) (now (heads .entry)) (now (next .entry)) state Insert key (now (value .entry))))
-        (writeCompared 1 (now (image .entry)) (now (heads .entry)) (now (next .entry)) key (length (now (value .entry)))) ⌝ }
+        ≡ buffersAfter (zipped (now (at .entry)) (now (words .entry)))
+        (writeResultBy true 1 (now (image .entry)) (indexOf (now (heads .entry)) (now (next .entry)) state) Insert key (now (value .entry))) ⌝ }
     ensures moved { λ r. ⌜ r .moved ≡ writeMoved (r .outcome) (length (now (value .entry))) ⌝ }
 {
     write_in(
@@ -63,10 +62,8 @@ pub fn own_replace(
     words: &mut [u64; 16],
 ) -> Change
     ensures result { λ r. ⌜ changeEnd r (now (at .exit)) (now (words .exit)) (now (heads .exit)) (now (next .exit))
-        ≡ reported
-        (leftIn (zipped (now (at .entry)) (now (words .entry)))
-        (writeResultBy true 1 (now (image .entry)) (now (heads .entry)) (now (next .entry)) state Replace key (now (value .entry))))
-        (writeCompared 1 (now (image .entry)) (now (heads .entry)) (now (next .entry)) key (length (now (value .entry)))) ⌝ }
+        ≡ buffersAfter (zipped (now (at .entry)) (now (words .entry)))
+        (writeResultBy true 1 (now (image .entry)) (indexOf (now (heads .entry)) (now (next .entry)) state) Replace key (now (value .entry))) ⌝ }
     ensures moved { λ r. ⌜ r .moved ≡ writeMoved (r .outcome) (length (now (value .entry))) ⌝ }
 {
     write_in(
@@ -96,10 +93,8 @@ pub fn own_remove(
     words: &mut [u64; 16],
 ) -> Change
     ensures result { λ r. ⌜ changeEnd r (now (at .exit)) (now (words .exit)) (now (heads .exit)) (now (next .exit))
-        ≡ reported
-        (leftIn (zipped (now (at .entry)) (now (words .entry)))
-        (removeResultBy true 1 (now (image .entry)) (now (heads .entry)) (now (next .entry)) state key))
-        (keyCompared 1 (now (image .entry)) (now (heads .entry)) (now (next .entry)) key) ⌝ }
+        ≡ buffersAfter (zipped (now (at .entry)) (now (words .entry)))
+        (removeResultBy true 1 (now (image .entry)) (indexOf (now (heads .entry)) (now (next .entry)) state) key) ⌝ }
     ensures moved { λ r. ⌜ r .moved ≡ 0 ⌝ }
 {
     remove_in(image, 1, heads, next, state, key, 0, at, words, true)
@@ -118,10 +113,8 @@ pub fn own_insert2(
     words: &mut [u64; 16],
 ) -> Change
     ensures result { λ r. ⌜ changeEnd r (now (at .exit)) (now (words .exit)) (now (heads .exit)) (now (next .exit))
-        ≡ reported
-        (leftIn (zipped (now (at .entry)) (now (words .entry)))
-        (writeResultBy true 2 (now (image .entry)) (now (heads .entry)) (now (next .entry)) state Insert (keyWith low high) (now (value .entry))))
-        (writeCompared 2 (now (image .entry)) (now (heads .entry)) (now (next .entry)) (keyWith low high) (length (now (value .entry)))) ⌝ }
+        ≡ buffersAfter (zipped (now (at .entry)) (now (words .entry)))
+        (writeResultBy true 2 (now (image .entry)) (indexOf (now (heads .entry)) (now (next .entry)) state) Insert (keyWith low high) (now (value .entry))) ⌝ }
     ensures moved { λ r. ⌜ r .moved ≡ writeMoved (r .outcome) (length (now (value .entry))) ⌝ }
 {
     write_in(
@@ -153,10 +146,8 @@ pub fn own_replace2(
     words: &mut [u64; 16],
 ) -> Change
     ensures result { λ r. ⌜ changeEnd r (now (at .exit)) (now (words .exit)) (now (heads .exit)) (now (next .exit))
-        ≡ reported
-        (leftIn (zipped (now (at .entry)) (now (words .entry)))
-        (writeResultBy true 2 (now (image .entry)) (now (heads .entry)) (now (next .entry)) state Replace (keyWith low high) (now (value .entry))))
-        (writeCompared 2 (now (image .entry)) (now (heads .entry)) (now (next .entry)) (keyWith low high) (length (now (value .entry)))) ⌝ }
+        ≡ buffersAfter (zipped (now (at .entry)) (now (words .entry)))
+        (writeResultBy true 2 (now (image .entry)) (indexOf (now (heads .entry)) (now (next .entry)) state) Replace (keyWith low high) (now (value .entry))) ⌝ }
     ensures moved { λ r. ⌜ r .moved ≡ writeMoved (r .outcome) (length (now (value .entry))) ⌝ }
 {
     write_in(
@@ -187,10 +178,8 @@ pub fn own_remove2(
     words: &mut [u64; 16],
 ) -> Change
     ensures result { λ r. ⌜ changeEnd r (now (at .exit)) (now (words .exit)) (now (heads .exit)) (now (next .exit))
-        ≡ reported
-        (leftIn (zipped (now (at .entry)) (now (words .entry)))
-        (removeResultBy true 2 (now (image .entry)) (now (heads .entry)) (now (next .entry)) state (keyWith low high)))
-        (keyCompared 2 (now (image .entry)) (now (heads .entry)) (now (next .entry)) (keyWith low high)) ⌝ }
+        ≡ buffersAfter (zipped (now (at .entry)) (now (words .entry)))
+        (removeResultBy true 2 (now (image .entry)) (indexOf (now (heads .entry)) (now (next .entry)) state) (keyWith low high)) ⌝ }
     ensures moved { λ r. ⌜ r .moved ≡ 0 ⌝ }
 {
     remove_in(image, 2, heads, next, state, low, high, at, words, true)

@@ -12,13 +12,13 @@ use Rattle.prelude.proofs.Choice.{pick-false}
 use Rattle.prelude.specs.Range.{anyOf}
 use Rattle.layout.specs.Size.{slotsIn}
 use Rattle.layout.specs.Line.{lineA, lineB}
-use Rattle.layout.specs.Content.{content, numberIn, contentsOf, numbersOf, Table}
+use Rattle.layout.specs.Content.{content, sizeFieldIn, contentsOf, sizeFieldsOf, Table}
 use Rattle.table.specs.Complete.{settled, tableOf}
 use Rattle.layout.specs.Header.{headerWord, headerFault, imageFault, indexFault, lentFault}
 use Rattle.layout.specs.Fault.{markFault, recordFault}
 use Rattle.prelude.proofs.Any.{or-none, any-none, any-clear}
 use Rattle.prelude.proofs.Lowest.{all-clear}
-use Rattle.prelude.proofs.Refusals.{say-false, say-zero, orElse-later, orElse-zero}
+use Rattle.prelude.proofs.Refusals.{refuseIf-false, refuseIf-zero, orElse-later, orElse-zero}
 use Rattle.layout.proofs.Size.{Long, long}
 use Rattle.table.specs.Table.{liveCount}
 use Rattle.prelude.specs.Members.{Slot}
@@ -46,9 +46,9 @@ module _ (l : ℕ) (image : List ℕ) where
   pub passed-header : imageFault l image ≡ 0 → RightHeader l image
   unfolding imageFault headerFault
   passed-header e =
-      let size = say-zero (eqb (slotsIn image) 0) _ _ e (omega arith) in
-      let first = say-zero (eqb (word image 0) 0) _ _ (size .1) (omega arith) in
-      let rest = say-zero (anyOf differs 0 8) _ _ (first .1) (omega arith) in
+      let size = refuseIf-zero (eqb (slotsIn image) 0) _ _ e (omega arith) in
+      let first = refuseIf-zero (eqb (word image 0) 0) _ _ (size .1) (omega arith) in
+      let rest = refuseIf-zero (anyOf differs 0 8) _ _ (first .1) (omega arith) in
       record {
         sized = eqb-false (slotsIn image) 0 (size .0);
         words = λ i h.
@@ -59,9 +59,9 @@ module _ (l : ℕ) (image : List ℕ) where
   pub right-header : RightHeader l image → imageFault l image ≡ 0
   unfolding imageFault headerFault headerWord
   right-header h =
-      say-false _ _ _ (ne-eqb (slotsIn image) 0 (h .sized))
-      ∙ say-false _ _ _ (ne-eqb (word image 0) 0 (λ z. h .sized (sym (h .words 0 (omega arith)) ∙ z)))
-      ∙ say-false _ _ _
+      refuseIf-false _ _ _ (ne-eqb (slotsIn image) 0 (h .sized))
+      ∙ refuseIf-false _ _ _ (ne-eqb (word image 0) 0 (λ z. h .sized (sym (h .words 0 (omega arith)) ∙ z)))
+      ∙ refuseIf-false _ _ _
       (any-clear differs 0 8
       (λ i p. ap not (eq-eqb (word image (0 + i)) (headerWord l (slotsIn image) (0 + i)) (h .words (0 + i) (omega arith)))))
 
@@ -88,7 +88,7 @@ right-marks m s h =
 
 module _ (l : ℕ) (m : ℕ → ℕ) (n : ℕ) where
   abbrev F : Table
-  F = settled (content l m) (numberIn l m) n
+  F = settled (content l m) (sizeFieldIn l m) n
 
   pub passed-slots : slotsFault l m n ≡ 0 → RightSlots l m n
   passed-slots e =
@@ -98,7 +98,7 @@ module _ (l : ℕ) (m : ℕ → ℕ) (n : ℕ) where
         records = clear .records;
         table =
             record {
-              agreed = fault-agreed (content l m) (numberIn l m) n (clear .sharers);
+              agreed = fault-agreed (content l m) (sizeFieldIn l m) n (clear .sharers);
               few = many-few F n (clear .few-broken);
               idle = all-room F n (clear .room);
             };
@@ -107,11 +107,11 @@ module _ (l : ℕ) (m : ℕ → ℕ) (n : ℕ) where
   pub right-slots : RightSlots l m n → slotsFault l m n ≡ 0
   unfolding slotsFault settledFault
   right-slots h =
-      say-false _ _ _ (slots-free (markFault m) n (λ s i. right-marks m s (h .marks s i)))
+      refuseIf-false _ _ _ (slots-free (markFault m) n (λ s i. right-marks m s (h .marks s i)))
       ∙ orElse-later _ _ (all-clear (recordFault l m) n (h .records))
-      ∙ say-false _ _ _ (agreed-fault (content l m) (numberIn l m) n (h .table .agreed))
-      ∙ say-false _ _ _ (few-many F n (h .table .few))
-      ∙ say-false _ _ _ (room-all F n (h .table .idle))
+      ∙ refuseIf-false _ _ _ (agreed-fault (content l m) (sizeFieldIn l m) n (h .table .agreed))
+      ∙ refuseIf-false _ _ _ (few-many F n (h .table .few))
+      ∙ refuseIf-false _ _ _ (room-all F n (h .table .idle))
 
 -- ---- an accepted image
 
@@ -129,8 +129,8 @@ module _ (l : ℕ) (image : List ℕ) (accepted : Accepted l image) where
   -- no key has two records of one version
   pub accepted-apart : ApartByKey (tableOf l image) (slotsIn image)
   accepted-apart =
-      settled-apart (contentsOf l image) (numbersOf l image) (slotsIn image)
-      (agreed-apart (contentsOf l image) (numbersOf l image) (slotsIn image) (accepted-right .table .agreed))
+      settled-apart (contentsOf l image) (sizeFieldsOf l image) (slotsIn image)
+      (agreed-apart (contentsOf l image) (sizeFieldsOf l image) (slotsIn image) (accepted-right .table .agreed))
 
   pub accepted-room : liveCount (tableOf l image) (slotsIn image) < slotsIn image
   accepted-room = accepted-right .table .idle

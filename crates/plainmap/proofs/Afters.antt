@@ -8,17 +8,18 @@ use lib.ListN.{length}
 use Rattle.words.specs.Word.{word}
 use Rattle.prelude.proofs.Choice.{split}
 use Rattle.layout.specs.Size.{slotsIn}
-use Rattle.layout.specs.Content.{contentsOf, numbersOf}
+use Rattle.layout.specs.Content.{contentsOf, sizeFieldsOf}
 use Rattle.stores.specs.Store.{Store, played, standing, allStand}
 use Rattle.stores.specs.Play.{playEnd, playListResult, wordNumbers, values}
 use Rattle.stores.specs.Basket.{BasketRecord, basketStores}
 use Rattle.stores.proofs.defs.Cut.{StoresInside, nil-in}
-use Rattle.table.specs.Complete.{numberFor, NoneVoid}
+use Rattle.table.specs.Complete.{sizeFieldFor, NoneVoid}
 use Rattle.stores.proofs.AllStand.{all-standing, many-stand}
 use Rattle.stores.proofs.Bytes.{standing-inside}
 use Rattle.index.specs.Index.{Index}
 use Rattle.prelude.proofs.defs.Answer.{isRefusal}
-use Rattle.plainmap.specs.World.{World, Called}
+use Rattle.plainmap.specs.World.{World}
+use Rattle.calls.specs.Result.{CallResult}
 use Rattle.plainmap.specs.Plain.{PlainMap, Update, plainStep}
 use Rattle.plainmap.specs.Accepted.{Accepted}
 use Rattle.plainmap.specs.Claims.{slotsMap}
@@ -29,11 +30,11 @@ use Rattle.plainmap.proofs.Outcomes.{worldWith}
 use Rattle.plainmap.proofs.CallSteps.{Stepped, stored-none, stored-records}
 
 -- the image after a cut in a call
-abbrev pub cutImage : World → Called → (counts : ℕ → ℕ) → List ℕ
+abbrev pub cutImage : World → CallResult → (counts : ℕ → ℕ) → List ℕ
 cutImage w r counts = played (standing counts (r .stores)) (w .image)
 
 -- it is accepted, as long as before, and its map made the plain map's step where all stores stand
-pub record After (l : ℕ) (w : World) (us : List Update) (r : Called) (counts : ℕ → ℕ) : Type 0 where
+pub record After (l : ℕ) (w : World) (us : List Update) (r : CallResult) (counts : ℕ → ℕ) : Type 0 where
   pub accepted : Accepted l (cutImage w r counts)
   pub slot-count : slotsIn (cutImage w r counts) ≡ slotsIn (w .image)
   pub map :
@@ -50,7 +51,7 @@ either : (t : Bool) (m m′ : PlainMap) (k : ℕ) → m k ≡ m′ k → m k ≡
 either true m m′ k e = e
 either false m m′ k e = refl
 
-module _ (l : ℕ) (w : World) (us : List Update) (r : Called) (accepted : Accepted l (w .image)) where
+module _ (l : ℕ) (w : World) (us : List Update) (r : CallResult) (accepted : Accepted l (w .image)) where
   -- no stores
   image-kept : (counts : ℕ → ℕ) → r .stores ≡ [] → cutImage w r counts ≡ w .image
   unfolding played
@@ -58,7 +59,7 @@ module _ (l : ℕ) (w : World) (us : List Update) (r : Called) (accepted : Accep
       ap (λ (ss : List Store). played (standing counts ss) (w .image)) none ∙ ap (λ (ss : List Store). played ss (w .image)) (nothing-stands counts .0)
 
   as-struck : (counts : ℕ → ℕ) (es : List BasketRecord) (i : Index) (alive newest : ℕ)
-      → r .stores ≡ basketStores l (word (w .image)) (numberFor (length es)) (nextOf l (w .image)) es
+      → r .stores ≡ basketStores l (word (w .image)) (sizeFieldFor (length es)) (nextOf l (w .image)) es
       → (wr : WroteRecords l w es i alive newest) → cutImage w r counts ≡ struckImage l w es i alive newest accepted wr counts
   as-struck counts es i alive newest stores wr = ap (λ (ss : List Store). played (standing counts ss) (w .image)) stores
 
@@ -98,13 +99,13 @@ module _ (l : ℕ) (w : World) (us : List Update) (r : Called) (accepted : Accep
   all-played = ap (λ (ss : List Store). played ss (w .image)) (all-standing all (r .stores) (many-stand (r .stores)))
 
   -- NO RECORD IS VOID after a call with all its stores played
-  pub after-none-void : NoneVoid (contentsOf l (w .image)) (numbersOf l (w .image)) (slotsIn (w .image)) → Stepped l w us r
-      → NoneVoid (contentsOf l (played (r .stores) (w .image))) (numbersOf l (played (r .stores) (w .image))) (slotsIn (played (r .stores) (w .image)))
+  pub after-none-void : NoneVoid (contentsOf l (w .image)) (sizeFieldsOf l (w .image)) (slotsIn (w .image)) → Stepped l w us r
+      → NoneVoid (contentsOf l (played (r .stores) (w .image))) (sizeFieldsOf l (played (r .stores) (w .image))) (slotsIn (played (r .stores) (w .image)))
   after-none-void none-void (stored-none none sound same) =
-      subst (λ (t : List ℕ). NoneVoid (contentsOf l t) (numbersOf l t) (slotsIn t)) (sym (image-kept all none) ∙ all-played) none-void
+      subst (λ (t : List ℕ). NoneVoid (contentsOf l t) (sizeFieldsOf l t) (slotsIn t)) (sym (image-kept all none) ∙ all-played) none-void
   after-none-void none-void (stored-records es i alive newest stores world wr step) =
-      subst (λ (t : List ℕ). NoneVoid (contentsOf l t) (numbersOf l t) (slotsIn t)) (sym (as-struck all es i alive newest stores wr) ∙ all-played)
-      (subst (λ (x : ℕ). NoneVoid (contentsOf l (struckImage l w es i alive newest accepted wr all)) (numbersOf l (struckImage l w es i alive newest accepted wr all)) x)
+      subst (λ (t : List ℕ). NoneVoid (contentsOf l t) (sizeFieldsOf l t) (slotsIn t)) (sym (as-struck all es i alive newest stores wr) ∙ all-played)
+      (subst (λ (x : ℕ). NoneVoid (contentsOf l (struckImage l w es i alive newest accepted wr all)) (sizeFieldsOf l (struckImage l w es i alive newest accepted wr all)) x)
       (sym (struck-slots l w es i alive newest accepted wr all))
       (whole-none-void l w es i alive newest accepted wr all (sym (ap (allStand all) stores) ∙ many-stand (r .stores))))
 

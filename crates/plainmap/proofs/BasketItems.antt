@@ -12,7 +12,7 @@ use Rattle.prelude.specs.Members.{All, none-left, one-more}
 use Rattle.prelude.specs.Range.{tabulate}
 use Rattle.prelude.proofs.Choice.{split}
 use Rattle.layout.specs.Record.{Layout, keyWith}
-use Rattle.calls.specs.Basket.{highIn, itemKey, itemAt, itemValue, changeAt, changesFrom, changesOf}
+use Rattle.calls.specs.BasketItems.{highIn, itemKey, itemAt, itemValue, changeAt, changesFrom, changesOf}
 use Rattle.calls.specs.declared.BasketItem.{BasketItem}
 use Rattle.plainmap.specs.Baskets.{TypedItem, TypedChange}
 

@@ -7,9 +7,9 @@ use Prim.Native.Nat.{ℕ, zero, suc, _+_, _<_}
 use native.Mathlib.Omega.{arith}
 use lib.Dec.{eqb}
 use lib.ListN.{length, getD}
-use Rattle.prelude.specs.Refusal.{say}
+use Rattle.prelude.specs.Refusal.{refuseIf}
 use Rattle.prelude.specs.Members.{In, All, none-left, one-more}
-use Rattle.layout.specs.Content.{made, Table}
+use Rattle.layout.specs.Content.{contentOfRecord, Table}
 use Rattle.stores.specs.Basket.{BasketRecord, basketSlots}
 use Rattle.table.specs.Table.{keyIn, mapOf, isHeld}
 use Rattle.table.proofs.defs.Write.{holder}
@@ -19,13 +19,15 @@ use Rattle.table.proofs.defs.Basket.{oneIf, insertsIn, removesIn}
 use Rattle.table.proofs.defs.ReuseAfter.{joinsOf}
 use Rattle.table.proofs.defs.Owners.{moved}
 use Rattle.index.specs.Index.{Chain, reuse, head, headOf}
-use Rattle.index.specs.Taking.{Taken}
+use Rattle.index.specs.Allocation.{Taken}
 use Rattle.index.specs.Basket.{Item, takenSlots}
 use Rattle.index.specs.declared.Action.{Action}
 use Rattle.index.specs.declared.Action.the-variants.{Insert, Replace, Remove}
 use Rattle.index.specs.declared.Found.{Found}
 use Rattle.index.proofs.defs.Items.{itemSlots, appendsBy, appendsOf, goesTo, movedOne, movedBy}
-use Rattle.calls.specs.Basket.{KeyChange, actionFault, insertsBy, removesBy, sumOver, kindBy, valueBy, recordsFor, oldIn, itemsFor}
+use Rattle.calls.specs.Basket.{kindBy, valueBy, recordsFor, oldIn, itemsFor}
+use Rattle.calls.specs.BasketItems.{KeyChange}
+use Rattle.calls.specs.BasketRefusals.{actionFault, insertsBy, removesBy, sumOver}
 use Rattle.images.proofs.defs.Entries.{recordOf}
 use Rattle.images.proofs.Entries.{made-key}
 
@@ -49,24 +51,24 @@ puts Insert = true
 puts Replace = true
 puts Remove = false
 
-pub put-by : (action : Action) (version key : ℕ) (value : List ℕ) → isPut (made (kindBy action) version key value) ≡ puts action
-unfolding kindBy puts made isPut
+pub put-by : (action : Action) (version key : ℕ) (value : List ℕ) → isPut (contentOfRecord (kindBy action) version key value) ≡ puts action
+unfolding kindBy puts contentOfRecord isPut
 put-by Insert version key value = refl
 put-by Replace version key value = refl
 put-by Remove version key value = refl
 
 pub insert-free : (held : Bool) → actionFault Insert held ≡ 0 → held ≡ false
-unfolding actionFault say
+unfolding actionFault refuseIf
 insert-free true e = absurd (omega arith)
 insert-free false e = refl
 
 pub replace-held : (held : Bool) → actionFault Replace held ≡ 0 → held ≡ true
-unfolding actionFault say
+unfolding actionFault refuseIf
 replace-held true e = refl
 replace-held false e = absurd (omega arith)
 
 pub remove-held : (held : Bool) → actionFault Remove held ≡ 0 → held ≡ true
-unfolding actionFault say
+unfolding actionFault refuseIf
 remove-held true e = refl
 remove-held false e = absurd (omega arith)
 

@@ -17,14 +17,14 @@ use Rattle.prelude.specs.Members.{All, one-more, In, Slot}
 use Rattle.prelude.proofs.defs.Among.{member}
 use Rattle.prelude.proofs.Among.{member-in, count-member}
 use Rattle.prelude.proofs.Count.{count-fewer}
-use Rattle.prelude.proofs.Refusals.{orElse-later, orElse-zero, say-zero, taken-leaves, refused-keeps}
+use Rattle.prelude.proofs.Refusals.{orElse-later, orElse-zero, refuseIf-zero, taken-leaves, refused-keeps}
 use Rattle.prelude.proofs.defs.Answer.{isRefusal}
 use Rattle.layout.specs.Size.{slotsIn}
 use Rattle.layout.specs.Record.{Layout}
-use Rattle.layout.specs.Content.{Content, made, Table, contentsOf, numbersOf}
+use Rattle.layout.specs.Content.{Content, contentOfRecord, Table, contentsOf, sizeFieldsOf}
 use Rattle.stores.specs.Basket.{BasketRecord, basketSlots, basketStores}
 use Rattle.table.specs.Table.{keyIn, valueIn, live, liveCount, isHeld}
-use Rattle.table.specs.Complete.{tableOf, numberFor, NoneVoid}
+use Rattle.table.specs.Complete.{tableOf, sizeFieldFor, NoneVoid}
 use Rattle.table.proofs.defs.Write.{holder}
 use Rattle.table.proofs.defs.Basket.{changes, changesInTurn}
 use Rattle.table.proofs.Changes.{changes-in-turn}
@@ -33,21 +33,24 @@ use Rattle.table.proofs.Held.{Holder, holder-is, is-holder}
 use Rattle.index.specs.Index.{Chain, head, headOf}
 use Rattle.index.specs.Walk.{search}
 use Rattle.index.specs.Change.{isFound}
-use Rattle.index.specs.Taking.{Taken, Taking}
+use Rattle.index.specs.Allocation.{Taken, Allocation}
 use Rattle.index.specs.declared.Action.{Action}
 use Rattle.index.specs.declared.Action.the-variants.{Insert, Replace, Remove}
 use Rattle.index.specs.declared.Found.{Found}
 use Rattle.index.proofs.defs.Items.{oldsBy, oldsOf}
-use Rattle.taking.specs.Taking.{takingOf, choiceBy, takingBy}
-use Rattle.calls.specs.Change.{storeFault, unchanged}
-use Rattle.calls.specs.Basket.{KeyChange, anyTwice, keyCountFault, givenFault, firstFault, valueFault, actionFault, basketLentFault, keysFault, insertsBy, removesBy, sumOver, kindBy, valueBy, basketFault, recordsFor, oldIn, itemsFor, indexAfter, basketMade, basketDone, basketUnless, basketResult, basketByRule, basketFaultBy, basketResultBy}
+use Rattle.allocation.specs.Allocation.{allocationByRule, allocationChosenBy, allocationBy}
+use Rattle.calls.specs.Change.{storeFault}
+use Rattle.calls.specs.Result.{unchanged, CallResult}
+use Rattle.calls.specs.BasketItems.{KeyChange}
+use Rattle.calls.specs.BasketRefusals.{anyTwice, keyCountFault, givenFault, firstFault, valueFault, actionFault, basketLentFault, keysFault, insertsBy, removesBy, sumOver, basketFault, basketFaultBy}
+use Rattle.calls.specs.Basket.{kindBy, valueBy, recordsFor, oldIn, itemsFor, indexAfter, basketMade, basketDone, basketUnless, basketResult, basketByRule, basketResultBy}
 use Rattle.images.proofs.defs.Entries.{recordOf}
-use Rattle.plainmap.specs.World.{World, Called, calledChange}
+use Rattle.plainmap.specs.World.{World}
 use Rattle.plainmap.specs.Plain.{PlainMap, Update, giving, dropping, updated, plainNext, plainStep}
 use Rattle.plainmap.specs.Accepted.{Accepted}
-use Rattle.plainmap.specs.Sound.{Sound}
+use Rattle.plainmap.specs.Consistency.{IndexConsistent}
 use Rattle.plainmap.specs.Claims.{slotsMap}
-use Rattle.plainmap.specs.Baskets.{Basket, basketCalled, basketRuled, keyUpdate, basketUpdates, basketRule, basketDue, slotsTaken, BasketRight, TypedChange}
+use Rattle.plainmap.specs.Baskets.{Basket, basketCallResult, basketCallResultByRule, keyUpdate, basketUpdates, basketRule, expectedBasketRefusal, slotsTaken, BasketCorrect, TypedChange}
 use Rattle.plainmap.proofs.Wrote.{SomeSound, some-sound, nextOf}
 use Rattle.plainmap.proofs.Outcomes.{worldWith, same}
 use Rattle.prelude.proofs.Lists.{in-append}
@@ -68,9 +71,9 @@ same-update (dropping key) m m′ q k = ap (λ (o : Option (List ℕ)). cond (eq
 module _ (version : ℕ) (new : Table) where
   -- the change of one record is that of its key
   update-one : (a : Action) (key : ℕ) (value : List ℕ) (m : PlainMap) (k : ℕ)
-      → cond (eqb k (keyIn (made (kindBy a) version key (valueBy a value)))) (valueIn (made (kindBy a) version key (valueBy a value))) (m k) ≡
+      → cond (eqb k (keyIn (contentOfRecord (kindBy a) version key (valueBy a value)))) (valueIn (contentOfRecord (kindBy a) version key (valueBy a value))) (m k) ≡
       updated (keyUpdate a key value) m k
-  unfolding kindBy valueBy made keyIn valueIn updated keyUpdate
+  unfolding kindBy valueBy contentOfRecord keyIn valueIn updated keyUpdate
   update-one Insert key value m k = refl
   update-one Replace key value m k = refl
   update-one Remove key value m k = refl
@@ -111,8 +114,8 @@ dummies : List KeyChange → List Taken
 dummies [] = []
 dummies (c ∷ cs) = record { slot = 0; prev = 0 } ∷ dummies cs
 
-module _ (l : ℕ) (lay : Layout l) (w : World) (chains : Chain → List ℕ) (accepted : Accepted l (w .image)) (g : Sound l w chains)
-    (none-void : NoneVoid (contentsOf l (w .image)) (numbersOf l (w .image)) (slotsIn (w .image))) where
+module _ (l : ℕ) (lay : Layout l) (w : World) (chains : Chain → List ℕ) (accepted : Accepted l (w .image)) (g : IndexConsistent l w chains)
+    (none-void : NoneVoid (contentsOf l (w .image)) (sizeFieldsOf l (w .image)) (slotsIn (w .image))) where
   abbrev f : Table
   f = contentsOf l (w .image)
 
@@ -120,7 +123,7 @@ module _ (l : ℕ) (lay : Layout l) (w : World) (chains : Chain → List ℕ) (a
   n = slotsIn (w .image)
 
   abbrev found : ℕ → Found
-  found key = search l (w .image) (w .heads) (w .next) key
+  found key = search l (w .image) (w .index .heads) (w .index .next) key
 
   -- ---- no more keys are removed than are held
 
@@ -130,7 +133,7 @@ module _ (l : ℕ) (lay : Layout l) (w : World) (chains : Chain → List ℕ) (a
   removed-olds Replace old = omega arith
   removed-olds Remove old = omega arith
 
-  removes-olds : (cs : List KeyChange) → sumOver removesBy cs ≤ length (oldsOf (itemsFor found (length (w .heads)) cs (dummies cs)))
+  removes-olds : (cs : List KeyChange) → sumOver removesBy cs ≤ length (oldsOf (itemsFor found (length (w .index .heads)) cs (dummies cs)))
   unfolding sumOver oldsOf itemsFor dummies
   removes-olds [] = omega arith
   removes-olds (c ∷ cs) =
@@ -138,10 +141,10 @@ module _ (l : ℕ) (lay : Layout l) (w : World) (chains : Chain → List ℕ) (a
         arith,
         removed-olds (c .action) (oldIn (found (c .key))),
         removes-olds cs,
-        length-append (oldsBy (c .action) (oldIn (found (c .key)))) (oldsOf (itemsFor found (length (w .heads)) cs (dummies cs))),
+        length-append (oldsBy (c .action) (oldIn (found (c .key)))) (oldsOf (itemsFor found (length (w .index .heads)) cs (dummies cs))),
       )
 
-  old-live : (cs : List KeyChange) → All (KeyReady f n found) cs → (x : ℕ) → In x (oldsOf (itemsFor found (length (w .heads)) cs (dummies cs)))
+  old-live : (cs : List KeyChange) → All (KeyReady f n found) cs → (x : ℕ) → In x (oldsOf (itemsFor found (length (w .index .heads)) cs (dummies cs)))
       → Slot n x × (live f n x ≡ true)
   unfolding oldsOf itemsFor dummies
   old-live [] rs x i = absurd i
@@ -150,8 +153,8 @@ module _ (l : ℕ) (lay : Layout l) (w : World) (chains : Chain → List ℕ) (a
       by : 0 < holder f n (c .key) → x ≡ holder f n (c .key) → Holder f n (c .key) → Slot n x × (live f n x ≡ true)
       by h e (holder-is s a q) = rw e (s, a)
 
-      go : (In x (oldsOf (itemsFor found (length (w .heads)) cs (dummies cs))) → Slot n x × (live f n x ≡ true))
-          → In x (oldsBy (c .action) (oldIn (found (c .key)))) ⊎ In x (oldsOf (itemsFor found (length (w .heads)) cs (dummies cs)))
+      go : (In x (oldsOf (itemsFor found (length (w .index .heads)) cs (dummies cs))) → Slot n x × (live f n x ≡ true))
+          → In x (oldsBy (c .action) (oldIn (found (c .key)))) ⊎ In x (oldsOf (itemsFor found (length (w .index .heads)) cs (dummies cs)))
           → Slot n x × (live f n x ≡ true)
       go ih (inl j) =
           let o = held-old l lay w chains accepted g none-void (c .action) (c .key)
@@ -171,7 +174,7 @@ module _ (l : ℕ) (lay : Layout l) (w : World) (chains : Chain → List ℕ) (a
       )
     where
       olds : List ℕ
-      olds = oldsOf (itemsFor found (length (w .heads)) cs (dummies cs))
+      olds = oldsOf (itemsFor found (length (w .index .heads)) cs (dummies cs))
 
   -- ---- the refusals
 
@@ -179,14 +182,14 @@ module _ (l : ℕ) (lay : Layout l) (w : World) (chains : Chain → List ℕ) (a
   unfolding isFound isHeld
   found-held key = go (found key) (sound-sees l w chains g key)
     where
-      go : (x : Found) → Sees (tableOf l (w .image)) n key (chains (head (headOf key (length (w .heads))))) x → isFound x ≡ isHeld (slotsMap l (w .image) key)
+      go : (x : Found) → Sees (tableOf l (w .image)) n key (chains (head (headOf key (length (w .index .heads))))) x → isFound x ≡ isHeld (slotsMap l (w .image) key)
       go x (sees-held xs ys v d p i q e m u) = sym (ap isHeld m)
       go x (sees-absent p m) = sym (ap isHeld m)
 
   -- A BASKET is refused where the rules refuse it
-  pub basket-fault : (b : Basket) → basketFault l (w .image) (w .heads) (w .next) (w .state) (b .changes) (b .at) (b .words) ≡
-      basketDue l w (slotsMap l (w .image)) b
-  unfolding basketFaultBy takingBy basketLentFault keysFault basketRule givenFault
+  pub basket-fault : (b : Basket) → basketFault l (w .image) (w .index) (b .changes) (b .at) (b .words) ≡
+      expectedBasketRefusal l w (slotsMap l (w .image)) b
+  unfolding basketFaultBy allocationBy basketLentFault keysFault basketRule givenFault
   basket-fault b =
       row-when (givenFault cs (b .at) (b .words)) _ _
       (λ z.
@@ -210,43 +213,43 @@ module _ (l : ℕ) (lay : Layout l) (w : World) (chains : Chain → List ℕ) (a
       asked = firstFault (λ c. actionFault (c .action) (isHeld (slotsMap l (w .image) (c .key)))) cs
 
       late : ℕ
-      late = storeFault (takingOf l (w .image) (w .next) n (w .state .first) (length cs)) n (w .state) (sumOver insertsBy cs) (sumOver removesBy cs)
+      late = storeFault (allocationByRule l (w .image) (w .index .next) n (w .index .state .first) (length cs)) n (w .index .state) (sumOver insertsBy cs) (sumOver removesBy cs)
 
       distinct : givenFault cs (b .at) (b .words) ≡ 0 → anyTwice cs ≡ false
-      distinct z = say-zero (anyTwice cs) 27 _ (orElse-zero (keyCountFault (length cs)) _ z .1) (omega arith) .0
+      distinct z = refuseIf-zero (anyTwice cs) 27 _ (orElse-zero (keyCountFault (length cs)) _ z .1) (omega arith) .0
 
   -- ---- what it does
 
   -- with no refusal: the slots are taken, and the records are written
   made-is : (b : Basket) (p : BasketPassed l w (b .changes)) (typed : All (TypedChange l) (b .changes))
-      → basketFault l (w .image) (w .heads) (w .next) (w .state) (b .changes) (b .at) (b .words) ≡ 0
-      → basketResult l (w .image) (w .heads) (w .next) (w .state) (b .changes) (b .at) (b .words) ≡
-      basketMade l (w .image) (w .state) (b .changes) (ts l lay w chains accepted g none-void (b .changes) typed p)
-      (indexAfter l (w .image) (w .heads) (w .next) (w .state) (b .changes) (ts l lay w chains accepted g none-void (b .changes) typed p))
-  unfolding basketResultBy choiceBy basketUnless basketDone
+      → basketFault l (w .image) (w .index) (b .changes) (b .at) (b .words) ≡ 0
+      → basketResult l (w .image) (w .index) (b .changes) (b .at) (b .words) ≡
+      basketMade l (w .image) (w .index .state) (b .changes) (ts l lay w chains accepted g none-void (b .changes) typed p)
+      (indexAfter l (w .image) (w .index) (b .changes) (ts l lay w chains accepted g none-void (b .changes) typed p))
+  unfolding basketResultBy allocationChosenBy basketUnless basketDone
   made-is b p typed z =
       taken-leaves _ _ _ z
-      ∙ ap (basketDone l (w .image) (w .heads) (w .next) (w .state) (b .changes)) (choice-is l lay w chains accepted g none-void (b .changes) typed p)
+      ∙ ap (basketDone l (w .image) (w .index) (b .changes)) (choice-is l lay w chains accepted g none-void (b .changes) typed p)
 
-  refused-is : (b : Basket) → (basketFault l (w .image) (w .heads) (w .next) (w .state) (b .changes) (b .at) (b .words) ≡ 0 → ⊥)
-      → basketResult l (w .image) (w .heads) (w .next) (w .state) (b .changes) (b .at) (b .words) ≡
-      unchanged (refused (basketFault l (w .image) (w .heads) (w .next) (w .state) (b .changes) (b .at) (b .words))) (w .state) (w .heads) (w .next)
-  unfolding basketResultBy choiceBy basketUnless
+  refused-is : (b : Basket) → (basketFault l (w .image) (w .index) (b .changes) (b .at) (b .words) ≡ 0 → ⊥)
+      → basketResult l (w .image) (w .index) (b .changes) (b .at) (b .words) ≡
+      unchanged (refused (basketFault l (w .image) (w .index) (b .changes) (b .at) (b .words))) (w .index) 0
+  unfolding basketResultBy allocationChosenBy basketUnless
   refused-is b nz = refused-keeps _ _ _ nz
 
   -- THE BASKET: it stores nothing and the plain map stays, or it writes its records, which is the plain map's step
-  pub basket-stepped : (b : Basket) → All (TypedChange l) (b .changes) → Stepped l w (basketUpdates (b .changes)) (basketCalled l w b)
-  unfolding basketCalled calledChange unchanged basketMade indexAfter isRefusal plainStep
+  pub basket-stepped : (b : Basket) → All (TypedChange l) (b .changes) → Stepped l w (basketUpdates (b .changes)) (basketCallResult l w b)
+  unfolding basketCallResult unchanged basketMade indexAfter isRefusal plainStep
   basket-stepped b typed =
-      by-cases (ℕ-discrete (basketFault l (w .image) (w .heads) (w .next) (w .state) cs (b .at) (b .words)) 0)
+      by-cases (ℕ-discrete (basketFault l (w .image) (w .index) cs (b .at) (b .words)) 0)
       (λ z.
       let p = basket-passed l w cs (b .at) (b .words) z in
-      let d = ap calledChange (made-is b p typed z) in
+      let d = made-is b p typed z in
       stored-records (es l lay w chains accepted g none-void cs typed p) _ _ _
-      (ap (λ (c : Called). c .stores) d
+      (ap (λ (c : CallResult). c .stores) d
       ∙ ap₂ (λ (x y : ℕ). basketStores l (word (w .image)) x y (es l lay w chains accepted g none-void cs typed p))
-      (sym (ap numberFor (many l lay w chains accepted g none-void cs typed p))) (g .next-version))
-      (λ image′. ap (λ (c : Called). worldWith image′ c) d) (basket-wrote l lay w chains accepted g none-void cs typed p)
+      (sym (ap sizeFieldFor (many l lay w chains accepted g none-void cs typed p))) (g .next-version))
+      (λ image′. ap (λ (c : CallResult). worldWith image′ c) d) (basket-wrote l lay w chains accepted g none-void cs typed p)
       (λ k.
       changes-in-turn (basketSlots (es l lay w chains accepted g none-void cs typed p)) (new l lay w chains accepted g none-void cs typed p)
       (slotsMap l (w .image)) (once l lay w chains accepted g none-void cs typed p) (basket l lay w chains accepted g none-void cs typed p .keys) k
@@ -254,65 +257,61 @@ module _ (l : ℕ) (lay : Layout l) (w : World) (chains : Chain → List ℕ) (a
       (as-many l lay w chains accepted g none-void cs typed p) (each l lay w chains accepted g none-void cs typed p) _ _ (λ j. refl) k
       ∙ sym
       (ap (λ (x : Bool). (cond x (slotsMap l (w .image)) (plainNext (basketUpdates cs) (slotsMap l (w .image)))) k)
-      (ap (λ (c : Called). isRefusal (c .answer)) d))))
+      (ap (λ (c : CallResult). isRefusal (c .answer)) d))))
       (λ nz.
-      let d = ap calledChange (refused-is b nz) in
-      stored-none (ap (λ (c : Called). c .stores) d)
-      (subst (λ (c : Called). SomeSound l (worldWith (w .image) c)) (sym d) (some-sound chains g))
+      let d = refused-is b nz in
+      stored-none (ap (λ (c : CallResult). c .stores) d)
+      (subst (λ (c : CallResult). SomeSound l (worldWith (w .image) c)) (sym d) (some-sound chains g))
       (λ k.
       sym
       (ap (λ (x : Bool). (cond x (slotsMap l (w .image)) (plainNext (basketUpdates cs) (slotsMap l (w .image)))) k)
-      (ap (λ (c : Called). isRefusal (c .answer)) d))))
+      (ap (λ (c : CallResult). isRefusal (c .answer)) d))))
     where
       cs : List KeyChange
       cs = b .changes
 
   -- IT IS THE RULE'S
-  by-rule : (b : Basket) → basketCalled l w b ≡ basketRuled l w b
-  unfolding basketCalled basketRuled basketResultBy choiceBy basketByRule
-  by-rule b =
-      ap (λ (t : Taking).
-      calledChange (basketUnless (basketFault l (w .image) (w .heads) (w .next) (w .state) (b .changes) (b .at) (b .words)) l (w .image) (w .heads) (w .next)
-      (w .state) (b .changes) t))
+  pub basket-by-rule : (b : Basket) → basketCallResult l w b ≡ basketCallResultByRule l w b
+  unfolding basketCallResult basketCallResultByRule basketResultBy allocationChosenBy basketByRule
+  basket-by-rule b =
+      ap (λ (t : Allocation).
+      (basketUnless (basketFault l (w .image) (w .index) (b .changes) (b .at) (b .words)) l (w .image) (w .index) (b .changes) t))
       (choice-rule l lay w chains accepted g none-void (length (b .changes)))
 
   -- ITS ANSWER IS RIGHT
-  pub basket-right : (b : Basket) → All (TypedChange l) (b .changes) → BasketRight l w (slotsMap l (w .image)) b
-  unfolding basketCalled calledChange unchanged basketMade refusalIn slotsTaken
+  pub basket-right : (b : Basket) → All (TypedChange l) (b .changes) → BasketCorrect l w (slotsMap l (w .image)) b
+  unfolding basketCallResult unchanged basketMade refusalIn slotsTaken
   basket-right b typed =
-      by-cases (ℕ-discrete (basketFault l (w .image) (w .heads) (w .next) (w .state) (b .changes) (b .at) (b .words)) 0)
+      by-cases (ℕ-discrete (basketFault l (w .image) (w .index) (b .changes) (b .at) (b .words)) 0)
       (λ z.
       let p = basket-passed l w (b .changes) (b .at) (b .words) z in
-      let d = ap calledChange (made-is b p typed z) in
+      let d = made-is b p typed z in
       record {
-        refusal = ap (λ (c : Called). refusalIn (c .answer)) d ∙ sym z ∙ basket-fault b;
+        refusal = ap (λ (c : CallResult). refusalIn (c .answer)) d ∙ sym z ∙ basket-fault b;
         answer = λ x.
-            ap (λ (c : Called). c .answer) d
-            ∙ ap₂ (λ (v : ℕ) (t : Taking). gives (v ∷ slotsTaken t)) (g .next-version)
+            ap (λ (c : CallResult). c .answer) d
+            ∙ ap₂ (λ (v : ℕ) (t : Allocation). gives (v ∷ slotsTaken t)) (g .next-version)
             (sym (taking-is l lay w chains accepted g none-void (b .changes) typed p));
         refused-still = λ nz. absurd (nz (sym (basket-fault b) ∙ z));
-        by-rule = by-rule b;
       })
       (λ nz.
-      let d = ap calledChange (refused-is b nz) in
+      let d = refused-is b nz in
       record {
-        refusal = ap (λ (c : Called). refusalIn (c .answer)) d ∙ basket-fault b;
+        refusal = ap (λ (c : CallResult). refusalIn (c .answer)) d ∙ basket-fault b;
         answer = λ x. absurd (nz (basket-fault b ∙ x));
         refused-still = λ x.
             record {
-              stores = ap (λ (c : Called). c .stores) d;
-              heads = ap (λ (c : Called). c .heads) d;
-              next = ap (λ (c : Called). c .next) d;
-              state = ap (λ (c : Called). c .state) d;
+              out-kept = ap (λ (c : CallResult). c .out) d;
+              no-stores = ap (λ (c : CallResult). c .stores) d;
+              index-kept = ap (λ (c : CallResult). c .index) d;
             };
-        by-rule = by-rule b;
       })
 
 -- the answer is a refusal exactly where the rules refuse
-pub basket-refuses : (l : ℕ) (w : World) (m : PlainMap) (b : Basket) → BasketRight l w m b → isRefusal (basketCalled l w b .answer) ≡ refuses (basketDue l w m b)
+pub basket-refuses : (l : ℕ) (w : World) (m : PlainMap) (b : Basket) → BasketCorrect l w m b → isRefusal (basketCallResult l w b .answer) ≡ refuses (expectedBasketRefusal l w m b)
 unfolding refuses isRefusal
-basket-refuses l w m b r = go (eqb (basketDue l w m b) 0) refl
+basket-refuses l w m b r = go (eqb (expectedBasketRefusal l w m b) 0) refl
   where
-    go : (x : Bool) → eqb (basketDue l w m b) 0 ≡ x → isRefusal (basketCalled l w b .answer) ≡ not x
+    go : (x : Bool) → eqb (expectedBasketRefusal l w m b) 0 ≡ x → isRefusal (basketCallResult l w b .answer) ≡ not x
     go true e = ap isRefusal (r .answer (eqb-true _ 0 e))
-    go false e = refusal-told (basketCalled l w b .answer) (λ z. eqb-false _ 0 e (sym (r .refusal) ∙ z))
+    go false e = refusal-told (basketCallResult l w b .answer) (λ z. eqb-false _ 0 e (sym (r .refusal) ∙ z))

@@ -16,17 +16,17 @@ use Rattle.prelude.proofs.Choice.{pick-true, pick-false, true-false}
 use Rattle.prelude.proofs.Lists.{front-length, once-take, in-append, once-append}
 use Rattle.prelude.proofs.defs.Among.{member}
 use Rattle.sorting.proofs.Order.{once-filter}
-use Rattle.prelude.proofs.Refusals.{say-zero, orElse-zero}
+use Rattle.prelude.proofs.Refusals.{refuseIf-zero, orElse-zero}
 use Rattle.layout.specs.Size.{slotsIn}
 use Rattle.layout.specs.Record.{limit, Layout}
 use Rattle.layout.specs.Header.{lentFault}
-use Rattle.layout.specs.Content.{Content, Table, contentsOf, numbersOf}
+use Rattle.layout.specs.Content.{Content, Table, contentsOf, sizeFieldsOf}
 use Rattle.layout.proofs.Content.{top-is}
 use Rattle.stores.specs.Basket.{BasketRecord, basketSlots}
 use Rattle.stores.specs.Cut.{Fields, Lawful, a-put, a-remove, LawfulNumber, alone, shared, LawfulRecord}
 use Rattle.table.specs.Table.{keyIn, mapOf, live, liveCount, isHeld}
-use Rattle.table.specs.Complete.{tableOf, numberFor, NoneVoid}
-use Rattle.table.specs.Taking.{mayTake, takenOf}
+use Rattle.table.specs.Complete.{tableOf, sizeFieldFor, NoneVoid}
+use Rattle.table.specs.Takeable.{mayTake, takenOf}
 use Rattle.table.proofs.defs.Write.{Record, holder}
 use Rattle.table.specs.Class.{isPut}
 use Rattle.table.proofs.defs.Basket.{Basket, HeldRemoved, putsIn, heldIn}
@@ -37,10 +37,10 @@ use Rattle.table.proofs.defs.Struck.{Struck, Finished}
 use Rattle.table.proofs.defs.ReuseAfter.{leftOf, reuseAfter}
 use Rattle.table.proofs.Accepted.{reuse-basket, taken-broken, finished-idle}
 use Rattle.table.proofs.LiveAfter.{spare-by, finished-live-count}
-use Rattle.index.specs.Index.{Index, Chain, reuse, head, headOf, indexOf, stateOf}
+use Rattle.index.specs.Index.{Index, Chain, reuse, head, headOf, indexOf, withCounts}
 use Rattle.index.specs.Walk.{search, chainFault}
 use Rattle.index.specs.Change.{isFound}
-use Rattle.index.specs.Taking.{Taken, taken, fewFault}
+use Rattle.index.specs.Allocation.{Taken, taken, fewFault}
 use Rattle.index.specs.Basket.{takenSlots, basketIndex}
 use Rattle.index.specs.declared.Action.{Action}
 use Rattle.index.specs.declared.Action.the-variants.{Insert, Replace, Remove}
@@ -50,15 +50,17 @@ use Rattle.index.proofs.defs.TakenIn.{takesIn}
 use Rattle.index.proofs.Baskets.{SitsWith, sits-basket}
 use Rattle.index.proofs.defs.Items.{appendsOf, oldsBy, oldsOf, OldStands, Ready}
 use Rattle.recovery.specs.Recover.{placeOf}
-use Rattle.index.proofs.Takings.{sits-taking, takes-slots, few-exact, taken-enough}
-use Rattle.taking.specs.Taking.{takingOf, choiceOf, takingBy}
-use Rattle.taking.proofs.Choices.{choice-own}
-use Rattle.calls.specs.Basket.{KeyChange, keyCountFault, among, anyTwice, givenFault, firstFault, valueFault, actionFault, basketLentFault, keysFault, insertsBy, removesBy, sumOver, kindBy, valueBy, basketFault, recordsFor, oldIn, itemsFor, basketFaultBy}
+use Rattle.index.proofs.Allocations.{sits-taking, takes-slots, few-exact, taken-enough}
+use Rattle.allocation.specs.Allocation.{allocationByRule, allocationChosen, allocationBy}
+use Rattle.allocation.proofs.Choices.{choice-own}
+use Rattle.calls.specs.Basket.{kindBy, valueBy, recordsFor, oldIn, itemsFor}
+use Rattle.calls.specs.BasketItems.{KeyChange}
+use Rattle.calls.specs.BasketRefusals.{keyCountFault, among, anyTwice, givenFault, firstFault, valueFault, actionFault, basketLentFault, keysFault, insertsBy, removesBy, sumOver, basketFault, basketFaultBy}
 use Rattle.images.proofs.defs.Entries.{recordOf, recordAt}
 use Rattle.images.proofs.Entries.{slots-length, EntryAt, entry-at, made-record, made-key}
 use Rattle.plainmap.specs.World.{World}
 use Rattle.plainmap.specs.Accepted.{Accepted}
-use Rattle.plainmap.specs.Sound.{Sound}
+use Rattle.plainmap.specs.Consistency.{IndexConsistent}
 use Rattle.plainmap.specs.Baskets.{TypedChange}
 use Rattle.plainmap.proofs.AcceptedImages.{accepted-right}
 use Rattle.plainmap.proofs.Sees.{place-live, Sees, sees-held, sees-absent, sound-sees}
@@ -81,24 +83,24 @@ pub record BasketPassed (l : ℕ) (w : World) (cs : List KeyChange) : Type 0 whe
   pub few-keys : length cs ≤ 8
   pub distinct : anyTwice cs ≡ false
   pub short : All (λ (c : KeyChange). valueFault l (c .action) (length (c .value)) ≡ 0) cs
-  pub asked : All (λ (c : KeyChange). actionFault (c .action) (isFound (search l (w .image) (w .heads) (w .next) (c .key))) ≡ 0) cs
+  pub asked : All (λ (c : KeyChange). actionFault (c .action) (isFound (search l (w .image) (w .index .heads) (w .index .next) (c .key))) ≡ 0) cs
   pub store :
-      StorePassed (takingOf l (w .image) (w .next) (slotsIn (w .image)) (w .state .first) (length cs)) (slotsIn (w .image)) (w .state .live)
-      (w .state .version) (sumOver insertsBy cs) (sumOver removesBy cs)
+      StorePassed (allocationByRule l (w .image) (w .index .next) (slotsIn (w .image)) (w .index .state .first) (length cs)) (slotsIn (w .image)) (w .index .state .live)
+      (w .index .state .version) (sumOver insertsBy cs) (sumOver removesBy cs)
 
 pub basket-passed : (l : ℕ) (w : World) (cs : List KeyChange) (at words : ℕ)
-    → basketFault l (w .image) (w .heads) (w .next) (w .state) cs at words ≡ 0 → BasketPassed l w cs
-unfolding basketFaultBy takingBy givenFault keyCountFault basketLentFault keysFault
+    → basketFault l (w .image) (w .index) cs at words ≡ 0 → BasketPassed l w cs
+unfolding basketFaultBy allocationBy givenFault keyCountFault basketLentFault keysFault
 basket-passed l w cs at words z =
     let a = orElse-zero (givenFault cs at words) _ z in
     let b = orElse-zero (keyCountFault (length cs)) _ (a .0) in
-    let c = say-zero (eqb (length cs) 0) 26 _ (b .0) (omega arith) in
-    let d = say-zero (ltb 8 (length cs)) 26 _ (c .1) (omega arith) in
-    let e = say-zero (anyTwice cs) 27 _ (b .1) (omega arith) in
-    let g = orElse-zero (basketLentFault l (w .image) (length (w .heads)) (length (w .next)) cs) _ (a .1) in
-    let h = orElse-zero (lentFault l (w .image) (length (w .heads)) (length (w .next))) _ (g .0) in
-    let i = orElse-zero (keysFault (search l (w .image) (w .heads) (w .next)) cs) _ (g .1) in
-    let k = orElse-zero (firstFault (λ x. chainFault (search l (w .image) (w .heads) (w .next) (x .key))) cs) _ (i .0) in
+    let c = refuseIf-zero (eqb (length cs) 0) 26 _ (b .0) (omega arith) in
+    let d = refuseIf-zero (ltb 8 (length cs)) 26 _ (c .1) (omega arith) in
+    let e = refuseIf-zero (anyTwice cs) 27 _ (b .1) (omega arith) in
+    let g = orElse-zero (basketLentFault l (w .image) (length (w .index .heads)) (length (w .index .next)) cs) _ (a .1) in
+    let h = orElse-zero (lentFault l (w .image) (length (w .index .heads)) (length (w .index .next))) _ (g .0) in
+    let i = orElse-zero (keysFault (search l (w .image) (w .index .heads) (w .index .next)) cs) _ (g .1) in
+    let k = orElse-zero (firstFault (λ x. chainFault (search l (w .image) (w .index .heads) (w .index .next) (x .key))) cs) _ (i .0) in
     record {
       some-keys = positive (length cs) (eqb-false (length cs) 0 (c .0));
       few-keys = ltb-false 8 (length cs) (d .0);
@@ -197,8 +199,8 @@ module _ (version : ℕ) where
 
 -- ---- numbers and fields
 
-lawful-number : (m : ℕ) → 0 < m → m ≤ 8 → LawfulNumber (numberFor m)
-unfolding numberFor
+lawful-number : (m : ℕ) → 0 < m → m ≤ 8 → LawfulNumber (sizeFieldFor m)
+unfolding sizeFieldFor
 lawful-number m p q = go (eqb m 1) refl
   where
     go : (b : Bool) → eqb m 1 ≡ b → LawfulNumber (cond b 0 m)
@@ -210,8 +212,8 @@ lawful-number m p q = go (eqb m 1) refl
         two (suc zero) p ne = absurd (ne refl)
         two (suc (suc m)) p ne = omega arith
 
-number-fits : (m : ℕ) → m ≤ 8 → numberFor m < 256
-unfolding numberFor
+number-fits : (m : ℕ) → m ≤ 8 → sizeFieldFor m < 256
+unfolding sizeFieldFor
 number-fits m q = go (eqb m 1)
   where
     go : (b : Bool) → cond b 0 m < 256
@@ -222,9 +224,9 @@ fields-by : (l : ℕ) → Layout l → (number : ℕ) → number < 256 → (a : 
     → valueFault l a (length value) ≡ 0 → Fields l key (kindBy a) number (valueBy a value)
 unfolding kindBy valueBy valueFault
 fields-by l lay number h Insert key value k b z =
-    record { layout = lay; key-fits = k; kind-fits = omega arith; number-fits = h; size = ltb-false (limit l) (length value) (say-zero _ 10 0 z (omega arith) .0); bytes = b }
+    record { layout = lay; key-fits = k; kind-fits = omega arith; number-fits = h; size = ltb-false (limit l) (length value) (refuseIf-zero _ 10 0 z (omega arith) .0); bytes = b }
 fields-by l lay number h Replace key value k b z =
-    record { layout = lay; key-fits = k; kind-fits = omega arith; number-fits = h; size = ltb-false (limit l) (length value) (say-zero _ 10 0 z (omega arith) .0); bytes = b }
+    record { layout = lay; key-fits = k; kind-fits = omega arith; number-fits = h; size = ltb-false (limit l) (length value) (refuseIf-zero _ 10 0 z (omega arith) .0); bytes = b }
 fields-by l lay number h Remove key value k b z =
     record { layout = lay; key-fits = k; kind-fits = omega arith; number-fits = h; size = omega arith; bytes = λ i. omega arith }
 
@@ -258,8 +260,8 @@ held-none o e = ap isHeld e
 
 -- ---- in a sound world
 
-module _ (l : ℕ) (lay : Layout l) (w : World) (chains : Chain → List ℕ) (accepted : Accepted l (w .image)) (g : Sound l w chains)
-    (none-void : NoneVoid (contentsOf l (w .image)) (numbersOf l (w .image)) (slotsIn (w .image))) where
+module _ (l : ℕ) (lay : Layout l) (w : World) (chains : Chain → List ℕ) (accepted : Accepted l (w .image)) (g : IndexConsistent l w chains)
+    (none-void : NoneVoid (contentsOf l (w .image)) (sizeFieldsOf l (w .image)) (slotsIn (w .image))) where
   abbrev f : Table
   f = contentsOf l (w .image)
 
@@ -267,13 +269,13 @@ module _ (l : ℕ) (lay : Layout l) (w : World) (chains : Chain → List ℕ) (a
   n = slotsIn (w .image)
 
   abbrev b : ℕ
-  b = length (w .heads)
+  b = length (w .index .heads)
 
   abbrev version : ℕ
   version = nextOf l (w .image)
 
   abbrev found : ℕ → Found
-  found key = search l (w .image) (w .heads) (w .next) key
+  found key = search l (w .image) (w .index .heads) (w .index .next) key
 
   -- a key as its chain shows it
   pub key-ready : (c : KeyChange) → actionFault (c .action) (isFound (found (c .key))) ≡ 0 → KeyReady f n found c
@@ -398,9 +400,9 @@ module _ (l : ℕ) (lay : Layout l) (w : World) (chains : Chain → List ℕ) (a
           no-old (c .key) (o .0) ks us (none-among (c .key) ks q) rs (subst (λ (y : ℕ). In y (oldsOf (itemsFor found b ks us))) (o .1) j))
 
   -- THE SLOTS that a basket takes are those of the rule
-  pub choice-rule : (wanted : ℕ) → choiceOf l (w .image) (w .next) n (w .state .first) wanted ≡ takingOf l (w .image) (w .next) n (w .state .first) wanted
+  pub choice-rule : (wanted : ℕ) → allocationChosen l (w .image) (w .index .next) n (w .index .state .first) wanted ≡ allocationByRule l (w .image) (w .index .next) n (w .index .state .first) wanted
   choice-rule wanted =
-      choice-own l (w .image) (w .heads) (w .next) (w .state) n b _ chains wanted (g .index) (free-spares l lay w chains accepted g none-void)
+      choice-own l (w .image) (w .index .heads) (w .index .next) (w .index .state) n b _ chains wanted (g .index) (free-spares l lay w chains accepted g none-void)
       (older l w chains g [] (λ t. f t) none-void)
 
   -- ---- a basket that has passed
@@ -414,12 +416,12 @@ module _ (l : ℕ) (lay : Layout l) (w : World) (chains : Chain → List ℕ) (a
     ts = takesIn (mayTake f n) 0 (length cs) (chains reuse)
 
     enough : length cs ≤ length (filter (mayTake f n) (chains reuse))
-    unfolding takingOf
+    unfolding allocationByRule
     enough =
         ltb-false (length (filter (mayTake f n) (chains reuse))) (length cs)
-        (say-zero (ltb (length (filter (mayTake f n) (chains reuse))) (length cs)) 28 0
+        (refuseIf-zero (ltb (length (filter (mayTake f n) (chains reuse))) (length cs)) 28 0
         (sym (few-exact (mayTake f n) 0 (length cs) (chains reuse))
-        ∙ ap fewFault (sym (sits-taking n b _ (indexOf (w .heads) (w .next) (w .state)) chains (g .index) (mayTake f n) (length cs))) ∙ p .store .few)
+        ∙ ap fewFault (sym (sits-taking n b _ (w .index) chains (g .index) (mayTake f n) (length cs))) ∙ p .store .few)
         (omega arith) .0)
 
     slots-taken : takenSlots ts ≡ takenOf f n (length cs) (chains reuse)
@@ -433,14 +435,14 @@ module _ (l : ℕ) (lay : Layout l) (w : World) (chains : Chain → List ℕ) (a
         ∙ sym (front-length (length cs) (filter (mayTake f n) (chains reuse)) enough)
 
     -- THE SLOTS that the taking rule names
-    pub taking-is : takingOf l (w .image) (w .next) n (w .state .first) (length cs) ≡ taken ts
-    unfolding takingOf
+    pub taking-is : allocationByRule l (w .image) (w .index .next) n (w .index .state .first) (length cs) ≡ taken ts
+    unfolding allocationByRule
     taking-is =
-        sits-taking n b _ (indexOf (w .heads) (w .next) (w .state)) chains (g .index) (mayTake f n) (length cs)
+        sits-taking n b _ (w .index) chains (g .index) (mayTake f n) (length cs)
         ∙ taken-enough (mayTake f n) 0 (length cs) (chains reuse) enough
 
     -- are those that the basket takes
-    pub choice-is : choiceOf l (w .image) (w .next) n (w .state .first) (length cs) ≡ taken ts
+    pub choice-is : allocationChosen l (w .image) (w .index .next) n (w .index .state .first) (length cs) ≡ taken ts
     choice-is = choice-rule (length cs) ∙ taking-is
 
     -- the records
@@ -482,28 +484,28 @@ module _ (l : ℕ) (lay : Layout l) (w : World) (chains : Chain → List ℕ) (a
         (subst (Record (recordOf version (r .entry)) version) (sym (key-of version (r .entry)))
         (made-record (r .entry .kind) version (r .entry .key) (r .entry .value)))
 
-    pub basket : Basket f (numbersOf l (w .image)) n version (basketSlots es) new
+    pub basket : Basket f (sizeFieldsOf l (w .image)) n version (basketSlots es) new
     basket =
         reuse-basket (free-spares l lay w chains accepted g none-void) first (accepted-right l (w .image) accepted .table .agreed) none-void
         (above l lay w chains accepted g none-void) (omega (arith, many-slots, p .some-keys)) (omega (arith, many-slots, p .few-keys)) is-record
         (keys-apart version es once (records-apart cs ts (p .distinct)))
 
-    number-is : numberFor (length es) ≡ numberFor (length cs)
-    number-is = ap numberFor many
+    number-is : sizeFieldFor (length es) ≡ sizeFieldFor (length cs)
+    number-is = ap sizeFieldFor many
 
     abbrev Fits : BasketRecord → Type 0
-    Fits e = Fields l (e .key) (e .kind) (numberFor (length es)) (e .value) × Lawful (e .kind) (numberFor (length es)) (e .value)
+    Fits e = Fields l (e .key) (e .kind) (sizeFieldFor (length es)) (e .value) × Lawful (e .kind) (sizeFieldFor (length es)) (e .value)
 
-    lawful : All (LawfulRecord l (word (w .image)) (numberFor (length es)) version) es
+    lawful : All (LawfulRecord l (word (w .image)) (sizeFieldFor (length es)) version) es
     lawful =
         all-slots version {P = λ (e : BasketRecord). Fits e} es
         (λ e i q. record { fields = q .0; lawful = q .1; above = omega (arith, above l lay w chains accepted g none-void (e .slot) (basket .slot (e .slot) i), top-is l (word (w .image)) (e .slot)) })
         (records-all {Q = λ (c : KeyChange). TypedChange l c × (valueFault l (c .action) (length (c .value)) ≡ 0)} {P = λ (e : BasketRecord). Fits e}
         (λ c s q. (
           subst (λ (x : ℕ). Fields l (c .key) (kindBy (c .action)) x (valueBy (c .action) (c .value))) (sym number-is)
-              (fields-by l lay (numberFor (length cs)) (number-fits (length cs) (p .few-keys)) (c .action) (c .key) (c .value) (q .0 .key-fits) (q .0 .bytes) (q .1)),
+              (fields-by l lay (sizeFieldFor (length cs)) (number-fits (length cs) (p .few-keys)) (c .action) (c .key) (c .value) (q .0 .key-fits) (q .0 .bytes) (q .1)),
           subst (λ (x : ℕ). Lawful (kindBy (c .action)) x (valueBy (c .action) (c .value))) (sym number-is)
-              (lawful-by (numberFor (length cs)) (lawful-number (length cs) (p .some-keys) (p .few-keys)) (c .action) (c .value)),
+              (lawful-by (sizeFieldFor (length cs)) (lawful-number (length cs) (p .some-keys) (p .few-keys)) (c .action) (c .value)),
         ))
         cs ts (both-all (λ c x y. (x, y)) typed (p .short)))
 
@@ -531,9 +533,9 @@ module _ (l : ℕ) (lay : Layout l) (w : World) (chains : Chain → List ℕ) (a
     -- ---- THE RECORDS ARE WRITTEN, and the index is the image's own
 
     abbrev pub indexIs : Index
-    indexIs = basketIndex n (indexOf (w .heads) (w .next) (w .state)) ts (itemsFor found b cs ts)
+    indexIs = basketIndex n (w .index) ts (itemsFor found b cs ts)
 
-    pub basket-wrote : WroteRecords l w es indexIs (w .state .live + sumOver insertsBy cs - sumOver removesBy cs) (getD (takenSlots ts) 0 0)
+    pub basket-wrote : WroteRecords l w es indexIs (w .index .state .live + sumOver insertsBy cs - sumOver removesBy cs) (getD (takenSlots ts) 0 0)
     unfolding reuseAfter leftOf
     basket-wrote =
         record {
@@ -547,9 +549,9 @@ module _ (l : ℕ) (lay : Layout l) (w : World) (chains : Chain → List ℕ) (a
         }
       where
         after : (image′ : List ℕ) → slotsIn image′ ≡ n
-            → (st : Struck f (contentsOf l image′) (numbersOf l (w .image)) (numbersOf l image′) n (basketSlots es) new)
-            → (z : Finished (contentsOf l image′) (numbersOf l image′) (basketSlots es) new)
-            → SomeSound l (record { image = image′; heads = indexIs .heads; next = indexIs .next; state = stateOf indexIs (w .state .live + sumOver insertsBy cs - sumOver removesBy cs) (w .state .version + 1) (getD (takenSlots ts) 0 0) })
+            → (st : Struck f (contentsOf l image′) (sizeFieldsOf l (w .image)) (sizeFieldsOf l image′) n (basketSlots es) new)
+            → (z : Finished (contentsOf l image′) (sizeFieldsOf l image′) (basketSlots es) new)
+            → SomeSound l (record { image = image′; index = withCounts indexIs (w .index .state .live + sumOver insertsBy cs - sumOver removesBy cs) (w .index .state .version + 1) (getD (takenSlots ts) 0 0) })
         after image′ en st z =
             some-sound _
             (sound-after l w chains g (basketSlots es) new none-void image′ en basket st z removes indexIs _ _ (sits .chains) (sits .sits) chain-is idle alive-is
@@ -558,7 +560,7 @@ module _ (l : ℕ) (lay : Layout l) (w : World) (chains : Chain → List ℕ) (a
             sits : SitsWith n b (placeOf (contentsOf l image′) n b) indexIs
                 (filter (λ t. not (member (takenSlots ts) t)) (chains reuse) ++ appendsOf (itemsFor found b cs ts))
             sits =
-                sits-basket n b place (indexOf (w .heads) (w .next) (w .state)) chains (g .index) (mayTake f n) (length cs) (itemsFor found b cs ts)
+                sits-basket n b place (w .index) chains (g .index) (mayTake f n) (length cs) (itemsFor found b cs ts)
                 (item-slots found b cs ts as-many) (items-ready cs ts ready) (olds-once cs ts (p .distinct) ready) (placeOf (contentsOf l image′) n b)
                 (λ x lo hi.
                 place-after l w chains g (basketSlots es) new none-void image′ en basket st z x (omega arith, hi)
@@ -573,7 +575,7 @@ module _ (l : ℕ) (lay : Layout l) (w : World) (chains : Chain → List ℕ) (a
             idle : liveCount (contentsOf l image′) n < n
             idle = finished-idle basket st z room
 
-            alive-is : w .state .live + sumOver insertsBy cs - sumOver removesBy cs ≡ liveCount (contentsOf l image′) n
+            alive-is : w .index .state .live + sumOver insertsBy cs - sumOver removesBy cs ≡ liveCount (contentsOf l image′) n
             alive-is =
                 omega (
                   arith,

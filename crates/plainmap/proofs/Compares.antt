@@ -1,5 +1,6 @@
 -- The count of slots compared, in a sound world. Assumes nothing.
-use mathlib.Core.Path.{_≡_, refl, sym, _∙_}
+use mathlib.Core.Path.{_≡_, refl, sym, _∙_, subst}
+use mathlib.Core.Bool.{false}
 use mathlib.Core.List.{List}
 use Prim.Native.Nat.{ℕ, zero, suc, _≤_}
 use native.Mathlib.Omega.{arith}
@@ -19,8 +20,9 @@ use Rattle.index.proofs.Searches.{search-in-counted, counted-few}
 use Rattle.calls.specs.Compared.{comparedAfter, keyCompared}
 use Rattle.calls.specs.Change.{writeCompared}
 use Rattle.calls.specs.Locate.{locateFault}
-use Rattle.plainmap.specs.World.{World, Call, write, remove, get, locate, callKey, callCompared, chainRefusal}
-use Rattle.plainmap.specs.Sound.{Sound}
+use Rattle.calls.proofs.Reports.{write-reports, remove-reports, get-reports}
+use Rattle.plainmap.specs.World.{callResult, readsOnly, World, Call, write, remove, get, locate, callKey, chainRefusal}
+use Rattle.plainmap.specs.Consistency.{IndexConsistent}
 use Rattle.plainmap.specs.Claims.{slotsMap, FewCompared, CountsPlace}
 use Rattle.plainmap.proofs.Sees.{sound-chains, sound-search}
 
@@ -42,45 +44,54 @@ after-none zero (At slot prev compared) nz = absurd (nz refl)
 after-none zero (Missing prev compared) nz = absurd (nz refl)
 after-none zero BadChain nz = refl
 
-module _ (l : ℕ) (w : World) (chains : Chain → List ℕ) (s : Sound l w chains) where
+module _ (l : ℕ) (w : World) (chains : Chain → List ℕ) (s : IndexConsistent l w chains) where
   -- THE COUNT is the place of the key in its chain, or the chain's whole length
   pub sound-counted : (key : ℕ)
-      → Counted (slotKey l (w .image)) key (chains (head (headOf key (length (w .heads))))) (search l (w .image) (w .heads) (w .next) key)
+      → Counted (slotKey l (w .image)) key (chains (head (headOf key (length (w .index .heads))))) (search l (w .image) (w .index .heads) (w .index .next) key)
   sound-counted key = search-in-counted _ _ _ _ (sym (sound-search l w chains s key))
 
   few-by : (key lent : ℕ)
-      → FewCompared (slotsMap l (w .image)) (length (w .heads)) key (comparedAfter lent (search l (w .image) (w .heads) (w .next) key))
+      → FewCompared (slotsMap l (w .image)) (length (w .index .heads)) key (comparedAfter lent (search l (w .image) (w .index .heads) (w .index .next) key))
   few-by key lent =
       record {
-        sharers = keysOf (tableOf l (w .image)) (chains (head (headOf key (length (w .heads)))));
+        sharers = keysOf (tableOf l (w .image)) (chains (head (headOf key (length (w .index .heads)))));
         share =
-            chain-keys (tableOf l (w .image)) (slotsIn (w .image)) (λ k. headOf k (length (w .heads))) (λ h. chains (head h))
-            (sound-chains l w chains s) (slotsMap l (w .image)) (λ k. refl) (headOf key (length (w .heads)));
+            chain-keys (tableOf l (w .image)) (slotsIn (w .image)) (λ k. headOf k (length (w .index .heads))) (λ h. chains (head h))
+            (sound-chains l w chains s) (slotsMap l (w .image)) (λ k. refl) (headOf key (length (w .index .heads)));
         at-most =
             omega (
               arith,
               after-few lent _ _ (counted-few _ _ _ _ (sound-counted key)),
-              keys-length (tableOf l (w .image)) (chains (head (headOf key (length (w .heads))))),
+              keys-length (tableOf l (w .image)) (chains (head (headOf key (length (w .index .heads))))),
             );
       }
 
   -- IT IS NEVER ABOVE the number of held keys that share the head
-  pub few-compared : (call : Call) → FewCompared (slotsMap l (w .image)) (length (w .heads)) (callKey call) (callCompared l w call)
-  unfolding callKey callCompared writeCompared keyCompared
-  few-compared (write mode key value) = few-by key _
-  few-compared (remove key) = few-by key _
-  few-compared (get key out) = few-by key _
+  pub few-compared : (call : Call) → FewCompared (slotsMap l (w .image)) (length (w .index .heads)) (callKey call) (callResult l w call .compared)
+  unfolding callKey callResult readsOnly writeCompared keyCompared
+  few-compared (write mode key value) = subst Few (sym (write-reports l (w .image) (w .index) key false mode value)) (few-by key _)
+    where
+      Few : ℕ → Type 0
+      Few = FewCompared (slotsMap l (w .image)) (length (w .index .heads)) key
+  few-compared (remove key) = subst Few (sym (remove-reports l (w .image) (w .index) key false)) (few-by key _)
+    where
+      Few : ℕ → Type 0
+      Few = FewCompared (slotsMap l (w .image)) (length (w .index .heads)) key
+  few-compared (get key out) = subst Few (sym (get-reports l (w .image) (w .index .heads) (w .index .next) key out)) (few-by key _)
+    where
+      Few : ℕ → Type 0
+      Few = FewCompared (slotsMap l (w .image)) (length (w .index .heads)) key
   few-compared (locate key) = few-by key _
 
   -- ---- the count that a call reports
 
-  placed : (call : Call) (lent : ℕ) → chainRefusal l w call ≡ orElse lent (chainFault (search l (w .image) (w .heads) (w .next) (callKey call)))
-      → callCompared l w call ≡ comparedAfter lent (search l (w .image) (w .heads) (w .next) (callKey call)) → CountsPlace l w call
+  placed : (call : Call) (lent : ℕ) → chainRefusal l w call ≡ orElse lent (chainFault (search l (w .image) (w .index .heads) (w .index .next) (callKey call)))
+      → callResult l w call .compared ≡ comparedAfter lent (search l (w .image) (w .index .heads) (w .index .next) (callKey call)) → CountsPlace l w call
   unfolding ahead start
   placed call lent refusal count =
       record {
-        chain = chains (head (headOf (callKey call) (length (w .heads))));
-        linked = formed-linked _ _ chains (head (headOf (callKey call) (length (w .heads)))) (s .index .formed .disjoint);
+        chain = chains (head (headOf (callKey call) (length (w .index .heads))));
+        linked = formed-linked _ _ chains (head (headOf (callKey call) (length (w .index .heads)))) (s .index .formed .disjoint);
         counted = sound-counted (callKey call);
         reported = λ z. count ∙ after-told lent _ (orElse-zero lent _ (sym refusal ∙ z) .0);
         none-reported = λ nz. count ∙ after-none lent _ (λ z. nz (refusal ∙ z));
@@ -88,8 +99,8 @@ module _ (l : ℕ) (w : World) (chains : Chain → List ℕ) (s : Sound l w chai
 
   -- THE COUNT that a call reports is the place of its key in its chain, or the chain's whole length
   pub counts-place : (call : Call) → CountsPlace l w call
-  unfolding callKey callCompared chainRefusal writeCompared keyCompared locateFault
-  counts-place (write mode key value) = placed (write mode key value) _ refl refl
-  counts-place (remove key) = placed (remove key) _ refl refl
-  counts-place (get key out) = placed (get key out) _ refl refl
+  unfolding callKey callResult readsOnly chainRefusal writeCompared keyCompared locateFault
+  counts-place (write mode key value) = placed (write mode key value) _ refl (write-reports l (w .image) (w .index) key false mode value)
+  counts-place (remove key) = placed (remove key) _ refl (remove-reports l (w .image) (w .index) key false)
+  counts-place (get key out) = placed (get key out) _ refl (get-reports l (w .image) (w .index .heads) (w .index .next) key out)
   counts-place (locate key) = placed (locate key) _ refl refl

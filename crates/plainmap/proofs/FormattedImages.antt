@@ -12,9 +12,9 @@ use Rattle.layout.specs.Slot.{lineVerdict, isValid}
 use Rattle.layout.specs.declared.Verdict.{Verdict}
 use Rattle.layout.specs.declared.Verdict.the-variants.{Empty}
 use Rattle.layout.specs.Fault.{markFault, faultOf, recordFault}
-use Rattle.layout.specs.Content.{contentsOf, numbersOf}
+use Rattle.layout.specs.Content.{contentsOf, sizeFieldsOf}
 use Rattle.table.specs.Complete.{settled}
-use Rattle.prelude.proofs.Refusals.{say-false, orElse-later}
+use Rattle.prelude.proofs.Refusals.{refuseIf-false, orElse-later}
 use Rattle.prelude.proofs.Lowest.{all-clear}
 use Rattle.layout.proofs.Content.{verdict-empty, paired-by}
 use Rattle.layout.proofs.Size.{long}
@@ -58,13 +58,13 @@ module _ (l len : ℕ) (ne : slotsOf len ≡ 0 → ⊥) (b : l < 2 ^ 64) (s : �
 pub formatted-slots : (l len : ℕ) → (slotsOf len ≡ 0 → ⊥) → l < 2 ^ 64 → slotsFault l (word (formatted l len)) (slotsOf len) ≡ 0
 unfolding slotsFault
 formatted-slots l len ne b =
-    say-false _ _ _ (any-clear _ 1 (slotsOf len) (λ i h. no-mark l len ne b (1 + i) (omega arith)))
+    refuseIf-false _ _ _ (any-clear _ 1 (slotsOf len) (λ i h. no-mark l len ne b (1 + i) (omega arith)))
     ∙ orElse-later _ _ (all-clear (recordFault l (word (formatted l len))) (slotsOf len) (λ s i. no-record l len ne b s (i .0)))
-    ∙ unwritten-fine (contentsOf l (formatted l len)) (numbersOf l (formatted l len)) (slotsOf len) (λ s i. formatted-content l l len s ne b (i .0))
+    ∙ unwritten-fine (contentsOf l (formatted l len)) (sizeFieldsOf l (formatted l len)) (slotsOf len) (λ s i. formatted-content l l len s ne b (i .0))
     (omega (arith, long len ne .low))
 
 pub formatted-fresh : (l len : ℕ) → (slotsOf len ≡ 0 → ⊥) → l < 2 ^ 64
-    → Fresh (settled (contentsOf l (formatted l len)) (numbersOf l (formatted l len)) (slotsOf len)) (slotsOf len)
+    → Fresh (settled (contentsOf l (formatted l len)) (sizeFieldsOf l (formatted l len)) (slotsOf len)) (slotsOf len)
 formatted-fresh l len ne b =
-    formatted-recovery (contentsOf l (formatted l len)) (numbersOf l (formatted l len)) (slotsOf len) (λ s i. formatted-content l l len s ne b (i .0))
+    formatted-recovery (contentsOf l (formatted l len)) (sizeFieldsOf l (formatted l len)) (slotsOf len) (λ s i. formatted-content l l len s ne b (i .0))
     (omega (arith, long len ne .low))

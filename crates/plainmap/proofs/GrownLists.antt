@@ -10,9 +10,9 @@ use lib.ListN.{length}
 use borrow.Author.Tests.{le-ltb, le-leb, lt-leb, ltb-false, leb-true}
 use Rattle.prelude.specs.Members.{All}
 use Rattle.prelude.specs.Answer.{refusalIn}
-use Rattle.prelude.specs.Refusal.{say, orElse}
+use Rattle.prelude.specs.Refusal.{refuseIf, orElse}
 use Rattle.prelude.proofs.Histories.{throughout}
-use Rattle.prelude.proofs.Refusals.{say-true, say-false, orElse-later}
+use Rattle.prelude.proofs.Refusals.{refuseIf-true, refuseIf-false, orElse-later}
 use Rattle.layout.specs.Size.{slotsOf, slotsIn}
 use Rattle.layout.specs.Record.{Layout, limit}
 use Rattle.layout.specs.Line.{versionFault}
@@ -23,12 +23,12 @@ use Rattle.index.specs.declared.Mode.the-variants.{Insert, Replace}
 use Rattle.calls.specs.Change.{insertsOf}
 use Rattle.calls.specs.Format.{formatted}
 use Rattle.calls.proofs.Formats.{formatted-length}
-use Rattle.plainmap.specs.World.{World, Call, write, remove, get, locate, called, finished, Restart, restarted}
+use Rattle.plainmap.specs.World.{World, Call, write, remove, get, locate, callResult, finished, Restart, restarted}
 use Rattle.plainmap.specs.Plain.{PlainMap, updates, roomRule, ruleFault}
 use Rattle.plainmap.specs.Accepted.{Accepted, RestartFits}
-use Rattle.plainmap.specs.Sound.{Agrees}
-use Rattle.plainmap.specs.Claims.{Typed, slotsMap, roomOf, dueFault, Right, mapAfterCall}
-use Rattle.plainmap.specs.Room.{SomeTakeable, InsertsNew, RoomRight}
+use Rattle.plainmap.specs.Consistency.{Refines}
+use Rattle.plainmap.specs.Claims.{Typed, slotsMap, roomOf, expectedRefusal, CallCorrect, mapAfterCall}
+use Rattle.plainmap.specs.Room.{SomeTakeable, InsertsNew, RoomCorrect}
 use Rattle.plainmap.specs.Map.{PlainRule, GrownRule}
 use Rattle.plainmap.proofs.AcceptedImages.{accepted-room}
 use Rattle.plainmap.proofs.CallLists.{agrees-right, agrees-reads, agrees-with, agrees-stepped, agrees-next, plain-rule, restarted-agrees, formatted-empty, formatted-fine}
@@ -38,29 +38,29 @@ use Rattle.plainmap.proofs.Room.{HasRoom, formatted-room, done-room, re
 
 -- 9 is the only refusal for the version
 not-28 : (version : ℕ) → versionFault version ≡ 28 → ⊥
-unfolding versionFault say
+unfolding versionFault refuseIf
 not-28 version e = go (leb (2 ^ 63) version) e
   where
-    go : (b : Bool) → say b 9 0 ≡ 28 → ⊥
+    go : (b : Bool) → refuseIf b 9 0 ≡ 28 → ⊥
     go true e = omega arith
     go false e = omega arith
 
 -- a row of 10, 20 or 21, and of what is left of 28
 insert-met : (long held full : Bool) (later : ℕ) → long ≡ false → held ≡ false → full ≡ true
-    → say long 10 (orElse (keyFault Insert held) (say full 28 later)) ≡ 28
+    → refuseIf long 10 (orElse (keyFault Insert held) (refuseIf full 28 later)) ≡ 28
 unfolding keyFault
-insert-met long held full later a b c = say-false long 10 _ a ∙ orElse-later _ _ (say-false held 20 0 b) ∙ say-true full 28 later c
+insert-met long held full later a b c = refuseIf-false long 10 _ a ∙ orElse-later _ _ (refuseIf-false held 20 0 b) ∙ refuseIf-true full 28 later c
 
-insert-only : (long held full : Bool) (later : ℕ) → (later ≡ 28 → ⊥) → say long 10 (orElse (keyFault Insert held) (say full 28 later)) ≡ 28
+insert-only : (long held full : Bool) (later : ℕ) → (later ≡ 28 → ⊥) → refuseIf long 10 (orElse (keyFault Insert held) (refuseIf full 28 later)) ≡ 28
     → (long ≡ false) × (held ≡ false) × (full ≡ true)
-unfolding say orElse keyFault
+unfolding refuseIf orElse keyFault
 insert-only true held full later ne e = absurd (omega arith)
 insert-only false true full later ne e = absurd (omega arith)
 insert-only false false true later ne e = (refl, refl, refl)
 insert-only false false false later ne e = absurd (ne e)
 
-replace-never : (long held : Bool) (later : ℕ) → (later ≡ 28 → ⊥) → say long 10 (orElse (keyFault Replace held) later) ≡ 28 → ⊥
-unfolding say orElse keyFault
+replace-never : (long held : Bool) (later : ℕ) → (later ≡ 28 → ⊥) → refuseIf long 10 (orElse (keyFault Replace held) later) ≡ 28 → ⊥
+unfolding refuseIf orElse keyFault
 replace-never true held later ne e = omega arith
 replace-never false true later ne e = ne e
 replace-never false false later ne e = omega arith
@@ -69,13 +69,13 @@ remove-never : (held : Bool) (later : ℕ) → (later ≡ 28 → ⊥) → cond h
 remove-never true later ne e = ne e
 remove-never false later ne e = omega arith
 
-get-never : (short : Bool) → say short 13 0 ≡ 28 → ⊥
-unfolding say
+get-never : (short : Bool) → refuseIf short 13 0 ≡ 28 → ⊥
+unfolding refuseIf
 get-never true e = omega arith
 get-never false e = omega arith
 
 -- a call that inserts no key and is never refused for room
-never : {l : ℕ} {w : World} {fault : ℕ} → (fault ≡ 28 → ⊥) → RoomRight l w ⊥ fault
+never : {l : ℕ} {w : World} {fault : ℕ} → (fault ≡ 28 → ⊥) → RoomCorrect l w ⊥ fault
 never h = record { met = λ new one. absurd new; only-new = h; only-left = λ e. absurd (h e) }
 
 module _ (l : ℕ) (w : World) (m : PlainMap) (some : SomeTakeable l w)
@@ -88,27 +88,27 @@ module _ (l : ℕ) (w : World) (m : PlainMap) (some : SomeTakeable l w)
 
   -- the refusals for room of a call that wants one slot: only the live count is left of 28
   one-row : (inserts removes : ℕ)
-      → roomRule (roomOf l (w .image)) 1 inserts removes ≡ say (leb (n + removes) (live + inserts)) 28 (versionFault (roomOf l (w .image) .version))
+      → roomRule (roomOf l (w .image)) 1 inserts removes ≡ refuseIf (leb (n + removes) (live + inserts)) 28 (versionFault (roomOf l (w .image) .version))
   unfolding roomRule
-  one-row inserts removes = say-false _ 28 _ (le-ltb (roomOf l (w .image) .takeable) 1 some)
+  one-row inserts removes = refuseIf-false _ 28 _ (le-ltb (roomOf l (w .image) .takeable) 1 some)
 
   -- a call that inserts no key is never refused for room
   no-28 : (inserts removes : ℕ) → inserts ≤ removes → roomRule (roomOf l (w .image)) 1 inserts removes ≡ 28 → ⊥
   no-28 inserts removes h e =
-      not-28 (roomOf l (w .image) .version) (sym (one-row inserts removes ∙ say-false _ 28 _ (lt-leb (n + removes) (live + inserts) (omega arith))) ∙ e)
+      not-28 (roomOf l (w .image) .version) (sym (one-row inserts removes ∙ refuseIf-false _ 28 _ (lt-leb (n + removes) (live + inserts) (omega arith))) ∙ e)
 
-  insert-row : (key : ℕ) (value : List ℕ) → dueFault l w m (write Insert key value) ≡
-      say (ltb (limit l) (length value)) 10
-      (orElse (keyFault Insert (isHeld (m key))) (say (leb (n + 0) (live + 1)) 28 (versionFault (roomOf l (w .image) .version))))
+  insert-row : (key : ℕ) (value : List ℕ) → expectedRefusal l w m (write Insert key value) ≡
+      refuseIf (ltb (limit l) (length value)) 10
+      (orElse (keyFault Insert (isHeld (m key))) (refuseIf (leb (n + 0) (live + 1)) 28 (versionFault (roomOf l (w .image) .version))))
   unfolding ruleFault insertsOf
-  insert-row key value = ap (λ (k : ℕ). say (ltb (limit l) (length value)) 10 (orElse (keyFault Insert (isHeld (m key))) k)) (one-row 1 0)
+  insert-row key value = ap (λ (k : ℕ). refuseIf (ltb (limit l) (length value)) 10 (orElse (keyFault Insert (isHeld (m key))) k)) (one-row 1 0)
 
-  insert-due : (key : ℕ) (value : List ℕ) → dueFault l w m (write Insert key value) ≡ 28
+  insert-due : (key : ℕ) (value : List ℕ) → expectedRefusal l w m (write Insert key value) ≡ 28
       → (ltb (limit l) (length value) ≡ false) × (isHeld (m key) ≡ false) × (leb (n + 0) (live + 1) ≡ true)
   insert-due key value e = insert-only _ _ _ _ (not-28 _) (sym (insert-row key value) ∙ e)
 
   -- 28 EXACTLY where an insert of a new key finds one slot left
-  pub call-room : (call : Call) → RoomRight l w (InsertsNew l m call) (dueFault l w m call)
+  pub call-room : (call : Call) → RoomCorrect l w (InsertsNew l m call) (expectedRefusal l w m call)
   unfolding ruleFault insertsOf
   call-room (write Insert key value) =
       record {
@@ -126,8 +126,8 @@ module _ (l : ℕ) (w : World) (m : PlainMap) (some : SomeTakeable l w)
 -- ---- every list
 
 module _ (l : ℕ) (lay : Layout l) where
-  pub agrees-room : (w : World) (m : PlainMap) → Agrees l w m → HasRoom l (w .image) → (call : Call)
-      → RoomRight l w (InsertsNew l m call) (dueFault l w m call)
+  pub agrees-room : (w : World) (m : PlainMap) → Refines l w m → HasRoom l (w .image) → (call : Call)
+      → RoomCorrect l w (InsertsNew l m call) (expectedRefusal l w m call)
   agrees-room w m g room call =
       call-room l w m (room-takeable l w (g .chains) (g .sound) (g .none-void) room) (accepted-room l (w .image) (g .accepted)) call
 
@@ -138,25 +138,25 @@ module _ (l : ℕ) (lay : Layout l) where
       plain-rule l lay _ _ calls (restarted-agrees l lay image a start (fits .rounds) (fits .size)) typed
 
   -- the answer's number in the place of the rules'
-  answered-room : (w : World) (m : PlainMap) → Agrees l w m → HasRoom l (w .image) → (call : Call) → Typed l call
-      → Right l w m call × RoomRight l w (InsertsNew l m call) (refusalIn (called l w call .answer))
+  answered-room : (w : World) (m : PlainMap) → Refines l w m → HasRoom l (w .image) → (call : Call) → Typed l call
+      → CallCorrect l w m call × RoomCorrect l w (InsertsNew l m call) (refusalIn (callResult l w call .answer))
   answered-room w m g room call t =
       let right = agrees-right l lay w m g call t in
-      (right, subst (RoomRight l w (InsertsNew l m call)) (sym (right .refusal)) (agrees-room w m g room call))
+      (right, subst (RoomCorrect l w (InsertsNew l m call)) (sym (right .refusal)) (agrees-room w m g room call))
 
-  keeps : (w : World) (m : PlainMap) → Agrees l w m × HasRoom l (w .image) → (call : Call) → Typed l call
-      → Agrees l (finished l w call) (mapAfterCall l w m call) × HasRoom l (finished l w call .image)
+  keeps : (w : World) (m : PlainMap) → Refines l w m × HasRoom l (w .image) → (call : Call) → Typed l call
+      → Refines l (finished l w call) (mapAfterCall l w m call) × HasRoom l (finished l w call .image)
   unfolding finished
   keeps w m g call t = (
     agrees-next l lay w m (g .0) call t,
-    done-room l w (updates call) (called l w call) (g .0 .accepted) (g .0 .none-void) (g .1) (agrees-stepped l lay w m (g .0) call t),
+    done-room l w (updates call) (callResult l w call) (g .0 .accepted) (g .0 .none-void) (g .1) (agrees-stepped l lay w m (g .0) call t),
   )
 
   -- EVERY LIST OF CALLS from a formatted image, on which 28 is due to an insert that finds one slot left
   pub grown-rule : (len : ℕ) (start : Restart) → (slotsOf len ≡ 0 → ⊥) → RestartFits (slotsOf len) start
       → (calls : List Call) → All (Typed l) calls → GrownRule l (restarted l (formatted l len) start) (λ k. none) calls
   grown-rule len start some restart calls typed =
-      throughout _ _ _ _ (λ w m. Agrees l w m × HasRoom l (w .image)) (Typed l)
+      throughout _ _ _ _ (λ w m. Refines l w m × HasRoom l (w .image)) (Typed l)
       (λ w m g. (g .0, agrees-reads l w m (g .0)))
       (λ w m g call t. answered-room w m (g .0) (g .1) call t)
       keeps

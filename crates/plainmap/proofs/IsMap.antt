@@ -3,7 +3,7 @@ use mathlib.Core.Path.{_∙_}
 use Prim.Native.Nat.{ℕ}
 use native.Mathlib.Omega.{arith}
 use borrow.Author.Tests.{le-ltb}
-use Rattle.prelude.proofs.Refusals.{say-false}
+use Rattle.prelude.proofs.Refusals.{refuseIf-false}
 use Rattle.layout.specs.Record.{Layout}
 use Rattle.plainmap.specs.Map.{IsMap}
 use Rattle.plainmap.proofs.Sees.{sound-answers}
@@ -12,7 +12,8 @@ use Rattle.plainmap.proofs.Compares.{sound-counted}
 use Rattle.plainmap.proofs.Outcomes.{slot-taken}
 use Rattle.plainmap.proofs.Refuses.{taking-few}
 use Rattle.plainmap.proofs.OwnCalls.{either-called, either-basket-called}
-use Rattle.plainmap.proofs.CallLists.{agrees-right, agrees-next, agrees-list, plain-rule, recovered-reads, formatted-empty}
+use Rattle.plainmap.proofs.CallLists.{call-by-rule, agrees-right, agrees-next, agrees-list, plain-rule, recovered-reads, formatted-empty}
+use Rattle.plainmap.proofs.BasketRights.{basket-by-rule}
 use Rattle.plainmap.proofs.GrownLists.{accepted-rule, grown-rule}
 
 pub is-map : (l : ℕ) → Layout l → IsMap l
@@ -26,7 +27,9 @@ is-map l lay =
       list-plays = agrees-list l lay;
       takes = λ w m g some.
           slot-taken l lay w (g .chains) (g .accepted) (g .sound) (g .none-void)
-          (taking-few l w (g .chains) (g .accepted) (g .sound) (g .none-void) 1 ∙ say-false _ 28 0 (le-ltb _ 1 some));
+          (taking-few l w (g .chains) (g .accepted) (g .sound) (g .none-void) 1 ∙ refuseIf-false _ 28 0 (le-ltb _ 1 some));
+      call-by-rule = λ w m g. call-by-rule l lay w (g .chains) (g .accepted) (g .sound) (g .none-void);
+      basket-by-rule = λ w m g. basket-by-rule l lay w (g .chains) (g .accepted) (g .sound) (g .none-void);
       either-call = either-called l lay;
       either-basket = either-basket-called l lay;
       reads = recovered-reads l;

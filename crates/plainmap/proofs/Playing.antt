@@ -14,7 +14,7 @@ use Rattle.prelude.proofs.Choice.{pick-true, pick-false}
 use Rattle.prelude.specs.Range.{tabulate}
 use Rattle.layout.specs.Size.{slotsOf, slotsIn}
 use Rattle.prelude.proofs.Any.{any-clear}
-use Rattle.prelude.proofs.Refusals.{say-false, taken-leaves, alike, refused-keeps}
+use Rattle.prelude.proofs.Refusals.{refuseIf-false, taken-leaves, alike, refused-keeps}
 use Rattle.prelude.proofs.Tabulate.{tabulate-length, tabulate-get}
 use Rattle.stores.specs.Store.{Store, zipped, played, standing}
 use Rattle.layout.specs.Line.{line}
@@ -233,8 +233,8 @@ word-inside (cons-in a b more) (suc i) h = word-inside more i (omega arith)
 list-fine : (image : List ℕ) (ss : List Store) → StoresInside (length image) ss → listFault (length image) (wordNumbers ss) (length (values ss)) ≡ 0
 unfolding listFault
 list-fine image ss inside =
-    say-false _ 15 _ (ap not (eq-eqb _ _ (list-lengths ss)))
-    ∙ say-false _ 15 0 (any-clear _ 0 (length (wordNumbers ss)) (λ i h. le-ltb _ _ (word-inside inside (0 + i) (omega arith))))
+    refuseIf-false _ 15 _ (ap not (eq-eqb _ _ (list-lengths ss)))
+    ∙ refuseIf-false _ 15 0 (any-clear _ 0 (length (wordNumbers ss)) (λ i h. le-ltb _ _ (word-inside inside (0 + i) (omega arith))))
 
 -- THE PLAY OF A LIST makes all the stores
 pub list-played : (image : List ℕ) (ss : List Store) → StoresInside (length image) ss → playListResult image (wordNumbers ss) (values ss) ≡ playEnd 0 (played ss image)

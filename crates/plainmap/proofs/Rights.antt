@@ -9,12 +9,13 @@ use native.Mathlib.Omega.{arith}
 use Rattle.prelude.specs.Answer.{Answer, gives, absent, refused, refusalIn, refuses}
 use Rattle.prelude.proofs.defs.Answer.{isRefusal}
 use Rattle.table.specs.Table.{nextVersion, isHeld}
-use Rattle.calls.specs.Change.{ChangeResult, changed, unchanged}
-use Rattle.plainmap.specs.World.{World, Call, outOf, Called, calledChange, called, ruled, callKey, callCompared, write, remove, get, locate}
+use Rattle.calls.specs.Change.{changed}
+use Rattle.calls.specs.Result.{CallResult, unchanged}
+use Rattle.plainmap.specs.World.{World, Call, outOf, callResult, callKey, write, remove, get, locate}
 use Rattle.layout.specs.Size.{slotsIn}
 use Rattle.table.specs.Complete.{tableOf}
 use Rattle.plainmap.specs.Plain.{plainAnswer, plainOut, PlainMap, lengthAnswer}
-use Rattle.plainmap.specs.Claims.{slotsMap, dueFault, dueAnswer, Untouched, FewCompared, CountsPlace, Right}
+use Rattle.plainmap.specs.Claims.{slotsMap, expectedRefusal, expectedAnswer, FewCompared, CountsPlace, CallCorrect, Unchanged}
 use Rattle.plainmap.proofs.Outcomes.{Ran, ran-refused, ran-absent, ran-wrote}
 use lib.Dec.{eqb}
 use borrow.Author.Tests.{eqb-true, eqb-false}
@@ -23,68 +24,62 @@ pub gives-absent : (given : List ℕ) → gives given ≡ absent → ⊥
 gives-absent given e = let z : _≡_ {A = ℕ} 0 1 = cc in omega arith
 
 module _
-    (l : ℕ) (w : World) (call : Call) (key kind : ℕ) (value : List ℕ) (version : w .state .version ≡ nextVersion (tableOf l (w .image)) (slotsIn (w .image)))
+    (l : ℕ) (w : World) (call : Call) (key kind : ℕ) (value : List ℕ) (version : w .index .state .version ≡ nextVersion (tableOf l (w .image)) (slotsIn (w .image)))
     (stored :
     (kind ≡ 2 → isHeld (slotsMap l (w .image) key) ≡ true)
-    → gives (w .state .first ∷ nextVersion (tableOf l (w .image)) (slotsIn (w .image)) ∷ []) ≡
-    dueAnswer l w (slotsMap l (w .image)) call)
+    → gives (w .index .state .first ∷ nextVersion (tableOf l (w .image)) (slotsIn (w .image)) ∷ []) ≡
+    expectedAnswer l w (slotsMap l (w .image)) call)
     (none-held :
     kind ≡ 2 → slotsMap l (w .image) key ≡ none
-    → absent ≡ dueAnswer l w (slotsMap l (w .image)) call)
+    → absent ≡ expectedAnswer l w (slotsMap l (w .image)) call)
     (no-out : [] ≡ plainOut (slotsMap l (w .image)) call) (none-lent : [] ≡ outOf call)
-    (few : FewCompared (slotsMap l (w .image)) (length (w .heads)) (callKey call) (callCompared l w call)) (place : CountsPlace l w call)
-    (by-rule : called l w call ≡ ruled l w call) where
-  still : (answer : Answer) → called l w call ≡ calledChange (unchanged answer (w .state) (w .heads) (w .next))
-      → Untouched w call (called l w call)
-  unfolding calledChange unchanged
-  still answer d =
+    (few : FewCompared (slotsMap l (w .image)) (length (w .index .heads)) (callKey call) (callResult l w call .compared)) (place : CountsPlace l w call) where
+  still : (answer : Answer) (count : ℕ) → callResult l w call ≡ unchanged answer (w .index) count
+      → Unchanged w (outOf call) (callResult l w call)
+  unfolding unchanged
+  still answer count d =
       record {
-        out = ap (λ (c : Called). c .out) d ∙ none-lent;
-        stores = ap (λ (c : Called). c .stores) d;
-        heads = ap (λ (c : Called). c .heads) d;
-        next = ap (λ (c : Called). c .next) d;
-        state = ap (λ (c : Called). c .state) d;
+        out-kept = ap (λ (c : CallResult). c .out) d ∙ none-lent;
+        no-stores = ap (λ (c : CallResult). c .stores) d;
+        index-kept = ap (λ (c : CallResult). c .index) d;
       }
 
-  pub ran-right : (fault : ℕ) (r : ChangeResult) → called l w call ≡ calledChange r → Ran l w key kind value fault r
-      → fault ≡ dueFault l w (slotsMap l (w .image)) call → Right l w (slotsMap l (w .image)) call
-  unfolding calledChange unchanged changed refusalIn
-  ran-right fault r e (ran-refused nz q) due =
-      let d = e ∙ ap calledChange q in
+  pub ran-right : (fault : ℕ) (r : CallResult) → callResult l w call ≡ r → Ran l w key kind value fault r
+      → fault ≡ expectedRefusal l w (slotsMap l (w .image)) call → CallCorrect l w (slotsMap l (w .image)) call
+  unfolding unchanged changed refusalIn
+  ran-right fault r e (ran-refused nz count q) due =
+      let d = e ∙ q in
       record {
-        refusal = ap (λ (c : Called). refusalIn (c .answer)) d ∙ due;
+        refusal = ap (λ (c : CallResult). refusalIn (c .answer)) d ∙ due;
         answer = λ z. absurd (nz (due ∙ z));
-        out = λ z. ap (λ (c : Called). c .out) d ∙ no-out;
-        refused-still = λ x. still (refused fault) d;
-        absent-still = λ x. still (refused fault) d;
+        out = λ z. ap (λ (c : CallResult). c .out) d ∙ no-out;
+        refused-still = λ x. still (refused fault) count d;
+        absent-still = λ x. still (refused fault) count d;
         few = few;
         place = place;
-        by-rule = by-rule;
       }
-  ran-right fault r e (ran-absent z kd q m) due =
-      let d = e ∙ ap calledChange q in
+  ran-right fault r e (ran-absent z kd count q m) due =
+      let d = e ∙ q in
       record {
-        refusal = ap (λ (c : Called). refusalIn (c .answer)) d ∙ sym z ∙ due;
-        answer = λ x. ap (λ (c : Called). c .answer) d ∙ none-held kd m;
-        out = λ x. ap (λ (c : Called). c .out) d ∙ no-out;
+        refusal = ap (λ (c : CallResult). refusalIn (c .answer)) d ∙ sym z ∙ due;
+        answer = λ x. ap (λ (c : CallResult). c .answer) d ∙ none-held kd m;
+        out = λ x. ap (λ (c : CallResult). c .out) d ∙ no-out;
         refused-still = λ x. absurd (x (sym due ∙ z));
-        absent-still = λ x. still absent d;
+        absent-still = λ x. still absent count d;
         few = few;
         place = place;
-        by-rule = by-rule;
       }
-  ran-right fault r e (ran-wrote z i alive q wr held) due =
-      let d = e ∙ ap calledChange q in
+  ran-right fault r e (ran-wrote z i alive count q wr held) due =
+      let d = e ∙ q in
       record {
-        refusal = ap (λ (c : Called). refusalIn (c .answer)) d ∙ sym z ∙ due;
+        refusal = ap (λ (c : CallResult). refusalIn (c .answer)) d ∙ sym z ∙ due;
         answer = λ x.
-            ap (λ (c : Called). c .answer) d ∙ ap (λ (v : ℕ). gives (w .state .first ∷ v ∷ [])) version ∙ stored held;
-        out = λ x. ap (λ (c : Called). c .out) d ∙ no-out;
+            ap (λ (c : CallResult). c .answer) d ∙ ap (λ (v : ℕ). gives (w .index .state .first ∷ v ∷ [])) version ∙ stored held;
+        out = λ x. ap (λ (c : CallResult). c .out) d ∙ no-out;
         refused-still = λ x. absurd (x (sym due ∙ z));
-        absent-still = λ x. absurd (gives-absent _ (sym (ap (λ (c : Called). c .answer) d) ∙ x));
+        absent-still = λ x. absurd (gives-absent _ (sym (ap (λ (c : CallResult). c .answer) d) ∙ x));
         few = few;
         place = place;
-        by-rule = by-rule;
       }
 
 -- ---- the answer is a refusal exactly where the rules refuse
@@ -114,11 +109,11 @@ plain-given slot version holder m (locate key) = go (isHeld (m key))
     go true = refl
     go false = refl
 
-pub right-refuses : (l : ℕ) (w : World) (m : PlainMap) (call : Call) → Right l w m call
-    → isRefusal (called l w call .answer) ≡ refuses (dueFault l w m call)
+pub right-refuses : (l : ℕ) (w : World) (m : PlainMap) (call : Call) → CallCorrect l w m call
+    → isRefusal (callResult l w call .answer) ≡ refuses (expectedRefusal l w m call)
 unfolding refuses
-right-refuses l w m call r = go (eqb (dueFault l w m call) 0) refl
+right-refuses l w m call r = go (eqb (expectedRefusal l w m call) 0) refl
   where
-    go : (b : Bool) → eqb (dueFault l w m call) 0 ≡ b → isRefusal (called l w call .answer) ≡ not b
+    go : (b : Bool) → eqb (expectedRefusal l w m call) 0 ≡ b → isRefusal (callResult l w call .answer) ≡ not b
     go true e = ap isRefusal (r .answer (eqb-true _ 0 e)) ∙ plain-given _ _ _ m call
-    go false e = refusal-told (called l w call .answer) (λ z. eqb-false _ 0 e (sym (r .refusal) ∙ z))
+    go false e = refusal-told (callResult l w call .answer) (λ z. eqb-false _ 0 e (sym (r .refusal) ∙ z))

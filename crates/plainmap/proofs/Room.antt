@@ -10,12 +10,12 @@ use Rattle.prelude.specs.Members.{All, none-left, one-more, Slot}
 use Rattle.layout.specs.Size.{slotsOf, slotsIn}
 use Rattle.layout.specs.Record.{Layout}
 use Rattle.layout.specs.Header.{indexFault}
-use Rattle.layout.specs.Content.{Table, contentsOf, numbersOf}
+use Rattle.layout.specs.Content.{Table, contentsOf, sizeFieldsOf}
 use Rattle.stores.specs.Store.{Store, played, standing}
 use Rattle.stores.specs.Basket.{BasketRecord, basketSlots}
 use Rattle.table.specs.Table.{liveCount}
 use Rattle.table.specs.Complete.{settled, tableOf, NoneVoid}
-use Rattle.table.specs.Taking.{mayTake, takenOf, takeableCount}
+use Rattle.table.specs.Takeable.{mayTake, takenOf, takeableCount}
 use Rattle.table.proofs.defs.Reuse.{Spares}
 use Rattle.table.proofs.defs.Room.{RoomToTake}
 use Rattle.table.proofs.defs.Struck.{Finished}
@@ -29,10 +29,11 @@ use Rattle.index.specs.Index.{Index, Chain, reuse}
 use Rattle.calls.specs.Format.{formatted}
 use Rattle.calls.proofs.Formats.{formatted-length, formatted-content}
 use Rattle.images.proofs.defs.Entries.{recordAt}
-use Rattle.plainmap.specs.World.{World, Called, worldAfter, openedWorld, Round, afterRound, afterRounds, Restart, restarted}
+use Rattle.plainmap.specs.World.{World, worldAfter, invalidatedWorld, Round, afterRound, afterRounds, Restart, restarted}
+use Rattle.calls.specs.Result.{CallResult}
 use Rattle.plainmap.specs.Plain.{Update}
 use Rattle.plainmap.specs.Accepted.{Accepted, RightSize}
-use Rattle.plainmap.specs.Sound.{Sound}
+use Rattle.plainmap.specs.Consistency.{IndexConsistent}
 use Rattle.plainmap.proofs.AcceptedImages.{accepted-room}
 use Rattle.plainmap.proofs.Wrote.{nextOf, WroteRecords}
 use Rattle.plainmap.proofs.SoundAfter.{same-slots, spares}
@@ -51,7 +52,7 @@ HasRoom l image = RoomToTake (tableOf l image) (slotsIn image)
 -- A FORMATTED IMAGE has room
 pub formatted-room : (l len : ℕ) → (slotsOf len ≡ 0 → ⊥) → l < 2 ^ 64 → HasRoom l (formatted l len)
 formatted-room l len ne b =
-    format-room (contentsOf l (formatted l len)) (numbersOf l (formatted l len)) (slotsIn (formatted l len)) (λ t i. formatted-content l l len t ne b (i .0))
+    format-room (contentsOf l (formatted l len)) (sizeFieldsOf l (formatted l len)) (slotsIn (formatted l len)) (λ t i. formatted-content l l len t ne b (i .0))
     (some (slotsIn (formatted l len)) (λ z. ne (sym (ap slotsOf (formatted-length l len)) ∙ z)))
   where
     some : (n : ℕ) → (n ≡ 0 → ⊥) → 1 ≤ n
@@ -61,8 +62,8 @@ formatted-room l len ne b =
 same-room : (l : ℕ) (image image′ : List ℕ) → SameTable l image image′ → HasRoom l image → HasRoom l image′
 same-room l image image′ same room = rw (same .table, same .slots) room
 
-module _ (l : ℕ) (w : World) (us : List Update) (r : Called) (accepted : Accepted l (w .image))
-    (none-void : NoneVoid (contentsOf l (w .image)) (numbersOf l (w .image)) (slotsIn (w .image))) (room : HasRoom l (w .image)) where
+module _ (l : ℕ) (w : World) (us : List Update) (r : CallResult) (accepted : Accepted l (w .image))
+    (none-void : NoneVoid (contentsOf l (w .image)) (sizeFieldsOf l (w .image)) (slotsIn (w .image))) (room : HasRoom l (w .image)) where
   abbrev n : ℕ
   n = slotsIn (w .image)
 
@@ -74,19 +75,19 @@ module _ (l : ℕ) (w : World) (us : List Update) (r : Called) (accepted : Accep
     abbrev f′ : Table
     f′ = contentsOf l image′
 
-    whole-room : Finished f′ (numbersOf l image′) (basketSlots es) (recordAt (nextOf l (w .image)) es) → RoomToTake (settled f′ (numbersOf l image′) n) n
+    whole-room : Finished f′ (sizeFieldsOf l image′) (basketSlots es) (recordAt (nextOf l (w .image)) es) → RoomToTake (settled f′ (sizeFieldsOf l image′) n) n
     whole-room z =
         let st = struck l w es i alive newest accepted wr counts in
         let same = finished-settled (wr .basket) st z in
-        let left = subst (λ (x : ℕ). liveCount (settled f′ (numbersOf l image′) x) x < x) (struck-slots l w es i alive newest accepted wr counts)
+        let left = subst (λ (x : ℕ). liveCount (settled f′ (sizeFieldsOf l image′) x) x < x) (struck-slots l w es i alive newest accepted wr counts)
         (accepted-room l image′ (struck-accepted l w es i alive newest accepted wr counts)) in
-        room-same f′ (settled f′ (numbersOf l image′) n) n same
-        (finished-room (wr .basket) st z (subst (λ (k : ℕ). k < n) (alike-count f′ (settled f′ (numbersOf l image′) n) n same) left) (wr .removes))
+        room-same f′ (settled f′ (sizeFieldsOf l image′) n) n same
+        (finished-room (wr .basket) st z (subst (λ (k : ℕ). k < n) (alike-count f′ (settled f′ (sizeFieldsOf l image′) n) n same) left) (wr .removes))
 
     records-room : HasRoom l image′
     records-room =
         let st = struck l w es i alive newest accepted wr counts in
-        subst (λ (x : ℕ). RoomToTake (settled f′ (numbersOf l image′) x) x) (sym (struck-slots l w es i alive newest accepted wr counts))
+        subst (λ (x : ℕ). RoomToTake (settled f′ (sizeFieldsOf l image′) x) x) (sym (struck-slots l w es i alive newest accepted wr counts))
         (⊎-elim whole-room
         (λ u. unfinished-room (wr .basket) st u
         (room-same (tableOf l (w .image)) (contentsOf l (w .image)) n (λ t j. sym (settled-same _ _ n t (none-void t j))) room))
@@ -104,30 +105,30 @@ module _ (l : ℕ) (w : World) (us : List Update) (r : Called) (accepted : Accep
 
 -- A RESTART keeps room
 rounds-room : (l : ℕ) → Layout l → (n : ℕ) (image : List ℕ) → slotsIn image ≡ n → Accepted l image → (rs : List Round)
-    → All (λ (r : Round). indexFault n (length (r .heads)) (length (r .next)) ≡ 0) rs → HasRoom l image → HasRoom l (afterRounds l image rs)
+    → All (λ (r : Round). indexFault n (length (r .lent .heads)) (length (r .lent .next)) ≡ 0) rs → HasRoom l image → HasRoom l (afterRounds l image rs)
 unfolding afterRounds
 rounds-room l lay n image e a [] none-left room = room
 rounds-room l lay n image e a (r ∷ rs) (one-more f fs) room =
-    let fits : RightSize image (r .heads) (r .next) = rw e f in
+    let fits : RightSize image (r .lent .heads) (r .lent .next) = rw e f in
     let t = after-round l lay image a r fits in
     rounds-room l lay n (afterRound l image r) (t .slots ∙ e) (t .accepted) rs fs
     (subst (HasRoom l) (sym (round-same l lay image a r fits)) (same-room l image _ (opened-same l lay image a (r .counts)) room))
 
 pub restarted-room : (l : ℕ) → Layout l → (image : List ℕ) → Accepted l image → (r : Restart)
-    → All (λ (x : Round). indexFault (slotsIn image) (length (x .heads)) (length (x .next)) ≡ 0) (r .rounds)
-    → indexFault (slotsIn image) (length (r .heads)) (length (r .next)) ≡ 0 → HasRoom l image → HasRoom l (restarted l image r .image)
-unfolding restarted openedWorld worldAfter
+    → All (λ (x : Round). indexFault (slotsIn image) (length (x .lent .heads)) (length (x .lent .next)) ≡ 0) (r .rounds)
+    → indexFault (slotsIn image) (length (r .lent .heads)) (length (r .lent .next)) ≡ 0 → HasRoom l image → HasRoom l (restarted l image r .image)
+unfolding restarted invalidatedWorld worldAfter
 restarted-room l lay image a r fs f room =
     let t = after-rounds l lay (slotsIn image) image refl a (r .rounds) fs in
     let last = afterRounds l image (r .rounds) in
-    let fits = ap (λ (x : ℕ). indexFault x (length (r .heads)) (length (r .next))) (t .slots) ∙ f in
-    subst (HasRoom l) (sym (opened-image l lay last (t .accepted) (r .heads) (r .next) fits))
+    let fits = ap (λ (x : ℕ). indexFault x (length (r .lent .heads)) (length (r .lent .next))) (t .slots) ∙ f in
+    subst (HasRoom l) (sym (opened-image l lay last (t .accepted) (r .lent .heads) (r .lent .next) fits))
     (same-room l last _ (opened-same l lay last (t .accepted) (λ k. 8)) (rounds-room l lay (slotsIn image) image refl a (r .rounds) fs room))
 
 -- ---- what room gives
 
-module _ (l : ℕ) (w : World) (chains : Chain → List ℕ) (g : Sound l w chains)
-    (none-void : NoneVoid (contentsOf l (w .image)) (numbersOf l (w .image)) (slotsIn (w .image))) where
+module _ (l : ℕ) (w : World) (chains : Chain → List ℕ) (g : IndexConsistent l w chains)
+    (none-void : NoneVoid (contentsOf l (w .image)) (sizeFieldsOf l (w .image)) (slotsIn (w .image))) where
   abbrev f : Table
   f = contentsOf l (w .image)
 

@@ -17,7 +17,7 @@ use Rattle.table.proofs.defs.Chains.{Chains}
 use Rattle.table.proofs.OneSlot.{value-at}
 use Rattle.table.proofs.Map.{Live, lives, live-is}
 use Rattle.index.specs.Index.{Index, Chain, reuse, head, headOf}
-use Rattle.index.specs.Linked.{endOf, Sits}
+use Rattle.index.specs.Linked.{endOf, ChainsPartition}
 use Rattle.index.specs.Walk.{slotKey, search}
 use Rattle.index.proofs.defs.SearchIn.{searchIn}
 use Rattle.index.specs.declared.Found.{Found}
@@ -30,7 +30,7 @@ use Rattle.recovery.specs.Represents.{Answers}
 use Rattle.recovery.proofs.Answers.{live-slot-key, chain-at, chain-absent, search-in-answers}
 use Rattle.plainmap.specs.World.{World}
 use Rattle.layout.specs.Size.{slotsIn}
-use Rattle.plainmap.specs.Sound.{Starts, starts, Sound}
+use Rattle.plainmap.specs.Consistency.{Starts, starts, IndexConsistent}
 
 -- ---- a slot's chain says whether it is live
 
@@ -64,7 +64,7 @@ reuse-placed f n b s e = go (split (live f n s))
 in-chain : (chains : Chain → List ℕ) (s : ℕ) (c d : Chain) → c ≡ d → In s (chains c) → In s (chains d)
 in-chain chains s c d e m = rw e at m
 
-module _ (f : Table) (n b : ℕ) (i : Index) (chains : Chain → List ℕ) (g : Sits n b (placeOf f n b) i chains) where
+module _ (f : Table) (n b : ℕ) (i : Index) (chains : Chain → List ℕ) (g : ChainsPartition n b (placeOf f n b) i chains) where
   sits-slot : (c : Chain) (s : ℕ) → In s (chains c) → Slot n s × (placeOf f n b s ≡ c)
   sits-slot c s m = let t = sits-in _ _ _ _ _ g c s m in ((omega (arith, t .0), t .1), t .2)
 
@@ -126,31 +126,31 @@ module _
 starts-in : (xs : List ℕ) → Starts xs → (t : ℕ) × In t xs
 starts-in xs (starts t rest e) = (t, rw e (inl refl))
 
-module _ (l : ℕ) (w : World) (chains : Chain → List ℕ) (s : Sound l w chains) where
+module _ (l : ℕ) (w : World) (chains : Chain → List ℕ) (s : IndexConsistent l w chains) where
   -- THE REUSE CHAIN holds the slots that are not live
   pub sound-spares : Spares (tableOf l (w .image)) (slotsIn (w .image)) (chains reuse)
   sound-spares = sits-spares _ _ _ _ _ (s .index)
 
   -- THE HEADS' CHAINS hold the live slots
-  pub sound-chains : Chains (tableOf l (w .image)) (slotsIn (w .image)) (λ key. headOf key (length (w .heads))) (λ h. chains (head h))
+  pub sound-chains : Chains (tableOf l (w .image)) (slotsIn (w .image)) (λ key. headOf key (length (w .index .heads))) (λ h. chains (head h))
   sound-chains = sits-chains _ _ _ _ _ (s .index)
 
   pub sound-search : (key : ℕ)
-      → search l (w .image) (w .heads) (w .next) key ≡ searchIn (slotKey l (w .image)) key 0 0 (chains (head (headOf key (length (w .heads)))))
+      → search l (w .image) (w .index .heads) (w .index .next) key ≡ searchIn (slotKey l (w .image)) key 0 0 (chains (head (headOf key (length (w .index .heads)))))
   sound-search key =
       let t = starts-in (chains reuse) (s .some-spare) in
       formed-search l (w .image) _ _ chains key (t .0) (s .index .formed .disjoint) (s .index .next-size) (t .1)
 
   -- THE SEARCH
   pub sound-sees : (key : ℕ)
-      → Sees (tableOf l (w .image)) (slotsIn (w .image)) key (chains (head (headOf key (length (w .heads)))))
-      (search l (w .image) (w .heads) (w .next) key)
+      → Sees (tableOf l (w .image)) (slotsIn (w .image)) key (chains (head (headOf key (length (w .index .heads)))))
+      (search l (w .image) (w .index .heads) (w .index .next) key)
   sound-sees key =
-      search-in-sees l (w .image) (tableOf l (w .image)) (slotsIn (w .image)) (length (w .heads)) key
+      search-in-sees l (w .image) (tableOf l (w .image)) (slotsIn (w .image)) (length (w .index .heads)) key
       (live-slot-key l (w .image) (slotsIn (w .image))) (λ h. chains (head h)) sound-chains _ (sound-search key)
 
   pub sound-answers : (key : ℕ)
-      → Answers (tableOf l (w .image)) (slotsIn (w .image)) key (search l (w .image) (w .heads) (w .next) key)
+      → Answers (tableOf l (w .image)) (slotsIn (w .image)) key (search l (w .image) (w .index .heads) (w .index .next) key)
   sound-answers key =
-      search-in-answers l (w .image) (tableOf l (w .image)) (slotsIn (w .image)) (length (w .heads)) key
+      search-in-answers l (w .image) (tableOf l (w .image)) (slotsIn (w .image)) (length (w .index .heads)) key
       (live-slot-key l (w .image) (slotsIn (w .image))) (λ h. chains (head h)) sound-chains _ (sound-search key)

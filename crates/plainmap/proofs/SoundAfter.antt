@@ -8,7 +8,7 @@ use lib.ListN.{length}
 use Rattle.prelude.specs.Members.{In, Slot}
 use Rattle.layout.specs.Size.{slotsIn}
 use Rattle.layout.specs.Header.{indexFault}
-use Rattle.layout.specs.Content.{Content, Table, contentsOf, numbersOf}
+use Rattle.layout.specs.Content.{Content, Table, contentsOf, sizeFieldsOf}
 use Rattle.table.specs.Table.{mapOf, live, liveCount, nextVersion}
 use Rattle.table.specs.Complete.{settled, tableOf, NoneVoid}
 use Rattle.table.specs.Reuse.{OlderFirst, HighestLast, BrokenFirst}
@@ -24,17 +24,17 @@ use Rattle.table.proofs.Finished.{finished-settled, finished-next, finished-new
 use Rattle.table.proofs.ReuseAfter.{finished-first}
 use Rattle.table.proofs.OrderAfter.{finished-older, finished-highest-last}
 use Rattle.table.proofs.Owners.{finished-owner}
-use Rattle.index.specs.Index.{Index, Chain, reuse, head, headOf, stateOf}
-use Rattle.index.specs.Linked.{Sits}
+use Rattle.index.specs.Index.{Index, Chain, reuse, head, headOf, withCounts}
+use Rattle.index.specs.Linked.{ChainsPartition}
 use Rattle.index.proofs.Sits.{sits-places}
 use Rattle.recovery.specs.Recover.{placeOf}
 use Rattle.plainmap.specs.World.{World}
-use Rattle.plainmap.specs.Sound.{Sound}
+use Rattle.plainmap.specs.Consistency.{IndexConsistent}
 use Rattle.plainmap.proofs.Sees.{same-place, sound-spares}
 use Rattle.plainmap.proofs.Sounds.{sound-parts}
 
-module _ (l : ℕ) (w : World) (chains : Chain → List ℕ) (g : Sound l w chains) (taken : List ℕ) (new : Table)
-    (none-void : NoneVoid (contentsOf l (w .image)) (numbersOf l (w .image)) (slotsIn (w .image))) where
+module _ (l : ℕ) (w : World) (chains : Chain → List ℕ) (g : IndexConsistent l w chains) (taken : List ℕ) (new : Table)
+    (none-void : NoneVoid (contentsOf l (w .image)) (sizeFieldsOf l (w .image)) (slotsIn (w .image))) where
   abbrev n : ℕ
   n = slotsIn (w .image)
 
@@ -42,7 +42,7 @@ module _ (l : ℕ) (w : World) (chains : Chain → List ℕ) (g : Sound l w chai
   f = contentsOf l (w .image)
 
   abbrev b : ℕ
-  b = length (w .heads)
+  b = length (w .index .heads)
 
   -- the chain of a key
   abbrev home : ℕ → Chain
@@ -50,7 +50,7 @@ module _ (l : ℕ) (w : World) (chains : Chain → List ℕ) (g : Sound l w chai
 
   -- the settled table has what the slots hold
   pub same-slots : (t : ℕ) → Slot n t → tableOf l (w .image) t ≡ f t
-  same-slots t i = settled-same f (numbersOf l (w .image)) n t (none-void t i)
+  same-slots t i = settled-same f (sizeFieldsOf l (w .image)) n t (none-void t i)
 
   pub same-live : (t : ℕ) → Slot n t → live (tableOf l (w .image)) n t ≡ live f n t
   same-live = alike-live f (tableOf l (w .image)) n same-slots
@@ -74,12 +74,12 @@ module _ (l : ℕ) (w : World) (chains : Chain → List ℕ) (g : Sound l w chai
   broken = broken-carry (tableOf l (w .image)) f (chains reuse) (λ x m. sym (same-slots x (spares .slot x m))) (g .broken)
 
   module _ (image′ : List ℕ) (en : slotsIn image′ ≡ n)
-      (bk : Basket f (numbersOf l (w .image)) n (nextVersion (tableOf l (w .image)) n) taken new)
-      (st : Struck f (contentsOf l image′) (numbersOf l (w .image)) (numbersOf l image′) n taken new)
-      (z : Finished (contentsOf l image′) (numbersOf l image′) taken new) where
+      (bk : Basket f (sizeFieldsOf l (w .image)) n (nextVersion (tableOf l (w .image)) n) taken new)
+      (st : Struck f (contentsOf l image′) (sizeFieldsOf l (w .image)) (sizeFieldsOf l image′) n taken new)
+      (z : Finished (contentsOf l image′) (sizeFieldsOf l image′) taken new) where
     same-after : (t : ℕ) → Slot n t → tableOf l image′ t ≡ contentsOf l image′ t
     same-after t i =
-        ap (λ (x : ℕ). settled (contentsOf l image′) (numbersOf l image′) x t) en ∙ finished-settled bk st z t i
+        ap (λ (x : ℕ). settled (contentsOf l image′) (sizeFieldsOf l image′) x t) en ∙ finished-settled bk st z t i
 
     place-owner : (c : Table) (m : ℕ) (t : ℕ) → placeOf c m b t ≡ ownerIn c m home reuse t
     unfolding placeOf ownerIn
@@ -94,11 +94,11 @@ module _ (l : ℕ) (w : World) (chains : Chain → List ℕ) (g : Sound l w chai
 
     -- THE INDEX AFTER IT: i, whose chains are chains′
     pub sound-after : (removes : HeldRemoved taken new (mapOf f n)) (i : Index) (alive newest : ℕ) (chains′ : Chain → List ℕ)
-        → Sits n b (placeOf (contentsOf l image′) n b) i chains′ → chains′ reuse ≡ reuseAfter f n taken new (chains reuse)
+        → ChainsPartition n b (placeOf (contentsOf l image′) n b) i chains′ → chains′ reuse ≡ reuseAfter f n taken new (chains reuse)
         → liveCount (contentsOf l image′) n < n → alive ≡ liveCount (contentsOf l image′) n → In newest taken
-        → Sound l (record { image = image′; heads = i .heads; next = i .next; state = stateOf i alive (w .state .version + 1) newest }) chains′
+        → IndexConsistent l (record { image = image′; index = withCounts i alive (w .index .state .version + 1) newest }) chains′
     sound-after removes i alive newest chains′ q e room ea j =
-        sound-parts l image′ i alive (w .state .version + 1) newest n b (contentsOf l image′) chains′ en same-after
+        sound-parts l image′ i alive (w .index .state .version + 1) newest n b (contentsOf l image′) chains′ en same-after
         (ap (indexFault n b) (sym (g .index .next-size)) ∙ g .size) q
         (subst (OlderFirst (contentsOf l image′)) (sym e) (finished-older bk st z spares older))
         (subst (HighestLast (contentsOf l image′) n) (sym e) (finished-highest-last bk st z spares removes))

@@ -16,7 +16,7 @@ use Rattle.prelude.proofs.Lists.{filter-all}
 use Rattle.prelude.proofs.defs.Among.{member}
 use Rattle.prelude.proofs.Among.{in-member, out-member}
 use Rattle.layout.specs.Size.{slotsIn}
-use Rattle.layout.specs.Content.{Table, contentsOf, numbersOf}
+use Rattle.layout.specs.Content.{Table, contentsOf, sizeFieldsOf}
 use Rattle.table.specs.Table.{keyIn, mapOf, live, liveCount, nextVersion, isHeld}
 use Rattle.table.specs.Complete.{NoneVoid, tableOf}
 use Rattle.table.proofs.defs.Write.{holder}
@@ -30,7 +30,7 @@ use Rattle.table.proofs.Held.{Held, held, unheld, held-or, some-none, holder-no
 use Rattle.table.proofs.Alike.{alike-count}
 use Rattle.table.proofs.Accepted.{finished-idle}
 use Rattle.table.proofs.LiveAfter.{finished-live-count}
-use Rattle.index.specs.Index.{Index, Chain, reuse, head, headOf, indexOf, stateOf}
+use Rattle.index.specs.Index.{Index, Chain, reuse, head, headOf, indexOf, withCounts}
 use Rattle.index.specs.inner.Parts.{insertNew, replaceHeld, removeHeld}
 use Rattle.index.specs.Linked.{endOf}
 use Rattle.index.proofs.defs.Linked.{withChain}
@@ -38,7 +38,7 @@ use Rattle.index.proofs.Owners.{Told, is, isnt, told}
 use Rattle.index.proofs.Sits.{sits-new, sits-held, sits-remove}
 use Rattle.recovery.specs.Recover.{placeOf}
 use Rattle.plainmap.specs.World.{World}
-use Rattle.plainmap.specs.Sound.{Sound}
+use Rattle.plainmap.specs.Consistency.{IndexConsistent}
 use Rattle.plainmap.proofs.Sees.{place-idle}
 use Rattle.plainmap.proofs.SoundAfter.{same-slots, same-live, spares, place-after, sound-after}
 
@@ -83,8 +83,8 @@ module _ (f : Table) (n s key : ℕ) (rest : List ℕ) (new : Table) (ek : keyIn
 
 -- ---- THE WRITE: slot s, the first of reuse, gets the newest record of the key
 
-module _ (l : ℕ) (w : World) (chains : Chain → List ℕ) (g : Sound l w chains)
-    (none-void : NoneVoid (contentsOf l (w .image)) (numbersOf l (w .image)) (slotsIn (w .image)))
+module _ (l : ℕ) (w : World) (chains : Chain → List ℕ) (g : IndexConsistent l w chains)
+    (none-void : NoneVoid (contentsOf l (w .image)) (sizeFieldsOf l (w .image)) (slotsIn (w .image)))
     (s key : ℕ) (rest : List ℕ) (e : chains reuse ≡ s ∷ rest) (new : Table) (ek : keyIn (new s) ≡ key) where
   abbrev f : Table
   f = contentsOf l (w .image)
@@ -93,10 +93,10 @@ module _ (l : ℕ) (w : World) (chains : Chain → List ℕ) (g : Sound l w chai
   n = slotsIn (w .image)
 
   abbrev b : ℕ
-  b = length (w .heads)
+  b = length (w .index .heads)
 
   abbrev i : Index
-  i = indexOf (w .heads) (w .next) (w .state)
+  i = indexOf (w .index .heads) (w .index .next) (w .index .state)
 
   abbrev h : ℕ
   h = headOf key b
@@ -107,14 +107,14 @@ module _ (l : ℕ) (w : World) (chains : Chain → List ℕ) (g : Sound l w chai
   once : Once (s ∷ rest)
   once = subst Once e (spares l w chains g (s ∷ []) new none-void .once)
 
-  alive-is : w .state .live ≡ liveCount f n
+  alive-is : w .index .state .live ≡ liveCount f n
   alive-is =
       g .live-count ∙ alike-count f (tableOf l (w .image)) n (same-slots l w chains g (s ∷ []) new none-void)
 
   module _ (image′ : List ℕ) (en : slotsIn image′ ≡ n)
-      (bk : Basket f (numbersOf l (w .image)) n (nextVersion (tableOf l (w .image)) n) (s ∷ []) new)
-      (st : Struck f (contentsOf l image′) (numbersOf l (w .image)) (numbersOf l image′) n (s ∷ []) new)
-      (z : Finished (contentsOf l image′) (numbersOf l image′) (s ∷ []) new) (removes : HeldRemoved (s ∷ []) new (mapOf f n))
+      (bk : Basket f (sizeFieldsOf l (w .image)) n (nextVersion (tableOf l (w .image)) n) (s ∷ []) new)
+      (st : Struck f (contentsOf l image′) (sizeFieldsOf l (w .image)) (sizeFieldsOf l image′) n (s ∷ []) new)
+      (z : Finished (contentsOf l image′) (sizeFieldsOf l image′) (s ∷ []) new) (removes : HeldRemoved (s ∷ []) new (mapOf f n))
       (room : liveCount f n + putsIn (s ∷ []) new < n + heldIn (s ∷ []) new (mapOf f n)) where
     abbrev place′ : ℕ → Chain
     place′ = placeOf (contentsOf l image′) n b
@@ -158,16 +158,16 @@ module _ (l : ℕ) (w : World) (chains : Chain → List ℕ) (g : Sound l w chai
         ∙ ap₂ (λ (y u : Bool). liveCount f n + (oneIf (y && not u) + 0)) q (ap (λ (k : ℕ). isHeld (mapOf f n k)) ek ∙ d)
 
     abbrev after : Index → (alive : ℕ) → World
-    after j alive = record { image = image′; heads = j .heads; next = j .next; state = stateOf j alive (w .state .version + 1) s }
+    after j alive = record { image = image′; index = withCounts j alive (w .index .state .version + 1) s }
 
     -- an insert
     pub new-sound : (prev : ℕ) → mapOf f n key ≡ none → isPut (new s) ≡ true → h < b → prev ≡ endOf 0 (chains (head h))
-        → Sound l (after (insertNew i h prev) (w .state .live + 1))
+        → IndexConsistent l (after (insertNew i h prev) (w .index .state .live + 1))
         (withChain (withChain chains reuse rest) (head h) (chains (head h) ++ s ∷ []))
     unfolding isHeld
     new-sound prev m p few q =
         let c = counted true false p (ap isHeld m) in
-        sound-after l w chains g (s ∷ []) new none-void image′ en bk st z removes (insertNew i h prev) (w .state .live + 1) s _
+        sound-after l w chains g (s ∷ []) new none-void image′ en bk st z removes (insertNew i h prev) (w .index .state .live + 1) s _
         (sits-new n b place i chains (g .index) place′ h prev s rest e few q (own true p)
         (λ x lo hi ne. other x (omega arith, hi) ne (λ d. omega (arith, d, none-holds))))
         (reuse-now chains rest _ h ∙ sym (append-nil rest) ∙ joined true [] p (joined-new (holder f n key) s none-holds)) idle
@@ -188,11 +188,11 @@ module _ (l : ℕ) (w : World) (chains : Chain → List ℕ) (g : Sound l w chai
 
       -- a put
       pub held-sound : isPut (new s) ≡ true
-          → Sound l (after (replaceHeld i h prev old) (w .state .live))
+          → IndexConsistent l (after (replaceHeld i h prev old) (w .index .state .live))
           (withChain (withChain chains reuse (rest ++ old ∷ [])) (head h) (xs ++ s ∷ ys))
       held-sound p =
           let c = counted true true p m in
-          sound-after l w chains g (s ∷ []) new none-void image′ en bk st z removes (replaceHeld i h prev old) (w .state .live) s _
+          sound-after l w chains g (s ∷ []) new none-void image′ en bk st z removes (replaceHeld i h prev old) (w .index .state .live) s _
           (sits-held n b place i chains (g .index) place′ h prev s rest e xs old ys parts q (own true p) (old-now old j apart (sym d))
           (λ x lo hi ne nq. other x (omega arith, hi) ne (λ (y : x ≡ holder f n key). nq (y ∙ d))))
           (reuse-now chains (rest ++ old ∷ []) _ h
@@ -201,11 +201,11 @@ module _ (l : ℕ) (w : World) (chains : Chain → List ℕ) (g : Sound l w chai
 
       -- a remove
       pub removed-sound : isPut (new s) ≡ false
-          → Sound l (after (removeHeld i h prev old) (w .state .live - 1))
+          → IndexConsistent l (after (removeHeld i h prev old) (w .index .state .live - 1))
           (withChain (withChain chains reuse (rest ++ old ∷ s ∷ [])) (head h) (xs ++ ys))
       removed-sound p =
           let c = counted false true p m in
-          sound-after l w chains g (s ∷ []) new none-void image′ en bk st z removes (removeHeld i h prev old) (w .state .live - 1) s _
+          sound-after l w chains g (s ∷ []) new none-void image′ en bk st z removes (removeHeld i h prev old) (w .index .state .live - 1) s _
           (sits-remove n b place i chains (g .index) place′ h prev s rest e xs old ys parts q (old-now old j apart (sym d))
           (λ x lo hi nq. stays x (omega arith, hi) nq (told x s)))
           (reuse-now chains (rest ++ old ∷ s ∷ []) _ h

@@ -12,7 +12,7 @@ use Rattle.prelude.specs.Members.{All, none-left, one-more, In, Once, Slot}
 use Rattle.prelude.proofs.Choice.{split, true-false}
 use Rattle.layout.specs.Size.{slotsOf, slotsIn}
 use Rattle.layout.specs.Header.{headerWord}
-use Rattle.layout.specs.Content.{contentsOf, numbersOf}
+use Rattle.layout.specs.Content.{contentsOf, sizeFieldsOf}
 use Rattle.stores.specs.Store.{Store, played, standing, allStand}
 use Rattle.stores.specs.Basket.{BasketRecord, basketSlots, basketStores}
 use Rattle.stores.specs.Cut.{AllWritten}
@@ -20,7 +20,7 @@ use Rattle.stores.proofs.Bytes.{played-length}
 use Rattle.stores.proofs.Basket.{basket-inside, basket-image-law}
 use Rattle.stores.proofs.defs.Cut.{StoresInside}
 use Rattle.table.specs.Table.{mapOf}
-use Rattle.table.specs.Complete.{numberFor, settled, tableOf, NoneVoid}
+use Rattle.table.specs.Complete.{sizeFieldFor, settled, tableOf, NoneVoid}
 use Rattle.table.proofs.Complete.{settled-same}
 use Rattle.table.proofs.Alike.{alike-map}
 use Rattle.table.proofs.defs.Basket.{changes}
@@ -75,13 +75,13 @@ module _ (l : ℕ) (w : World) (es : List BasketRecord) (i : Index) (alive newes
 
   -- the call's stores
   abbrev pub written : List Store
-  written = basketStores l (word image) (numberFor (length es)) version es
+  written = basketStores l (word image) (sizeFieldFor (length es)) version es
 
   inside : All (λ (e : BasketRecord). 128 * (e .slot + 1) ≤ length image) es
   inside = inside-all n (length image) es (omega (arith, accepted-long l image accepted .size)) (wr .basket .slot)
 
   pub stores-inside : StoresInside (length image) written
-  stores-inside = basket-inside l (word image) (numberFor (length es)) version (length image) (wr .small) (wr .lawful) inside
+  stores-inside = basket-inside l (word image) (sizeFieldFor (length es)) version (length image) (wr .small) (wr .lawful) inside
 
   module _ (counts : ℕ → ℕ) where
     -- the image after a cut
@@ -94,11 +94,11 @@ module _ (l : ℕ) (w : World) (es : List BasketRecord) (i : Index) (alive newes
     pub struck-slots : slotsIn struckImage ≡ n
     struck-slots = ap slotsOf struck-length
 
-    pub struck-written : AllWritten l (word image) (word struckImage) (numberFor (length es)) version es counts
+    pub struck-written : AllWritten l (word image) (word struckImage) (sizeFieldFor (length es)) version es counts
     struck-written =
-        basket-image-law l counts image (numberFor (length es)) version es (wr .basket .once) (wr .lawful) (wr .small) inside
+        basket-image-law l counts image (sizeFieldFor (length es)) version es (wr .basket .once) (wr .lawful) (wr .small) inside
 
-    pub struck : Struck (contentsOf l image) (contentsOf l struckImage) (numbersOf l image) (numbersOf l struckImage) n (basketSlots es) (recordAt version es)
+    pub struck : Struck (contentsOf l image) (contentsOf l struckImage) (sizeFieldsOf l image) (sizeFieldsOf l struckImage) n (basketSlots es) (recordAt version es)
     struck = cut-struck l (word image) (word struckImage) _ version es counts (wr .basket .once) (wr .lawful) refl struck-written n
 
     -- THE IMAGE STAYS ACCEPTED
@@ -110,19 +110,19 @@ module _ (l : ℕ) (w : World) (es : List BasketRecord) (i : Index) (alive newes
         (accepted-right l image accepted) (wr .basket) (wr .broken) (wr .room))
 
     -- all stores stand: all records are written, and none is void
-    pub whole-finished : allStand counts written ≡ true → Finished (contentsOf l struckImage) (numbersOf l struckImage) (basketSlots es) (recordAt version es)
+    pub whole-finished : allStand counts written ≡ true → Finished (contentsOf l struckImage) (sizeFieldsOf l struckImage) (basketSlots es) (recordAt version es)
     whole-finished =
         stand-finished l (word image) (word struckImage) _ version es counts (wr .basket .once) (wr .lawful) refl struck-written
 
-    pub whole-none-void : allStand counts written ≡ true → NoneVoid (contentsOf l struckImage) (numbersOf l struckImage) n
+    pub whole-none-void : allStand counts written ≡ true → NoneVoid (contentsOf l struckImage) (sizeFieldsOf l struckImage) n
     whole-none-void all = finished-none-void (wr .basket) struck (whole-finished all)
 
     map-before : (k : ℕ) → mapOf (contentsOf l image) n k ≡ slotsMap l image k
     map-before k =
-        sym (alike-map (contentsOf l image) (tableOf l image) n (λ t j. settled-same (contentsOf l image) (numbersOf l image) n t (wr .basket .none-void t j)) k)
+        sym (alike-map (contentsOf l image) (tableOf l image) n (λ t j. settled-same (contentsOf l image) (sizeFieldsOf l image) n t (wr .basket .none-void t j)) k)
 
-    map-after : (k : ℕ) → slotsMap l struckImage k ≡ mapOf (settled (contentsOf l struckImage) (numbersOf l struckImage) n) n k
-    map-after k = ap (λ (x : ℕ). mapOf (settled (contentsOf l struckImage) (numbersOf l struckImage) x) x k) struck-slots
+    map-after : (k : ℕ) → slotsMap l struckImage k ≡ mapOf (settled (contentsOf l struckImage) (sizeFieldsOf l struckImage) n) n k
+    map-after k = ap (λ (x : ℕ). mapOf (settled (contentsOf l struckImage) (sizeFieldsOf l struckImage) x) x k) struck-slots
 
     -- ALL OR NOTHING
     pub whole-map : allStand counts written ≡ true → (k : ℕ)

@@ -9,7 +9,7 @@ use lib.ListN.{length}
 use Rattle.words.specs.Word.{word}
 use Rattle.layout.specs.Line.{lineA, lineB}
 use Rattle.layout.specs.Record.{limit, valueOf}
-use Rattle.layout.specs.Content.{putRecord, content, contentsOf, numbersOf}
+use Rattle.layout.specs.Content.{putRecord, content, contentsOf, sizeFieldsOf}
 use Rattle.table.specs.Complete.{tableOf}
 use Rattle.layout.proofs.Content.{PutAt, put-at, value-length, length-bound}
 use Rattle.table.specs.Table.{valueIn, mapOf, live}
@@ -45,7 +45,7 @@ module _ (l : ℕ) (image : List ℕ) (right : RightSlots l (word image) (slotsI
   live-keeps s v i e q = go (live-is (tableOf l image) n s e)
     where
       own : tableOf l image s ≡ content l (word image) s
-      own = settled-live (contentsOf l image) (numbersOf l image) n s e
+      own = settled-live (contentsOf l image) (sizeFieldsOf l image) n s e
 
       kept : (w k : ℕ) → PutAt l (lineA (word image) s) (lineB (word image) s) w k v → KeepsValue l image s v
       kept w k at =

@@ -6,22 +6,22 @@ use lib.ListN.{length}
 use Rattle.words.specs.Word.{word}
 use Rattle.prelude.specs.Members.{All}
 use Rattle.layout.specs.Size.{slotsIn}
-use Rattle.layout.specs.Content.{contentsOf, numbersOf}
+use Rattle.layout.specs.Content.{contentsOf, sizeFieldsOf}
 use Rattle.stores.specs.Basket.{BasketRecord, basketSlots}
 use Rattle.stores.specs.Cut.{LawfulRecord}
 use Rattle.table.specs.Table.{mapOf, liveCount, nextVersion}
-use Rattle.table.specs.Complete.{tableOf, numberFor}
+use Rattle.table.specs.Complete.{tableOf, sizeFieldFor}
 use Rattle.table.proofs.defs.Basket.{Basket, HeldRemoved, putsIn, heldIn}
 use Rattle.table.proofs.defs.Struck.{Struck, Finished}
 use Rattle.table.proofs.defs.ReuseAfter.{BrokenTaken}
-use Rattle.index.specs.Index.{Index, Chain, stateOf}
+use Rattle.index.specs.Index.{Index, Chain, withCounts}
 use Rattle.images.proofs.defs.Entries.{recordAt}
 use Rattle.plainmap.specs.World.{World}
-use Rattle.plainmap.specs.Sound.{Sound}
+use Rattle.plainmap.specs.Consistency.{IndexConsistent}
 
 -- a sound index of this world, whatever its chains
 pub data SomeSound (l : ℕ) (w : World) : Type 0 where
-  some-sound : (chains : Chain → List ℕ) → Sound l w chains → SomeSound l w
+  some-sound : (chains : Chain → List ℕ) → IndexConsistent l w chains → SomeSound l w
 
 -- the next version of an image
 abbrev pub nextOf : (l : ℕ) → (image : List ℕ) → ℕ
@@ -29,10 +29,10 @@ nextOf l image = nextVersion (tableOf l image) (slotsIn image)
 
 -- a call wrote these records, and left this index with a live count and the first slot taken
 pub record WroteRecords (l : ℕ) (w : World) (es : List BasketRecord) (i : Index) (alive newest : ℕ) : Type 0 where
-  pub lawful : All (LawfulRecord l (word (w .image)) (numberFor (length es)) (nextOf l (w .image))) es
+  pub lawful : All (LawfulRecord l (word (w .image)) (sizeFieldFor (length es)) (nextOf l (w .image))) es
   pub small : nextOf l (w .image) < 2 ^ 63
   pub basket :
-      Basket (contentsOf l (w .image)) (numbersOf l (w .image)) (slotsIn (w .image)) (nextOf l (w .image)) (basketSlots es)
+      Basket (contentsOf l (w .image)) (sizeFieldsOf l (w .image)) (slotsIn (w .image)) (nextOf l (w .image)) (basketSlots es)
       (recordAt (nextOf l (w .image)) es)
   -- "A broken slot is always reused first"
   pub broken : BrokenTaken (contentsOf l (w .image)) (slotsIn (w .image)) (basketSlots es)
@@ -44,7 +44,7 @@ pub record WroteRecords (l : ℕ) (w : World) (es : List BasketRecord) (i : Inde
   pub removes : HeldRemoved (basketSlots es) (recordAt (nextOf l (w .image)) es) (mapOf (contentsOf l (w .image)) (slotsIn (w .image)))
   pub sound :
       (image′ : List ℕ) → slotsIn image′ ≡ slotsIn (w .image)
-      → Struck (contentsOf l (w .image)) (contentsOf l image′) (numbersOf l (w .image)) (numbersOf l image′) (slotsIn (w .image)) (basketSlots es)
+      → Struck (contentsOf l (w .image)) (contentsOf l image′) (sizeFieldsOf l (w .image)) (sizeFieldsOf l image′) (slotsIn (w .image)) (basketSlots es)
       (recordAt (nextOf l (w .image)) es)
-      → Finished (contentsOf l image′) (numbersOf l image′) (basketSlots es) (recordAt (nextOf l (w .image)) es)
-      → SomeSound l (record { image = image′; heads = i .heads; next = i .next; state = stateOf i alive (w .state .version + 1) newest })
+      → Finished (contentsOf l image′) (sizeFieldsOf l image′) (basketSlots es) (recordAt (nextOf l (w .image)) es)
+      → SomeSound l (record { image = image′; index = withCounts i alive (w .index .state .version + 1) newest })

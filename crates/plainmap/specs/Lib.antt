@@ -1,6 +1,6 @@
 pub mod World
 pub mod Plain
-pub mod Sound
+pub mod Consistency
 pub mod Claims
 pub mod Room
 pub mod Map

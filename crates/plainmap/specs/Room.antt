@@ -1,5 +1,5 @@
--- Room on a set that grew from a formatted image. Document 02, A.7: "A single insert on a set grown from a formatted image meets 28 only when one slot is left that holds
--- no open key".
+-- Room on a set that grew from a formatted image. Document 02, A.7: "A single insert on a set grown from a formatted
+-- image meets 28 only when one slot is left that holds no open key".
 use mathlib.Core.Path.{_≡_}
 use mathlib.Core.Bool.{false}
 use Prim.Native.Nat.{ℕ, _+_, _≤_, _<_}
@@ -8,7 +8,7 @@ use Rattle.layout.specs.Size.{slotsIn}
 use Rattle.layout.specs.Record.{limit}
 use Rattle.table.specs.Complete.{tableOf}
 use Rattle.table.specs.Table.{liveCount, isHeld}
-use Rattle.table.specs.Taking.{takeableCount}
+use Rattle.table.specs.Takeable.{takeableCount}
 use Rattle.index.specs.declared.Mode.the-variants.{Insert, Replace}
 use Rattle.plainmap.specs.World.{World, Call, write, remove, get, locate}
 use Rattle.plainmap.specs.Plain.{PlainMap}
@@ -30,7 +30,7 @@ InsertsNew l m (get key out) = ⊥
 InsertsNew l m (locate key) = ⊥
 
 -- 28 exactly where a new key is inserted and one slot is left; `fault` is the number that is due or that was answered
-pub record RoomRight (l : ℕ) (w : World) (Inserts : Type 0) (fault : ℕ) : Type 0 where
+pub record RoomCorrect (l : ℕ) (w : World) (Inserts : Type 0) (fault : ℕ) : Type 0 where
   pub met : Inserts → OneLeft l w → fault ≡ 28
   pub only-new : fault ≡ 28 → Inserts
   pub only-left : fault ≡ 28 → OneLeft l w

@@ -1,5 +1,6 @@
-// The release trace: calls in the lines of the trial session on standard input, and for each call that stores one line on standard output, with how many
-// of its 81 cuts leave the earlier map and how many the later. Each second a line on standard error says how far it is.
+// The release trace: calls in the lines of the trial session on standard input, and for each call that stores one line
+// on standard output, with how many of its 81 cuts leave the earlier map and how many the later. Each second a line on
+// standard error says how far it is.
 ghost use mathlib.Core.Path.{_≡_};
 ghost use mathlib.Core.Bool.{true, not};
 ghost use lib.Dec.{eqb};
@@ -70,7 +71,8 @@ fn start() -> Run {
     Run { status, tried }
 }
 
-// The bytes of one read, up to a write that fails, and the output of all of them is written; where there are no bytes, the input has ended.
+// The bytes of one read, up to a write that fails, and the output of all of them is written; where there are no bytes,
+// the input has ended.
 fn take_bytes(
     t: Run,
     input: &[u8],

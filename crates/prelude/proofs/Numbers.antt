@@ -6,7 +6,7 @@ use mathlib.Core.List.{List}
 use Prim.Native.Nat.{ℕ, zero, suc}
 use native.Mathlib.Omega.{arith}
 use Rattle.prelude.specs.Members.{In}
-use Rattle.prelude.specs.Refusal.{say, orElse, unlessRefused}
+use Rattle.prelude.specs.Refusal.{refuseIf, orElse, unlessRefused}
 use Rattle.prelude.specs.Answer.{Answer, refused}
 use Rattle.prelude.specs.Numbers.{Numbered, ZeroOrOneOf}
 use Rattle.prelude.proofs.defs.Among.{isOne, areAmong}
@@ -16,14 +16,14 @@ module _ (ks : List ℕ) where
   pub none-due : ZeroOrOneOf ks 0
   none-due = inl refl
 
-  pub say-due : (t : Bool) (k later : ℕ) → In k ks → ZeroOrOneOf ks later → ZeroOrOneOf ks (say t k later)
-  unfolding say
-  say-due true k later i d = inr i
-  say-due false k later i d = d
+  pub refuseIf-due : (t : Bool) (k later : ℕ) → In k ks → ZeroOrOneOf ks later → ZeroOrOneOf ks (refuseIf t k later)
+  unfolding refuseIf
+  refuseIf-due true k later i d = inr i
+  refuseIf-due false k later i d = d
 
   -- a number of the list, by computing, and what comes after it
-  pub one-due : (t : Bool) (k later : ℕ) → isOne k ks ≡ true → ZeroOrOneOf ks later → ZeroOrOneOf ks (say t k later)
-  one-due t k later e d = say-due t k later (one-of k ks e) d
+  pub one-due : (t : Bool) (k later : ℕ) → isOne k ks ≡ true → ZeroOrOneOf ks later → ZeroOrOneOf ks (refuseIf t k later)
+  one-due t k later e d = refuseIf-due t k later (one-of k ks e) d
 
   pub else-due : (k later : ℕ) → ZeroOrOneOf ks k → ZeroOrOneOf ks later → ZeroOrOneOf ks (orElse k later)
   unfolding orElse

@@ -1,25 +1,25 @@
--- Refusals in order, `say` and `orElse`, and a test for difference. Assumes nothing.
+-- Refusals in order, `refuseIf` and `orElse`, and a test for difference. Assumes nothing.
 use mathlib.Core.Path.{_≡_, refl, sym, ap, _∙_}
 use mathlib.Core.Bool.{Bool, true, false, not}
 use Prim.Native.Nat.{ℕ, zero, suc, _<_}
 use native.Mathlib.Omega.{arith}
 use lib.Dec.{eqb}
 use borrow.Author.Tests.{eq-eqb, ne-eqb}
-use Rattle.prelude.specs.Refusal.{say, orElse, unlessRefused}
+use Rattle.prelude.specs.Refusal.{refuseIf, orElse, unlessRefused}
 
-pub say-true : (t : Bool) (k later : ℕ) → t ≡ true → say t k later ≡ k
-unfolding say
-say-true t k later e = ap (λ (b : Bool). say b k later) e
+pub refuseIf-true : (t : Bool) (k later : ℕ) → t ≡ true → refuseIf t k later ≡ k
+unfolding refuseIf
+refuseIf-true t k later e = ap (λ (b : Bool). refuseIf b k later) e
 
-pub say-false : (t : Bool) (k later : ℕ) → t ≡ false → say t k later ≡ later
-unfolding say
-say-false t k later e = ap (λ (b : Bool). say b k later) e
+pub refuseIf-false : (t : Bool) (k later : ℕ) → t ≡ false → refuseIf t k later ≡ later
+unfolding refuseIf
+refuseIf-false t k later e = ap (λ (b : Bool). refuseIf b k later) e
 
 -- a row of refusals comes to 0: its first test fails, and so do the rest
-pub say-zero : (t : Bool) (k later : ℕ) → say t k later ≡ 0 → 0 < k → (t ≡ false) × (later ≡ 0)
-unfolding say
-say-zero true k later e p = absurd (let z : ⊥ = omega arith in z)
-say-zero false k later e p = (refl, e)
+pub refuseIf-zero : (t : Bool) (k later : ℕ) → refuseIf t k later ≡ 0 → 0 < k → (t ≡ false) × (later ≡ 0)
+unfolding refuseIf
+refuseIf-zero true k later e p = absurd (let z : ⊥ = omega arith in z)
+refuseIf-zero false k later e p = (refl, e)
 
 pub orElse-first : (a b : ℕ) → (a ≡ 0 → ⊥) → orElse a b ≡ a
 unfolding orElse

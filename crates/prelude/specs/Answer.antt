@@ -1,4 +1,5 @@
--- What a public call answers, in document 01's terms, and the number of its refusal. "The answer of get is a value's length, absent, or a refusal with its number, and never two of these at once."
+-- What a public call answers, in document 01's terms, and the number of its refusal. "The answer of get is a value's
+-- length, absent, or a refusal with its number, and never two of these at once."
 use mathlib.Core.List.{List}
 use Prim.Native.Nat.{ℕ}
 use mathlib.Core.Bool.{Bool, not}

@@ -1,4 +1,5 @@
--- Two machines over one list of events, the second of them the plain one: what holds before each event and after the last, and what is right of each event.
+-- Two machines over one list of events, the second of them the plain one: what holds before each event and after the
+-- last, and what is right of each event.
 use mathlib.Core.List.{List, [], _∷_}
 
 module _ {S M E : Type 0}

@@ -1,4 +1,5 @@
--- The numbers with which a call is refused, as a list. Document 02, A.1: "Demand 1's numbers now include those these requests give."
+-- The numbers with which a call is refused, as a list. Document 02, A.1: "Demand 1's numbers now include those these
+-- requests give."
 use mathlib.Core.Path.{_≡_}
 use mathlib.Core.Logic.{_⊎_}
 use mathlib.Core.List.{List}

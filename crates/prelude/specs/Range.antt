@@ -3,7 +3,7 @@ use mathlib.Core.Bool.{Bool, true, false, cond}
 use mathlib.Core.List.{List, [], _∷_}
 use Prim.Native.Nat.{ℕ, zero, suc, max}
 use lib.Dec.{eqb, ltb}
-use Rattle.prelude.specs.Refusal.{say, orElse}
+use Rattle.prelude.specs.Refusal.{refuseIf, orElse}
 
 -- the test holds at one of the n numbers from k on
 unfoldable pub anyOf : (ℕ → Bool) → (k n : ℕ) → Bool
@@ -28,11 +28,11 @@ topmost g (suc n) = cond (ltb (greatest g n) (g (suc n))) (suc n) (topmost g n)
 -- the lowest of 1 to n at which g is not 0, 0 where g is 0 at all of them
 unfoldable pub lowest : (g : ℕ → ℕ) → (n : ℕ) → ℕ
 lowest g zero = 0
-lowest g (suc n) = orElse (lowest g n) (say (eqb (g (suc n)) 0) 0 (suc n))
+lowest g (suc n) = orElse (lowest g n) (refuseIf (eqb (g (suc n)) 0) 0 (suc n))
 
 -- g there, 0 where g is 0 at all of them
 unfoldable pub atLowest : (g : ℕ → ℕ) → (n : ℕ) → ℕ
-atLowest g n = say (eqb (lowest g n) 0) 0 (g (lowest g n))
+atLowest g n = refuseIf (eqb (lowest g n) 0) 0 (g (lowest g n))
 
 -- how many of 1 to n pass a test
 unfoldable pub count : (p : ℕ → Bool) → (n : ℕ) → ℕ

@@ -3,9 +3,9 @@ use mathlib.Core.Bool.{Bool, true, false}
 use Prim.Native.Nat.{ℕ, zero, suc}
 
 -- k where the test holds; otherwise what comes after
-unfoldable pub say : Bool → ℕ → ℕ → ℕ
-say true k later = k
-say false k later = later
+unfoldable pub refuseIf : Bool → ℕ → ℕ → ℕ
+refuseIf true k later = k
+refuseIf false k later = later
 
 -- the first refusal if there is one; otherwise what comes after
 unfoldable pub orElse : ℕ → ℕ → ℕ

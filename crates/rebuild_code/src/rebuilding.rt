@@ -3,19 +3,19 @@ ghost use mathlib.Core.Path.{_≡_};
 ghost use Prim.Native.Nat.{_+_, _<_, _^_};
 ghost use lib.ListN.{length, replicate};
 ghost use Rattle.index.specs.Chained.{lastOf};
-ghost use Rattle.index.specs.inner.Parts.{PartsOf};
 ghost use Rattle.index.specs.inner.Build.{build, placeIn, unbuilt, Ordered};
+ghost use Rattle.index.specs.Index.{indexOf, withCounts};
 ghost use Rattle.recovery.specs.inner.Judge.{Ready, Judgeable, Left, answerBy};
 ghost use Rattle.recovery.specs.inner.Report.{RecoveredWith};
 use index::State;
 use index_code::build::chain_up;
 use index_code::build::clear;
-use recovery::Openings;
+use recovery::Invalidations;
 use recovery::RecoverAnswer;
 use recovery::Recovered;
 use recovery::RecoveryReport;
 use recovery_code::judging::judge;
-use recovery_code::settling::no_openings;
+use recovery_code::settling::no_invalidations;
 
 // The last slot of the order, 0 where there is none.
 fn last_of(order: &[u32]) -> u32
@@ -28,7 +28,8 @@ fn last_of(order: &[u32]) -> u32
     order[n - 1]
 }
 
-// Heads and next become the chains of the order, each slot in the chain that places has for it; the state beside them is returned.
+// Heads and next become the chains of the order, each slot in the chain that places has for it; the state beside them
+// is returned.
 fn rebuild(
     heads: &mut [u32],
     next: &mut [u32],
@@ -38,7 +39,9 @@ fn rebuild(
     top: u64,
 ) -> State
     requires { ⌜ Ordered (now heads) (now next) (now order) (now places) × (top < 2 ^ 63) ⌝ }
-    ensures { λ r. ⌜ PartsOf (now (heads .exit)) (now (next .exit)) r (build (placeIn (now (places .entry))) (unbuilt (replicate (length (now (heads .entry))) 0) (replicate (length (now (next .entry))) 0)) (now (order .entry))) live (top + 1) (lastOf (now (order .entry))) ⌝ }
+    ensures { λ r. ⌜ indexOf (now (heads .exit)) (now (next .exit)) r
+        ≡ withCounts (build (placeIn (now (places .entry))) (unbuilt (replicate (length (now (heads .entry))) 0) (replicate (length (now (next .entry))) 0))
+        (now (order .entry))) live (top + 1) (lastOf (now (order .entry))) ⌝ }
 {
     clear(heads);
     clear(next);
@@ -63,7 +66,8 @@ fn rebuild_accepted(
     top: u64,
 ) -> State
     requires { ⌜ (fault ≡ 0 → Ordered (now heads) (now next) (now order) (now places) × (top < 2 ^ 63)) ⌝ }
-    ensures { λ r. ⌜ Left fault (now (heads .entry)) (now (next .entry)) (now (order .entry)) (now (places .entry)) live top (now (heads .exit)) (now (next .exit)) r ⌝ }
+    ensures { λ r. ⌜ Left fault (now (heads .entry)) (now (next .entry)) (now (order .entry)) (now (places .entry)) live top (now (heads .exit))
+        (now (next .exit)) r ⌝ }
 {
     if fault != 0 {
         return State {
@@ -77,14 +81,14 @@ fn rebuild_accepted(
     rebuild(heads, next, order, places, live, top)
 }
 
-// The state and the opening stores, or the refusal with the slot that it names and no stores.
-fn answer(fault: u32, slot: u32, state: State, openings: Openings) -> RecoverAnswer
-    ensures { λ r. ⌜ r ≡ answerBy fault slot state openings ⌝ }
+// The state and the invalidating stores, or the refusal with the slot that it names and no stores.
+fn answer(fault: u32, slot: u32, state: State, invalidations: Invalidations) -> RecoverAnswer
+    ensures { λ r. ⌜ r ≡ answerBy fault slot state invalidations ⌝ }
 {
     if fault == 0 {
         return RecoverAnswer {
             recovered: Recovered::Rebuilt(state),
-            openings,
+            invalidations,
         };
     }
     RecoverAnswer {
@@ -92,7 +96,7 @@ fn answer(fault: u32, slot: u32, state: State, openings: Openings) -> RecoverAns
             number: fault,
             slot,
         },
-        openings: no_openings(),
+        invalidations: no_invalidations(),
     }
 }
 
@@ -111,8 +115,9 @@ pub fn recover_with(
     by_key: &mut [u32],
     scratch: &mut [u32],
 ) -> RecoveryReport
-    requires { ⌜ Ready (now image) l (now heads) (now next) n × Judgeable (now image) l (now ranks) (now lows) (now highs) (now places) (now order) (now «by_key») (now scratch) n (length (now heads)) ⌝ }
-    ensures { λ r. ⌜ RecoveredWith l (now (image .entry)) (now (heads .entry)) (now (next .entry)) (now (heads .exit)) (now (next .exit)) r ⌝ }
+    requires ready { ⌜ Ready (now image) l (now heads) (now next) n
+        × Judgeable (now image) l (now ranks) (now lows) (now highs) (now places) (now order) (now «by_key») (now scratch) n (length (now heads)) ⌝ }
+    ensures result { λ r. ⌜ RecoveredWith l (now (image .entry)) (now (heads .entry)) (now (next .entry)) (now (heads .exit)) (now (next .exit)) r ⌝ }
 {
     let judged = judge(
         image,
@@ -129,10 +134,10 @@ pub fn recover_with(
     );
     let fault = judged.fault;
     let state = rebuild_accepted(heads, next, order, places, fault, judged.live, judged.top);
-    let openings = judged.openings;
+    let invalidations = judged.invalidations;
     let classes = judged.classes;
     RecoveryReport {
-        answer: answer(fault, judged.slot, state, openings),
+        answer: answer(fault, judged.slot, state, invalidations),
         classes,
     }
 }

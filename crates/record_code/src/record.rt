@@ -78,8 +78,8 @@ fn put_line(words: &mut [u64], from: usize, mark: u64, one: u64, two: u64, three
     words[from + 7] = stamp;
 }
 
-// The values of the stores of a record without a value whose kind word is w, over lines with stamps a and b, from position from on. Only words 2 and 3 of
-// line A depend on the layout.
+// The values of the stores of a record without a value whose kind word is w, over lines with stamps a and b, from
+// position from on. Only words 2 and 3 of line A depend on the layout.
 fn fill_frame(
     l: usize,
     a: u64,
@@ -116,8 +116,9 @@ fn fill_frame(
     );
 }
 
-// The stores of a record for slot s of the image, as entries from to from + 15 of two lists: those without a value, and then the value is moved in. number is
-// that of the records which share the version, 0 for one alone. The count of words moved.
+// The stores of a record for slot s of the image, as entries from to from + 15 of two lists: those without a value, and
+// then the value is moved in. number is that of the records which share the version, 0 for one alone. The count of
+// words moved.
 pub fn record_stores_at(
     image: &[u8],
     l: usize,
@@ -132,7 +133,8 @@ pub fn record_stores_at(
     words: &mut [u64],
     from: usize,
 ) -> usize
-    requires { ⌜ Recordable l kind number (now value) version × (s < 65536) × (128 * (s + 1) ≤ length (now image)) × (from + 16 ≤ length (now at)) × (from + 16 ≤ length (now words)) ⌝ }
+    requires { ⌜ Recordable l kind number (now value) version × (s < 65536) × (128 * (s + 1) ≤ length (now image)) × (from + 16 ≤ length (now at)) ×
+        (from + 16 ≤ length (now words)) ⌝ }
     ensures stores { λ r. ⌜ (now (at .exit)
         ≡ pasted (now (at .entry)) from
         (wordNumbers (recordStores l (word (now (image .entry))) s (keyWith low high) kind number (now (value .entry)) version)) 16)
@@ -198,7 +200,8 @@ pub fn remove_stores(
     words: &mut [u64; 16],
 )
     requires { ⌜ Layout l × (number < 256) × (version < 2 ^ 63) × (s < 65536) × (128 * (s + 1) ≤ length (now image)) ⌝ }
-    ensures { λ _. ⌜ zipped (now (at .exit)) (now (words .exit)) ≡ recordStores l (word (now (image .entry))) s (keyWith low high) 2 number [] version ⌝ }
+    ensures result { λ _. ⌜ zipped (now (at .exit)) (now (words .exit))
+        ≡ recordStores l (word (now (image .entry))) s (keyWith low high) 2 number [] version ⌝ }
 {
     let slot = s as usize;
     let a = read_word(image, 16 * slot + 7);

@@ -22,7 +22,8 @@ fn fill_step(l: usize, value: &[u8], words: &mut [u64], from: usize, i: usize) -
 // The words of the value go to their places among the sixteen from position from on. The count of steps.
 pub fn fill_value(l: usize, value: &[u8], words: &mut [u64], from: usize) -> usize
     requires { ⌜ Layout l × (length (now value) ≤ limit l) × (from + 16 ≤ length (now words)) ⌝ }
-    ensures { λ r. ⌜ (r ≡ wordsMoved (length (now (value .entry)))) × (now (words .exit) ≡ withValue l (now (value .entry)) from (wordsMoved (length (now (value .entry)))) (now (words .entry))) ⌝ }
+    ensures result { λ r. ⌜ (r ≡ wordsMoved (length (now (value .entry)))) ×
+        (now (words .exit) ≡ withValue l (now (value .entry)) from (wordsMoved (length (now (value .entry)))) (now (words .entry))) ⌝ }
 {
     let mut i = 0;
     while 8 * i < value.len() {

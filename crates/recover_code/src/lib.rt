@@ -15,12 +15,12 @@ use recovery::Classes;
 use recovery::RecoverAnswer;
 use recovery::Recovered;
 use recovery::RecoveryReport;
-use recovery_code::settling::no_openings;
+use recovery_code::settling::no_invalidations;
 
 // Recover, in layout l, and how many slots are of each class.
 pub fn recover_in(image: &[u8], l: usize, heads: &mut [u32], next: &mut [u32]) -> RecoveryReport
     requires { ⌜ Layout l ⌝ }
-    ensures { λ r. ⌜ RecoveredWith l (now (image .entry)) (now (heads .entry)) (now (next .entry)) (now (heads .exit)) (now (next .exit)) r ⌝ }
+    ensures result { λ r. ⌜ RecoveredWith l (now (image .entry)) (now (heads .entry)) (now (next .entry)) (now (heads .exit)) (now (next .exit)) r ⌝ }
 {
     let fault = lent_fault(image, l, heads.len(), next.len());
     if fault != 0 {
@@ -30,7 +30,7 @@ pub fn recover_in(image: &[u8], l: usize, heads: &mut [u32], next: &mut [u32]) -
                     number: fault,
                     slot: 0,
                 },
-                openings: no_openings(),
+                invalidations: no_invalidations(),
             },
             classes: Classes {
                 broken: 0,
@@ -59,16 +59,19 @@ pub fn recover_in(image: &[u8], l: usize, heads: &mut [u32], next: &mut [u32]) -
     recover_65536(image, l, heads, next, n)
 }
 
-// The index of the image: the state beside the rebuilt heads and next with the stores that open void slots, or a refusal, which changes neither.
+// The index of the image: the state beside the rebuilt heads and next with the stores that open void slots, or a
+// refusal, which changes neither.
 pub fn recover(image: &[u8], heads: &mut [u32], next: &mut [u32]) -> RecoverAnswer
-    ensures { λ r. ⌜ recoverEnd (r .recovered) (r .openings) (now (heads .exit)) (now (next .exit)) ≡ recoverResult 1 (now (image .entry)) (now (heads .entry)) (now (next .entry)) ⌝ }
+    ensures result { λ r. ⌜ recoverEnd (r .recovered) (r .invalidations) (now (heads .exit)) (now (next .exit))
+        ≡ recoverResult 1 (now (image .entry)) (now (heads .entry)) (now (next .entry)) ⌝ }
 {
     recover_in(image, 1, heads, next).answer
 }
 
 // Recover in layout 2.
 pub fn recover2(image: &[u8], heads: &mut [u32], next: &mut [u32]) -> RecoverAnswer
-    ensures { λ r. ⌜ recoverEnd (r .recovered) (r .openings) (now (heads .exit)) (now (next .exit)) ≡ recoverResult 2 (now (image .entry)) (now (heads .entry)) (now (next .entry)) ⌝ }
+    ensures result { λ r. ⌜ recoverEnd (r .recovered) (r .invalidations) (now (heads .exit)) (now (next .exit))
+        ≡ recoverResult 2 (now (image .entry)) (now (heads .entry)) (now (next .entry)) ⌝ }
 {
     recover_in(image, 2, heads, next).answer
 }

@@ -20,7 +20,8 @@ fn recover_on_fronts(
     by_key: &mut [u32],
     scratch: &mut [u32],
 ) -> RecoveryReport
-    requires { ⌜ Ready (now image) l (now heads) (now next) n × Roomy (now ranks) (now lows) (now highs) (now places) (now order) (now «by_key») (now scratch) n ⌝ }
+    requires { ⌜ Ready (now image) l (now heads) (now next) n
+        × Roomy (now ranks) (now lows) (now highs) (now places) (now order) (now «by_key») (now scratch) n ⌝ }
     ensures { λ r. ⌜ RecoveredWith l (now (image .entry)) (now (heads .entry)) (now (next .entry)) (now (heads .exit)) (now (next .exit)) r ⌝ }
 {
     let m = n + 1;
@@ -50,7 +51,7 @@ pub fn recover_64(
     n: usize,
 ) -> RecoveryReport
     requires { ⌜ Ready (now image) l (now heads) (now next) n × (n < 64) ⌝ }
-    ensures { λ r. ⌜ RecoveredWith l (now (image .entry)) (now (heads .entry)) (now (next .entry)) (now (heads .exit)) (now (next .exit)) r ⌝ }
+    ensures result { λ r. ⌜ RecoveredWith l (now (image .entry)) (now (heads .entry)) (now (next .entry)) (now (heads .exit)) (now (next .exit)) r ⌝ }
 {
     let mut ranks = [0u64; 64];
     let mut lows = [0u64; 64];
@@ -84,7 +85,7 @@ pub fn recover_256(
     n: usize,
 ) -> RecoveryReport
     requires { ⌜ Ready (now image) l (now heads) (now next) n × (n < 256) ⌝ }
-    ensures { λ r. ⌜ RecoveredWith l (now (image .entry)) (now (heads .entry)) (now (next .entry)) (now (heads .exit)) (now (next .exit)) r ⌝ }
+    ensures result { λ r. ⌜ RecoveredWith l (now (image .entry)) (now (heads .entry)) (now (next .entry)) (now (heads .exit)) (now (next .exit)) r ⌝ }
 {
     let mut ranks = [0u64; 256];
     let mut lows = [0u64; 256];
@@ -118,7 +119,7 @@ pub fn recover_1024(
     n: usize,
 ) -> RecoveryReport
     requires { ⌜ Ready (now image) l (now heads) (now next) n × (n < 1024) ⌝ }
-    ensures { λ r. ⌜ RecoveredWith l (now (image .entry)) (now (heads .entry)) (now (next .entry)) (now (heads .exit)) (now (next .exit)) r ⌝ }
+    ensures result { λ r. ⌜ RecoveredWith l (now (image .entry)) (now (heads .entry)) (now (next .entry)) (now (heads .exit)) (now (next .exit)) r ⌝ }
 {
     let mut ranks = [0u64; 1024];
     let mut lows = [0u64; 1024];
@@ -152,7 +153,7 @@ pub fn recover_4096(
     n: usize,
 ) -> RecoveryReport
     requires { ⌜ Ready (now image) l (now heads) (now next) n × (n < 4096) ⌝ }
-    ensures { λ r. ⌜ RecoveredWith l (now (image .entry)) (now (heads .entry)) (now (next .entry)) (now (heads .exit)) (now (next .exit)) r ⌝ }
+    ensures result { λ r. ⌜ RecoveredWith l (now (image .entry)) (now (heads .entry)) (now (next .entry)) (now (heads .exit)) (now (next .exit)) r ⌝ }
 {
     let mut ranks = [0u64; 4096];
     let mut lows = [0u64; 4096];
@@ -186,7 +187,7 @@ pub fn recover_16384(
     n: usize,
 ) -> RecoveryReport
     requires { ⌜ Ready (now image) l (now heads) (now next) n × (n < 16384) ⌝ }
-    ensures { λ r. ⌜ RecoveredWith l (now (image .entry)) (now (heads .entry)) (now (next .entry)) (now (heads .exit)) (now (next .exit)) r ⌝ }
+    ensures result { λ r. ⌜ RecoveredWith l (now (image .entry)) (now (heads .entry)) (now (next .entry)) (now (heads .exit)) (now (next .exit)) r ⌝ }
 {
     let mut ranks = [0u64; 16384];
     let mut lows = [0u64; 16384];
@@ -220,7 +221,7 @@ pub fn recover_65536(
     n: usize,
 ) -> RecoveryReport
     requires { ⌜ Ready (now image) l (now heads) (now next) n × (n < 65536) ⌝ }
-    ensures { λ r. ⌜ RecoveredWith l (now (image .entry)) (now (heads .entry)) (now (next .entry)) (now (heads .exit)) (now (next .exit)) r ⌝ }
+    ensures result { λ r. ⌜ RecoveredWith l (now (image .entry)) (now (heads .entry)) (now (next .entry)) (now (heads .exit)) (now (next .exit)) r ⌝ }
 {
     let mut ranks = [0u64; 65536];
     let mut lows = [0u64; 65536];

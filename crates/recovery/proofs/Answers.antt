@@ -9,7 +9,7 @@ use lib.ListN.{length}
 use Rattle.words.specs.Word.{word}
 use Rattle.layout.specs.Size.{slotsIn}
 use Rattle.layout.specs.Line.{lineA, lineB}
-use Rattle.layout.specs.Content.{content, Table, contentsOf, numbersOf}
+use Rattle.layout.specs.Content.{content, Table, contentsOf, sizeFieldsOf}
 use Rattle.table.specs.Complete.{tableOf}
 use Rattle.layout.specs.Header.{imageFault, lentFault}
 use Rattle.prelude.proofs.Refusals.{orElse-zero}
@@ -27,7 +27,7 @@ use Rattle.table.proofs.Map.{Live, lives, live-is, decider-weight}
 use Rattle.table.proofs.Recovery.{recovery-chains, recovery-spares}
 use Rattle.table.proofs.Search.{chain-decider, chain-has, first-with-holder}
 use Rattle.index.specs.Index.{Index, reuse, head, headOf}
-use Rattle.index.specs.Linked.{Sits}
+use Rattle.index.specs.Linked.{ChainsPartition}
 use Rattle.index.specs.Walk.{slotKey, search}
 use Rattle.index.proofs.defs.SearchIn.{searchIn}
 use Rattle.index.specs.declared.Found.{Found}
@@ -77,7 +77,7 @@ live-slot-key l image n s e = go (live-is (tableOf l image) n s e)
     go : Live (tableOf l image) n s → keyIn (tableOf l image s) ≡ slotKey l image s
     go (lives w k v d b) =
         ap keyIn d
-        ∙ sym (put-at l (lineA (word image) s) (lineB (word image) s) w k v (settled-put (contentsOf l image) (numbersOf l image) (slotsIn image) s w k v d) .key)
+        ∙ sym (put-at l (lineA (word image) s) (lineB (word image) s) w k v (settled-put (contentsOf l image) (sizeFieldsOf l image) (slotsIn image) s w k v d) .key)
 
 -- ---- the search
 
@@ -122,7 +122,7 @@ chains-hold : (f : Table) (n b : ℕ) → Chains f n (λ k. headOf k b) (λ h. c
 unfolding chainsOf
 chains-hold f n b = recovery-chains f n (λ k. headOf k b)
 
-searched : (l : ℕ) (image : List ℕ) (f : Table) (n b key : ℕ) (i : Index) → slotsIn image ≡ n → Sits n b (placeOf f n b) i (chainsOf f n b)
+searched : (l : ℕ) (image : List ℕ) (f : Table) (n b key : ℕ) (i : Index) → slotsIn image ≡ n → ChainsPartition n b (placeOf f n b) i (chainsOf f n b)
     → allLive f n ≡ false
     → search l image (i .heads) (i .next) key ≡ searchIn (slotKey l image) key 0 0 (chainsOf f n b (head (headOf key b)))
 searched l image f n b key i size g e =

@@ -17,7 +17,7 @@ use Rattle.sorting.proofs.Order as sorting
 use Rattle.sorting.proofs.Order.{low, high, compared, at-in, rising-sorted}
 use Rattle.sorting.proofs.Positions.{Stands, stands, once-at, rising-at}
 use Rattle.prelude.proofs.Lists.{AllSlots}
-use Rattle.table.specs.Complete.{Numbers, said}
+use Rattle.table.specs.Complete.{SizeFields, basketSize}
 use Rattle.recovery.specs.inner.Scan.{keyAt}
 use Rattle.recovery.specs.inner.Decide.{entryAt, equalNeighbours, tooMany, runFault, fullRun, followed, keyTwice, Within, NoneOrAll}
 use Rattle.recovery.specs.inner.Judge.{OrderNumbered, Comparable, Compared}
@@ -40,31 +40,31 @@ second false q e = absurd (true-false e refl)
 
 -- a run that is too long, and one that is full; k is what the number of the slot says
 
-module _ (num : Numbers) (ranks order : List ℕ) (i k : ℕ) (e : k ≡ said (num (getD order i 0))) where
+module _ (num : SizeFields) (ranks order : List ℕ) (i k : ℕ) (e : k ≡ basketSize (num (getD order i 0))) where
   pub too-many-past : length order ≤ i + k → false ≡ tooMany num ranks order i
   unfolding tooMany
   too-many-past h =
-      sym (false-left (ltb (i + said (num (getD order i 0))) (length order)) _ (le-ltb (i + said (num (getD order i 0))) (length order) (omega arith)))
+      sym (false-left (ltb (i + basketSize (num (getD order i 0))) (length order)) _ (le-ltb (i + basketSize (num (getD order i 0))) (length order) (omega arith)))
 
   pub too-many-test : (a b : ℕ) → i + k < length order → a ≡ entryAt ranks order (i + k) → b ≡ entryAt ranks order i → eqb a b ≡ tooMany num ranks order i
   unfolding tooMany
   too-many-test a b h p q =
       ap₂ eqb (p ∙ ap (λ (x : ℕ). entryAt ranks order (i + x)) e) q
-      ∙ second (ltb (i + said (num (getD order i 0))) (length order)) _ (lt-ltb (i + said (num (getD order i 0))) (length order) (omega arith))
+      ∙ second (ltb (i + basketSize (num (getD order i 0))) (length order)) _ (lt-ltb (i + basketSize (num (getD order i 0))) (length order) (omega arith))
 
   pub full-short : i + 1 < k → false ≡ fullRun num ranks order i
   unfolding fullRun
-  full-short h = sym (false-left (leb (said (num (getD order i 0))) (i + 1)) _ (lt-leb (said (num (getD order i 0))) (i + 1) (omega arith)))
+  full-short h = sym (false-left (leb (basketSize (num (getD order i 0))) (i + 1)) _ (lt-leb (basketSize (num (getD order i 0))) (i + 1) (omega arith)))
 
   pub full-test : (a b : ℕ) → k ≤ i + 1 → a ≡ entryAt ranks order (i + 1 - k) → b ≡ entryAt ranks order i → eqb a b ≡ fullRun num ranks order i
   unfolding fullRun
   full-test a b h p q =
       ap₂ eqb (p ∙ ap (λ (x : ℕ). entryAt ranks order (i + 1 - x)) e) q
-      ∙ second (leb (said (num (getD order i 0))) (i + 1)) _ (le-leb (said (num (getD order i 0))) (i + 1) (omega arith))
+      ∙ second (leb (basketSize (num (getD order i 0))) (i + 1)) _ (le-leb (basketSize (num (getD order i 0))) (i + 1) (omega arith))
 
 -- a run that is at fault; shared is the test of the two neighbours, a and b are their numbers
 
-module _ (num : Numbers) (ranks order : List ℕ) (i : ℕ) (shared : Bool) (e : shared ≡ equalNeighbours ranks order i) where
+module _ (num : SizeFields) (ranks order : List ℕ) (i : ℕ) (shared : Bool) (e : shared ≡ equalNeighbours ranks order i) where
   pub run-apart : not shared ≡ true → false ≡ runFault num ranks order i
   unfolding runFault
   run-apart t = sym (false-left (equalNeighbours ranks order i) _ (sym e ∙ not-true shared t))
@@ -164,7 +164,7 @@ module _ (image : List ℕ) (l n : ℕ) (ranks lows highs order₀ by-key₀ spa
           slot : (x : ℕ) → x < n → Slot n (getD by-key x 0)
           slot x u = keyed .within (getD by-key x 0) (at-in by-key x (omega (arith, keyed .size)))
 
-    pub compared-none : (num : Numbers) (some : Bool) → some ≡ anyOf (equalNeighbours ranks order) 0 (n - 1) → not some ≡ true
+    pub compared-none : (num : SizeFields) (some : Bool) → some ≡ anyOf (equalNeighbours ranks order) 0 (n - 1) → not some ≡ true
         → Compared num ranks lows highs n order by-key false
     compared-none num some e t =
         record {
@@ -181,7 +181,7 @@ module _ (image : List ℕ) (l n : ℕ) (ranks lows highs order₀ by-key₀ spa
         none : anyOf (equalNeighbours ranks order) 0 (n - 1) ≡ false
         none = sym e ∙ not-true some t
 
-    module _ (num : Numbers) (runs : Bool) (r : runs ≡ anyOf (runFault num ranks order) 0 (n - 1)) where
+    module _ (num : SizeFields) (runs : Bool) (r : runs ≡ anyOf (runFault num ranks order) 0 (n - 1)) where
       pub compared-runs : runs ≡ true → Compared num ranks lows highs n order by-key true
       compared-runs t =
           record {

@@ -13,7 +13,7 @@ use Rattle.sorting.specs.Sorted.{sorted}
 use Rattle.prelude.proofs.defs.Members.{Rising}
 use Rattle.prelude.specs.Members.{Once, slotNumbers, Slot}
 use Rattle.sorting.proofs.Order.{Compared, low, high, compared, at-in, rising-sorted}
-use Rattle.table.specs.Table.{keyIn, weight, decider, decidingPut, live, liveCount}
+use Rattle.table.specs.Table.{keyIn, rankForKey, decider, decidingPut, live, liveCount}
 use Rattle.table.specs.Order.{rankOf, ordered}
 use Rattle.table.proofs.defs.Write.{ApartByKey}
 use Rattle.table.proofs.OneSlot.{weight-put, weight-key}
@@ -106,8 +106,8 @@ decided-at key l (suc i) p j o h k u = go (compared i j) (λ v. decided-at key l
 
 -- rank and weight
 
-weight-rank : (k : ℕ) (c : Content) → 2 ≤ rankOf c → keyIn c ≡ k → suc (weight k c) ≡ rankOf c
-unfolding rankOf weight keyIn
+weight-rank : (k : ℕ) (c : Content) → 2 ≤ rankOf c → keyIn c ≡ k → suc (rankForKey k c) ≡ rankOf c
+unfolding rankOf rankForKey keyIn
 weight-rank k (broken t) h e = absurd (omega arith)
 weight-rank k empty h e = absurd (omega arith)
 weight-rank k (putRecord w j v) h e = ap (λ (b : Bool). suc (cond b (suc w) 0)) (eq-eqb j k e) ∙ omega arith
@@ -142,7 +142,7 @@ followed-idle : (f : Table) (n : ℕ) (key : ℕ → ℕ) (l : List ℕ) (j w k 
     → f (getD l j 0) ≡ putRecord w k v → followed key l j ≡ true → decider f n k ≡ getD l j 0 → ⊥
 unfolding rankOf keyIn
 followed-idle f n key l j w k v h a u e q d =
-    omega (arith, older, weight-rank k (f t) many same, ap rankOf e, ap (weight k) e ∙ weight-put w k v, later)
+    omega (arith, older, weight-rank k (f t) many same, ap rankOf e, ap (rankForKey k) e ∙ weight-put w k v, later)
   where
     s : ℕ
     s = getD l j 0
@@ -171,7 +171,7 @@ followed-idle f n key l j w k v h a u e q d =
     same : keyIn (f t) ≡ k
     same = sym (h .key-is t slot-t many) ∙ sym (followed-key key l j q) ∙ h .key-is s slot-s (omega (arith, ap rankOf e)) ∙ ap keyIn e
 
-    older : weight k (f t) < weight k (f s)
+    older : rankForKey k (f t) < rankForKey k (f s)
     older = decider-newest f n k s t a slot-s slot-t d other
 
 -- not followed, it decides its key
@@ -179,7 +179,7 @@ last-decides : (f : Table) (n : ℕ) (key : ℕ → ℕ) (l : List ℕ) (j w k :
     → f (getD l j 0) ≡ putRecord w k v → followed key l j ≡ false → decider f n k ≡ getD l j 0
 unfolding keyIn rankOf
 last-decides f n key l j w k v h a u e q =
-    decider-unique f n k s a slot-s (omega (arith, heavy)) (λ t i. most t i (stands l t (h .whole .all t i)) (weight k (f t)) refl)
+    decider-unique f n k s a slot-s (omega (arith, heavy)) (λ t i. most t i (stands l t (h .whole .all t i)) (rankForKey k (f t)) refl)
   where
     s : ℕ
     s = getD l j 0
@@ -187,8 +187,8 @@ last-decides f n key l j w k v h a u e q =
     slot-s : Slot n s
     slot-s = h .whole .within s (at-in l j u)
 
-    heavy : weight k (f s) ≡ suc w
-    heavy = ap (weight k) e ∙ weight-put w k v
+    heavy : rankForKey k (f s) ≡ suc w
+    heavy = ap (rankForKey k) e ∙ weight-put w k v
 
     key-s : key s ≡ k
     key-s = h .key-is s slot-s (omega (arith, ap rankOf e)) ∙ ap keyIn e
@@ -208,11 +208,11 @@ last-decides f n key l j w k v h a u e q =
         alike (low x y) (high m o) =
             omega (arith, first, rising-at key l (j + 1) i (h .rising) o c, key-s, z)
 
-    most : (t : ℕ) → Slot n t → Stands l t → (m : ℕ) → weight k (f t) ≡ m → weight k (f t) ≤ weight k (f s)
+    most : (t : ℕ) → Slot n t → Stands l t → (m : ℕ) → rankForKey k (f t) ≡ m → rankForKey k (f t) ≤ rankForKey k (f s)
     most t i p zero z = omega arith
     most t i p (suc m) z = go (compared (p .spot) j)
       where
-        says-k : 0 < weight k (f t)
+        says-k : 0 < rankForKey k (f t)
         says-k = omega arith
 
         key-t : key (getD l (p .spot) 0) ≡ k
@@ -230,7 +230,7 @@ last-decides f n key l j w k v h a u e q =
               by-key-at key (λ d. rankOf (f d)) l (p .spot) j (h .by-rank) y u (key-t ∙ sym key-s),
             )
 
-        go : Compared (p .spot) j → weight k (f t) ≤ weight k (f s)
+        go : Compared (p .spot) j → rankForKey k (f t) ≤ rankForKey k (f s)
         go (low x y) =
             omega (arith, earlier (compared j (p .spot)) y, rank-weight k (f t) says-k, rank-weight k (f s) (omega (arith, heavy)))
         go (high x y) = absurd (none-later (p .spot) y (p .inside) key-t)

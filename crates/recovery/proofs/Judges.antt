@@ -10,20 +10,20 @@ use lib.ListN.{length, getD}
 use Rattle.words.specs.Word.{AreBytes, word}
 use Rattle.words.proofs.Laws.{word-range}
 use Rattle.prelude.proofs.Choice.{pick-true, pick-false, split}
-use Rattle.prelude.specs.Refusal.{say, orElse}
+use Rattle.prelude.specs.Refusal.{refuseIf, orElse}
 use Rattle.prelude.specs.Range.{anyOf, atLowest}
 use Rattle.prelude.specs.Filter.{filter}
 use Rattle.layout.specs.Record.{Layout}
-use Rattle.layout.specs.Line.{lineA, lineB, whole, versionOf, lineTop}
-use Rattle.layout.specs.Slot.{slotTop}
-use Rattle.layout.specs.Content.{content, top, topOf, Table, contentsOf, numbersOf}
+use Rattle.layout.specs.Line.{lineA, lineB, whole, versionOf, wholeVersion}
+use Rattle.layout.specs.Slot.{highestWholeOf}
+use Rattle.layout.specs.Content.{content, highestWhole, highestWholeIn, Table, contentsOf, sizeFieldsOf}
 use Rattle.layout.specs.Fault.{markFault, recordFault}
-use Rattle.prelude.proofs.Refusals.{say-true}
+use Rattle.prelude.proofs.Refusals.{refuseIf-true}
 use Rattle.layout.proofs.Content.{top-is}
 use Rattle.prelude.specs.Members.{slotNumbers}
 use Rattle.sorting.proofs.Order.{sorted-alike}
 use Rattle.table.specs.Table.{isBroken, brokenCount, brokenLimit, liveCount, nextVersion, manyBroken, allLive}
-use Rattle.table.specs.Complete.{Numbers, highestComplete, isVoid, settled}
+use Rattle.table.specs.Complete.{SizeFields, highestComplete, isVoid, settled}
 use Rattle.table.specs.Shared.{sharersFault}
 use Rattle.table.specs.Order.{rankOf, ordered}
 use Rattle.table.proofs.defs.Shared.{Agreed}
@@ -33,35 +33,35 @@ use Rattle.prelude.proofs.Count.{count-filter, count-most}
 use Rattle.prelude.proofs.Lists.{slots-in, AllSlots}
 use Rattle.sorting.proofs.Whole.{whole-sorted}
 use Rattle.prelude.proofs.Most.{greatest-least}
-use Rattle.stores.specs.Opening.{openingStores}
-use Rattle.recovery.specs.Opening.{voidSlots, openingsOf}
+use Rattle.stores.specs.Invalidation.{invalidatingStores}
+use Rattle.recovery.specs.Invalidation.{voidSlots, invalidationsOf}
 use Rattle.recovery.specs.Recover.{settledFault, slotsFault, slotsNamed}
 use Rattle.recovery.specs.inner.Scan.{keyAt, Listed, Scanned}
 use Rattle.recovery.specs.inner.Decide.{judgedRank, decided, placedCount, livePlace, Within, NoneOrAll}
 use Rattle.recovery.specs.inner.Judge.{InOrder, OrderNumbered, Compared, Settled, foundFault, foundSlot, Judgement}
 use Rattle.recovery.specs.declared.Scan.{Scan}
-use Rattle.recovery.specs.declared.Openings.{Openings}
+use Rattle.recovery.specs.declared.Invalidations.{Invalidations}
 use Rattle.recovery.proofs.Clear.{slots-clear}
 use Rattle.recovery.proofs.Orders.{whole-order, whole-within}
 use Rattle.recovery.proofs.Neighbours.{orders-shared}
 use Rattle.recovery.proofs.Void.{judged-is, settled-apart, above-void, settled-listed, broken-with-void}
-use Rattle.recovery.proofs.OpeningStores.{openings-length}
+use Rattle.recovery.proofs.InvalidatingStores.{invalidations-length}
 use Rattle.recovery.proofs.Rebuilt.{filter-alike}
 use Rattle.recovery.proofs.Scans.{highs-all}
 use Rattle.recovery.proofs.Decides.{decided-live, counted-live}
 
 -- ---- versions fit
 
-line-small : (mark stamp : ℕ) → stamp < 2 ^ 64 → lineTop mark stamp < 2 ^ 63
-unfolding lineTop
+line-small : (mark stamp : ℕ) → stamp < 2 ^ 64 → wholeVersion mark stamp < 2 ^ 63
+unfolding wholeVersion
 line-small mark stamp h = go (split (whole mark stamp))
   where
     go : (whole mark stamp ≡ true) ⊎ (whole mark stamp ≡ false) → cond (whole mark stamp) (versionOf stamp) 0 < 2 ^ 63
     go (inl e) = omega (arith, pick-true (whole mark stamp) (versionOf stamp) 0 e)
     go (inr e) = omega (arith, pick-false (whole mark stamp) (versionOf stamp) 0 e)
 
-top-small : (l : ℕ) (image : List ℕ) (s : ℕ) → AreBytes image → topOf (contentsOf l image s) < 2 ^ 63
-unfolding top slotTop
+top-small : (l : ℕ) (image : List ℕ) (s : ℕ) → AreBytes image → highestWholeIn (contentsOf l image s) < 2 ^ 63
+unfolding highestWhole highestWholeOf
 top-small l image s b =
     omega (
       arith,
@@ -73,49 +73,49 @@ top-small l image s b =
 -- ---- judge
 
 module _ (l : ℕ) (image : List ℕ) (n b : ℕ) (ranks lows highs places₁ order₁ by-key₁ ranks₂ places₂ order by-key places : List ℕ) (all : Scan)
-    (shared : Bool) (limit live-count broken : ℕ) (opened : Openings) (bytes : AreBytes image) (size : length places₁ ≡ n + 1)
+    (shared : Bool) (limit live-count broken : ℕ) (opened : Invalidations) (bytes : AreBytes image) (size : length places₁ ≡ n + 1)
     (s : Scanned l (word image) n b ranks lows highs places₁ all)
-    (twin : Compared (numbersOf l image) ranks lows highs n order₁ by-key₁ shared) (limit-by : limit ≡ judgedRank (numbersOf l image) ranks order₁ n)
+    (twin : Compared (sizeFieldsOf l image) ranks lows highs n order₁ by-key₁ shared) (limit-by : limit ≡ judgedRank (sizeFieldsOf l image) ranks order₁ n)
     (v : Settled (word image) limit n ranks lows highs places₁ ranks₂ places₂ order by-key opened)
     (done : places ≡ decided (keyAt lows highs) by-key n places₂) (counted : live-count ≡ placedCount places n)
     (sum : broken ≡ all .classes .broken + opened .count) where
   abbrev raw : Table
   raw = contentsOf l image
 
-  abbrev num : Numbers
-  num = numbersOf l image
+  abbrev num : SizeFields
+  num = sizeFieldsOf l image
 
   abbrev f : Table
   f = settled raw num n
 
-  shared-is : shared ≡ sharersFault (contentsOf l image) (numbersOf l image) n
+  shared-is : shared ≡ sharersFault (contentsOf l image) (sizeFieldsOf l image) n
   shared-is =
       twin .shared-is ∙ orders-shared raw num n b ranks lows highs places₁ order₁ by-key₁ (s .listed) (twin .in-order .by-rank) (twin .in-order .keyed)
 
-  module _ (fine : sharersFault (contentsOf l image) (numbersOf l image) n ≡ false) where
-    agreed : Agreed (contentsOf l image) (numbersOf l image) n
+  module _ (fine : sharersFault (contentsOf l image) (sizeFieldsOf l image) n ≡ false) where
+    agreed : Agreed (contentsOf l image) (sizeFieldsOf l image) n
     agreed = fault-agreed raw num n fine
 
-    limit-is : limit ≡ 2 + highestComplete (contentsOf l image) (numbersOf l image) n
+    limit-is : limit ≡ 2 + highestComplete (contentsOf l image) (sizeFieldsOf l image) n
     limit-is = limit-by ∙ judged-is raw num n ranks order₁ (s .listed .rank-at) (twin .in-order .by-rank) agreed
 
-    listed : Listed (settled (contentsOf l image) (numbersOf l image) n) n b ranks₂ lows highs places₂
+    listed : Listed (settled (contentsOf l image) (sizeFieldsOf l image) n) n b ranks₂ lows highs places₂
     listed = settled-listed raw num n b limit ranks lows highs places₁ ranks₂ places₂ (s .listed) limit-is (v .cleared)
 
-    order-is : order ≡ ordered (settled (contentsOf l image) (numbersOf l image) n) (slotNumbers n)
+    order-is : order ≡ ordered (settled (contentsOf l image) (sizeFieldsOf l image) n) (slotNumbers n)
     unfolding ordered
     order-is =
         v .in-order .by-rank
         ∙ sorted-alike (λ x. getD ranks₂ x 0) (λ x. rankOf (f x)) (slotNumbers n)
         (λ x i. let t = slots-in n x i in listed .rank-at x (t .0) (t .1))
 
-    place-is : (t : ℕ) → 0 < t → t ≤ n → getD places t 0 ≡ livePlace (settled (contentsOf l image) (numbersOf l image) n) n b t
+    place-is : (t : ℕ) → 0 < t → t ≤ n → getD places t 0 ≡ livePlace (settled (contentsOf l image) (sizeFieldsOf l image) n) n b t
     place-is t low high =
         ap (λ (p : List ℕ). getD p t 0) done
         ∙ decided-live f n b ranks₂ lows highs places₂ order by-key listed (v .cleared .places-size ∙ size) (settled-apart raw num n agreed) order-is
         (v .in-order .keyed) t low high
 
-    live-is : live-count ≡ liveCount (settled (contentsOf l image) (numbersOf l image) n) n
+    live-is : live-count ≡ liveCount (settled (contentsOf l image) (sizeFieldsOf l image) n) n
     live-is =
         counted ∙ ap (λ (p : List ℕ). placedCount p n) done
         ∙ counted-live f n b ranks₂ lows highs places₂ order by-key listed (v .cleared .places-size ∙ size) (settled-apart raw num n agreed) order-is
@@ -127,51 +127,51 @@ module _ (l : ℕ) (image : List ℕ) (n b : ℕ) (ranks lows highs places₁ or
         filter-alike (λ t. ltb limit (getD ranks t 0)) (isVoid raw num n) (slotNumbers n)
         (λ x i. above-void raw num n b limit ranks lows highs places₁ ranks₂ places₂ (s .listed) limit-is x (slots-in n x i))
 
-    opened-is : opened ≡ openingsOf (openingStores (word image) (voidSlots l (word image) n))
-    opened-is = v .opened-is ∙ ap (λ (t : List ℕ). openingsOf (openingStores (word image) t)) void-are
+    opened-is : opened ≡ invalidationsOf (invalidatingStores (word image) (voidSlots l (word image) n))
+    opened-is = v .opened-is ∙ ap (λ (t : List ℕ). invalidationsOf (invalidatingStores (word image) t)) void-are
 
-    broken-is : broken ≡ brokenCount (settled (contentsOf l image) (numbersOf l image) n) n
-    unfolding openingsOf voidSlots
+    broken-is : broken ≡ brokenCount (settled (contentsOf l image) (sizeFieldsOf l image) n) n
+    unfolding invalidationsOf voidSlots
     broken-is =
         omega (
           arith,
           sum,
           s .classed .broken-is,
-          ap (λ (o : Openings). o .count) opened-is,
-          openings-length (word image) (filter (isVoid raw num n) (slotNumbers n)),
+          ap (λ (o : Invalidations). o .count) opened-is,
+          invalidations-length (word image) (filter (isVoid raw num n) (slotNumbers n)),
           count-filter (isVoid raw num n) n,
           broken-with-void raw num n,
         )
 
   -- 7, 25 and 8 by these tests and this live count
   abbrev lateBy : (shared : Bool) → (broken live : ℕ) → ℕ
-  lateBy shared broken live = say shared 7 (say (ltb brokenLimit broken) 25 (say (eqb live n) 8 0))
+  lateBy shared broken live = refuseIf shared 7 (refuseIf (ltb brokenLimit broken) 25 (refuseIf (eqb live n) 8 0))
 
-  late : lateBy (sharersFault (contentsOf l image) (numbersOf l image) n) broken live-count
-      ≡ say (sharersFault (contentsOf l image) (numbersOf l image) n) 7 (settledFault (settled (contentsOf l image) (numbersOf l image) n) n)
+  late : lateBy (sharersFault (contentsOf l image) (sizeFieldsOf l image) n) broken live-count
+      ≡ refuseIf (sharersFault (contentsOf l image) (sizeFieldsOf l image) n) 7 (settledFault (settled (contentsOf l image) (sizeFieldsOf l image) n) n)
   unfolding settledFault allLive manyBroken
   late = go (split (sharersFault raw num n))
     where
       go : (sharersFault raw num n ≡ true) ⊎ (sharersFault raw num n ≡ false)
           → lateBy (sharersFault raw num n) broken live-count ≡ lateBy (sharersFault raw num n) (brokenCount f n) (liveCount f n)
-      go (inl e) = say-true (sharersFault raw num n) 7 _ e ∙ sym (say-true (sharersFault raw num n) 7 _ e)
+      go (inl e) = refuseIf-true (sharersFault raw num n) 7 _ e ∙ sym (refuseIf-true (sharersFault raw num n) 7 _ e)
       go (inr e) = ap₂ (lateBy (sharersFault raw num n)) (broken-is e) (live-is e)
 
   fault-is : foundFault (all .mark) (all .fault) shared broken live-count n ≡ slotsFault l (word image) n
   unfolding foundFault slotsFault
   fault-is =
-      ap₂ (λ (x : Bool) (y : ℕ). say x 5 (orElse y (lateBy shared broken live-count))) (s .marks-are) (s .fault-is)
-      ∙ ap (λ (z : Bool). say (anyOf (markFault (word image)) 1 n) 5 (orElse records (lateBy z broken live-count))) shared-is
-      ∙ ap (λ (k : ℕ). say (anyOf (markFault (word image)) 1 n) 5 (orElse records k)) late
+      ap₂ (λ (x : Bool) (y : ℕ). refuseIf x 5 (orElse y (lateBy shared broken live-count))) (s .marks-are) (s .fault-is)
+      ∙ ap (λ (z : Bool). refuseIf (anyOf (markFault (word image)) 1 n) 5 (orElse records (lateBy z broken live-count))) shared-is
+      ∙ ap (λ (k : ℕ). refuseIf (anyOf (markFault (word image)) 1 n) 5 (orElse records k)) late
     where
       records : ℕ
       records = atLowest (recordFault l (word image)) n
 
   slot-is : foundSlot (all .mark) (all .slot) ≡ slotsNamed l (word image) n
   unfolding foundSlot slotsNamed
-  slot-is = ap₂ (λ (x : Bool) (y : ℕ). say x 0 y) (s .marks-are) (s .slot-is)
+  slot-is = ap₂ (λ (x : Bool) (y : ℕ). refuseIf x 0 y) (s .marks-are) (s .slot-is)
 
-  none-shared : slotsFault l (word image) n ≡ 0 → sharersFault (contentsOf l image) (numbersOf l image) n ≡ false
+  none-shared : slotsFault l (word image) n ≡ 0 → sharersFault (contentsOf l image) (sizeFieldsOf l image) n ≡ false
   none-shared e = slots-clear l (word image) n e .sharers
 
   top-fits : all .top < 2 ^ 63
@@ -179,11 +179,11 @@ module _ (l : ℕ) (image : List ℕ) (n b : ℕ) (ranks lows highs places₁ or
       omega (
         arith,
         s .top-is,
-        greatest-least (λ t. topOf (contentsOf l image t)) n (2 ^ 63 - 1) (λ t i. let h = top-small l image t bytes in omega arith),
+        greatest-least (λ t. highestWholeIn (contentsOf l image t)) n (2 ^ 63 - 1) (λ t i. let h = top-small l image t bytes in omega arith),
       )
 
   pub judged : (fault slot : ℕ) → fault ≡ foundFault (all .mark) (all .fault) shared broken live-count n → slot ≡ foundSlot (all .mark) (all .slot)
-      → Judgement l (word image) n b order places (record { fault = fault; slot = slot; live = live-count; top = all .top; classes = all .classes; openings = opened })
+      → Judgement l (word image) n b order places (record { fault = fault; slot = slot; live = live-count; top = all .top; classes = all .classes; invalidations = opened })
   unfolding nextVersion
   judged fault slot e d =
       record {
@@ -200,7 +200,7 @@ module _ (l : ℕ) (image : List ℕ) (n b : ℕ) (ranks lows highs places₁ or
               top-fits = top-fits;
             };
         classed = s .classed;
-        openings-are = λ z. opened-is (none-shared (sym (e ∙ fault-is) ∙ z));
+        invalidations-are = λ z. opened-is (none-shared (sym (e ∙ fault-is) ∙ z));
       }
 
 -- ---- what the functions that judge calls ask for
@@ -220,17 +220,17 @@ module _ (ranks lows highs order by-key : List ℕ) (n : ℕ) (o : InOrder ranks
       (w .size, few, p, highs-all l n highs lay q, r, whole-within by-key n w)
 
 -- broken and void slots can be counted together
-pub broken-fits : (l : ℕ) (m : ℕ → ℕ) (n b : ℕ) (ranks lows highs places : List ℕ) (all : Scan) (limit : ℕ) (opened : Openings)
-    → Scanned l m n b ranks lows highs places all → opened ≡ openingsOf (openingStores m (filter (λ s. ltb limit (getD ranks s 0)) (slotNumbers n)))
+pub broken-fits : (l : ℕ) (m : ℕ → ℕ) (n b : ℕ) (ranks lows highs places : List ℕ) (all : Scan) (limit : ℕ) (opened : Invalidations)
+    → Scanned l m n b ranks lows highs places all → opened ≡ invalidationsOf (invalidatingStores m (filter (λ s. ltb limit (getD ranks s 0)) (slotNumbers n)))
     → all .classes .broken + opened .count ≤ n + n
-unfolding brokenCount openingsOf
+unfolding brokenCount invalidationsOf
 broken-fits l m n b ranks lows highs places all limit opened s e =
     omega (
       arith,
       s .classed .broken-is,
       count-most (λ t. isBroken (content l m t)) n,
-      ap (λ (o : Openings). o .count) e,
-      openings-length m (filter (λ t. ltb limit (getD ranks t 0)) (slotNumbers n)),
+      ap (λ (o : Invalidations). o .count) e,
+      invalidations-length m (filter (λ t. ltb limit (getD ranks t 0)) (slotNumbers n)),
       count-filter (λ t. ltb limit (getD ranks t 0)) n,
       count-most (λ t. ltb limit (getD ranks t 0)) n,
     )

@@ -8,12 +8,12 @@ use Rattle.layout.specs.Size.{slotsIn}
 use Rattle.table.specs.Complete.{tableOf}
 use Rattle.prelude.proofs.Refusals.{taken-leaves}
 use Rattle.stores.specs.Store.{Store}
-use Rattle.stores.specs.Opening.{openingStores}
-use Rattle.recovery.specs.Opening.{voidSlots}
+use Rattle.stores.specs.Invalidation.{invalidatingStores}
+use Rattle.recovery.specs.Invalidation.{voidSlots}
 use Rattle.recovery.specs.Recover.{recoverFault, recovered, recoverResult}
 
 abbrev stores : (l : ℕ) → (image : List ℕ) → List Store
-stores l image = openingStores (word image) (voidSlots l (word image) (slotsIn image))
+stores l image = invalidatingStores (word image) (voidSlots l (word image) (slotsIn image))
 
 -- a recovery that is not refused leaves the recovered index
 pub recovery-taken : (l : ℕ) (image heads next : List ℕ) → recoverFault l image (length heads) (length next) ≡ 0

@@ -13,7 +13,7 @@ pub mod Unwritten
 pub mod Neighbours
 pub mod Runs
 pub mod Void
-pub mod OpeningStores
+pub mod InvalidatingStores
 pub mod Compares
 pub mod Settles
 pub mod defs

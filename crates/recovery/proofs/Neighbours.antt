@@ -12,12 +12,12 @@ use Rattle.prelude.specs.Members.{Slot, slotNumbers}
 use Rattle.prelude.proofs.Any.{any-none, any-clear, or-none}
 use Rattle.prelude.proofs.Choice.{pick-true, pick-false, true-false, is-false, both, both-left, both-right}
 use Rattle.prelude.proofs.Lists.{AllSlots, slots-in}
-use Rattle.layout.specs.Content.{Content, topOf, Table}
+use Rattle.layout.specs.Content.{Content, highestWholeIn, Table}
 use Rattle.sorting.specs.Sorted.{sorted}
 use Rattle.sorting.proofs.Order.{Compared, low, high, compared, sorted-alike, at-in, rising-sorted}
 use Rattle.sorting.proofs.Positions.{Stands, stands, once-at, rising-at, by-key-at}
 use Rattle.table.specs.Table.{isRecord, keyIn}
-use Rattle.table.specs.Complete.{Numbers, said, sharers}
+use Rattle.table.specs.Complete.{SizeFields, basketSize, sharers}
 use Rattle.table.specs.Shared.{sharersFault}
 use Rattle.table.specs.Order.{rankOf, ordered}
 use Rattle.table.proofs.defs.Shared.{Agreed}
@@ -36,8 +36,8 @@ rank-record c l = go (isRecord c) refl
     go true e = refl
     go false e = absurd (omega (arith, low-rank c e))
 
-pub said-some : (number : ℕ) → 1 ≤ said number
-unfolding said
+pub said-some : (number : ℕ) → 1 ≤ basketSize number
+unfolding basketSize
 said-some number = go (eqb number 0) refl
   where
     go : (b : Bool) → eqb number 0 ≡ b → 1 ≤ cond b 1 number
@@ -65,27 +65,27 @@ are-neighbours ranks order i h e =
 
 -- and the test of a run that is too long
 
-is-too-many : (num : Numbers) (ranks order : List ℕ) (i : ℕ) → i + said (num (getD order i 0)) < length order
-    → entryAt ranks order (i + said (num (getD order i 0))) ≡ entryAt ranks order i → tooMany num ranks order i ≡ true
+is-too-many : (num : SizeFields) (ranks order : List ℕ) (i : ℕ) → i + basketSize (num (getD order i 0)) < length order
+    → entryAt ranks order (i + basketSize (num (getD order i 0))) ≡ entryAt ranks order i → tooMany num ranks order i ≡ true
 unfolding tooMany
 is-too-many num ranks order i h e =
-    both (ltb (i + said (num (getD order i 0))) (length order)) _ (lt-ltb (i + said (num (getD order i 0))) (length order) h)
-    (eq-eqb (entryAt ranks order (i + said (num (getD order i 0)))) (entryAt ranks order i) e)
+    both (ltb (i + basketSize (num (getD order i 0))) (length order)) _ (lt-ltb (i + basketSize (num (getD order i 0))) (length order) h)
+    (eq-eqb (entryAt ranks order (i + basketSize (num (getD order i 0)))) (entryAt ranks order i) e)
 
-too-many-is : (num : Numbers) (ranks order : List ℕ) (i : ℕ) → tooMany num ranks order i ≡ true
-    → (i + said (num (getD order i 0)) < length order) × (entryAt ranks order (i + said (num (getD order i 0))) ≡ entryAt ranks order i)
+too-many-is : (num : SizeFields) (ranks order : List ℕ) (i : ℕ) → tooMany num ranks order i ≡ true
+    → (i + basketSize (num (getD order i 0)) < length order) × (entryAt ranks order (i + basketSize (num (getD order i 0))) ≡ entryAt ranks order i)
 unfolding tooMany
 too-many-is num ranks order i t = (
-  ltb-true (i + said (num (getD order i 0))) (length order) (both-left (ltb (i + said (num (getD order i 0))) (length order)) _ t),
-  eqb-true (entryAt ranks order (i + said (num (getD order i 0)))) (entryAt ranks order i)
-      (both-right (ltb (i + said (num (getD order i 0))) (length order)) _ t),
+  ltb-true (i + basketSize (num (getD order i 0))) (length order) (both-left (ltb (i + basketSize (num (getD order i 0))) (length order)) _ t),
+  eqb-true (entryAt ranks order (i + basketSize (num (getD order i 0)))) (entryAt ranks order i)
+      (both-right (ltb (i + basketSize (num (getD order i 0))) (length order)) _ t),
 )
 
-pub run-first : (num : Numbers) (ranks order : List ℕ) (i : ℕ) → runFault num ranks order i ≡ true → equalNeighbours ranks order i ≡ true
+pub run-first : (num : SizeFields) (ranks order : List ℕ) (i : ℕ) → runFault num ranks order i ≡ true → equalNeighbours ranks order i ≡ true
 unfolding runFault
 run-first num ranks order i t = both-left (equalNeighbours ranks order i) _ t
 
-run-second : (num : Numbers) (ranks order : List ℕ) (i : ℕ) → num (getD order i 0) ≡ num (getD order (i + 1) 0) → runFault num ranks order i ≡ true
+run-second : (num : SizeFields) (ranks order : List ℕ) (i : ℕ) → num (getD order i 0) ≡ num (getD order (i + 1) 0) → runFault num ranks order i ≡ true
     → tooMany num ranks order i ≡ true
 unfolding runFault
 run-second num ranks order i e t =
@@ -129,7 +129,7 @@ module _ (f : Table) (n : ℕ) (ranks order : List ℕ) (rank-at : (s : ℕ) →
   pub run-at : (v : ℕ) → Span (λ t. rankOf (f t)) (2 + v) order (sharers f n v)
   run-at v = sharers-span f n v order by-content
 
-  module _ (num : Numbers) where
+  module _ (num : SizeFields) where
     -- the test of the runs finds nothing
     module _ (none : anyOf (runFault num ranks order) 0 (n - 1) ≡ false) where
       no-fault : (i : ℕ) → i + 1 < n → runFault num ranks order i ≡ false
@@ -178,7 +178,7 @@ module _ (f : Table) (n : ℕ) (ranks order : List ℕ) (rank-at : (s : ℕ) →
           upto (suc d) k = rising i (i + suc d) (omega arith) k
 
       abbrev Shared : (s t : ℕ) → Type 0
-      Shared s t = (isRecord (f s) ≡ true) × (isRecord (f t) ≡ true) × (topOf (f s) ≡ topOf (f t))
+      Shared s t = (isRecord (f s) ≡ true) × (isRecord (f t) ≡ true) × (highestWholeIn (f s) ≡ highestWholeIn (f t))
 
       same-numbers : (s t : ℕ) → Slot n s → Slot n t → Shared s t → num s ≡ num t
       same-numbers s t i j c = go (position s i) (position t j)
@@ -207,23 +207,23 @@ module _ (f : Table) (n : ℕ) (ranks order : List ℕ) (rank-at : (s : ℕ) →
                   (sym (ap num (q .here)) ∙ from (q .spot) (p .spot) (omega arith) (omega (arith, whole .size, p .inside)) (omega (arith, same, big)) (sym same)
                   ∙ ap num (p .here))
 
-      few-share : (s : ℕ) → Slot n s → isRecord (f s) ≡ true → sharers f n (topOf (f s)) ≤ said (num s)
-      few-share s i c = go (compared (sharers f n (topOf (f s))) (said (num s)))
+      few-share : (s : ℕ) → Slot n s → isRecord (f s) ≡ true → sharers f n (highestWholeIn (f s)) ≤ basketSize (num s)
+      few-share s i c = go (compared (sharers f n (highestWholeIn (f s))) (basketSize (num s)))
         where
-          r : Span (λ t. rankOf (f t)) (2 + topOf (f s)) order (sharers f n (topOf (f s)))
-          r = run-at (topOf (f s))
+          r : Span (λ t. rankOf (f t)) (2 + highestWholeIn (f s)) order (sharers f n (highestWholeIn (f s)))
+          r = run-at (highestWholeIn (f s))
 
-          go : Compared (sharers f n (topOf (f s))) (said (num s)) → sharers f n (topOf (f s)) ≤ said (num s)
+          go : Compared (sharers f n (highestWholeIn (f s))) (basketSize (num s)) → sharers f n (highestWholeIn (f s)) ≤ basketSize (num s)
           go (low a h) = h
           go (high a h) = absurd (true-false long (pair (r .lo) (omega (arith, r .end, some, whole .size)) (omega (arith, first)) (first ∙ sym second) .1))
             where
-              some : 1 ≤ said (num s)
+              some : 1 ≤ basketSize (num s)
               some = said-some (num s)
 
-              first : rank (getD order (r .lo) 0) ≡ 2 + topOf (f s)
+              first : rank (getD order (r .lo) 0) ≡ 2 + highestWholeIn (f s)
               first = r .equal (r .lo) (omega arith) (omega arith)
 
-              second : rank (getD order (r .lo + 1) 0) ≡ 2 + topOf (f s)
+              second : rank (getD order (r .lo + 1) 0) ≡ 2 + highestWholeIn (f s)
               second = r .equal (r .lo + 1) (omega arith) (omega (arith, some))
 
               x : ℕ
@@ -235,16 +235,16 @@ module _ (f : Table) (n : ℕ) (ranks order : List ℕ) (rank-at : (s : ℕ) →
               counts : isRecord (f x) ≡ true
               counts = rank-record (f x) (omega (arith, first))
 
-              number : said (num x) ≡ said (num s)
-              number = ap said (same-numbers x s at i (counts, c, omega (arith, first, record-rank (f x) counts)))
+              number : basketSize (num x) ≡ basketSize (num s)
+              number = ap basketSize (same-numbers x s at i (counts, c, omega (arith, first, record-rank (f x) counts)))
 
-              reach : r .lo + said (num x) < r .lo + sharers f n (topOf (f s))
+              reach : r .lo + basketSize (num x) < r .lo + sharers f n (highestWholeIn (f s))
               reach = omega (arith, number)
 
               long : tooMany num ranks order (r .lo) ≡ true
               long =
                   is-too-many num ranks order (r .lo) (omega (arith, reach, r .end))
-                  (entry-is (r .lo + said (num x)) (omega (arith, reach, r .end, whole .size)) ∙ r .equal (r .lo + said (num x)) (omega arith) reach
+                  (entry-is (r .lo + basketSize (num x)) (omega (arith, reach, r .end, whole .size)) ∙ r .equal (r .lo + basketSize (num x)) (omega arith) reach
                   ∙ sym (entry-is (r .lo) (omega (arith, reach, r .end, whole .size)) ∙ first))
 
     -- where the sharers agree the test of the runs finds nothing
@@ -277,25 +277,25 @@ module _ (f : Table) (n : ℕ) (ranks order : List ℕ) (rank-at : (s : ℕ) →
                 g .numbers s next (slot-at i (omega arith)) (slot-at (i + 1) h) cs cn
                 (omega (arith, record-rank (f s) cs, record-rank (f next) cn, rank-s, entry-is (i + 1) h, near .1))
 
-            long : (i + said (num s) < length order) × (entryAt ranks order (i + said (num s)) ≡ entryAt ranks order i)
+            long : (i + basketSize (num s) < length order) × (entryAt ranks order (i + basketSize (num s)) ≡ entryAt ranks order i)
             long = too-many-is num ranks order i (run-second num ranks order i same t)
 
-            r : Span (λ t. rankOf (f t)) (2 + topOf (f s)) order (sharers f n (topOf (f s)))
-            r = run-at (topOf (f s))
+            r : Span (λ t. rankOf (f t)) (2 + highestWholeIn (f s)) order (sharers f n (highestWholeIn (f s)))
+            r = run-at (highestWholeIn (f s))
 
-            top : rank s ≡ 2 + topOf (f s)
+            top : rank s ≡ 2 + highestWholeIn (f s)
             top = record-rank (f s) cs
 
             inside : r .lo ≤ i
             inside = r .inside i (omega (arith, whole .size)) top .0
 
-            after : i + said (num s) < r .lo + sharers f n (topOf (f s))
+            after : i + basketSize (num s) < r .lo + sharers f n (highestWholeIn (f s))
             after =
-                r .inside (i + said (num s)) (long .0)
-                (sym (entry-is (i + said (num s)) (omega (arith, long .0, whole .size))) ∙ long .1 ∙ sym rank-s ∙ top) .1
+                r .inside (i + basketSize (num s)) (long .0)
+                (sym (entry-is (i + basketSize (num s)) (omega (arith, long .0, whole .size))) ∙ long .1 ∙ sym rank-s ∙ top) .1
 
 -- 7, BY THE ORDERS: the test of the runs and that of the keys find what document 02's rule names
-module _ (f : Table) (num : Numbers) (n b : ℕ) (ranks lows highs places order by-key : List ℕ) (h : Listed f n b ranks lows highs places)
+module _ (f : Table) (num : SizeFields) (n b : ℕ) (ranks lows highs places order by-key : List ℕ) (h : Listed f n b ranks lows highs places)
     (o : order ≡ sorted (λ x. getD ranks x 0) (slotNumbers n)) (k : by-key ≡ sorted (keyAt lows highs) order) where
   abbrev key : ℕ → ℕ
   key = keyAt lows highs
@@ -353,13 +353,13 @@ module _ (f : Table) (num : Numbers) (n b : ℕ) (ranks lows highs places order 
           last (high a v) = by-key-at key (λ x. rankOf (f x)) by-key (i + 1) j (keyed .by-rank) v (omega (arith, size)) (sym same-key ∙ e)
 
   no-key-twice : anyOf (keyTwice key ranks by-key) 0 (n - 1) ≡ false → (s t : ℕ) → Slot n s → Slot n t → (s ≡ t → ⊥) → isRecord (f s) ≡ true
-      → isRecord (f t) ≡ true → topOf (f s) ≡ topOf (f t) → keyIn (f s) ≡ keyIn (f t) → ⊥
+      → isRecord (f t) ≡ true → highestWholeIn (f s) ≡ highestWholeIn (f t) → keyIn (f s) ≡ keyIn (f t) → ⊥
   no-key-twice none s t i j ne p q e d = go (spot s i) (spot t j)
     where
-      rs : rankOf (f s) ≡ 2 + topOf (f s)
+      rs : rankOf (f s) ≡ 2 + highestWholeIn (f s)
       rs = record-rank (f s) p
 
-      rt : rankOf (f t) ≡ 2 + topOf (f t)
+      rt : rankOf (f t) ≡ 2 + highestWholeIn (f t)
       rt = record-rank (f t) q
 
       same-key : key s ≡ key t

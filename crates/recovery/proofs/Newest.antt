@@ -9,11 +9,11 @@ use Rattle.prelude.specs.Range.{topmost}
 use Rattle.prelude.proofs.defs.Members.{Rising}
 use Rattle.prelude.proofs.Lists.{slots-in, in-slots}
 use Rattle.prelude.proofs.Most.{First, nowhere, there, first-is, greatest-above, greatest-least}
-use Rattle.layout.specs.Content.{Content, broken, empty, putRecord, removeRecord, Table, topOf}
+use Rattle.layout.specs.Content.{Content, broken, empty, putRecord, removeRecord, Table, highestWholeIn}
 use Rattle.sorting.proofs.Order.{sorted-in, in-sorted, rising-sorted}
 use Rattle.table.specs.Table.{isRecord}
 use Rattle.table.specs.Order.{rankOf, ordered}
-use Rattle.table.specs.Taking.{validVersion, highestValid, IsNewest}
+use Rattle.table.specs.Takeable.{validVersion, highestValid, IsNewest}
 use Rattle.index.specs.Chained.{lastOf}
 use Rattle.recovery.specs.Recover.{newestSlot}
 
@@ -28,14 +28,14 @@ last-greatest g (x ∷ z ∷ xs) r y (inr m) = let q = last-greatest g (z ∷ xs
 
 -- a rank above 2 is that of a valid slot, two above its version
 rank-version : (c : Content) → 2 < rankOf c → rankOf c ≡ 2 + validVersion c
-unfolding rankOf validVersion isRecord topOf
+unfolding rankOf validVersion isRecord highestWholeIn
 rank-version (broken top) h = absurd (omega arith)
 rank-version empty h = absurd (omega arith)
 rank-version (putRecord version key value) h = refl
 rank-version (removeRecord version key) h = refl
 
 version-rank : (c : Content) → 0 < validVersion c → rankOf c ≡ 2 + validVersion c
-unfolding rankOf validVersion isRecord topOf
+unfolding rankOf validVersion isRecord highestWholeIn
 version-rank (broken top) h = absurd (omega arith)
 version-rank empty h = absurd (omega arith)
 version-rank (putRecord version key value) h = refl

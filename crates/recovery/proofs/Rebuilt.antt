@@ -16,18 +16,17 @@ use Rattle.prelude.specs.Filter.{filter}
 use Rattle.prelude.specs.Members.{In, slotNumbers}
 use Rattle.sorting.proofs.Order.{filter-sorted}
 use Rattle.layout.specs.Content.{Table}
-use Rattle.table.specs.Table.{keyIn, live, spare}
+use Rattle.table.specs.Table.{liveCount, nextVersion, keyIn, live, spare}
 use Rattle.table.specs.Order.{rankOf, ordered, chainOf, reuseOf}
 use Rattle.prelude.proofs.Lists.{slots-in, AllSlots}
-use Rattle.index.specs.Index.{Chain, reuse, head, headOf}
+use Rattle.index.specs.Index.{Index, indexOf, withCounts, Chain, reuse, head, headOf}
 use Rattle.index.specs.Chained.{firstOf, lastOf, after, nextIn, chained}
-use Rattle.index.specs.inner.Parts.{PartsOf}
 use Rattle.index.specs.declared.State.{State}
 use Rattle.index.specs.inner.Build.{build, placeIn, unbuilt, Ordered, chainFrom}
 use Rattle.index.proofs.defs.Linked.{sameChain, chainsBy}
-use Rattle.index.specs.Linked.{Sits}
+use Rattle.index.specs.Linked.{ChainsPartition}
 use Rattle.index.proofs.Chained.{built-sits, built-chained}
-use Rattle.recovery.specs.Recover.{chainsOf, placeOf, recoveredIndex}
+use Rattle.recovery.specs.Recover.{chainsOf, placeOf, recoveredIndex, newestSlot}
 use Rattle.recovery.specs.inner.Decide.{livePlace}
 use Rattle.recovery.specs.inner.Judge.{Arranged}
 use Rattle.recovery.proofs.Orders.{whole-order}
@@ -55,17 +54,10 @@ next-alike n chains p q h zero l = refl
 next-alike n chains p q h (suc s) l = ap (λ (c : Chain). after (suc s) (chains c)) (h (suc s) (omega arith) l)
 
 chained-alike : (n b : ℕ) (chains : Chain → List ℕ) (p q : ℕ → Chain) → ((s : ℕ) → 0 < s → s ≤ n → p s ≡ q s)
-    → chained n b chains p ≡ chained n b chains q
+    → (live version newest : ℕ) → chained n b chains p live version newest ≡ chained n b chains q live version newest
 unfolding chained
-chained-alike n b chains p q h =
-    ap
-    (λ (t : List ℕ).
-    record {
-      heads = tabulate (λ h. firstOf (chains (head h))) 0 b;
-      next = t;
-      first = firstOf (chains reuse);
-      last = lastOf (chains reuse);
-    })
+chained-alike n b chains p q h live version newest =
+    ap (λ (t : List ℕ). indexOf (chained n b chains p live version newest .heads) t (chained n b chains p live version newest .state))
     (tabulate-alike (nextIn chains p) (nextIn chains q) 0 (n + 1) (λ i low high. next-alike n chains p q h i (omega arith)))
 
 -- ---- the chains
@@ -158,19 +150,22 @@ module _ (f : Table) (n b : ℕ) (order : List ℕ) (place : ℕ → Chain) (few
   heads-in : (s h : ℕ) → In s order → place s ≡ head h → h < b
   heads-in s h i e = let t = whole .within s i in head-in f n b s h few (sym (at-place s (t .0) (t .1)) ∙ e)
 
-  pub arranged-sits : Sits n b place (build place (unbuilt (replicate b 0) (replicate (n + 1) 0)) order) (chainsOf f n b)
+  pub arranged-sits : ChainsPartition n b place (build place (unbuilt (replicate b 0) (replicate (n + 1) 0)) order) (chainsOf f n b)
   arranged-sits =
-      subst (λ (chains : Chain → List ℕ). Sits n b place (build place (unbuilt (replicate b 0) (replicate (n + 1) 0)) order) chains)
+      subst (λ (chains : Chain → List ℕ). ChainsPartition n b place (build place (unbuilt (replicate b 0) (replicate (n + 1) 0)) order) chains)
       (fun-ext chains-are)
       (built-sits n b place order (replicate b 0) (replicate (n + 1) 0) (whole .once) (whole .within) (λ x low high. whole .all x (low, high))
       heads-in (length-replicate b 0) (length-replicate (n + 1) 0) (zeros b))
 
   -- THE INDEX: what is built is what document 01 lays down
-  pub arranged-index : build place (unbuilt (replicate b 0) (replicate (n + 1) 0)) order ≡ recoveredIndex f n b
-  unfolding recoveredIndex
-  arranged-index =
-      built-chained n b place order _ _ (chainsOf f n b) (whole .within) (zeros (n + 1) 0) arranged-sits
-      ∙ chained-alike n b (chainsOf f n b) place (placeOf f n b) at-place
+  pub arranged-index : (live-count version : ℕ) → live-count ≡ liveCount f n → version ≡ nextVersion f n
+      → withCounts (build place (unbuilt (replicate b 0) (replicate (n + 1) 0)) order) live-count version (lastOf order) ≡ recoveredIndex f n b
+  unfolding recoveredIndex newestSlot
+  arranged-index live-count version el ev =
+      built-chained n b place order _ _ (chainsOf f n b) (whole .within) (zeros (n + 1) 0) arranged-sits live-count version (lastOf order)
+      ∙ chained-alike n b (chainsOf f n b) place (placeOf f n b) at-place live-count version (lastOf order)
+      ∙ ap₂ (λ (x y : ℕ). chained n b (chainsOf f n b) (placeOf f n b) x y (lastOf order)) el ev
+      ∙ ap (λ (xs : List ℕ). chained n b (chainsOf f n b) (placeOf f n b) (liveCount f n) (nextVersion f n) (lastOf xs)) order-is
 
 -- ---- rebuild
 
@@ -185,13 +180,8 @@ ordered-kept heads next heads′ next′ order places p q o =
 
 pub rebuilt : (heads next order places heads₁ next₁ heads′ next′ : List ℕ) (built : State) (live-count top newest : ℕ)
     → heads₁ ≡ replicate (length heads) 0 → next₁ ≡ replicate (length next) 0 → newest ≡ lastOf order
-    → PartsOf heads′ next′ built (build (placeIn places) (unbuilt heads₁ next₁) order) 0 0 0
-    → PartsOf heads′ next′ (record { first = built .first; last = built .last; live = live-count; version = top + 1; newest = newest })
-    (build (placeIn places) (unbuilt (replicate (length heads) 0) (replicate (length next) 0)) order) live-count (top + 1) (lastOf order)
+    → indexOf heads′ next′ built ≡ build (placeIn places) (unbuilt heads₁ next₁) order
+    → indexOf heads′ next′ (record { first = built .first; last = built .last; live = live-count; version = top + 1; newest = newest }) ≡ withCounts (build (placeIn places) (unbuilt (replicate (length heads) 0) (replicate (length next) 0)) order) live-count (top + 1) (lastOf order)
 rebuilt heads next order places heads₁ next₁ heads′ next′ built live-count top newest p q e h =
-    record {
-      index = h .index ∙ ap₂ (λ (x y : List ℕ). build (placeIn places) (unbuilt x y) order) p q;
-      live-count = refl;
-      next-version = refl;
-      newest-slot = e;
-    }
+    ap₂ (λ (i : Index) (k : ℕ). withCounts i live-count (top + 1) k)
+    (h ∙ ap₂ (λ (x y : List ℕ). build (placeIn places) (unbuilt x y) order) p q) e

@@ -15,27 +15,26 @@ use Rattle.prelude.proofs.Choice.{pick-true, pick-false, split}
 use Rattle.layout.specs.Size.{slotsIn}
 use Rattle.layout.specs.Header.{lentFault}
 use Rattle.layout.specs.Record.{Layout}
-use Rattle.layout.specs.Content.{Table, contentsOf, numbersOf}
+use Rattle.layout.specs.Content.{Table, contentsOf, sizeFieldsOf}
 use Rattle.table.specs.Complete.{settled, tableOf}
 use Rattle.prelude.proofs.Refusals.{orElse-first, orElse-later, orElse-zero, taken-leaves, refused-keeps}
 use Rattle.table.specs.Table.{keyIn, live, liveCount, nextVersion}
-use Rattle.index.specs.Index.{Index, headOf, stateOf}
+use Rattle.index.specs.Index.{Index, indexOf, withCounts, headOf}
 use Rattle.index.specs.Chained.{lastOf}
-use Rattle.index.specs.inner.Parts.{PartsOf}
 use Rattle.index.specs.inner.Build.{build, placeIn, unbuilt, Ordered}
 use Rattle.index.specs.declared.State.{State}
 use Rattle.layout.proofs.Lents.{lent-sized, lent-heads, lent-slots}
 use Rattle.stores.specs.Store.{Store}
-use Rattle.stores.specs.Opening.{openingStores}
-use Rattle.recovery.specs.Opening.{voidSlots, openingsOf}
-use Rattle.recovery.specs.Recover.{Result, rebuiltResult, refusedResult, recoverEnd, slotsFault, slotsNamed, recoverFault, recoverSlot, recoveredIndex, newestSlot, recoveredState, recovered, recoverResult}
+use Rattle.stores.specs.Invalidation.{invalidatingStores}
+use Rattle.recovery.specs.Invalidation.{voidSlots, invalidationsOf}
+use Rattle.recovery.specs.Recover.{Recovery, rebuiltResult, refusedResult, recoverEnd, slotsFault, slotsNamed, recoverFault, recoverSlot, recoveredIndex, newestSlot, recovered, recoverResult}
 use Rattle.recovery.specs.inner.Decide.{livePlace, Within}
 use Rattle.recovery.specs.inner.Judge.{Ready, Roomy, Judgeable, Arranged, Judgement, Left, answerBy}
 use Rattle.recovery.specs.inner.Report.{RecoveredWith}
 use Rattle.recovery.specs.inner.Scan.{Classed}
 use Rattle.recovery.specs.declared.Classes.{Classes}
 use Rattle.recovery.specs.declared.Judged.{Judged}
-use Rattle.recovery.specs.declared.Openings.{Openings}
+use Rattle.recovery.specs.declared.Invalidations.{Invalidations}
 use Rattle.recovery.specs.declared.RecoverAnswer.{RecoverAnswer}
 use Rattle.recovery.specs.declared.Recovered.the-variants.{Rebuilt, Refused}
 use Rattle.recovery.proofs.Rebuilt.{arranged-index, arranged-place, ordered-whole}
@@ -43,31 +42,31 @@ use Rattle.recovery.proofs.Orders.{whole-within}
 use Rattle.recovery.proofs.Lent.{recovery-taken}
 
 abbrev stores : (l : ℕ) → (image : List ℕ) → List Store
-stores l image = openingStores (word image) (voidSlots l (word image) (slotsIn image))
+stores l image = invalidatingStores (word image) (voidSlots l (word image) (slotsIn image))
 
 -- the result by the refusal's number and the slot that it names
 module _ (l : ℕ) (image heads next : List ℕ) (fault : ℕ) (e : recoverFault l image (length heads) (length next) ≡ fault) where
   result-refused : (slot : ℕ) → recoverSlot l image (length heads) (length next) ≡ slot → (fault ≡ 0 → ⊥)
-      → refusedResult fault slot (openingsOf []) heads next ≡ recoverResult l image heads next
+      → refusedResult fault slot (invalidationsOf []) heads next ≡ recoverResult l image heads next
   unfolding recoverResult
   result-refused slot d ne =
       sym
       (refused-keeps (recovered (tableOf l image) (slotsIn image) (length heads) (stores l image)) _
       (recoverFault l image (length heads) (length next)) (λ z. ne (sym e ∙ z))
-      ∙ ap₂ (λ (k s : ℕ). refusedResult k s (openingsOf []) heads next) e d)
+      ∙ ap₂ (λ (k s : ℕ). refusedResult k s (invalidationsOf []) heads next) e d)
 
   result-taken : fault ≡ 0 → recovered (tableOf l image) (slotsIn image) (length heads) (stores l image) ≡ recoverResult l image heads next
   result-taken z = sym (recovery-taken l image heads next (e ∙ z))
 
 -- 1 to 4
-pub lent-refused : (l : ℕ) (image heads next : List ℕ) (fault : ℕ) (none : Openings) (classes : Classes)
-    → fault ≡ lentFault l image (length heads) (length next) → (fault ≡ 0 → ⊥) → none ≡ openingsOf []
-    → RecoveredWith l image heads next heads next (record { answer = record { recovered = Refused fault 0; openings = none }; classes = classes })
+pub lent-refused : (l : ℕ) (image heads next : List ℕ) (fault : ℕ) (none : Invalidations) (classes : Classes)
+    → fault ≡ lentFault l image (length heads) (length next) → (fault ≡ 0 → ⊥) → none ≡ invalidationsOf []
+    → RecoveredWith l image heads next heads next (record { answer = record { recovered = Refused fault 0; invalidations = none }; classes = classes })
 unfolding recoverEnd recoverFault recoverSlot
 lent-refused l image heads next fault none classes e ne o =
     record {
       result-is =
-          ap (λ (x : Openings). refusedResult fault 0 x heads next) o
+          ap (λ (x : Invalidations). refusedResult fault 0 x heads next) o
           ∙ result-refused l image heads next fault (orElse-first _ _ (λ z. ne (e ∙ z)) ∙ sym e) 0
           (refused-keeps (slotsNamed l (word image) (slotsIn image)) 0 _ (λ z. ne (e ∙ z))) ne;
       classed = λ z. absurd (ne (e ∙ orElse-zero _ _ z .0));
@@ -84,7 +83,7 @@ module _ (l : ℕ) (image heads next : List ℕ) (n : ℕ) (ready : Ready image 
   by-slots fault e = orElse-later _ _ (ready .lent) ∙ ap (slotsFault l (word image)) (ready .sized .slot-count) ∙ sym e
 
   slots-refused : (fault slot : ℕ) → fault ≡ slotsFault l (word image) n → slot ≡ slotsNamed l (word image) n → (fault ≡ 0 → ⊥)
-      → refusedResult fault slot (openingsOf []) heads next ≡ recoverResult l image heads next
+      → refusedResult fault slot (invalidationsOf []) heads next ≡ recoverResult l image heads next
   unfolding recoverSlot
   slots-refused fault slot e d ne =
       result-refused l image heads next fault (by-slots fault e) slot
@@ -92,41 +91,36 @@ module _ (l : ℕ) (image heads next : List ℕ) (n : ℕ) (ready : Ready image 
       ∙ ap (slotsNamed l (word image)) (ready .sized .slot-count) ∙ sym d)
       ne
 
-  -- the result of an index with this live count and this next version, and with these stores
-  shown : Openings → Index → (live-count version newest : ℕ) → Result
-  shown openings i live-count version newest = rebuiltResult (stateOf i live-count version newest) openings (i .heads) (i .next)
-
   slots-taken : (fault : ℕ) → fault ≡ slotsFault l (word image) n → fault ≡ 0 → (order places heads′ next′ : List ℕ) (live-count top : ℕ) (r : State)
-      (openings : Openings) → Arranged (settled (contentsOf l image) (numbersOf l image) n) n (length heads) order places live-count top
-      → openings ≡ openingsOf (openingStores (word image) (voidSlots l (word image) n))
-      → PartsOf heads′ next′ r (build (placeIn places) (unbuilt (replicate (length heads) 0) (replicate (length next) 0)) order) live-count (top + 1) (lastOf order)
-      → rebuiltResult r openings heads′ next′ ≡ recoverResult l image heads next
-  unfolding shown recovered recoveredState newestSlot
-  slots-taken fault e z order places heads′ next′ live-count top r openings a o h =
-      ap (λ (i : Index). shown openings i (r .live) (r .version) (r .newest)) (h .index ∙ built)
-      ∙ ap₂ (λ (x y : ℕ). shown openings (recoveredIndex f n (length heads)) x y (r .newest)) (h .live-count ∙ a .live-is) (h .next-version ∙ next-is)
-      ∙ ap₂ (λ (x : Openings) (y : ℕ). shown x (recoveredIndex f n (length heads)) (liveCount f n) (nextVersion f n) y) o (h .newest-slot ∙ ap lastOf (a .order-is))
-      ∙ ap (λ (k : ℕ). recovered (settled (contentsOf l image) (numbersOf l image) k) k (length heads) (openingStores (word image) (voidSlots l (word image) k)))
+      (invalidations : Invalidations) → Arranged (settled (contentsOf l image) (sizeFieldsOf l image) n) n (length heads) order places live-count top
+      → invalidations ≡ invalidationsOf (invalidatingStores (word image) (voidSlots l (word image) n))
+      → indexOf heads′ next′ r ≡ withCounts (build (placeIn places) (unbuilt (replicate (length heads) 0) (replicate (length next) 0)) order) live-count (top + 1) (lastOf order)
+      → rebuiltResult invalidations (indexOf heads′ next′ r) ≡ recoverResult l image heads next
+  unfolding recovered
+  slots-taken fault e z order places heads′ next′ live-count top r invalidations a o h =
+      ap₂ rebuiltResult o (h ∙ built)
+      ∙ ap (λ (k : ℕ). recovered (settled (contentsOf l image) (sizeFieldsOf l image) k) k (length heads) (invalidatingStores (word image) (voidSlots l (word image) k)))
       (sym (ready .sized .slot-count))
       ∙ result-taken l image heads next fault (by-slots fault e) z
     where
       f : Table
-      f = settled (contentsOf l image) (numbersOf l image) n
-
-      built : build (placeIn places) (unbuilt (replicate (length heads) 0) (replicate (length next) 0)) order ≡ recoveredIndex f n (length heads)
-      built =
-          ap (λ (k : ℕ). build (placeIn places) (unbuilt (replicate (length heads) 0) (replicate k 0)) order)
-          (ready .sized .next-size)
-          ∙ arranged-index f n (length heads) order (placeIn places) (ready .sized .some-head) (a .order-is)
-          (arranged-place f n (length heads) order places live-count top a)
+      f = settled (contentsOf l image) (sizeFieldsOf l image) n
 
       next-is : top + 1 ≡ nextVersion f n
       next-is = omega (arith, a .top-is)
 
+      built : withCounts (build (placeIn places) (unbuilt (replicate (length heads) 0) (replicate (length next) 0)) order) live-count (top + 1) (lastOf order)
+          ≡ recoveredIndex f n (length heads)
+      built =
+          ap (λ (k : ℕ). withCounts (build (placeIn places) (unbuilt (replicate (length heads) 0) (replicate k 0)) order) live-count (top + 1) (lastOf order))
+          (ready .sized .next-size)
+          ∙ arranged-index f n (length heads) order (placeIn places) (ready .sized .some-head) (a .order-is)
+          (arranged-place f n (length heads) order places live-count top a) live-count (top + 1) (a .live-is) next-is
+
 -- both ways of a call, by the refusal's number
 pub slots-answered : (l : ℕ) (image heads next order places : List ℕ) (n : ℕ) (found : Judged) (heads′ next′ : List ℕ) (state : State) (r : RecoverAnswer)
     → Ready image l heads next n → Judgement l (word image) n (length heads) order places found
-    → Left (found .fault) heads next order places (found .live) (found .top) heads′ next′ state → r ≡ answerBy (found .fault) (found .slot) state (found .openings)
+    → Left (found .fault) heads next order places (found .live) (found .top) heads′ next′ state → r ≡ answerBy (found .fault) (found .slot) state (found .invalidations)
     → RecoveredWith l image heads next heads′ next′ (record { answer = r; classes = found .classes })
 unfolding recoverEnd answerBy
 slots-answered l image heads next order places n found heads′ next′ state r ready j v q =
@@ -142,23 +136,23 @@ slots-answered l image heads next order places n found heads′ next′ state r 
     slot = found .slot
 
     taken : RecoverAnswer
-    taken = record { recovered = Rebuilt state; openings = found .openings }
+    taken = record { recovered = Rebuilt state; invalidations = found .invalidations }
 
     refusal : RecoverAnswer
-    refusal = record { recovered = Refused fault slot; openings = openingsOf [] }
+    refusal = record { recovered = Refused fault slot; invalidations = invalidationsOf [] }
 
     says : (w : RecoverAnswer) → cond (eqb fault 0) taken refusal ≡ w
-        → recoverEnd (r .recovered) (r .openings) heads′ next′ ≡ recoverEnd (w .recovered) (w .openings) heads′ next′
-    says w u = ap (λ (x : RecoverAnswer). recoverEnd (x .recovered) (x .openings) heads′ next′) (q ∙ u)
+        → recoverEnd (r .recovered) (r .invalidations) heads′ next′ ≡ recoverEnd (w .recovered) (w .invalidations) heads′ next′
+    says w u = ap (λ (x : RecoverAnswer). recoverEnd (x .recovered) (x .invalidations) heads′ next′) (q ∙ u)
 
-    go : (fault ≡ 0) ⊎ (fault ≡ 0 → ⊥) → recoverEnd (r .recovered) (r .openings) heads′ next′ ≡ recoverResult l image heads next
+    go : (fault ≡ 0) ⊎ (fault ≡ 0 → ⊥) → recoverEnd (r .recovered) (r .invalidations) heads′ next′ ≡ recoverResult l image heads next
     go (inl z) =
         says taken (pick-true (eqb fault 0) taken refusal (eq-eqb fault 0 z))
-        ∙ slots-taken l image heads next n ready fault (j .fault-is) z order places heads′ next′ (found .live) (found .top) state (found .openings) (j .arranged z)
-        (j .openings-are z) (v .rebuilt z)
+        ∙ slots-taken l image heads next n ready fault (j .fault-is) z order places heads′ next′ (found .live) (found .top) state (found .invalidations) (j .arranged z)
+        (j .invalidations-are z) (v .rebuilt z)
     go (inr ne) =
         says refusal (pick-false (eqb fault 0) taken refusal (ne-eqb fault 0 ne))
-        ∙ ap₂ (λ (h x : List ℕ). refusedResult fault slot (openingsOf []) h x) (v .kept ne .0) (v .kept ne .1)
+        ∙ ap₂ (λ (h x : List ℕ). refusedResult fault slot (invalidationsOf []) h x) (v .kept ne .0) (v .kept ne .1)
         ∙ slots-refused l image heads next n ready fault slot (j .fault-is) (j .slot-is) ne
 
 -- ---- rebuild can write
@@ -181,7 +175,7 @@ pub rebuild-ordered : (l : ℕ) (image heads next ranks lows highs places₀ ord
 rebuild-ordered l image heads next ranks lows highs places₀ order₀ by-key spare order places n found ready g j same z = ordered-by
   where
     f : Table
-    f = settled (contentsOf l image) (numbersOf l image) n
+    f = settled (contentsOf l image) (sizeFieldsOf l image) n
 
     a : Arranged f n (length heads) order places (found .live) (found .top)
     a = j .arranged z

@@ -14,21 +14,21 @@ use Rattle.words.specs.Word.{AreBytes, word}
 use Rattle.words.proofs.Laws.{word-range}
 use Rattle.prelude.proofs.Any.{any-last}
 use Rattle.prelude.proofs.Choice.{pick-true, pick-false}
-use Rattle.prelude.specs.Refusal.{say, orElse}
+use Rattle.prelude.specs.Refusal.{refuseIf, orElse}
 use Rattle.prelude.specs.Range.{anyOf, greatest, lowest, atLowest, count}
 use Rattle.prelude.proofs.Lowest.{at-lowest-next}
-use Rattle.layout.specs.Line.{lineA, lineB, lineTop}
+use Rattle.layout.specs.Line.{lineA, lineB, wholeVersion}
 use Rattle.layout.specs.Slot.{paired, verdictOf, lineVerdict, slotVerdict, isValid}
 use Rattle.layout.specs.Record.{Layout, kindOf, keyOf, keyWith, valueOf}
 use Rattle.layout.specs.inner.Key.{highWord}
-use Rattle.layout.specs.Content.{Content, broken, empty, putRecord, removeRecord, made, contentBy, contentOf, content, topOf, Table}
+use Rattle.layout.specs.Content.{Content, broken, empty, putRecord, removeRecord, contentOfRecord, contentBy, contentOf, content, highestWholeIn, Table}
 use Rattle.layout.specs.Fault.{markFault, faultOf, recordFault}
 use Rattle.layout.specs.declared.Verdict.{Verdict}
 use Rattle.layout.specs.declared.Verdict.the-variants.{Valid, Empty, Broken}
 use Rattle.layout.proofs.KeyWords.{no-high, key-parts}
 use Rattle.table.specs.Table.{keyIn, brokenCount}
 use Rattle.table.specs.Class.{isPut}
-use Rattle.table.specs.Taking.{isRemove}
+use Rattle.table.specs.Takeable.{isRemove}
 use Rattle.table.proofs.Broken.{rank-broken}
 use Rattle.table.proofs.Classes.{rank-empty, classes-add}
 use Rattle.table.specs.Order.{rankOf}
@@ -74,8 +74,8 @@ valid-is l m s b version mark low high kind place fault lay k h x p f =
 record-parts : (removeRecord? : Bool) (v k b : ℕ) (x : List ℕ)
     → (2 + v ≡ rankOf (cond removeRecord? (removeRecord v k) (putRecord v k x))) × (k ≡ keyIn (cond removeRecord? (removeRecord v k) (putRecord v k x)))
     × (cond removeRecord? 0 (headOf k b + 1) ≡ putPlace b (cond removeRecord? (removeRecord v k) (putRecord v k x)))
-    × (v ≡ topOf (cond removeRecord? (removeRecord v k) (putRecord v k x)))
-unfolding rankOf keyIn putPlace topOf
+    × (v ≡ highestWholeIn (cond removeRecord? (removeRecord v k) (putRecord v k x)))
+unfolding rankOf keyIn putPlace highestWholeIn
 record-parts true v k b x = (refl, refl, refl, refl)
 record-parts false v k b x = (refl, refl, refl, refl)
 
@@ -89,7 +89,7 @@ module _ (l : ℕ) (m : ℕ → ℕ) (s b : ℕ) (verdict : Verdict) (e : verdic
   fault-by v h = ap (λ (w : Verdict). cond (isValid w) (faultOf l (lineA m s) (lineB m s)) 0) (sym h ∙ e)
 
   pub summed-valid : (version : ℕ) → verdict ≡ Valid version → Layout l → (r : Summary) → r ≡ validSummary l m s b version mark → Summed l m s b r
-  unfolding contentBy made isValid validSummary
+  unfolding contentBy contentOfRecord isValid validSummary
   summed-valid version v lay r x =
       let here = record-parts (eqb (kindOf (lineA m s (l + 1))) 2) version (keyOf l (lineA m s)) b (valueOf l (lineA m s) (lineB m s)) in
       let it = content-by (Valid version) v in
@@ -98,13 +98,13 @@ module _ (l : ℕ) (m : ℕ → ℕ) (s b : ℕ) (verdict : Verdict) (e : verdic
         key-is = ap (λ (y : Summary). keyWith (y .low) (y .high)) x ∙ sym (key-parts l (lineA m s) lay) ∙ here .1 ∙ ap keyIn it;
         no-high = λ one. ap (λ (y : Summary). y .high) x ∙ sym (no-high l (lineA m s) one);
         place-is = ap (λ (y : Summary). y .place) x ∙ here .2 ∙ ap (putPlace b) it;
-        top-is = ap (λ (y : Summary). y .top) x ∙ here .3 ∙ ap topOf it;
+        top-is = ap (λ (y : Summary). y .top) x ∙ here .3 ∙ ap highestWholeIn it;
         mark-is = ap (λ (y : Summary). y .mark) x ∙ f;
         fault-is = ap (λ (y : Summary). y .fault) x ∙ fault-by (Valid version) v;
       }
 
   pub summed-empty : verdict ≡ Empty → Summed l m s b (record { rank = 1; low = 0; high = 0; place = 0; top = 0; mark = mark; fault = 0 })
-  unfolding contentBy isValid rankOf keyIn putPlace topOf
+  unfolding contentBy isValid rankOf keyIn putPlace highestWholeIn
   summed-empty v =
       let it = content-by Empty v in
       record {
@@ -112,14 +112,14 @@ module _ (l : ℕ) (m : ℕ → ℕ) (s b : ℕ) (verdict : Verdict) (e : verdic
         key-is = ap keyIn it;
         no-high = λ one. refl;
         place-is = ap (putPlace b) it;
-        top-is = ap topOf it;
+        top-is = ap highestWholeIn it;
         mark-is = f;
         fault-is = fault-by Empty v;
       }
 
   pub summed-broken : (top : ℕ) → verdict ≡ Broken top
       → Summed l m s b (record { rank = 0; low = 0; high = 0; place = 0; top = top; mark = mark; fault = 0 })
-  unfolding contentBy isValid rankOf keyIn putPlace topOf
+  unfolding contentBy isValid rankOf keyIn putPlace highestWholeIn
   summed-broken top v =
       let it = content-by (Broken top) v in
       record {
@@ -127,7 +127,7 @@ module _ (l : ℕ) (m : ℕ → ℕ) (s b : ℕ) (verdict : Verdict) (e : verdic
         key-is = ap keyIn it;
         no-high = λ one. refl;
         place-is = ap (putPlace b) it;
-        top-is = ap topOf it;
+        top-is = ap highestWholeIn it;
         mark-is = f;
         fault-is = fault-by (Broken top) v;
       }
@@ -147,7 +147,7 @@ version-at-most false zero? v t = let z : 0 ≤ v = omega arith in z
 version-of-lines : (ma sa mb sb : ℕ) → versionIn (verdictOf ma sa mb sb) ≤ sa / 2
 unfolding verdictOf
 version-of-lines ma sa mb sb =
-    version-at-most (paired ma sa mb sb) (eqb (sa / 2) 0) (sa / 2) (max (lineTop ma sa) (lineTop mb sb))
+    version-at-most (paired ma sa mb sb) (eqb (sa / 2) 0) (sa / 2) (max (wholeVersion ma sa) (wholeVersion mb sb))
 
 version-in : (m : ℕ → ℕ) (s : ℕ) → versionIn (slotVerdict m s) ≤ lineA m s 7 / 2
 unfolding slotVerdict lineVerdict
@@ -273,7 +273,7 @@ classed-next f k b classes next rank place g r p j =
 
 scanned-none : (l : ℕ) (m : ℕ → ℕ) (b : ℕ) (ranks lows highs places : List ℕ)
     → Scanned l m 0 b ranks lows highs places (record { mark = false; fault = 0; slot = 0; classes = record { broken = 0; empty = 0; puts = 0; removes = 0 }; top = 0 })
-unfolding anyOf greatest lowest atLowest say brokenCount count
+unfolding anyOf greatest lowest atLowest refuseIf brokenCount count
 scanned-none l m b ranks lows highs places =
     record {
       listed =
@@ -301,7 +301,7 @@ scanned-next l m k b ranks lows highs places after all next slot g r y p w here 
           };
       marks-are = j .mark-is ∙ ap₂ (λ (u v : Bool). cond u true v) (g .marks-are) (here .mark-is) ∙ with-last;
       fault-is = j .fault-is ∙ ap₂ orElse (g .fault-is) (here .fault-is) ∙ sym (at-lowest-next (recordFault l m) k);
-      slot-is = j .slot-is ∙ ap₂ (λ (x y : ℕ). orElse x (say (eqb y 0) 0 (suc k))) (g .slot-is) (here .fault-is);
+      slot-is = j .slot-is ∙ ap₂ (λ (x y : ℕ). orElse x (refuseIf (eqb y 0) 0 (suc k))) (g .slot-is) (here .fault-is);
       classed = classed-next (content l m) k b _ _ _ _ (g .classed) (here .rank-is) (here .place-is) (j .classes-are);
       top-is = j .top-is ∙ ap₂ max (g .top-is) (here .top-is);
     }

@@ -18,26 +18,26 @@ use Rattle.sorting.specs.Sorted.{sorted}
 use Rattle.sorting.proofs.Order.{Compared, low, high, compared, rising-sorted}
 use Rattle.sorting.proofs.Positions.{Stands, stands, rising-at}
 use Rattle.stores.specs.Store.{Store}
-use Rattle.stores.specs.Opening.{openingStores}
-use Rattle.table.specs.Complete.{Numbers}
-use Rattle.recovery.specs.Opening.{openingsOf}
+use Rattle.stores.specs.Invalidation.{invalidatingStores}
+use Rattle.table.specs.Complete.{SizeFields}
+use Rattle.recovery.specs.Invalidation.{invalidationsOf}
 use Rattle.recovery.specs.inner.Scan.{keyAt}
 use Rattle.recovery.specs.inner.Decide.{entryAt, fullRun, judgedRank, Cleared}
 use Rattle.recovery.specs.inner.Judge.{Settleable, Settled, withStore}
-use Rattle.recovery.specs.declared.Openings.{Openings}
+use Rattle.recovery.specs.declared.Invalidations.{Invalidations}
 use Rattle.recovery.proofs.Orders.{whole-order, whole-within}
 
 -- ---- judging, turn by turn
 
 -- what is left to be judged is the whole
-pub record Judging (num : Numbers) (ranks order : List ℕ) (n i : ℕ) : Type 0 where
+pub record Judging (num : SizeFields) (ranks order : List ℕ) (n i : ℕ) : Type 0 where
   pub position : i ≤ n
   pub rest : judgedRank num ranks order i ≡ judgedRank num ranks order n
 
-pub judging-start : (num : Numbers) (ranks order : List ℕ) (n : ℕ) → Judging num ranks order n n
+pub judging-start : (num : SizeFields) (ranks order : List ℕ) (n : ℕ) → Judging num ranks order n n
 judging-start num ranks order n = record { position = omega arith; rest = refl }
 
-module _ (num : Numbers) (ranks order : List ℕ) (n i j : ℕ) (g : Judging num ranks order n i) (at : j ≡ i - 1) (some : 0 < i) where
+module _ (num : SizeFields) (ranks order : List ℕ) (n i j : ℕ) (g : Judging num ranks order n i) (at : j ≡ i - 1) (some : 0 < i) where
   one-turn : judgedRank num ranks order n
       ≡ cond (ltb (entryAt ranks order j) 2) 2 (cond (fullRun num ranks order j) (entryAt ranks order j) (judgedRank num ranks order j))
   unfolding judgedRank
@@ -57,7 +57,7 @@ module _ (num : Numbers) (ranks order : List ℕ) (n i j : ℕ) (g : Judging num
     judging-next h full e t =
         record { position = omega (arith, g .position); rest = sym (past-low h ∙ pick-false (fullRun num ranks order j) _ _ (sym e ∙ t)) }
 
-pub judging-end : (num : Numbers) (ranks order : List ℕ) (n i : ℕ) → Judging num ranks order n i → i ≤ 0 → 2 ≡ judgedRank num ranks order n
+pub judging-end : (num : SizeFields) (ranks order : List ℕ) (n i : ℕ) → Judging num ranks order n i → i ≤ 0 → 2 ≡ judgedRank num ranks order n
 unfolding judgedRank
 judging-end num ranks order n zero g h = g .rest
 judging-end num ranks order n (suc i) g h = absurd (omega arith)
@@ -161,7 +161,7 @@ clearing-end limit n ranks₀ places₀ ranks places s g h =
 
 -- ---- one store more, past the eighth
 
-pub with-store-past : (o : Openings) (s : Store) → length (o .at) ≤ o .count → length (o .value) ≤ o .count
+pub with-store-past : (o : Invalidations) (s : Store) → length (o .at) ≤ o .count → length (o .value) ≤ o .count
     → record { count = o .count + 1; at = o .at; value = o .value } ≡ withStore o s
 unfolding withStore
 with-store-past o s p q =
@@ -201,9 +201,9 @@ module _ (n : ℕ) (image ranks lows highs places order by-key spare : List ℕ)
                 omega (arith, at, h, ap (λ (x : ℕ). entryAt ranks order x) z)
             by (high a u) = omega (arith, at, h, rising (p .spot) (n - 1) u (omega (arith, g .some-slots)))
 
-    pub settled-none : (last : ℕ) → last ≡ entryAt ranks order (n - 1) → last ≤ limit → (o : Openings) → o ≡ openingsOf []
+    pub settled-none : (last : ℕ) → last ≡ entryAt ranks order (n - 1) → last ≤ limit → (o : Invalidations) → o ≡ invalidationsOf []
         → Settled m limit n ranks lows highs places ranks places order by-key o
-    unfolding openingStores
+    unfolding invalidatingStores
     settled-none last e h o d =
         record {
           cleared =
@@ -215,7 +215,7 @@ module _ (n : ℕ) (image ranks lows highs places order by-key spare : List ℕ)
               };
           in-order = g .in-order;
           opened-is =
-              d ∙ ap (λ (t : List ℕ). openingsOf (openingStores m t))
+              d ∙ ap (λ (t : List ℕ). invalidationsOf (invalidatingStores m t))
               (sym (filter-none (λ s. ltb limit (getD ranks s 0)) (slotNumbers n) (λ t i. below t (slots-in n t i))));
         }
       where
@@ -223,8 +223,8 @@ module _ (n : ℕ) (image ranks lows highs places order by-key spare : List ℕ)
         below s i = le-ltb limit (getD ranks s 0) (none-above (omega (arith, e)) s i)
 
     -- the orders are made again
-    pub settled-again : (ranks′ places′ order′ by-key′ : List ℕ) (o : Openings)
-        → o ≡ openingsOf (openingStores m (filter (λ s. ltb limit (getD ranks s 0)) (slotNumbers n)))
+    pub settled-again : (ranks′ places′ order′ by-key′ : List ℕ) (o : Invalidations)
+        → o ≡ invalidationsOf (invalidatingStores m (filter (λ s. ltb limit (getD ranks s 0)) (slotNumbers n)))
         → Cleared limit n ranks places ranks′ places′ → order′ ≡ sorted (λ x. getD ranks′ x 0) (slotNumbers (length order))
         → by-key′ ≡ sorted (keyAt lows highs) order′ → Settled m limit n ranks lows highs places ranks′ places′ order′ by-key′ o
     settled-again ranks′ places′ order′ by-key′ o d c e k =

@@ -5,15 +5,15 @@ use mathlib.Core.List.{List, []}
 use Prim.Native.Nat.{ℕ, _≤_}
 use native.Mathlib.Omega.{arith}
 use lib.Dec.{eqb}
-use Rattle.prelude.specs.Refusal.{say}
-use Rattle.layout.specs.Content.{empty, topOf, Table}
-use Rattle.prelude.proofs.Refusals.{say-false}
+use Rattle.prelude.specs.Refusal.{refuseIf}
+use Rattle.layout.specs.Content.{empty, highestWholeIn, Table}
+use Rattle.prelude.proofs.Refusals.{refuseIf-false}
 use Rattle.sorting.specs.Sorted.{sorted}
 use Rattle.prelude.specs.Members.{slotNumbers, Slot}
 use Rattle.sorting.proofs.Order.{sorted-rising}
 use Rattle.sorting.proofs.Counts.{flat}
 use Rattle.table.specs.Table.{keyIn, nextVersion, decidingPut, live, spare, liveCount, allLive}
-use Rattle.table.specs.Complete.{Numbers, settled}
+use Rattle.table.specs.Complete.{SizeFields, settled}
 use Rattle.table.specs.Shared.{sharersFault}
 use Rattle.table.specs.Order.{rankOf, ordered, chainOf, reuseOf}
 use Rattle.prelude.proofs.Lists.{slots-in, filter-all, filter-none}
@@ -38,13 +38,13 @@ module _ (f : Table) (n : ℕ) (blank : (s : ℕ) → Slot n s → f s ≡ empty
   unfolding liveCount
   unwritten-count = count-none (live f n) n unwritten-live
 
-  top-zero : (s : ℕ) → Slot n s → topOf (f s) ≡ 0
-  unfolding topOf
-  top-zero s i = ap topOf (blank s i)
+  top-zero : (s : ℕ) → Slot n s → highestWholeIn (f s) ≡ 0
+  unfolding highestWholeIn
+  top-zero s i = ap highestWholeIn (blank s i)
 
   unwritten-version : nextVersion f n ≡ 1
   unfolding nextVersion
-  unwritten-version = omega (arith, greatest-least (λ s. topOf (f s)) n 0 (λ t i. omega (arith, top-zero t i)))
+  unwritten-version = omega (arith, greatest-least (λ s. highestWholeIn (f s)) n 0 (λ t i. omega (arith, top-zero t i)))
 
   rank-one : (s : ℕ) → Slot n s → rankOf (f s) ≡ 1
   unfolding rankOf
@@ -71,17 +71,17 @@ module _ (f : Table) (n : ℕ) (blank : (s : ℕ) → Slot n s → f s ≡ empty
   unwritten-room some = room-all f n (omega (arith, unwritten-count))
 
 -- the table of the contents of such slots; whatever the numbers are, no slot is void
-module _ (f : Table) (num : Numbers) (n : ℕ) (blank : (s : ℕ) → Slot n s → f s ≡ empty) where
+module _ (f : Table) (num : SizeFields) (n : ℕ) (blank : (s : ℕ) → Slot n s → f s ≡ empty) where
   settled-blank : (s : ℕ) → Slot n s → settled f num n s ≡ empty
   settled-blank s i = settled-same f num n s (format-none-void f num n blank s i) ∙ blank s i
 
   -- neither 7, 25 nor 8
-  pub unwritten-fine : 1 ≤ n → say (sharersFault f num n) 7 (settledFault (settled f num n) n) ≡ 0
+  pub unwritten-fine : 1 ≤ n → refuseIf (sharersFault f num n) 7 (settledFault (settled f num n) n) ≡ 0
   unfolding settledFault
   unwritten-fine some =
       let a = format-accepted f num n blank some in
-      say-false _ 7 _ (agreed-fault f num n (a .agreed)) ∙ say-false _ 25 _ (few-many (settled f num n) n (a .few))
-      ∙ say-false _ 8 _ (room-all (settled f num n) n (a .idle))
+      refuseIf-false _ 7 _ (agreed-fault f num n (a .agreed)) ∙ refuseIf-false _ 25 _ (few-many (settled f num n) n (a .few))
+      ∙ refuseIf-false _ 8 _ (room-all (settled f num n) n (a .idle))
 
   -- THE FORMATTED TABLE
   pub formatted-recovery : 1 ≤ n → Fresh (settled f num n) n

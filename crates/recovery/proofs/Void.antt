@@ -13,11 +13,11 @@ use Rattle.prelude.specs.Range.{count}
 use Rattle.prelude.specs.Members.{Slot, slotNumbers}
 use Rattle.prelude.proofs.Choice.{pick-true, pick-false, true-false, is-false, both, both-left, both-right}
 use Rattle.prelude.proofs.Count.{count-both, count-filter}
-use Rattle.layout.specs.Content.{Content, broken, putRecord, topOf, content, numberIn, Table}
+use Rattle.layout.specs.Content.{Content, broken, putRecord, highestWholeIn, content, sizeFieldIn, Table}
 use Rattle.sorting.specs.Sorted.{sorted}
 use Rattle.sorting.proofs.Order.{Compared, low, high, compared}
-use Rattle.table.specs.Table.{isRecord, isBroken, keyIn, weight, brokenCount, brokenLimit, manyBroken}
-use Rattle.table.specs.Complete.{Numbers, said, sharers, complete, highestComplete, isVoid, settled}
+use Rattle.table.specs.Table.{isRecord, isBroken, keyIn, rankForKey, brokenCount, brokenLimit, manyBroken}
+use Rattle.table.specs.Complete.{SizeFields, basketSize, sharers, complete, highestComplete, isVoid, settled}
 use Rattle.table.specs.Order.{rankOf}
 use Rattle.table.proofs.defs.Shared.{Agreed}
 use Rattle.table.proofs.defs.Write.{ApartByKey}
@@ -25,7 +25,7 @@ use Rattle.table.proofs.Broken.{record-whole, many-few}
 use Rattle.table.proofs.Shared.{agreed-apart}
 use Rattle.table.proofs.Ranks.{record-rank, void-rank, settled-rank}
 use Rattle.table.proofs.Complete.{complete-is, complete-record, complete-enough, highest-complete-above, highest-complete-least, void-record, settled-void, settled-same}
-use Rattle.recovery.specs.Opening.{voidSlots}
+use Rattle.recovery.specs.Invalidation.{voidSlots}
 use Rattle.recovery.specs.inner.Scan.{putPlace, keyAt, Listed}
 use Rattle.recovery.specs.inner.Decide.{entryAt, fullRun, judgedRank, Cleared}
 use Rattle.recovery.proofs.Runs.{Span}
@@ -33,25 +33,25 @@ use Rattle.recovery.proofs.Neighbours.{rank-record, said-some, whole, s
 
 -- ---- the test of a full run as facts
 
-full-is : (num : Numbers) (ranks order : List ℕ) (i : ℕ) → fullRun num ranks order i ≡ true
-    → (said (num (getD order i 0)) ≤ i + 1) × (entryAt ranks order (i + 1 - said (num (getD order i 0))) ≡ entryAt ranks order i)
+full-is : (num : SizeFields) (ranks order : List ℕ) (i : ℕ) → fullRun num ranks order i ≡ true
+    → (basketSize (num (getD order i 0)) ≤ i + 1) × (entryAt ranks order (i + 1 - basketSize (num (getD order i 0))) ≡ entryAt ranks order i)
 unfolding fullRun
 full-is num ranks order i t = (
-  leb-true (said (num (getD order i 0))) (i + 1) (both-left (leb (said (num (getD order i 0))) (i + 1)) _ t),
-  eqb-true (entryAt ranks order (i + 1 - said (num (getD order i 0)))) (entryAt ranks order i)
-      (both-right (leb (said (num (getD order i 0))) (i + 1)) _ t),
+  leb-true (basketSize (num (getD order i 0))) (i + 1) (both-left (leb (basketSize (num (getD order i 0))) (i + 1)) _ t),
+  eqb-true (entryAt ranks order (i + 1 - basketSize (num (getD order i 0)))) (entryAt ranks order i)
+      (both-right (leb (basketSize (num (getD order i 0))) (i + 1)) _ t),
 )
 
-is-full : (num : Numbers) (ranks order : List ℕ) (i : ℕ) → said (num (getD order i 0)) ≤ i + 1
-    → entryAt ranks order (i + 1 - said (num (getD order i 0))) ≡ entryAt ranks order i → fullRun num ranks order i ≡ true
+is-full : (num : SizeFields) (ranks order : List ℕ) (i : ℕ) → basketSize (num (getD order i 0)) ≤ i + 1
+    → entryAt ranks order (i + 1 - basketSize (num (getD order i 0))) ≡ entryAt ranks order i → fullRun num ranks order i ≡ true
 unfolding fullRun
 is-full num ranks order i h e =
-    both (leb (said (num (getD order i 0))) (i + 1)) _ (le-leb (said (num (getD order i 0))) (i + 1) h)
-    (eq-eqb (entryAt ranks order (i + 1 - said (num (getD order i 0)))) (entryAt ranks order i) e)
+    both (leb (basketSize (num (getD order i 0))) (i + 1)) _ (le-leb (basketSize (num (getD order i 0))) (i + 1) h)
+    (eq-eqb (entryAt ranks order (i + 1 - basketSize (num (getD order i 0)))) (entryAt ranks order i) e)
 
 -- ---- judging
 
-module _ (f : Table) (num : Numbers) (n : ℕ) (ranks order : List ℕ) (rank-at : (s : ℕ) → 0 < s → s ≤ n → getD ranks s 0 ≡ rankOf (f s))
+module _ (f : Table) (num : SizeFields) (n : ℕ) (ranks order : List ℕ) (rank-at : (s : ℕ) → 0 < s → s ≤ n → getD ranks s 0 ≡ rankOf (f s))
     (o : order ≡ sorted (λ x. getD ranks x 0) (slotNumbers n)) where
   abbrev at : ℕ → ℕ
   at i = getD order i 0
@@ -117,74 +117,74 @@ module _ (f : Table) (num : Numbers) (n : ℕ) (ranks order : List ℕ) (rank-at
   full-complete : (i : ℕ) → i < n → 2 ≤ entryAt ranks order i → fullRun num ranks order i ≡ true → complete f num n (at i) ≡ true
   full-complete i h b t = complete-is f num n (at i) counts (omega (arith, inside, after, said-some (num (at i)), full .0))
     where
-      full : (said (num (at i)) ≤ i + 1) × (entryAt ranks order (i + 1 - said (num (at i))) ≡ entryAt ranks order i)
+      full : (basketSize (num (at i)) ≤ i + 1) × (entryAt ranks order (i + 1 - basketSize (num (at i))) ≡ entryAt ranks order i)
       full = full-is num ranks order i t
 
       counts : isRecord (f (at i)) ≡ true
       counts = rank-record (f (at i)) (omega (arith, entry i h))
 
-      top : rankOf (f (at i)) ≡ 2 + topOf (f (at i))
+      top : rankOf (f (at i)) ≡ 2 + highestWholeIn (f (at i))
       top = record-rank (f (at i)) counts
 
-      r : Span (λ t. rankOf (f t)) (2 + topOf (f (at i))) order (sharers f n (topOf (f (at i))))
-      r = run-at f n ranks order rank-at o (topOf (f (at i)))
+      r : Span (λ t. rankOf (f t)) (2 + highestWholeIn (f (at i))) order (sharers f n (highestWholeIn (f (at i))))
+      r = run-at f n ranks order rank-at o (highestWholeIn (f (at i)))
 
       first : ℕ
-      first = i + 1 - said (num (at i))
+      first = i + 1 - basketSize (num (at i))
 
       size : length order ≡ n
       size = whole f n ranks order rank-at o .size
 
-      after : i < r .lo + sharers f n (topOf (f (at i)))
+      after : i < r .lo + sharers f n (highestWholeIn (f (at i)))
       after = r .inside i (omega (arith, size)) top .1
 
-      inside : r .lo ≤ i + 1 - said (num (at i))
+      inside : r .lo ≤ i + 1 - basketSize (num (at i))
       inside =
           r .inside first (omega (arith, size, said-some (num (at i)), full .0))
           (sym (entry first (omega (arith, said-some (num (at i)), full .0))) ∙ full .1 ∙ entry i h ∙ top) .0
 
   -- and where the sharers agree a complete slot's run is full at its last position
-  complete-full : Agreed f num n → (s : ℕ) → Slot n s → complete f num n s ≡ true → 2 + topOf (f s) ≤ judgedRank num ranks order n
+  complete-full : Agreed f num n → (s : ℕ) → Slot n s → complete f num n s ≡ true → 2 + highestWholeIn (f s) ≤ judgedRank num ranks order n
   complete-full g s i c = omega (arith, full-below n (omega arith) last inside (omega (arith, here)) full, here)
     where
       counts : isRecord (f s) ≡ true
       counts = complete-record f num n s c
 
-      enough : said (num s) ≤ sharers f n (topOf (f s))
+      enough : basketSize (num s) ≤ sharers f n (highestWholeIn (f s))
       enough = complete-enough f num n s c
 
-      some : 1 ≤ said (num s)
+      some : 1 ≤ basketSize (num s)
       some = said-some (num s)
 
-      r : Span (λ t. rankOf (f t)) (2 + topOf (f s)) order (sharers f n (topOf (f s)))
-      r = run-at f n ranks order rank-at o (topOf (f s))
+      r : Span (λ t. rankOf (f t)) (2 + highestWholeIn (f s)) order (sharers f n (highestWholeIn (f s)))
+      r = run-at f n ranks order rank-at o (highestWholeIn (f s))
 
       size : length order ≡ n
       size = whole f n ranks order rank-at o .size
 
       last : ℕ
-      last = r .lo + sharers f n (topOf (f s)) - 1
+      last = r .lo + sharers f n (highestWholeIn (f s)) - 1
 
       inside : last < n
       inside = omega (arith, r .end, size, enough, some)
 
-      rank-last : rankOf (f (at last)) ≡ 2 + topOf (f s)
+      rank-last : rankOf (f (at last)) ≡ 2 + highestWholeIn (f s)
       rank-last = r .equal last (omega (arith, enough, some)) (omega (arith, enough, some))
 
-      here : entryAt ranks order last ≡ 2 + topOf (f s)
+      here : entryAt ranks order last ≡ 2 + highestWholeIn (f s)
       here = entry last inside ∙ rank-last
 
       counts-last : isRecord (f (at last)) ≡ true
       counts-last = rank-record (f (at last)) (omega (arith, rank-last))
 
-      number : said (num (at last)) ≡ said (num s)
+      number : basketSize (num (at last)) ≡ basketSize (num s)
       number =
-          ap said
+          ap basketSize
           (g .numbers (at last) s (slot-at f n ranks order rank-at o last inside) i counts-last counts
           (omega (arith, rank-last, record-rank (f (at last)) counts-last)))
 
       first : ℕ
-      first = last + 1 - said (num (at last))
+      first = last + 1 - basketSize (num (at last))
 
       full : fullRun num ranks order last ≡ true
       full =
@@ -217,7 +217,7 @@ module _ (f : Table) (num : Numbers) (n : ℕ) (ranks order : List ℕ) (rank-at
 -- ---- the settled table
 
 -- a record of the settled table is not void
-pub settled-put : (f : Table) (num : Numbers) (n s : ℕ) (w k : ℕ) (v : List ℕ) → settled f num n s ≡ putRecord w k v → f s ≡ putRecord w k v
+pub settled-put : (f : Table) (num : SizeFields) (n s : ℕ) (w k : ℕ) (v : List ℕ) → settled f num n s ≡ putRecord w k v → f s ≡ putRecord w k v
 unfolding isRecord
 settled-put f num n s w k v e = go (isVoid f num n s) refl
   where
@@ -225,22 +225,22 @@ settled-put f num n s w k v e = go (isVoid f num n s) refl
     go true d = absurd (true-false refl (ap isRecord (sym e ∙ settled-void f num n s d)))
     go false d = sym (settled-same f num n s d) ∙ e
 
-pub settled-apart : (f : Table) (num : Numbers) (n : ℕ) → Agreed f num n → ApartByKey (settled f num n) n
-unfolding weight
+pub settled-apart : (f : Table) (num : SizeFields) (n : ℕ) → Agreed f num n → ApartByKey (settled f num n) n
+unfolding rankForKey
 settled-apart f num n g k s t i j ne p e = go (isVoid f num n s) refl (isVoid f num n t) refl
   where
-    none : (x : ℕ) → isVoid f num n x ≡ true → weight k (settled f num n x) ≡ 0
-    none x d = ap (weight k) (settled-void f num n x d)
+    none : (x : ℕ) → isVoid f num n x ≡ true → rankForKey k (settled f num n x) ≡ 0
+    none x d = ap (rankForKey k) (settled-void f num n x d)
 
     go : (x : Bool) → isVoid f num n s ≡ x → (y : Bool) → isVoid f num n t ≡ y → ⊥
     go true c y d = omega (arith, none s c)
     go false c true d = omega (arith, none t d)
     go false c false d =
-        let a = ap (weight k) (settled-same f num n s c) in
-        let b = ap (weight k) (settled-same f num n t d) in
+        let a = ap (rankForKey k) (settled-same f num n s c) in
+        let b = ap (rankForKey k) (settled-same f num n t d) in
         agreed-apart f num n g k s t i j ne (omega (arith, a)) (sym a ∙ e ∙ b)
 
-module _ (f : Table) (num : Numbers) (n b limit : ℕ) (ranks lows highs places ranks′ places′ : List ℕ) (h : Listed f n b ranks lows highs places)
+module _ (f : Table) (num : SizeFields) (n b limit : ℕ) (ranks lows highs places ranks′ places′ : List ℕ) (h : Listed f n b ranks lows highs places)
     (e : limit ≡ 2 + highestComplete f num n) where
   -- the slots above the limit are the void ones
   pub above-void : (s : ℕ) → Slot n s → ltb limit (getD ranks s 0) ≡ isVoid f num n s
@@ -286,7 +286,7 @@ module _ (f : Table) (num : Numbers) (n b limit : ℕ) (ranks lows highs places 
 
 -- ---- how many are void
 
-pub broken-with-void : (f : Table) (num : Numbers) (n : ℕ) → brokenCount (settled f num n) n ≡ brokenCount f n + count (isVoid f num n) n
+pub broken-with-void : (f : Table) (num : SizeFields) (n : ℕ) → brokenCount (settled f num n) n ≡ brokenCount f n + count (isVoid f num n) n
 unfolding brokenCount isBroken
 broken-with-void f num n = count-both (λ s. isBroken (f s)) (isVoid f num n) (λ s. isBroken (settled f num n s)) n (λ t i. go t (isVoid f num n t) refl) apart
   where
@@ -304,12 +304,12 @@ broken-with-void f num n = count-both (λ s. isBroken (f s)) (isVoid f num n) (�
     apart t i e = is-false (isVoid f num n t) (λ d. true-false e (record-whole (f t) (void-record f num n t d)))
 
 -- AT MOST EIGHT: where 25 is not due there are no more void slots
-pub few-void : (l : ℕ) (m : ℕ → ℕ) (n : ℕ) → manyBroken (settled (content l m) (numberIn l m) n) n ≡ false → length (voidSlots l m n) ≤ 8
+pub few-void : (l : ℕ) (m : ℕ → ℕ) (n : ℕ) → manyBroken (settled (content l m) (sizeFieldIn l m) n) n ≡ false → length (voidSlots l m n) ≤ 8
 unfolding voidSlots brokenLimit
 few-void l m n e =
     omega (
       arith,
-      many-few (settled (content l m) (numberIn l m) n) n e,
-      broken-with-void (content l m) (numberIn l m) n,
-      count-filter (isVoid (content l m) (numberIn l m) n) n,
+      many-few (settled (content l m) (sizeFieldIn l m) n) n e,
+      broken-with-void (content l m) (sizeFieldIn l m) n,
+      count-filter (isVoid (content l m) (sizeFieldIn l m) n) n,
     )

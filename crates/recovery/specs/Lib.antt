@@ -1,4 +1,4 @@
-pub mod Opening
+pub mod Invalidation
 pub mod Recover
 pub mod Represents
 pub mod inner

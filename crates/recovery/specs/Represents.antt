@@ -1,4 +1,5 @@
--- What a recovered index is to a reader: the chains of document 01 along its links, each slot in just one of them, and what a search says of the map.
+-- What a recovered index is to a reader: the chains of document 01 along its links, each slot in just one of them, and
+-- what a search says of the map.
 use mathlib.Core.Path.{_≡_}
 use mathlib.Core.Bool.{true}
 use mathlib.Core.Option.{none}
@@ -15,13 +16,14 @@ use Rattle.index.specs.declared.Found.{Found}
 use Rattle.index.specs.declared.Found.the-variants.{At, Missing, BadChain}
 use Rattle.recovery.specs.Recover.{chainsOf, placeOf}
 
--- "Records are chained by a next index, and zero ends the chain": from each head its chain, from the first spare slot the reuse chain
+-- "Records are chained by a next index, and zero ends the chain": from each head its chain, from the first spare slot
+-- the reuse chain
 pub record Represents (f : Table) (n b : ℕ) (i : Index) : Type 0 where
   pub heads-size : length (i .heads) ≡ b
   pub next-size : length (i .next) ≡ n + 1
   pub head-chain : (h : ℕ) → h < b → Linked (i .next) (getD (i .heads) h 0) (chainOf f n (λ key. headOf key b) h)
-  pub reuse-chain : Linked (i .next) (i .first) (reuseOf f n)
-  pub last-slot : i .last ≡ lastOf (reuseOf f n)
+  pub reuse-chain : Linked (i .next) (i .state .first) (reuseOf f n)
+  pub last-slot : i .state .last ≡ lastOf (reuseOf f n)
   -- each slot stands in the chain that is its place, in no other, and once
   pub stands : (s : ℕ) → Slot n s → In s (chainsOf f n b (placeOf f n b s))
   pub no-other : (c : Chain) (s : ℕ) → In s (chainsOf f n b c) → Slot n s × (placeOf f n b s ≡ c)

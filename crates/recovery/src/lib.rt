@@ -8,21 +8,23 @@ pub enum Recovered {
     Refused { number: u32, slot: u32 },
 }
 
-// The opening stores: `count` of them, store i sets word at[i] of the image to value[i]. Entries from `count` on are zero.
-pub struct Openings {
+// The invalidating stores: `count` of them, store i sets word at[i] of the image to value[i]. Entries from `count` on
+// are zero.
+pub struct Invalidations {
     pub count: u32,
     pub at: [u32; 8],
     pub value: [u64; 8],
 }
 
-// What recover gives back: the answer and the opening stores, none with a refusal.
+// What recover gives back: the answer and the invalidating stores, none with a refusal.
 pub struct RecoverAnswer {
     pub recovered: Recovered,
-    pub openings: Openings,
+    pub invalidations: Invalidations,
 }
 
-// What is kept of one slot: its rank in recovery's order, the low and the high word of its key, its chain as a number (0 is the reuse chain),
-// the highest version on a whole line, whether it has a bad mark (5), and the fault of its record (6, 22, 23 or 24, else 0).
+// What is kept of one slot: its rank in recovery's order, the low and the high word of its key, its chain as a number
+// (0 is the reuse chain), the highest version on a whole line, whether it has a bad mark (5), and the fault of its
+// record (6, 22, 23 or 24, else 0).
 pub struct Summary {
     pub rank: u64,
     pub low: u64,
@@ -41,8 +43,8 @@ pub struct Classes {
     pub removes: u32,
 }
 
-// What all slots together say: a bad mark, the fault of the lowest slot at fault and that slot (0 and 0 for none), how many are of each class, and
-// the highest version on a whole line.
+// What all slots together say: a bad mark, the fault of the lowest slot at fault and that slot (0 and 0 for none), how
+// many are of each class, and the highest version on a whole line.
 pub struct Scan {
     pub mark: bool,
     pub fault: u32,
@@ -51,15 +53,16 @@ pub struct Scan {
     pub top: u64,
 }
 
-// What recovery finds before it writes anything: the refusal of the slots or 0, the slot that it names, the live count, the highest version on a
-// whole line, how many slots are of each class, void records as the others, and the opening stores.
+// What recovery finds before it writes anything: the refusal of the slots or 0, the slot that it names, the live count,
+// the highest version on a whole line, how many slots are of each class, void records as the others, and the
+// invalidating stores.
 pub struct Judged {
     pub fault: u32,
     pub slot: u32,
     pub live: u32,
     pub top: u64,
     pub classes: Classes,
-    pub openings: Openings,
+    pub invalidations: Invalidations,
 }
 
 // Recovery's answer, and how many slots of an accepted image are of each class, void records as the others.

@@ -1,11 +1,12 @@
-// 7: along the order by rank a run of one rank whose numbers differ or that is too long, along the order by key one key twice in a version.
+// 7: along the order by rank a run of one rank whose numbers differ or that is too long, along the order by key one key
+// twice in a version.
 ghost use mathlib.Core.Path.{_≡_};
 ghost use Prim.Native.Nat.{_+_, _-_, _≤_, _<_};
 ghost use lib.ListN.{length, getD};
 ghost use Rattle.words.specs.Word.{word};
 ghost use Rattle.prelude.specs.Range.{anyOf};
-ghost use Rattle.layout.specs.Content.{numberIn};
-ghost use Rattle.table.specs.Complete.{said};
+ghost use Rattle.layout.specs.Content.{sizeFieldIn};
+ghost use Rattle.table.specs.Complete.{basketSize};
 ghost use Rattle.recovery.specs.inner.Scan.{keyAt};
 ghost use Rattle.recovery.specs.inner.Decide.{equalNeighbours, tooMany, runFault, keyTwice, Within, NoneOrAll};
 ghost use Rattle.recovery.specs.inner.Judge.{OrderNumbered, Comparable, Compared};
@@ -18,7 +19,7 @@ use order_code::ordering::order_by_rank;
 // How many records a number says.
 pub fn records_said(number: u64) -> usize
     requires { ⌜ number < 256 ⌝ }
-    ensures { λ r. ⌜ (r ≡ said number) × (1 ≤ r) × (r < 256) ⌝ }
+    ensures result { λ r. ⌜ (r ≡ basketSize number) × (1 ≤ r) × (r < 256) ⌝ }
 {
     if number == 0 {
         return 1;
@@ -29,7 +30,7 @@ pub fn records_said(number: u64) -> usize
 // The number of the slot at position i of the order.
 pub fn number_at(image: &[u8], l: usize, order: &[u32], i: usize, n: usize) -> u64
     requires { ⌜ OrderNumbered (now image) l (now order) n × (i < n) ⌝ }
-    ensures { λ r. ⌜ (r ≡ numberIn l (word (now (image .entry))) (getD (now (order .entry)) i 0)) × (r < 256) ⌝ }
+    ensures result { λ r. ⌜ (r ≡ sizeFieldIn l (word (now (image .entry))) (getD (now (order .entry)) i 0)) × (r < 256) ⌝ }
 {
     let x = order[i] as usize;
     slot_number(image, l, x)
@@ -66,7 +67,7 @@ fn any_shared(ranks: &[u64], order: &[u32], n: usize) -> bool
 // From position i on, does its run go on for more slots than the number of the slot says?
 fn is_too_many(image: &[u8], l: usize, ranks: &[u64], order: &[u32], i: usize, n: usize) -> bool
     requires { ⌜ OrderNumbered (now image) l (now order) n × (length (now ranks) ≡ n + 1) × (i < n) ⌝ }
-    ensures { λ r. ⌜ r ≡ tooMany (numberIn l (word (now (image .entry)))) (now (ranks .entry)) (now (order .entry)) i ⌝ }
+    ensures { λ r. ⌜ r ≡ tooMany (sizeFieldIn l (word (now (image .entry)))) (now (ranks .entry)) (now (order .entry)) i ⌝ }
 {
     let end = i + records_said(number_at(image, l, order, i, n));
     if n <= end {
@@ -78,7 +79,7 @@ fn is_too_many(image: &[u8], l: usize, ranks: &[u64], order: &[u32], i: usize, n
 // Do the slots at positions i and i + 1 share a version and differ in their numbers, or are there too many of them?
 fn is_run_fault(image: &[u8], l: usize, ranks: &[u64], order: &[u32], i: usize, n: usize) -> bool
     requires { ⌜ OrderNumbered (now image) l (now order) n × (length (now ranks) ≡ n + 1) × (i + 1 < n) ⌝ }
-    ensures { λ r. ⌜ r ≡ runFault (numberIn l (word (now (image .entry)))) (now (ranks .entry)) (now (order .entry)) i ⌝ }
+    ensures { λ r. ⌜ r ≡ runFault (sizeFieldIn l (word (now (image .entry)))) (now (ranks .entry)) (now (order .entry)) i ⌝ }
 {
     if !is_shared(ranks, order, i) {
         return false;
@@ -92,7 +93,7 @@ fn is_run_fault(image: &[u8], l: usize, ranks: &[u64], order: &[u32], i: usize, 
 // Do any two neighbours?
 fn any_run_fault(image: &[u8], l: usize, ranks: &[u64], order: &[u32], n: usize) -> bool
     requires { ⌜ OrderNumbered (now image) l (now order) n × (length (now ranks) ≡ n + 1) × (1 ≤ n) ⌝ }
-    ensures { λ r. ⌜ r ≡ anyOf (runFault (numberIn l (word (now (image .entry)))) (now (ranks .entry)) (now (order .entry))) 0 (n - 1) ⌝ }
+    ensures { λ r. ⌜ r ≡ anyOf (runFault (sizeFieldIn l (word (now (image .entry)))) (now (ranks .entry)) (now (order .entry))) 0 (n - 1) ⌝ }
 {
     let end = n - 1;
     let mut i = 0;
@@ -114,7 +115,8 @@ fn is_key_twice(
     i: usize,
     n: usize,
 ) -> bool
-    requires { ⌜ (length (now order) ≡ n) × (length (now ranks) ≡ n + 1) × (length (now lows) ≡ n + 1) × NoneOrAll (now highs) n × Within (now order) n × (i + 1 < n) ⌝ }
+    requires { ⌜ (length (now order) ≡ n) × (length (now ranks) ≡ n + 1) × (length (now lows) ≡ n + 1) × NoneOrAll (now highs) n × Within (now order)
+        n × (i + 1 < n) ⌝ }
     ensures { λ r. ⌜ r ≡ keyTwice (keyAt (now (lows .entry)) (now (highs .entry))) (now (ranks .entry)) (now (order .entry)) i ⌝ }
 {
     if !is_followed(lows, highs, order, i, n) {
@@ -125,7 +127,8 @@ fn is_key_twice(
 
 // Do any two neighbours?
 fn any_key_twice(ranks: &[u64], lows: &[u64], highs: &[u64], order: &[u32], n: usize) -> bool
-    requires { ⌜ (length (now order) ≡ n) × (length (now ranks) ≡ n + 1) × (length (now lows) ≡ n + 1) × NoneOrAll (now highs) n × Within (now order) n × (1 ≤ n) ⌝ }
+    requires { ⌜ (length (now order) ≡ n) × (length (now ranks) ≡ n + 1) × (length (now lows) ≡ n + 1) × NoneOrAll (now highs) n × Within (now order)
+        n × (1 ≤ n) ⌝ }
     ensures { λ r. ⌜ r ≡ anyOf (keyTwice (keyAt (now (lows .entry)) (now (highs .entry))) (now (ranks .entry)) (now (order .entry))) 0 (n - 1) ⌝ }
 {
     let end = n - 1;
@@ -139,7 +142,8 @@ fn any_key_twice(ranks: &[u64], lows: &[u64], highs: &[u64], order: &[u32], n: u
     false
 }
 
-// The slots in order by rank and by key, and whether 7 is found along these orders. Where no two slots share a version it is not.
+// The slots in order by rank and by key, and whether 7 is found along these orders. Where no two slots share a version
+// it is not.
 pub fn compare(
     image: &[u8],
     l: usize,
@@ -152,7 +156,8 @@ pub fn compare(
     scratch: &mut [u32],
 ) -> bool
     requires { ⌜ Comparable (now image) l n (now ranks) (now lows) (now highs) (now order) (now «by_key») (now scratch) ⌝ }
-    ensures { λ r. ⌜ Compared (numberIn l (word (now (image .entry)))) (now (ranks .entry)) (now (lows .entry)) (now (highs .entry)) n (now (order .exit)) (now («by_key» .exit)) r ⌝ }
+    ensures result { λ r. ⌜ Compared (sizeFieldIn l (word (now (image .entry)))) (now (ranks .entry)) (now (lows .entry)) (now (highs .entry)) n
+        (now (order .exit)) (now («by_key» .exit)) r ⌝ }
 {
     order_by_rank(ranks, order, scratch);
     order_by_key(lows, highs, order, by_key, scratch);

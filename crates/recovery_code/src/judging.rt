@@ -26,12 +26,12 @@ pub fn judge(
     scratch: &mut [u32],
 ) -> Judged
     requires { ⌜ Judgeable (now image) l (now ranks) (now lows) (now highs) (now places) (now order) (now «by_key») (now scratch) n b ⌝ }
-    ensures { λ r. ⌜ Judgement l (word (now (image .entry))) n b (now (order .exit)) (now (places .exit)) r ⌝ }
+    ensures result { λ r. ⌜ Judgement l (word (now (image .entry))) n b (now (order .exit)) (now (places .exit)) r ⌝ }
 {
     let all = scan(image, l, n, b, ranks, lows, highs, places);
     let shared = compare(image, l, n, ranks, lows, highs, order, by_key, scratch);
     let limit = judged_rank(image, l, ranks, order, n);
-    let openings = settle(
+    let invalidations = settle(
         image,
         n,
         limit,
@@ -46,7 +46,7 @@ pub fn judge(
     decide(lows, highs, by_key, places, n);
     let live = count_placed(places, n);
     let classes = all.classes;
-    let broken = classes.broken + openings.count;
+    let broken = classes.broken + invalidations.count;
     let fault = found_fault(all.mark, all.fault, shared, broken, live, n as u32);
     Judged {
         fault,
@@ -54,6 +54,6 @@ pub fn judge(
         live,
         top: all.top,
         classes,
-        openings,
+        invalidations,
     }
 }

@@ -1,5 +1,5 @@
-// Counts the slots of images that come one after another on standard input: a line for each image, and a last line of totals. Each second a line on
-// standard error says how many images were read.
+// Counts the slots of images that come one after another on standard input: a line for each image, and a last line of
+// totals. Each second a line on standard error says how many images were read.
 ghost use mathlib.Core.Path.{_≡_};
 ghost use Prim.Native.Nat.{_+_, _≤_};
 ghost use lib.ListN.{length};
@@ -17,8 +17,8 @@ use reporting_code::start;
 use show::progress::counted;
 use show::progress::seconds;
 
-// How far the report is; the bytes at the front of the input that are not read yet; whether there may be more, and whether every write succeeded; and the
-// second of the last line on standard error.
+// How far the report is; the bytes at the front of the input that are not read yet; whether there may be more, and
+// whether every write succeeded; and the second of the last line on standard error.
 struct Status {
     progress: ReportProgress,
     have: usize,

@@ -17,7 +17,7 @@ fn is_outside(n: u64) -> bool
 
 // The size of the image at the start of the input, by its word 0; 0 where that is outside, or is not there whole.
 pub fn image_size(input: &[u8]) -> usize
-    ensures { λ r. ⌜ r ≡ imageSize (now (input .entry)) ⌝ }
+    ensures result { λ r. ⌜ r ≡ imageSize (now (input .entry)) ⌝ }
 {
     if input.len() < 8 {
         return 0;
@@ -31,7 +31,7 @@ pub fn image_size(input: &[u8]) -> usize
 
 // The size of the image at the start of the input, if it is whole and one may still be read, else 0.
 pub fn readable_size(input: &[u8], left: u32) -> usize
-    ensures { λ r. ⌜ r ≡ readable left (now (input .entry)) ⌝ }
+    ensures result { λ r. ⌜ r ≡ readable left (now (input .entry)) ⌝ }
 {
     if left == 0 {
         return 0;

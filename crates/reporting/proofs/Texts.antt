@@ -13,7 +13,7 @@ use Rattle.prelude.proofs.Refusals.{by-refusal}
 use Rattle.text.specs.Output.{decimal, numbersText, lineText, no, text, written}
 use Rattle.text.specs.inner.Output.{Wrote}
 use Rattle.text.proofs.Storing.{decimal-length, numbers-length}
-use Rattle.face.specs.Set.{SlotCounts, CountAnswer, Counted, NotCounted, CountResult, countValues, countEnd, countSays, countResult}
+use Rattle.interface.specs.Set.{SlotCounts, CountAnswer, Counted, NotCounted, CountResult, countValues, countEnd, countSays, countResult}
 use Rattle.reporting.specs.Report.{imageAnswer, answerText, totalsWith, totalsText, unreadText}
 use Rattle.reporting.specs.Blocks.{Below, TotalsBounded}
 use Rattle.reporting.specs.inner.Images.{progressWith, ImageReported}

@@ -44,8 +44,8 @@ isBelow t bound =
 unfoldable pub isBounded : ReportProgress → Bool
 isBounded p = cond (ltb 1000000 (p .left)) false (isBelow (p .totals) (2 ^ 32 * (1000000 - p .left)))
 
--- the first `have` bytes of a buffer of this size can be reported: they are there, there is room for a line of 128 bytes for each 384 bytes of the buffer and
--- for two lines more, and the totals are bounded
+-- the first `have` bytes of a buffer of this size can be reported: they are there, there is room for a line of 128
+-- bytes for each 384 bytes of the buffer and for two lines more, and the totals are bounded
 unfoldable pub isLent : (have size room : ℕ) → ReportProgress → Bool
 isLent have size room p = cond (ltb size have) false (cond (ltb room (size / 3 + 257)) false (isBounded p))
 
@@ -65,7 +65,8 @@ pub record BlockReported (input : List ℕ) (p : ReportProgress) (out : List ℕ
 unfoldable pub endsReading : (left : ℕ) → (rest : List ℕ) → Bool
 endsReading left rest = cond (eqb left 0) true (leb 8 (length rest) && eqb (imageSize rest) 0)
 
--- the first `have` bytes of a buffer are reported, and what is not read of them is carried over to its front; the bytes after the `carried` ones may be any
+-- the first `have` bytes of a buffer are reported, and what is not read of them is carried over to its front; the bytes
+-- after the `carried` ones may be any
 pub record FrontReported (old : List ℕ) (have : ℕ) (p : ReportProgress) (new out : List ℕ) (r : FrontReport) : Type 0 where
   pub reported : BlockReported (take have old) p out (r .block)
   pub printed : r .block .end ≤ length out
@@ -78,12 +79,14 @@ abbrev pub FrontAnswered : (old : List ℕ) → (have : ℕ) → ReportProgress 
 FrontAnswered old have p oldOut new out (Reported r) = (isLent have (length old) (length oldOut) p ≡ true) × FrontReported old have p new out r
 FrontAnswered old have p oldOut new out Refused = (isLent have (length old) (length oldOut) p ≡ false) × (new ≡ old) × (out ≡ oldOut)
 
--- the report from here to the end of the input; nothing where the sizes or the progress are none that a report can go on with
+-- the report from here to the end of the input; nothing where the sizes or the progress are none that a report can go
+-- on with
 unfoldable pub lastText : (input : List ℕ) → (room : ℕ) → ReportProgress → List ℕ
 lastText input room p = cond (isLent (length input) (length input) room p) (reportFrom (p .left) input (p .totals)) []
 
--- what is printed of an input, from this progress on, by the promises of `report_front` and `report_last`: block by block, each the front of what is not read
--- yet, and then the last one, at the end of the input or where the reading ends
+-- what is printed of an input, from this progress on, by the promises of `report_front` and `report_last`: block by
+-- block, each the front of what is not read yet, and then the last one, at the end of the input or where the reading
+-- ends
 pub data Prints : ReportProgress → (input output : List ℕ) → Type 0 where
   block : (p : ReportProgress) (front more output out : List ℕ) (b : Block) → BlockReported front p out b
       → Prints (b .progress) (drop (b .used) front ++ more) output → Prints p (front ++ more) (take (b .end) out ++ output)

@@ -1,6 +1,7 @@
--- The report on images. Document 02, A.8: "A program reads up to a million images one after another and prints the six in this order on a line for each and a
--- last line of totals of the accepted ones. An image that recovery refuses prints `no` and the number. Word 0 of each gives its length; a word 0 outside 2 to
--- 511, or an image cut short, prints `no 1` and ends the reading."
+-- The report on images. Document 02, A.8: "A program reads up to a million images one after another and prints the six
+-- in this order on a line for each and a last line of totals of the accepted ones. An image that recovery refuses
+-- prints `no` and the number. Word 0 of each gives its length; a word 0 outside 2 to 511, or an image cut short, prints
+-- `no 1` and ends the reading."
 use mathlib.Core.Bool.{Bool, true, cond}
 use mathlib.Core.List.{List, [], _∷_, _++_}
 use Prim.Native.Nat.{ℕ, zero, suc, _+_, _*_, _/_}
@@ -9,7 +10,7 @@ use lib.ListN.{length, getD, take, drop}
 use Rattle.words.specs.Word.{word}
 use Rattle.prelude.specs.Answer.{Answer, gives, absent, refused}
 use Rattle.text.specs.Output.{no, text, lineText}
-use Rattle.face.specs.Set.{countSays}
+use Rattle.interface.specs.Set.{countSays}
 use Rattle.reporting.specs.declared.SlotTotals.{SlotTotals}
 
 -- ---- an image
@@ -26,7 +27,8 @@ imageSize input = cond (ltb (length input) 8) 0 (cond (outside (word input 0)) 0
 unfoldable pub wholeSize : (input : List ℕ) → ℕ
 wholeSize input = cond (leb (imageSize input) (length input)) (imageSize input) 0
 
--- the six counts of an image or recovery's refusal, with an index of one head and, for the 128 × (N + 1) bytes of the image, N + 1 entries
+-- the six counts of an image or recovery's refusal, with an index of one head and, for the 128 × (N + 1) bytes of the
+-- image, N + 1 entries
 unfoldable pub imageAnswer : (image : List ℕ) → Answer
 imageAnswer image = countSays 1 image 1 (length image / 128)
 
@@ -61,7 +63,8 @@ totalsText t = lineText (t .live ∷ t .hidden ∷ t .removes ∷ t .void ∷ t 
 
 -- ---- the whole input
 
--- "prints `no 1` and ends the reading": where images may still be read and input is left that does not begin with a whole one
+-- "prints `no 1` and ends the reading": where images may still be read and input is left that does not begin with a
+-- whole one
 unfoldable pub unreadText : (left input : ℕ) → List ℕ
 unreadText left input = cond (eqb left 0) [] (cond (eqb input 0) [] (text (no 1)))
 

@@ -29,14 +29,16 @@ pub struct Block {
     pub end: usize,
 }
 
-// After the first bytes of a buffer: their block, how many of them are carried over to its front, and whether the reading ends there.
+// After the first bytes of a buffer: their block, how many of them are carried over to its front, and whether the
+// reading ends there.
 pub struct FrontReport {
     pub block: Block,
     pub carried: usize,
     pub ended: bool,
 }
 
-// The answer on the first bytes of a buffer; refused where the sizes or the progress are none that a report can go on with.
+// The answer on the first bytes of a buffer; refused where the sizes or the progress are none that a report can go on
+// with.
 pub enum FrontAnswer {
     Reported(FrontReport),
     Refused,

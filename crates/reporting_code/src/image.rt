@@ -2,7 +2,7 @@
 ghost use mathlib.Core.Path.{_≡_};
 ghost use Prim.Native.Nat.{ℕ, _+_, _^_};
 ghost use Rattle.prelude.specs.Answer.{gives};
-ghost use Rattle.face.specs.Set.{countValues};
+ghost use Rattle.interface.specs.Set.{countValues};
 ghost use Rattle.reporting.specs.Report.{totalsWith};
 ghost use Rattle.reporting.specs.Blocks.{Below};
 ghost use Rattle.reporting.specs.inner.Images.{Reportable, ImageReported};
@@ -39,7 +39,7 @@ pub fn report_image(
     at: usize,
 ) -> ImageReport
     requires { ⌜ Reportable (now image) (now next) p (now out) at ⌝ }
-    ensures { λ r. ⌜ ImageReported (now (image .entry)) p (now (out .entry)) at (now (out .exit)) r ⌝ }
+    ensures result { λ r. ⌜ ImageReported (now (image .entry)) p (now (out .entry)) at (now (out .exit)) r ⌝ }
 {
     let mut heads = [0u32; 1];
     let entries = image.len() / 128;

@@ -24,7 +24,7 @@ use reporting::SlotTotals;
 
 // Before the first image.
 pub fn start() -> ReportProgress
-    ensures { λ r. ⌜ (r ≡ record { left = 1000000; totals = noTotals }) × TotalsBounded r ⌝ }
+    ensures result { λ r. ⌜ (r ≡ record { left = 1000000; totals = noTotals }) × TotalsBounded r ⌝ }
 {
     ReportProgress {
         left: 1000000,
@@ -64,7 +64,8 @@ fn report_block(input: &[u8], p: ReportProgress, out: &mut [u8]) -> Block
     }
 }
 
-// The whole images among the first `have` bytes of the buffer are reported, and the bytes after them are carried over to its front.
+// The whole images among the first `have` bytes of the buffer are reported, and the bytes after them are carried over
+// to its front.
 pub fn report_front(input: &mut [u8], have: usize, p: ReportProgress, out: &mut [u8]) -> FrontAnswer
     ensures answered { λ r. ⌜ FrontAnswered (now (input .entry)) have p (now (out .entry)) (now (input .exit)) (now (out .exit)) r ⌝ }
 {
@@ -83,8 +84,8 @@ pub fn report_front(input: &mut [u8], have: usize, p: ReportProgress, out: &mut 
     })
 }
 
-// The end of the input is reported: its whole images, `no 1` where something is left, and the totals. Returned is how many bytes of output there are: none where
-// the sizes or the progress are none that a report can go on with.
+// The end of the input is reported: its whole images, `no 1` where something is left, and the totals. Returned is how
+// many bytes of output there are: none where the sizes or the progress are none that a report can go on with.
 pub fn report_last(input: &[u8], p: ReportProgress, out: &mut [u8]) -> usize
     ensures printed { λ r. ⌜ take r (now (out .exit)) ≡ lastText (now (input .entry)) (length (now (out .entry))) p ⌝ }
     ensures inside { λ r. ⌜ r ≤ length (now (out .exit)) ⌝ }

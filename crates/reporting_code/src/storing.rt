@@ -3,7 +3,7 @@ ghost use Prim.Native.Nat.{_+_, _≤_};
 ghost use lib.ListN.{length};
 ghost use Rattle.text.specs.Output.{no, text, lineText};
 ghost use Rattle.text.specs.inner.Output.{Wrote};
-ghost use Rattle.face.specs.Set.{countValues};
+ghost use Rattle.interface.specs.Set.{countValues};
 ghost use Rattle.reporting.specs.Report.{totalsText, unreadText};
 use orderset::SlotCounts;
 use reporting::SlotTotals;
@@ -13,7 +13,7 @@ use text_code::output::store_one;
 // The six counts of an image.
 pub fn store_counts(c: SlotCounts, out: &mut [u8], at: usize) -> usize
     requires { ⌜ at + 126 ≤ length (now out) ⌝ }
-    ensures { λ r. ⌜ Wrote (now (out .entry)) (now (out .exit)) at r (lineText (countValues c)) ⌝ }
+    ensures result { λ r. ⌜ Wrote (now (out .entry)) (now (out .exit)) at r (lineText (countValues c)) ⌝ }
 {
     store_numbers(
         out,
@@ -32,7 +32,7 @@ pub fn store_counts(c: SlotCounts, out: &mut [u8], at: usize) -> usize
 // `no` and the number of a refusal.
 pub fn store_refusal(number: u32, out: &mut [u8], at: usize) -> usize
     requires { ⌜ at + 24 ≤ length (now out) ⌝ }
-    ensures { λ r. ⌜ Wrote (now (out .entry)) (now (out .exit)) at r (text (no number)) ⌝ }
+    ensures result { λ r. ⌜ Wrote (now (out .entry)) (now (out .exit)) at r (text (no number)) ⌝ }
 {
     store_one(out, at, b"no", number as u64)
 }
@@ -40,7 +40,7 @@ pub fn store_refusal(number: u32, out: &mut [u8], at: usize) -> usize
 // The totals.
 pub fn store_totals(t: SlotTotals, out: &mut [u8], at: usize) -> usize
     requires { ⌜ at + 126 ≤ length (now out) ⌝ }
-    ensures { λ r. ⌜ Wrote (now (out .entry)) (now (out .exit)) at r (totalsText t) ⌝ }
+    ensures result { λ r. ⌜ Wrote (now (out .entry)) (now (out .exit)) at r (totalsText t) ⌝ }
 {
     store_numbers(
         out,
@@ -53,7 +53,7 @@ pub fn store_totals(t: SlotTotals, out: &mut [u8], at: usize) -> usize
 // `no 1` where images may still be read and bytes are left.
 pub fn store_unread(left: u32, bytes: usize, out: &mut [u8], at: usize) -> usize
     requires { ⌜ at + 24 ≤ length (now out) ⌝ }
-    ensures { λ r. ⌜ Wrote (now (out .entry)) (now (out .exit)) at r (unreadText left bytes) ⌝ }
+    ensures result { λ r. ⌜ Wrote (now (out .entry)) (now (out .exit)) at r (unreadText left bytes) ⌝ }
 {
     if left == 0 {
         return at;

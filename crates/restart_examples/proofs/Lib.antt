@@ -1,3 +1,3 @@
 pub mod Fitting
 pub mod Wrong
-pub mod WrongOpening
+pub mod WrongInvalidation

@@ -1,4 +1,5 @@
--- PROGRAMS THAT LEAVE OUT A DUTY, and short histories on images of two and four slots in which they break the restart rule.
+-- PROGRAMS THAT LEAVE OUT A DUTY, and short histories on images of two and four slots in which they break the restart
+-- rule.
 use mathlib.Core.Path.{_≡_}
 use mathlib.Core.Bool.{false, true, cond}
 use mathlib.Core.Option.{Option}
@@ -10,12 +11,12 @@ use Rattle.prelude.specs.Answer.{Answer, refused}
 use Rattle.words.specs.Word.{word}
 use Rattle.stores.specs.Store.{played}
 use Rattle.stores.specs.Written.{recordStores}
-use Rattle.face.specs.Set.{formatted, Mode, Insert, Replace, Call, write, get, called, Typed, slotsMap, indexFault}
+use Rattle.interface.specs.Set.{formatted, Mode, Insert, Replace, Call, write, get, callResult, Typed, slotsMap, indexFault, Index}
 use Rattle.cutrule.specs.Request.{a-call}
 use Rattle.restart_machine.specs.Machine.{Memory, Duties, Program, off, busy, idle, Move, start, ask, next-step, kill, cut, Machine, movedBy, atRest}
 use Rattle.restart_machine.specs.Rule.{plainOf}
 use Rattle.restart_machine.specs.EachLine.{storeLines, allLines, eachLine}
-use Rattle.restart_rule.specs.Set.{LentIndex, HeldIndex, SetRequest, worldWith, setLibrary, setPromise}
+use Rattle.restart_rule.specs.Set.{LentIndex, SetRequest, worldWith, setLibrary, setPromise}
 
 -- ---- the wrong programs: each is `eachLine` but for one duty
 
@@ -28,9 +29,9 @@ noStartFlush =
       afterRequest = λ ss. (storeLines ss, true);
     }
 
--- the opening stores are not fenced
-unfoldable pub noOpeningFence : Duties
-noOpeningFence =
+-- the invalidating stores are not fenced
+unfoldable pub noInvalidationFence : Duties
+noInvalidationFence =
     record {
       beforeRecovery = λ len. (allLines len, true);
       afterRecovery = λ ss. (storeLines ss, false);
@@ -59,7 +60,7 @@ oneLineFlushed =
 
 -- of a set of n slots
 abbrev pub SetMachine : (n : ℕ) → Type 0
-SetMachine n = Machine (LentIndex n) HeldIndex (SetRequest 1)
+SetMachine n = Machine (LentIndex n) Index (SetRequest 1)
 
 abbrev pub SetMove : (n : ℕ) → Type 0
 SetMove n = Move (LentIndex n) (SetRequest 1)
@@ -74,15 +75,15 @@ eightBytes n = n % 256 ∷ replicate 7 0
 
 -- what a get of the key answers, and the output that it leaves; only a program that waits answers
 
-unfoldable pub answerIn : {n : ℕ} → Memory → Program (LentIndex n) HeldIndex → Call → Answer
+unfoldable pub answerIn : {n : ℕ} → Memory → Program (LentIndex n) Index → Call → Answer
 answerIn mem off call = refused 0
 answerIn mem (busy ss flushing c) call = refused 0
-answerIn mem (idle held) call = called 1 (worldWith (played (mem .pending) (mem .durable)) held) call .answer
+answerIn mem (idle held) call = callResult 1 (worldWith (played (mem .pending) (mem .durable)) held) call .answer
 
-unfoldable pub outIn : {n : ℕ} → Memory → Program (LentIndex n) HeldIndex → Call → List ℕ
+unfoldable pub outIn : {n : ℕ} → Memory → Program (LentIndex n) Index → Call → List ℕ
 outIn mem off call = []
 outIn mem (busy ss flushing c) call = []
-outIn mem (idle held) call = called 1 (worldWith (played (mem .pending) (mem .durable)) held) call .out
+outIn mem (idle held) call = callResult 1 (worldWith (played (mem .pending) (mem .durable)) held) call .out
 
 unfoldable pub getAnswer : {n : ℕ} → (key : ℕ) → SetMachine n → Answer
 getAnswer key s = answerIn (s .memory) (s .program) (get key (replicate 8 0))
@@ -94,7 +95,8 @@ getOutput key s = outIn (s .memory) (s .program) (get key (replicate 8 0))
 unfoldable pub plainValue : {n : ℕ} → (image : List ℕ) → (key : ℕ) → SetMachine n → Option (List ℕ)
 plainValue {n} image key s = plainOf (setPromise 1 n) (slotsMap 1 image) (s .history .decided) key
 
--- the moves fit: a start lends an index of the right size, with one head, and the fields of a request are numbers of their size
+-- the moves fit: a start lends an index of the right size, with one head, and the fields of a request are numbers of
+-- their size
 pub record Fitting : Type 0 where
   pub index : (n : ℕ) → indexFault n 1 (length {A = ℕ} (replicate (suc n) 9)) ≡ 0
   pub typed : (mode : Mode) (key n : ℕ) → Typed 1 (write mode (key % 256) (eightBytes n))
@@ -112,7 +114,7 @@ tornBasketImage =
 
 module _ (fit : Fitting) where
   unfoldable pub startWith : (n : ℕ) → SetMove n
-  startWith n = start (record { heads = 9 ∷ []; next = replicate (suc n) 9; size = fit .index n })
+  startWith n = start (record { lists = record { heads = 9 ∷ []; next = replicate (suc n) 9 }; size = fit .index n })
 
   unfoldable pub insertOf : {n : ℕ} → (key value : ℕ) → SetMove n
   insertOf key value = ask (record { request = a-call false (write Insert (key % 256) (eightBytes value)); typed = fit .typed Insert key value })
@@ -139,7 +141,8 @@ module _ (fit : Fitting) where
   unfoldable pub replaceLost : (d : Duties) → (first : ℕ) → SetMachine 2
   replaceLost d first = movedBy d (setLibrary 1 2) (replaceKilled d first) (cut (λ n. 0) ∷ startWith 2 ∷ nextSteps first [])
 
-  -- or it is asked for another replace, makes the first of its stores, and power fails: that store stands, and nothing else that was not durable
+  -- or it is asked for another replace, makes the first of its stores, and power fails: that store stands, and nothing
+  -- else that was not durable
   unfoldable pub replaceTorn : (d : Duties) → (first : ℕ) → SetMachine 2
   replaceTorn d first =
       movedBy d (setLibrary 1 2) (replaceKilled d first)
@@ -148,12 +151,12 @@ module _ (fit : Fitting) where
   -- ---- on the image of four slots with the torn basket
 
   -- a start opens both records, and goes on to the first request
-  unfoldable pub basketOpened : (d : Duties) → (first : ℕ) → SetMachine 4
-  basketOpened d first = movedBy d (setLibrary 1 4) (atRest tornBasketImage) (startWith 4 ∷ nextSteps first [])
+  unfoldable pub basketInvalidated : (d : Duties) → (first : ℕ) → SetMachine 4
+  basketInvalidated d first = movedBy d (setLibrary 1 4) (atRest tornBasketImage) (startWith 4 ∷ nextSteps first [])
 
-  -- an insert of another key makes its sixteen stores, and power fails: lines 0 to 3, with its record, hold all their stores, and no other line holds any
-  -- that was not durable
+  -- an insert of another key makes its sixteen stores, and power fails: lines 0 to 3, with its record, hold all their
+  -- stores, and no other line holds any that was not durable
   unfoldable pub insertCut : (d : Duties) → (first again : ℕ) → SetMachine 4
   insertCut d first again =
-      movedBy d (setLibrary 1 4) (basketOpened d first)
+      movedBy d (setLibrary 1 4) (basketInvalidated d first)
       (insertOf 10 4 ∷ nextSteps 16 (cut (λ n. cond (ltb n 4) 20 0) ∷ startWith 4 ∷ nextSteps again []))

@@ -45,7 +45,7 @@ data Good {Lent Held Request M : Type 0} (promise : Promise Lent Held Request M)
       → Covered (mem .flushed) lines (mem .pending) → Good promise Ready InUse mem m (busy [] (lines, true) (recovering lent)) o
   is-ready : {o : Option (TakenRequest Held Request)} {lines : List ℕ} {lent : Lent} → mem .pending ≡ []
       → Ready (seen mem) (fate promise true o m true) → Good promise Ready InUse mem m (busy [] (lines, false) (recovering lent)) o
-  is-opening : {rest : List Store} {lines : List ℕ} {fence : Bool} {held : Held} → Working Ready InUse mem rest lines fence held (λ b. m)
+  is-invalidation : {rest : List Store} {lines : List ℕ} {fence : Bool} {held : Held} → Working Ready InUse mem rest lines fence held (λ b. m)
       → Good promise Ready InUse mem m (busy rest (lines, fence) (opened held)) none
   is-in-flight : {rest : List Store} {lines : List ℕ} {fence : Bool} {held : Held} {taken : TakenRequest Held Request}
       → Working Ready InUse mem rest lines fence held (λ b. cond b (promise .after taken m) m)
@@ -77,7 +77,7 @@ module _ {Lent Held Request M : Type 0} (promise : Promise Lent Held Request M) 
   good-left mem m (is-off left) = left
   good-left mem m (is-starting left cover) = left
   good-left mem m (is-ready {o = o} e r) = quiet mem (fate promise true o m) e r
-  good-left mem m (is-opening {held = held} w) = left-by (λ b. m) (opened held) w
+  good-left mem m (is-invalidation {held = held} w) = left-by (λ b. m) (opened held) w
   good-left mem m (is-in-flight {held = held} {taken = taken} w) =
       left-by (λ b. cond b (promise .after taken m) m) (answering held) w
   good-left mem m (is-idle {held = held} e i) = quiet mem (λ b. m) e (laws .use-ready (seen mem) held m i)
@@ -116,7 +116,7 @@ module _ {Lent Held Request M : Type 0} (promise : Promise Lent Held Request M) 
   good-write-back mem m c (is-starting left cover) = is-starting (left-written-back Ready mem _ left c) (all-left (mem .pending) c cover)
   good-write-back mem m c (is-ready {o = o} e r) =
       is-ready (ap (notStanding c) e) (subst (λ (x : List ℕ). Ready x (fate promise true o m true)) (sym (seen-written-back mem c)) r)
-  good-write-back mem m c (is-opening {held = held} w) = is-opening (working-written-back Ready InUse held (λ b. m) mem _ _ _ c w)
+  good-write-back mem m c (is-invalidation {held = held} w) = is-invalidation (working-written-back Ready InUse held (λ b. m) mem _ _ _ c w)
   good-write-back mem m c (is-in-flight {held = held} {taken = taken} w) =
       is-in-flight (working-written-back Ready InUse held (λ b. cond b (promise .after taken m) m) mem _ _ _ c w)
   good-write-back mem m c (is-idle {held = held} e i) =
@@ -141,7 +141,7 @@ module _ {Lent Held Request M : Type 0} (promise : Promise Lent Held Request M) 
             (all-left (left .made) (left .stand) (subst (λ (k : ℕ). Inside k (left .made)) (sym long) (left .inside))))
     good-start mem m lent (is-starting left cover) = is-starting left cover
     good-start mem m lent (is-ready e r) = is-ready e r
-    good-start mem m lent (is-opening w) = is-opening w
+    good-start mem m lent (is-invalidation w) = is-invalidation w
     good-start mem m lent (is-in-flight w) = is-in-flight w
     good-start mem m lent (is-idle e i) = is-idle e i
 
@@ -174,7 +174,7 @@ module _ {Lent Held Request M : Type 0} (promise : Promise Lent Held Request M) 
     good-ask mem first rs es request (is-off left) = is-off left
     good-ask mem first rs es request (is-starting left cover) = is-starting left cover
     good-ask mem first rs es request (is-ready e r) = is-ready e r
-    good-ask mem first rs es request (is-opening w) = is-opening w
+    good-ask mem first rs es request (is-invalidation w) = is-invalidation w
     good-ask mem first rs es request (is-in-flight w) = is-in-flight w
     good-ask mem first rs es request (is-idle {held = held} e i) =
         let m : M = plainOf promise first es in
@@ -186,14 +186,14 @@ module _ {Lent Held Request M : Type 0} (promise : Promise Lent Held Request M) 
         (done .after-request (effect .stores)))
 
     -- recovery
-    opening-now : (mem : Memory) (m : M) (lent : Lent) → mem .pending ≡ [] → Ready (seen mem) m
+    invalidating-now : (mem : Memory) (m : M) (lent : Lent) → mem .pending ≡ [] → Ready (seen mem) m
         → GoodAt mem m
         (busy (library .recovery (seen mem) lent .stores) (d .afterRecovery (library .recovery (seen mem) lent .stores))
         (opened (library .recovery (seen mem) lent .held)))
         none
-    opening-now mem m lent e r =
+    invalidating-now mem m lent e r =
         let effect : Effect Held = library .recovery (seen mem) lent in
-        is-opening
+        is-invalidation
         (begins mem (effect .stores) (d .afterRecovery (effect .stores)) (effect .held) (λ b. m) e
         (laws .recovery-inside (seen mem) m r lent) (laws .recovery-part (seen mem) m r lent) (laws .recovery-done (seen mem) m r lent)
         (done .after-recovery (effect .stores)))
@@ -202,8 +202,8 @@ module _ {Lent Held Request M : Type 0} (promise : Promise Lent Held Request M) 
         (lent : Lent) → mem .pending ≡ [] → Ready (seen mem) (fate promise true o (plainOf promise first es) true)
         → GoodOf first (continued d library mem (recovering lent) (record { requests = rs; decided = es; undecided = o }))
     unfolding continued decide plainOf Option·elim
-    good-recovery rs none mem first es lent e r = opening-now mem _ lent e r
-    good-recovery rs (some taken) mem first es lent e r = opening-now mem _ lent e r
+    good-recovery rs none mem first es lent e r = invalidating-now mem _ lent e r
+    good-recovery rs (some taken) mem first es lent e r = invalidating-now mem _ lent e r
 
     -- the fence of a start
     started-fence : (mem : Memory) (m : M) (o : Option (TakenRequest Held Request)) (lent : Lent) → Left Ready mem (fate promise true o m)
@@ -227,13 +227,13 @@ module _ {Lent Held Request M : Type 0} (promise : Promise Lent Held Request M) 
         is-starting (left-flush Ready mem _ left k) (covered-flush (mem .flushed) k lines (mem .pending) cover)
     good-step {o = o} mem first rs es (is-ready {lines = []} {lent = lent} e r) = good-recovery rs o mem first es lent e r
     good-step mem first rs es (is-ready {lines = k ∷ lines} e r) = is-ready e r
-    good-step mem first rs es (is-opening {rest = s ∷ rest} {held = held} w) =
-        is-opening (working-store Ready InUse held (λ b. plainOf promise first es) mem s rest _ _ w)
-    good-step mem first rs es (is-opening {rest = []} {lines = k ∷ lines} {held = held} w) =
-        is-opening (working-flush Ready InUse held (λ b. plainOf promise first es) mem k lines _ w)
-    good-step mem first rs es (is-opening {rest = []} {lines = []} {fence = true} {held = held} w) =
-        is-opening (working-fence Ready InUse held (λ b. plainOf promise first es) mem w)
-    good-step mem first rs es (is-opening {rest = []} {lines = []} {fence = false} {held = held} w) = idle-now mem held (λ b. plainOf promise first es) w
+    good-step mem first rs es (is-invalidation {rest = s ∷ rest} {held = held} w) =
+        is-invalidation (working-store Ready InUse held (λ b. plainOf promise first es) mem s rest _ _ w)
+    good-step mem first rs es (is-invalidation {rest = []} {lines = k ∷ lines} {held = held} w) =
+        is-invalidation (working-flush Ready InUse held (λ b. plainOf promise first es) mem k lines _ w)
+    good-step mem first rs es (is-invalidation {rest = []} {lines = []} {fence = true} {held = held} w) =
+        is-invalidation (working-fence Ready InUse held (λ b. plainOf promise first es) mem w)
+    good-step mem first rs es (is-invalidation {rest = []} {lines = []} {fence = false} {held = held} w) = idle-now mem held (λ b. plainOf promise first es) w
     good-step mem first rs es (is-in-flight {rest = s ∷ rest} {held = held} {taken = taken} w) =
         is-in-flight
         (working-store Ready InUse held (λ b. cond b (promise .after taken (plainOf promise first es)) (plainOf promise first es)) mem s rest _ _ w)
@@ -263,7 +263,7 @@ module _ {Lent Held Request M : Type 0} (promise : Promise Lent Held Request M) 
     at-recovery-good {o} mem m lent (is-ready e r) = (e, laws .recovery-right (seen mem) (fate promise true o m true) r lent)
 
     at-request-good : {o : Option (TakenRequest Held Request)} (mem : Memory) (m : M) (held : Held) → GoodAt mem m (idle held) o
-        → (mem .pending ≡ []) × (o ≡ none) × ((request : Request) → promise .RequestRight (seen mem) held m request)
+        → (mem .pending ≡ []) × (o ≡ none) × ((request : Request) → promise .RequestCorrect (seen mem) held m request)
     at-request-good mem m held (is-idle e i) = (e, refl, laws .request-right (seen mem) held m i)
 
     at-answer-good : {o : Option (TakenRequest Held Request)} (mem : Memory) (m : M) (held : Held) → GoodAt mem m (busy [] ([], false) (answering held)) o
@@ -291,7 +291,7 @@ module _ {Lent Held Request M : Type 0} (promise : Promise Lent Held Request M) 
     ask-keeps mem m rs es request (is-off left) k = k
     ask-keeps mem m rs es request (is-starting left cover) k = k
     ask-keeps mem m rs es request (is-ready e r) k = k
-    ask-keeps mem m rs es request (is-opening w) k = k
+    ask-keeps mem m rs es request (is-invalidation w) k = k
     ask-keeps mem m rs es request (is-in-flight w) k = k
     ask-keeps mem m rs es request (is-idle e i) k = ap (λ (l : List Request). request ∷ l) k
 

@@ -1,4 +1,5 @@
--- A program that does its duties: it flushes every line of the image before recovery, and the line of each store once, with a fence after each.
+-- A program that does its duties: it flushes every line of the image before recovery, and the line of each store once,
+-- with a fence after each.
 use mathlib.Core.Bool.{true, cond}
 use mathlib.Core.List.{List, [], _∷_}
 use Prim.Native.Nat.{ℕ, zero, suc, _+_, _/_}

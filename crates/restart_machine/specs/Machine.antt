@@ -1,4 +1,5 @@
--- THE MACHINE: a program over a memory behind a cache, and what may happen to both. It knows lines, stores, a recovery and requests, and not what they are for.
+-- THE MACHINE: a program over a memory behind a cache, and what may happen to both. It knows lines, stores, a recovery
+-- and requests, and not what they are for.
 use mathlib.Core.Path.{_≡_}
 use mathlib.Core.Bool.{Bool, true, false, cond, not, _&&_}
 use mathlib.Core.Option.{Option, none, some, Option·elim}
@@ -15,7 +16,8 @@ use Rattle.stores.specs.Store.{Store, played, standing, notStanding, allStand}
 pub record Memory : Type 0 where
   -- the bytes that a power cut finds in the memory itself
   pub durable : List ℕ
-  -- the stores made since that are not durable, in the order in which they were made; only their order within each line matters
+  -- the stores made since that are not durable, in the order in which they were made; only their order within each line
+  -- matters
   pub pending : List Store
   -- the lines that were flushed, with no store to them and no fence since
   pub flushed : List ℕ
@@ -33,7 +35,8 @@ writtenBack counts mem =
 unfoldable pub cutOff : (counts : ℕ → ℕ) → Memory → Memory
 cutOff counts mem = record { durable = writtenBack counts mem .durable; pending = []; flushed = [] }
 
--- no flush is counted upon any more: so it is after a fence, and after a kill, since the fence of another program says nothing of the killed one's flushes
+-- no flush is counted upon any more: so it is after a fence, and after a kill, since the fence of another program says
+-- nothing of the killed one's flushes
 unfoldable pub noneFlushed : Memory → Memory
 noneFlushed mem = record { durable = mem .durable; pending = mem .pending; flushed = [] }
 
@@ -66,7 +69,8 @@ pub record Library (Lent Held Request : Type 0) : Type 0 where
 abbrev pub Flushing : Type 0
 Flushing = List ℕ × Bool
 
--- what a program does for durability: before recovery of an image of some length, after recovery's opening stores, and after the stores of a request
+-- what a program does for durability: before recovery of an image of some length, after recovery's invalidating stores,
+-- and after the stores of a request
 pub record Duties : Type 0 where
   pub beforeRecovery : (len : ℕ) → Flushing
   pub afterRecovery : List Store → Flushing
@@ -76,7 +80,8 @@ pub record Duties : Type 0 where
 abbrev pub Covers : Flushing → List Store → Type 0
 Covers flushing ss = All (λ (s : Store). isAmong (s .word / 8) (flushing .0) ≡ true) ss × (flushing .1 ≡ true)
 
--- THE DUTIES ARE DONE: before recovery the line of every store inside the image is flushed, after stores the line of each; then comes a fence
+-- THE DUTIES ARE DONE: before recovery the line of every store inside the image is flushed, after stores the line of
+-- each; then comes a fence
 pub record Sufficient (d : Duties) : Type 0 where
   pub before-recovery : (len : ℕ) (ss : List Store) → All (λ (s : Store). 8 * s .word + 8 ≤ len) ss → Covers (d .beforeRecovery len) ss
   pub after-recovery : (ss : List Store) → Covers (d .afterRecovery ss) ss
@@ -88,7 +93,8 @@ pub data Continuation (Lent Held : Type 0) : Type 0 where
   opened : Held → Continuation Lent Held
   answering : Held → Continuation Lent Held
 
--- no program runs; or it has yet to make these stores, one by one, then to flush these lines, one by one, then, perhaps, to fence; or it waits for a request
+-- no program runs; or it has yet to make these stores, one by one, then to flush these lines, one by one, then,
+-- perhaps, to fence; or it waits for a request
 pub data Program (Lent Held : Type 0) : Type 0 where
   off : Program Lent Held
   busy : (stores : List Store) → Flushing → Continuation Lent Held → Program Lent Held
@@ -128,7 +134,8 @@ decide outcome h = record { requests = h .requests; decided = Option·elim (h .u
 
 -- ---- the moves. Each can come at any time; one that the program cannot make changes nothing
 
--- a program starts; a request comes; the program's next store, flush, fence, recovery or answer; the cache makes stores durable by itself; a kill; a power cut
+-- a program starts; a request comes; the program's next store, flush, fence, recovery or answer; the cache makes stores
+-- durable by itself; a kill; a power cut
 pub data Move (Lent Request : Type 0) : Type 0 where
   start : Lent → Move Lent Request
   ask : Request → Move Lent Request
@@ -175,7 +182,8 @@ module _ {Lent Held Request : Type 0} (d : Duties) (library : Library Lent Held 
   stepped mem (busy [] ([], false) c) h = continued mem c h
   stepped mem (idle held) h = machine mem (idle held) h
 
-  -- THE MACHINE after a move. A kill leaves all stores; a request that it ends before all stores were made does not stand
+  -- THE MACHINE after a move. A kill leaves all stores; a request that it ends before all stores were made does not
+  -- stand
   unfoldable pub moved : Machine Lent Held Request → Move Lent Request → Machine Lent Held Request
   moved s (start lent) = machine (s .memory) (started (s .memory) (s .program) lent) (s .history)
   moved s (ask request) = asked (s .memory) (s .program) (s .history) request

@@ -4,7 +4,7 @@ ghost use mathlib.Core.Bool.{cond};
 ghost use Prim.Native.Nat.{ℕ, suc, _+_, _≤_, _<_, _^_};
 ghost use lib.Dec.{eqb};
 ghost use Rattle.words.specs.Word.{word};
-ghost use Rattle.prelude.specs.Refusal.{say, orElse};
+ghost use Rattle.prelude.specs.Refusal.{refuseIf, orElse};
 ghost use Rattle.layout.specs.inner.Inside.{SlotInside};
 ghost use Rattle.layout.specs.Record.{keyWith};
 ghost use Rattle.index.specs.Index.{headOf};
@@ -93,7 +93,7 @@ fn first_of(a: u32, b: u32) -> u32
 
 // Slot s where it has a fault, else 0.
 fn slot_at_fault(fault: u32, s: u32) -> u32
-    ensures { λ r. ⌜ r ≡ say (eqb fault 0) 0 s ⌝ }
+    ensures { λ r. ⌜ r ≡ refuseIf (eqb fault 0) 0 s ⌝ }
 {
     if fault == 0 {
         return 0;
@@ -161,7 +161,7 @@ pub fn scan(
     places: &mut [u32],
 ) -> Scan
     requires { ⌜ Scannable (now image) l (now ranks) (now lows) (now highs) (now places) n b ⌝ }
-    ensures { λ r. ⌜ Scanned l (word (now (image .entry))) n b (now (ranks .exit)) (now (lows .exit)) (now (highs .exit)) (now (places .exit)) r ⌝ }
+    ensures result { λ r. ⌜ Scanned l (word (now (image .entry))) n b (now (ranks .exit)) (now (lows .exit)) (now (highs .exit)) (now (places .exit)) r ⌝ }
 {
     let mut all = Scan {
         mark: false,

@@ -7,7 +7,7 @@ ghost use Rattle.index.specs.Index.{headOf};
 // Which of b heads a key with this low word belongs to. Where b is a power of two, its mask gives the remainder.
 pub fn head_of(low: u64, b: usize) -> usize
     requires { ⌜ 1 ≤ b ⌝ }
-    ensures { λ r. ⌜ (r < b) × ((high : ℕ) → r ≡ headOf (keyWith low high) b) ⌝ }
+    ensures result { λ r. ⌜ (r < b) × ((high : ℕ) → r ≡ headOf (keyWith low high) b) ⌝ }
 {
     let mask = b - 1;
     if b & mask == 0 {

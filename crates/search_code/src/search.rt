@@ -4,7 +4,7 @@ ghost use Rattle.prelude.specs.Refusal.{unlessRefused};
 ghost use Rattle.layout.specs.Record.{Layout, keyWith};
 ghost use Rattle.layout.specs.inner.Sized.{Sized};
 ghost use Rattle.index.specs.Walk.{search, comparedIn};
-ghost use Rattle.index.specs.declared.Lookup.the-variants.{Refused, Allowed};
+ghost use Rattle.index.specs.declared.Lookup.the-variants.{Refused, Accepted};
 ghost use Rattle.index.specs.inner.Lookup.{lookupBy};
 use crate::head::head_of;
 use fields_code::fields::has_key;
@@ -23,7 +23,7 @@ pub fn find(
     high: u64,
 ) -> Found
     requires { ⌜ Layout l × Sized (now image) (now heads) (now next) n ⌝ }
-    ensures { λ r. ⌜ r ≡ search l (now (image .entry)) (now (heads .entry)) (now (next .entry)) (keyWith low high) ⌝ }
+    ensures result { λ r. ⌜ r ≡ search l (now (image .entry)) (now (heads .entry)) (now (next .entry)) (keyWith low high) ⌝ }
 {
     let head = head_of(low, heads.len());
     let mut at = heads[head];
@@ -70,7 +70,7 @@ fn compared_in(found: Found) -> u32
 
 // The lookup of a call by what the key's chain has; fault is the call's refusal then.
 pub fn looked_up(fault: u32, found: Found) -> Lookup
-    ensures { λ r. ⌜ r ≡ lookupBy fault found ⌝ }
+    ensures result { λ r. ⌜ r ≡ lookupBy fault found ⌝ }
 {
     if fault != 0 {
         return Lookup::Refused {
@@ -83,11 +83,11 @@ pub fn looked_up(fault: u32, found: Found) -> Lookup
             slot,
             prev,
             compared,
-        } => Lookup::Allowed {
+        } => Lookup::Accepted {
             place: Place::Held { slot, prev },
             compared,
         },
-        Found::Missing { prev, compared } => Lookup::Allowed {
+        Found::Missing { prev, compared } => Lookup::Accepted {
             place: Place::NotHeld { prev },
             compared,
         },
@@ -100,7 +100,7 @@ pub fn looked_up(fault: u32, found: Found) -> Lookup
 
 // The same of a call that goes by the key's place, once that is known.
 pub fn unless_refused(fault: u32, place: Place, compared: u32) -> Lookup
-    ensures { λ r. ⌜ r ≡ unlessRefused fault (Allowed place compared) (Refused fault compared) ⌝ }
+    ensures result { λ r. ⌜ r ≡ unlessRefused fault (Accepted place compared) (Refused fault compared) ⌝ }
 {
     if fault != 0 {
         return Lookup::Refused {
@@ -108,5 +108,5 @@ pub fn unless_refused(fault: u32, place: Place, compared: u32) -> Lookup
             compared,
         };
     }
-    Lookup::Allowed { place, compared }
+    Lookup::Accepted { place, compared }
 }

@@ -4,9 +4,9 @@ use mathlib.Core.Option.{some}
 use mathlib.Core.List.{List, [], _∷_}
 use Prim.Native.Nat.{ℕ, _+_, _*_}
 use lib.ListN.{take}
-use Rattle.face.specs.Set.{Store, World, Call, called, slotsIn, PlainMap, Typed, Right}
-use Rattle.face.specs.Event.{Event, step, mapAfterEvent, Fits}
-use Rattle.face.specs.Laws.{SetLaws}
+use Rattle.interface.specs.Set.{Store, World, Call, callResult, slotsIn, PlainMap, Typed, CallCorrect}
+use Rattle.interface.specs.Event.{Event, step, mapAfterEvent, Fits}
+use Rattle.interface.specs.Laws.{SetLaws}
 use Rattle.session.specs.Step.{StepResult, slotsFor, lineStep}
 use Rattle.session.specs.Stream.{stepAfter}
 use Rattle.text.specs.declared.Line.{Line}
@@ -38,7 +38,7 @@ module _ (Inv : World → PlainMap → Type 0) (laws : SetLaws 1 Inv) (r : StepR
   abbrev map : PlainMap
   map = mapAfterEvent 1 w m event
 
-  right : Right 1 w m call
+  right : CallCorrect 1 w m call
   right = laws .answers w m (k .set) call fine
 
   fits : Fits 1 (slotsIn (w .image)) event
@@ -61,5 +61,5 @@ module _ (Inv : World → PlainMap → Type 0) (laws : SetLaws 1 Inv) (r : StepR
   call-goes line z same e f c =
       let l = line-leaves r m line n same z Inv (plainPrints w m call) (step 1 w event) _ map
       (record { answer = c .answer ∙ right-prints w m call right; session = c .session; world = c .world }) sizes
-      (still-few (r .session .waiting) (called 1 w call .stores) (k .waits)) after f in
-      (call-line z e (l .0) right, l .1)
+      (still-few (r .session .waiting) (callResult 1 w call .stores) (k .waits)) after f in
+      (call-line z e (l .0) right (laws .call-by-rule w m (k .set) call), l .1)

@@ -4,8 +4,8 @@ use Prim.Native.Nat.{ℕ}
 use native.Mathlib.Omega.{arith}
 use lib.Dec.{ltb}
 use borrow.Author.Tests.{ltb-false}
-use Rattle.prelude.proofs.Refusals.{say-zero, orElse-zero}
-use Rattle.face.specs.Set.{World, PlainMap}
+use Rattle.prelude.proofs.Refusals.{refuseIf-zero, orElse-zero}
+use Rattle.interface.specs.Set.{World, PlainMap}
 use Rattle.text.specs.Output.{cut}
 use Rattle.session.specs.Step.{StepResult, slotsFor, countFault, cutFault, lineFault, waitingFor, lineStep}
 use Rattle.session.specs.Stream.{stepAfter}
@@ -20,8 +20,8 @@ use Rattle.session.proofs.Fronts.{image-front, heads-front, next-front,
 few-counts : (a b : ℕ) → countFault a b ≡ 0 → FewWait (Counts a b)
 unfolding countFault
 few-counts a b z =
-    let first = say-zero (ltb 8 a) _ _ z (omega arith) in
-    let second = say-zero (ltb 8 b) _ _ (first .1) (omega arith) in few-wait (ltb-false 8 a (first .0)) (ltb-false 8 b (second .0))
+    let first = refuseIf-zero (ltb 8 a) _ _ z (omega arith) in
+    let second = refuseIf-zero (ltb 8 b) _ _ (first .1) (omega arith) in few-wait (ltb-false 8 a (first .0)) (ltb-false 8 b (second .0))
 
 cut-passed : (r : StepResult) (a b : ℕ) → faultAt r (Cut a b) ≡ 0 → countFault a b ≡ 0
 unfolding lineFault cutFault

@@ -5,7 +5,7 @@ use Prim.Native.Nat.{ℕ, _≤_}
 use native.Mathlib.Omega.{arith}
 use lib.ListN.{length}
 use Rattle.prelude.specs.Answer.{Answer, gives, absent, refused}
-use Rattle.face.specs.Set.{Store, State, Call, write, remove, calledChange, called, FormatResult, formatResult}
+use Rattle.interface.specs.Set.{Store, State, Call, write, remove, callResult, FormatResult, formatResult, indexOf}
 use Rattle.text.specs.Output.{Printed}
 use Rattle.text.proofs.Storing.{FewNumbers}
 use Rattle.session.specs.Step.{StepResult, recoveredAs, recoveredBy, recoverStep, madeAs, madeBy, makeStep, storedWith, changedAs, changeStep, writeStep, gotAs, gotBy, wordFound, lineStep, followedBy, frontStep, stepResult}
@@ -15,7 +15,7 @@ use Rattle.session.specs.declared.Waiting.{Waiting}
 use Rattle.session.specs.declared.Waiting.the-variants.{Nothing, Counts}
 use Rattle.session.specs.declared.Session.{Session}
 use Rattle.prelude.proofs.Refusals.{by-refusal}
-use Rattle.face.proofs.SetLaws.{layout-1, call-laws}
+use Rattle.interface.proofs.SetLaws.{layout-1, call-laws}
 
 -- ---- the calls
 
@@ -66,11 +66,11 @@ got-few out (refused number) = tt
 
 -- a call on an image and an index of its set's size, by the face of the set
 call-few : (s : Session) (image heads next : List ℕ) (call : Call)
-    → Few (called 1 (record { image = image; heads = heads; next = next; state = s .state }) call .answer)
+    → Few (callResult 1 (record { image = image; index = indexOf heads next (s .state) }) call .answer)
 call-few s image heads next call = few-by _ (call-laws 1 layout-1 .few-values _ call)
 
 line-few : (line : Line) (s : Session) (image heads next : List ℕ) → FewNumbers (lineStep line s image heads next .answer)
-unfolding lineStep makeStep madeBy formatResult writeStep changeStep wordFound gotBy called calledChange
+unfolding lineStep makeStep madeBy formatResult writeStep changeStep wordFound gotBy callResult
 line-few (New n) s image heads next =
     made-few n s _ heads next _ (by-refusal (λ (r : FormatResult). Few (r .answer)) _ _ _ (omega arith) tt)
 line-few (Write key w) s image heads next = changed-few s _ _ image _ _ _ (call-few s image heads next (write _ key _))

@@ -5,9 +5,9 @@ use Prim.Native.Nat.{ℕ, _+_, _*_}
 use native.Mathlib.Omega.{arith}
 use lib.ListN.{length, take, drop}
 use lib.Seq.{length-take-le, length-front, take-at}
-use Rattle.face.proofs.SetLaws.{layout-1, call-laws}
-use Rattle.face.specs.Laws.{SetLaws}
-use Rattle.face.specs.Set.{slotsOf, slotsIn, World, PlainMap}
+use Rattle.interface.proofs.SetLaws.{layout-1, call-laws}
+use Rattle.interface.specs.Laws.{SetLaws}
+use Rattle.interface.specs.Set.{slotsOf, slotsIn, World, PlainMap, indexOf}
 use Rattle.prelude.proofs.Refusals.{orElse-zero, taken-leaves}
 use Rattle.text.specs.Output.{Printed}
 use Rattle.session.specs.Step.{StepResult, slotsFor, sizeFault, lineFault, lineStep, followedBy, frontStep, stepResult}
@@ -25,7 +25,7 @@ use Rattle.session.proofs.Sizes.{OneHead}
 
 -- the set that it leaves
 abbrev pub leftBy : StepResult → World
-leftBy t = record { image = t .image; heads = t .heads; next = t .next; state = t .session .state }
+leftBy t = record { image = t .image; index = indexOf (t .heads) (t .next) (t .session .state) }
 
 -- it prints p and leaves set w of n slots with this cut waiting
 pub record LeftBehind (n : ℕ) (p : Printed) (w : World) (waiting : Waiting) (t : StepResult) : Type 0 where
@@ -62,25 +62,19 @@ module _ (r : StepResult) (n : ℕ) (z : sizeFault n (length (r .image)) (length
         ap
         (λ (k : ℕ). record {
           image = take (128 * (k + 1)) (t .image ++ drop (128 * (n + 1)) (r .image));
-          heads = take 1 (t .heads ++ drop 1 (r .heads));
-          next = take (k + 1) (t .next ++ drop (n + 1) (r .next));
-          state = t .session .state;
+          index = indexOf (take 1 (t .heads ++ drop 1 (r .heads))) (take (k + 1) (t .next ++ drop (n + 1) (r .next))) (t .session .state);
         }) e
         ∙ ap
         (λ (x : List ℕ). record {
           image = x;
-          heads = take 1 (t .heads ++ drop 1 (r .heads));
-          next = take (n + 1) (t .next ++ drop (n + 1) (r .next));
-          state = t .session .state;
+          index = indexOf (take 1 (t .heads ++ drop 1 (r .heads))) (take (n + 1) (t .next ++ drop (n + 1) (r .next))) (t .session .state);
         }) (take-at (t .image) _ (128 * (n + 1)) (o .image-size))
         ∙ ap
         (λ (x : List ℕ). record {
           image = t .image;
-          heads = x;
-          next = take (n + 1) (t .next ++ drop (n + 1) (r .next));
-          state = t .session .state;
+          index = indexOf x (take (n + 1) (t .next ++ drop (n + 1) (r .next))) (t .session .state);
         }) (take-at (t .heads) _ 1 (o .heads-size))
-        ∙ ap (λ (x : List ℕ). record { image = t .image; heads = t .heads; next = x; state = t .session .state })
+        ∙ ap (λ (x : List ℕ). record { image = t .image; index = indexOf (t .heads) x (t .session .state) })
         (take-at (t .next) _ (n + 1) (o .next-size))
 
     pub front-size :

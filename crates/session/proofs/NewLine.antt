@@ -4,9 +4,9 @@ use mathlib.Core.Option.{some, none}
 use mathlib.Core.List.{List, [], _∷_}
 use Prim.Native.Nat.{ℕ, _+_, _*_}
 use lib.ListN.{length, take}
-use Rattle.face.proofs.SetLaws.{layout-1, call-laws}
-use Rattle.face.specs.Laws.{SetLaws}
-use Rattle.face.specs.Set.{slotsOf, slotsIn, formatted, World, worldAfter, recoveredWorld, openedWorld, PlainMap}
+use Rattle.interface.proofs.SetLaws.{layout-1, call-laws}
+use Rattle.interface.specs.Laws.{SetLaws}
+use Rattle.interface.specs.Set.{slotsOf, slotsIn, formatted, World, worldAfter, recoveredWorld, invalidatedWorld, PlainMap}
 use Rattle.text.specs.Output.{ok}
 use Rattle.session.specs.Step.{StepResult, slotsFor, sizeFault, makeStep, lineStep}
 use Rattle.session.specs.Stream.{stepAfter}
@@ -38,21 +38,21 @@ module _ (Inv : World → PlainMap → Type 0) (laws : SetLaws 1 Inv) (r : StepR
 
   -- the set of format and recovery on the front of the image
   abbrev fresh : World
-  fresh = openedWorld 1 (formatted 1 (length image)) heads next
+  fresh = invalidatedWorld 1 (formatted 1 (length image)) heads next
 
   as-new : fresh ≡ newWorld r n
-  as-new = ap (λ (len : ℕ). openedWorld 1 (formatted 1 len) heads next) (image-front r n size)
+  as-new = ap (λ (len : ℕ). invalidatedWorld 1 (formatted 1 len) heads next) (image-front r n size)
 
   fresh-keeps : Inv fresh (λ k. none)
   fresh-keeps =
       new-keeps Inv laws n (fitting .some) (fitting .few) (r .session) image heads next (image-front r n size) (heads-front r n size) (next-front r n size)
 
   fresh-slots : slotsIn (fresh .image) ≡ n
-  unfolding openedWorld worldAfter
+  unfolding invalidatedWorld worldAfter
   fresh-slots = ap slotsOf (call-laws 1 layout-1 .plays-length _ (formatted 1 (length image)) ∙ call-laws 1 layout-1 .formatted-length (length image)) ∙ slots-front r n size Inv laws
 
   fresh-sizes : OneHead n fresh
-  unfolding openedWorld recoveredWorld worldAfter
+  unfolding invalidatedWorld recoveredWorld worldAfter
   fresh-sizes =
       one-head Inv laws n fresh (λ k. none) fresh-keeps fresh-slots (call-laws 1 layout-1 .recovery-heads (formatted 1 (length image)) heads next ∙ heads-front r n size)
 

@@ -7,8 +7,8 @@ use native.Mathlib.Decide.{ℕ-discrete}
 use native.Mathlib.Omega.{arith}
 use lib.ListN.{replicate}
 use Rattle.prelude.proofs.Refusals.{orElse-zero, refused-keeps}
-use Rattle.face.specs.Laws.{SetLaws}
-use Rattle.face.specs.Set.{World, write, remove, get, PlainMap, isHeld, write-typed, remove-typed, get-typed}
+use Rattle.interface.specs.Laws.{SetLaws}
+use Rattle.interface.specs.Set.{World, write, remove, get, PlainMap, isHeld, write-typed, remove-typed, get-typed}
 use Rattle.text.specs.Output.{Printed, no}
 use Rattle.session.specs.Step.{StepResult, leaves, noSet, formFault, slotsFor, lineFault, wordBytes, stepResult}
 use Rattle.session.specs.Stream.{stepAfter}

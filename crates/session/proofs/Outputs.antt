@@ -7,7 +7,7 @@ use Prim.Native.Nat.{ℕ, _≤_}
 use native.Mathlib.Omega.{arith}
 use lib.ListN.{length}
 use Rattle.prelude.proofs.Refusals.{taken-leaves, refused-keeps}
-use Rattle.face.specs.Set.{World, Call, PlainMap}
+use Rattle.interface.specs.Set.{World, Call, PlainMap}
 use Rattle.text.specs.Forms.{lineOf}
 use Rattle.text.specs.Output.{Printed, text}
 use Rattle.session.specs.Step.{StepResult, leaves, noSet, stepResult}
@@ -50,7 +50,7 @@ module _ (r : StepResult) (m : PlainMap) where
   right-due line (refused-line ne e) = ap (λ (x : StepResult). x .answer) e ∙ sym (refused-keeps _ _ (faultAt r line) ne)
   right-due (New n) (new-line z l) = l .answer ∙ prints-taken (New n) z
   right-due (Cut a b) (cut-line z l) = l .answer ∙ prints-taken (Cut a b) z
-  right-due line (call-line z e l right) = l .answer ∙ call-prints (worldOf r) m line _ e ∙ prints-taken line z
+  right-due line (call-line z e l right ruled) = l .answer ∙ call-prints (worldOf r) m line _ e ∙ prints-taken line z
 
 -- ---- every input
 

@@ -6,7 +6,7 @@ use Prim.Native.Nat.{ℕ}
 use native.Mathlib.Decide.{ℕ-discrete}
 use Rattle.prelude.specs.Answer.{Answer, gives, absent, refused, refusalIn}
 use Rattle.prelude.proofs.Refusals.{taken-leaves, refused-keeps}
-use Rattle.face.specs.Set.{World, Call, write, remove, get, locate, called, PlainMap, dueFault, Right}
+use Rattle.interface.specs.Set.{World, Call, write, remove, get, locate, callResult, PlainMap, expectedRefusal, CallCorrect}
 use Rattle.text.specs.Output.{no}
 use Rattle.session.specs.Step.{gotAs}
 use Rattle.session.specs.Lines.{changePrints, printedFor}
@@ -27,13 +27,13 @@ prints-refusal call (gives values) out k e ne = absurd (ne (sym e))
 prints-refusal call absent out k e ne = absurd (ne (sym e))
 prints-refusal call (refused number) out k e ne = prints-number call number out ∙ ap no e
 
-pub right-prints : (w : World) (m : PlainMap) (call : Call) → Right 1 w m call
-    → printedFor call (called 1 w call .answer) (called 1 w call .out) ≡ plainPrints w m call
+pub right-prints : (w : World) (m : PlainMap) (call : Call) → CallCorrect 1 w m call
+    → printedFor call (callResult 1 w call .answer) (callResult 1 w call .out) ≡ plainPrints w m call
 unfolding plainPrints
 right-prints w m call right =
-    by-cases (ℕ-discrete (dueFault 1 w m call) 0)
-    (λ z. ap₂ (printedFor call) (right .answer z) (right .out z) ∙ sym (taken-leaves _ _ (dueFault 1 w m call) z))
-    (λ nz. prints-refusal call (called 1 w call .answer) (called 1 w call .out) (dueFault 1 w m call) (right .refusal) nz
-    ∙ sym (refused-keeps _ _ (dueFault 1 w m call) nz))
+    by-cases (ℕ-discrete (expectedRefusal 1 w m call) 0)
+    (λ z. ap₂ (printedFor call) (right .answer z) (right .out z) ∙ sym (taken-leaves _ _ (expectedRefusal 1 w m call) z))
+    (λ nz. prints-refusal call (callResult 1 w call .answer) (callResult 1 w call .out) (expectedRefusal 1 w m call) (right .refusal) nz
+    ∙ sym (refused-keeps _ _ (expectedRefusal 1 w m call) nz))
 
 -- ---- a get

@@ -3,9 +3,9 @@ use mathlib.Core.Path.{refl}
 use mathlib.Core.List.{List}
 use Rattle.prelude.specs.Members.{All}
 use Rattle.prelude.proofs.Histories.{throughout}
-use Rattle.face.specs.Set.{World, PlainMap}
-use Rattle.face.specs.Laws.{SetLaws}
-use Rattle.face.proofs.SetLaws.{layout-1, set-laws}
+use Rattle.interface.specs.Set.{World, PlainMap}
+use Rattle.interface.specs.Laws.{SetLaws}
+use Rattle.interface.proofs.SetLaws.{layout-1, set-laws}
 use Rattle.text.specs.declared.Line.{Line}
 use Rattle.session.specs.Step.{StepResult}
 use Rattle.session.specs.Lines.{worldOf}

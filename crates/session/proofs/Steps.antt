@@ -7,11 +7,11 @@ use native.Mathlib.Omega.{arith}
 use lib.ListN.{length, take, drop}
 use lib.Seq.{length-take-le}
 use borrow.Author.Tests.{ltb-false}
-use Rattle.prelude.proofs.Refusals.{say-zero, orElse-zero, taken-leaves}
+use Rattle.prelude.proofs.Refusals.{refuseIf-zero, orElse-zero, taken-leaves}
 use Rattle.prelude.specs.Answer.{Answer, gives, absent, refused}
-use Rattle.face.specs.Laws.{write-writes, remove-writes}
-use Rattle.face.proofs.SetLaws.{layout-1, call-laws}
-use Rattle.face.specs.Set.{Store, Openings, storesIn, Mode, World, write, remove, called, calledChange, handedOut, leftIn, ChangeResult, writeResult, removeResult, zipped, wordNumbers, values, Played, playEnd, playResult, playListResult, playing}
+use Rattle.interface.specs.Laws.{write-writes, remove-writes}
+use Rattle.interface.proofs.SetLaws.{layout-1, call-laws}
+use Rattle.interface.specs.Set.{Store, Invalidations, storesIn, Mode, World, write, remove, callResult, storesAfter, buffersAfter, writeResult, removeResult, zipped, wordNumbers, values, Played, playEnd, playResult, playListResult, playing, CallResult, indexOf}
 use Rattle.text.specs.Output.{Printed}
 use Rattle.session.specs.Step.{leaves, playedAll, slotsFor, sizeFault, lineFault, changedAs, changeStep, lineStep, followedBy, frontStep, stepResult}
 use Rattle.text.specs.declared.Line.{Line}
@@ -44,42 +44,42 @@ list-played-on image at value n words numbers k after e =
     let p = parts-zipped at value (words ∙ sym numbers) in
     ap (λ (r : Played). r .bytes) (e ∙ ap₂ (playListResult image) (sym (p .0)) (sym (p .1)))
 
--- among them the opening stores of a recovery, of which there are at most eight
-pub openings-played-on : (image : List ℕ) (o : Openings) → length (o .at) ≡ 8 → length (o .value) ≡ 8 → o .count ≤ 8 → (k : ℕ) (after : List ℕ)
+-- among them the invalidating stores of a recovery, of which there are at most eight
+pub invalidations-played-on : (image : List ℕ) (o : Invalidations) → length (o .at) ≡ 8 → length (o .value) ≡ 8 → o .count ≤ 8 → (k : ℕ) (after : List ℕ)
     → playEnd k after ≡ playListResult image (take (o .count) (o .at)) (take (o .count) (o .value)) → after ≡ playedAll image (storesIn o)
 unfolding storesIn
-openings-played-on image o words numbers few k after e =
+invalidations-played-on image o words numbers few k after e =
     list-played-on image (take (o .count) (o .at)) (take (o .count) (o .value)) (o .count) (length-take-le (o .count) (o .at) (omega arith))
     (length-take-le (o .count) (o .value) (omega arith)) k after e
 
 -- a step by what a call left in the stores lent to it: they are looked at only where it handed stores out
-pub left-step : (s : Session) (image : List ℕ) (lent : List Store) (c : ChangeResult)
-    → ((given : List ℕ) → c .answer ≡ gives given → handedOut (c .stores) lent ≡ c .stores) → changeStep s image (leftIn lent c) ≡ changeStep s image c
-unfolding changeStep changedAs leftIn
+pub left-step : (s : Session) (image : List ℕ) (lent : List Store) (c : CallResult)
+    → ((given : List ℕ) → c .answer ≡ gives given → storesAfter (c .stores) lent ≡ c .stores) → changeStep s image (buffersAfter lent c) ≡ changeStep s image c
+unfolding changeStep changedAs buffersAfter
 left-step s image lent c h = go (c .answer) h
   where
-    go : (answer : Answer) → ((given : List ℕ) → answer ≡ gives given → handedOut (c .stores) lent ≡ c .stores)
-        → changedAs s (c .state) (handedOut (c .stores) lent) image (c .heads) (c .next) answer ≡
-        changedAs s (c .state) (c .stores) image (c .heads) (c .next) answer
-    go (gives given) out = ap (λ (ss : List Store). changedAs s (c .state) ss image (c .heads) (c .next) (gives given)) (out given refl)
+    go : (answer : Answer) → ((given : List ℕ) → answer ≡ gives given → storesAfter (c .stores) lent ≡ c .stores)
+        → changedAs s (c .index .state) (storesAfter (c .stores) lent) image (c .index .heads) (c .index .next) answer ≡
+        changedAs s (c .index .state) (c .stores) image (c .index .heads) (c .index .next) answer
+    go (gives given) out = ap (λ (ss : List Store). changedAs s (c .index .state) ss image (c .index .heads) (c .index .next) (gives given)) (out given refl)
     go absent out = refl
     go (refused number) out = refl
 
 -- the call of a line hands out stores where it answers a slot
 module _ (s : Session) (image heads next : List ℕ) (lent : List Store) where
   abbrev lineWorld : World
-  lineWorld = record { image = image; heads = heads; next = next; state = s .state }
+  lineWorld = record { image = image; index = indexOf heads next (s .state) }
 
   pub write-left : (mode : Mode) (key : ℕ) (value : List ℕ)
-      → changeStep s image (leftIn lent (writeResult 1 image heads next (s .state) mode key value)) ≡
-      changeStep s image (writeResult 1 image heads next (s .state) mode key value)
-  unfolding called calledChange
+      → changeStep s image (buffersAfter lent (writeResult 1 image (indexOf heads next (s .state)) mode key value)) ≡
+      changeStep s image (writeResult 1 image (indexOf heads next (s .state)) mode key value)
+  unfolding callResult
   write-left mode key value = left-step s image lent _ (λ given e. call-laws 1 layout-1 .hands-out lineWorld (write mode key value) write-writes given e lent)
 
   pub remove-left : (key : ℕ)
-      → changeStep s image (leftIn lent (removeResult 1 image heads next (s .state) key)) ≡
-      changeStep s image (removeResult 1 image heads next (s .state) key)
-  unfolding called calledChange
+      → changeStep s image (buffersAfter lent (removeResult 1 image (indexOf heads next (s .state)) key)) ≡
+      changeStep s image (removeResult 1 image (indexOf heads next (s .state)) key)
+  unfolding callResult
   remove-left key = left-step s image lent _ (λ given e. call-laws 1 layout-1 .hands-out lineWorld (remove key) remove-writes given e lent)
 
 -- ---- the refusals before a step
@@ -95,11 +95,11 @@ pub record FitsLent (n image heads next : ℕ) : Type 0 where
 pub room : (n image heads next : ℕ) → sizeFault n image heads next ≡ 0 → FitsLent n image heads next
 unfolding sizeFault
 room n image heads next z =
-    let low = say-zero _ _ _ z (omega arith) in
-    let high = say-zero _ _ _ (low .1) (omega arith) in
-    let bytes = say-zero _ _ _ (high .1) (omega arith) in
-    let head = say-zero _ _ _ (bytes .1) (omega arith) in
-    let numbers = say-zero _ _ _ (head .1) (omega arith) in
+    let low = refuseIf-zero _ _ _ z (omega arith) in
+    let high = refuseIf-zero _ _ _ (low .1) (omega arith) in
+    let bytes = refuseIf-zero _ _ _ (high .1) (omega arith) in
+    let head = refuseIf-zero _ _ _ (bytes .1) (omega arith) in
+    let numbers = refuseIf-zero _ _ _ (head .1) (omega arith) in
     record {
       some = ltb-false n 2 (low .0);
       few = ltb-false 511 n (high .0);

@@ -3,7 +3,7 @@ use mathlib.Core.Option.{Option, some, none}
 use mathlib.Core.List.{List, [], _∷_, _++_}
 use Prim.Native.Nat.{ℕ}
 use Rattle.prelude.specs.Refusal.{unlessRefused}
-use Rattle.face.specs.Set.{World, Call, PlainMap}
+use Rattle.interface.specs.Set.{World, Call, PlainMap}
 use Rattle.text.specs.Forms.{lineOf}
 use Rattle.text.specs.Output.{Printed, ok, cut, text, no}
 use Rattle.session.specs.Step.{StepResult}

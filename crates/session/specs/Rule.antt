@@ -1,12 +1,13 @@
--- THE SESSION RULE: a trial session answers as the plain map does, whichever of its calls a waiting cut strikes. Document 01, "The trial session" and "The plain map and the cut rule".
+-- THE SESSION RULE: a trial session answers as the plain map does, whichever of its calls a waiting cut strikes.
+-- Document 01, "The trial session" and "The plain map and the cut rule".
 use mathlib.Core.Path.{_≡_}
 use mathlib.Core.Option.{Option, some, none}
 use mathlib.Core.List.{List, [], _∷_}
 use Prim.Native.Nat.{ℕ, _+_, _*_, _^_, _≤_, _<_}
 use lib.ListN.{length, take}
 use Rattle.prelude.specs.Refusal.{unlessRefused}
-use Rattle.face.specs.Set.{formatted, World, Call, called, openedWorld, PlainMap, plainOut, dueFault, dueAnswer, Right, Reads}
-use Rattle.face.specs.Event.{step, mapAfterEvent}
+use Rattle.interface.specs.Set.{formatted, World, Call, callResult, invalidatedWorld, PlainMap, plainOut, expectedRefusal, expectedAnswer, CallCorrect, Reads, callResultByRule}
+use Rattle.interface.specs.Event.{step, mapAfterEvent}
 use Rattle.text.specs.Output.{Printed, ok, cut, no}
 use Rattle.session.specs.Step.{StepResult, leaves, noSet, sizeFault, lineFault}
 use Rattle.session.specs.Stream.{stepAfter}
@@ -18,7 +19,7 @@ use Rattle.session.specs.declared.Session.{Session}
 use Rattle.session.specs.Lines.{worldOf, sessionOf, callIn, eventIn, waitsOn, printedFor}
 use Rattle.prelude.specs.Members.{All}
 use Rattle.prelude.specs.History.{Throughout}
-use Rattle.face.specs.Recovers.{Recovers}
+use Rattle.interface.specs.Recovers.{Recovers}
 
 -- the refusal of a line before it is carried out, 0 for none
 abbrev pub faultAt : StepResult → Line → ℕ
@@ -29,9 +30,9 @@ faultAt r line = lineFault line (r .session) (length (r .image)) (length (r .hea
 -- a call: the rules' refusal, or the plain map's answer with the slot taken and the next version
 unfoldable pub plainPrints : World → PlainMap → Call → Printed
 plainPrints w m call =
-    unlessRefused (dueFault 1 w m call)
-    (printedFor call (dueAnswer 1 w m call) (plainOut m call))
-    (no (dueFault 1 w m call))
+    unlessRefused (expectedRefusal 1 w m call)
+    (printedFor call (expectedAnswer 1 w m call) (plainOut m call))
+    (no (expectedRefusal 1 w m call))
 
 -- ---- the plain map beside a session
 
@@ -60,7 +61,8 @@ pub data FewWait : Waiting → Type 0 where
   none-waits : FewWait Nothing
   few-wait : {a b : ℕ} → a ≤ 8 → b ≤ 8 → FewWait (Counts a b)
 
--- there is a set: it fits into the lent image and index, a waiting cut has fit counts, and recovery, the slots and get give the plain map m
+-- there is a set: it fits into the lent image and index, a waiting cut has fit counts, and recovery, the slots and get
+-- give the plain map m
 pub record SetBetween (r : StepResult) (m : PlainMap) : Type 0 where
   pub size : sizeFault (r .session .n) (length (r .image)) (length (r .heads)) (length (r .next)) ≡ 0
   pub waits : FewWait (r .session .waiting)
@@ -82,13 +84,14 @@ pub record Leaves (r : StepResult) (line : Line) (p : Printed) (s : Session) (w 
 
 -- the set of a new n
 abbrev pub newWorld : StepResult → (n : ℕ) → World
-newWorld r n = openedWorld 1 (formatted 1 (128 * (n + 1))) (take 1 (r .heads)) (take (n + 1) (r .next))
+newWorld r n = invalidatedWorld 1 (formatted 1 (128 * (n + 1))) (take 1 (r .heads)) (take (n + 1) (r .next))
 
 -- and the set after a call
 abbrev pub worldAfterCall : StepResult → Call → World
 worldAfterCall r call = step 1 (worldOf r) (eventIn (worldOf r) (r .session .waiting) call)
 
--- a refused line changes nothing, n formats and recovers, c waits, and a call is an event of the cut rule, whose answer is right by the plain map m
+-- a refused line changes nothing, n formats and recovers, c waits, and a call is an event of the cut rule, whose answer
+-- is right by the plain map m
 pub data LineRight (r : StepResult) (m : PlainMap) : Line → Type 0 where
   refused-line : {line : Line} → (faultAt r line ≡ 0 → ⊥)
       → stepAfter r line ≡ leaves (no (faultAt r line)) (r .session) (r .image) (r .heads) (r .next) → LineRight r m line
@@ -98,9 +101,9 @@ pub data LineRight (r : StepResult) (m : PlainMap) : Line → Type 0 where
       → Leaves r (Cut a b) (cut a b) (sessionOf (r .session .n) (worldOf r) (Counts a b)) (worldOf r) → LineRight r m (Cut a b)
   call-line : {line : Line} {call : Call} → faultAt r line ≡ 0 → callIn m line ≡ some call
       → Leaves r line (plainPrints (worldOf r) m call)
-      (sessionOf (r .session .n) (worldAfterCall r call) (waitsOn (r .session .waiting) (called 1 (worldOf r) call .stores)))
+      (sessionOf (r .session .n) (worldAfterCall r call) (waitsOn (r .session .waiting) (callResult 1 (worldOf r) call .stores)))
       (worldAfterCall r call)
-      → Right 1 (worldOf r) m call → LineRight r m line
+      → CallCorrect 1 (worldOf r) m call → callResult 1 (worldOf r) call ≡ callResultByRule 1 (worldOf r) call → LineRight r m line
 
 -- ---- every list of lines
 
@@ -117,8 +120,8 @@ pub data SizedLine : Line → Type 0 where
 abbrev pub SessionHolds : StepResult → PlainMap → List Line → Type 0
 SessionHolds = Throughout stepAfter mapAfter Between LineRight
 
--- from the start, with no set and whatever the lent image and index hold, every list of lines answers right; the plain map may be any, as the first accepted n makes
--- it empty
+-- from the start, with no set and whatever the lent image and index hold, every list of lines answers right; the plain
+-- map may be any, as the first accepted n makes it empty
 abbrev pub SessionRule : Type 0
 SessionRule =
     (p : Printed) (image heads next : List ℕ) (m : PlainMap) (lines : List Line) → All SizedLine lines

@@ -4,9 +4,9 @@ use Prim.Native.Nat.{ℕ, _+_, _*_}
 use lib.Dec.{ltb}
 use lib.ListN.{length, take, drop, replicate}
 use Rattle.words.specs.Word.{word, setWord}
-use Rattle.prelude.specs.Refusal.{say, orElse, unlessRefused}
+use Rattle.prelude.specs.Refusal.{refuseIf, orElse, unlessRefused}
 use Rattle.prelude.specs.Answer.{Answer, gives, absent, refused}
-use Rattle.face.specs.Set.{Store, wordNumbers, values, State, Result, noState, storesIn, recoverResult, FormatResult, formatResult, Mode, Insert, Replace, ChangeResult, writeResult, removeResult, GetResult, getResult, locateResult, playing, playListResult}
+use Rattle.interface.specs.Set.{Store, wordNumbers, values, State, noState, storesIn, recoverResult, FormatResult, formatResult, Mode, Insert, Replace, writeResult, removeResult, getResult, locateResult, playing, playListResult, Recovery, CallResult, ReadOnlyResult, indexOf}
 use Rattle.text.specs.Output.{Printed, ok, found, cut, notHeld, no}
 use Rattle.text.specs.declared.Line.{Line}
 use Rattle.text.specs.declared.Line.the-variants.{New, Write, Remove, Get, Cut, Bad}
@@ -50,15 +50,16 @@ slotsFor (Get key) s = s .n
 slotsFor (Cut a b) s = s .n
 slotsFor Bad s = s .n
 
--- "any other line before an accepted n, or n out of range, gives 1"; so does an image or an index that is too short for n slots and one head
+-- "any other line before an accepted n, or n out of range, gives 1"; so does an image or an index that is too short for
+-- n slots and one head
 unfoldable pub sizeFault : (n image heads next : ℕ) → ℕ
 sizeFault n image heads next =
-    say (ltb n 2) 1
-    (say (ltb 511 n) 1 (say (ltb image (128 * (n + 1))) 1 (say (ltb heads 1) 1 (say (ltb next (n + 1)) 1 0))))
+    refuseIf (ltb n 2) 1
+    (refuseIf (ltb 511 n) 1 (refuseIf (ltb image (128 * (n + 1))) 1 (refuseIf (ltb heads 1) 1 (refuseIf (ltb next (n + 1)) 1 0))))
 
 -- "`no 14` for a count above 8"
 unfoldable pub countFault : (a b : ℕ) → ℕ
-countFault a b = say (ltb 8 a) 14 (say (ltb 8 b) 14 0)
+countFault a b = refuseIf (ltb 8 a) 14 (refuseIf (ltb 8 b) 14 0)
 
 -- of a line: only c has counts
 unfoldable pub cutFault : Line → ℕ
@@ -89,10 +90,11 @@ recoveredAs p n image heads next state (gives values) =
 recoveredAs p n image heads next state absent = leaves notHeld noSet image heads next
 recoveredAs p n image heads next state (refused number) = leaves (no number) noSet image heads next
 
--- by recovery's result on this image. Document 02, A.7: its opening stores "are played and fenced before any other call"
-unfoldable pub recoveredBy : (p : Printed) → (n : ℕ) → (image : List ℕ) → Result → StepResult
+-- by recovery's result on this image. Document 02, A.7: its invalidating stores "are played and fenced before any other
+-- call"
+unfoldable pub recoveredBy : (p : Printed) → (n : ℕ) → (image : List ℕ) → Recovery → StepResult
 recoveredBy p n image r =
-    recoveredAs p n (playedAll image (storesIn (r .openings))) (r .heads) (r .next) (r .state) (r .answer)
+    recoveredAs p n (playedAll image (storesIn (r .invalidations))) (r .index .heads) (r .index .next) (r .index .state) (r .answer)
 
 -- recovery of this image, with this index lent to it
 unfoldable pub recoverStep : (p : Printed) → (n : ℕ) → (image heads next : List ℕ) → StepResult
@@ -116,14 +118,16 @@ makeStep n s image heads next = madeBy n s heads next (formatResult 1 image)
 
 -- ---- `p K W` and `r K`
 
--- "`ok slot version`". A waiting cut: "the next accepted p, or r that stores, plays only A and B stores, and recovery runs"
+-- "`ok slot version`". A waiting cut: "the next accepted p, or r that stores, plays only A and B stores, and recovery
+-- runs"
 unfoldable pub storedWith : (n : ℕ) → (values : List ℕ) → State → List Store → (image heads next : List ℕ) → Waiting → StepResult
 storedWith n values state stores image heads next Nothing =
     leaves (ok values) (record { n = n; state = state; waiting = Nothing }) (playedAll image stores) heads next
 storedWith n values state stores image heads next (Counts a b) =
     recoverStep (ok values) n (playing image stores a b) heads next
 
--- by the answer of the call; "the same, or `absent`", or its refusal; after either of the last two a cut goes on waiting
+-- by the answer of the call; "the same, or `absent`", or its refusal; after either of the last two a cut goes on
+-- waiting
 unfoldable pub changedAs : Session → State → List Store → (image heads next : List ℕ) → Answer → StepResult
 changedAs s state stores image heads next (gives values) =
     storedWith (s .n) values state stores image heads next (s .waiting)
@@ -131,22 +135,23 @@ changedAs s state stores image heads next absent = leaves notHeld s image heads 
 changedAs s state stores image heads next (refused number) = leaves (no number) s image heads next
 
 -- by the result of a call that writes on this image
-unfoldable pub changeStep : Session → (image : List ℕ) → ChangeResult → StepResult
-changeStep s image r = changedAs s (r .state) (r .stores) image (r .heads) (r .next) (r .answer)
+unfoldable pub changeStep : Session → (image : List ℕ) → CallResult → StepResult
+changeStep s image r = changedAs s (r .index .state) (r .stores) image (r .index .heads) (r .index .next) (r .answer)
 
 -- "the 8-byte word W"
 unfoldable pub wordBytes : (w : ℕ) → List ℕ
 wordBytes w = setWord (replicate 8 0) 0 w
 
--- document 02, A.2: "The trial's p inserts or replaces according to what is held", by the answer of a locate; where that refuses, so does an insert
+-- document 02, A.2: "The trial's p inserts or replaces according to what is held", by the answer of a locate; where
+-- that refuses, so does an insert
 unfoldable pub modeBy : Answer → Mode
 modeBy (gives values) = Replace
 modeBy absent = Insert
 modeBy (refused number) = Insert
 
-abbrev pub wordChange : (key w : ℕ) → State → (image heads next : List ℕ) → ChangeResult
+abbrev pub wordChange : (key w : ℕ) → State → (image heads next : List ℕ) → CallResult
 wordChange key w state image heads next =
-    writeResult 1 image heads next state (modeBy (locateResult 1 image heads next key)) key (wordBytes w)
+    writeResult 1 image (indexOf heads next state) (modeBy (locateResult 1 image heads next key .answer)) key (wordBytes w)
 
 unfoldable pub writeStep : (key w : ℕ) → Session → (image heads next : List ℕ) → StepResult
 writeStep key w s image heads next = changeStep s image (wordChange key w (s .state) image heads next)
@@ -160,7 +165,7 @@ gotAs out absent = notHeld
 gotAs out (refused number) = no number
 
 -- by get's result
-unfoldable pub gotBy : GetResult → Printed
+unfoldable pub gotBy : ReadOnlyResult → Printed
 gotBy r = gotAs (r .out) (r .answer)
 
 -- the word of the value, with 80 bytes of output
@@ -179,7 +184,7 @@ waitingFor s a b = record { n = s .n; state = s .state; waiting = Counts a b }
 unfoldable pub lineStep : Line → Session → (image heads next : List ℕ) → StepResult
 lineStep (New n) s image heads next = makeStep n s image heads next
 lineStep (Write key w) s image heads next = writeStep key w s image heads next
-lineStep (Remove key) s image heads next = changeStep s image (removeResult 1 image heads next (s .state) key)
+lineStep (Remove key) s image heads next = changeStep s image (removeResult 1 image (indexOf heads next (s .state)) key)
 lineStep (Get key) s image heads next = leaves (wordFound image heads next key) s image heads next
 lineStep (Cut a b) s image heads next = leaves (cut a b) (waitingFor s a b) image heads next
 lineStep Bad s image heads next = leaves (no 16) s image heads next

@@ -1,4 +1,5 @@
--- The whole input, byte by byte: a line ends at a byte 10, and a last line may lack it. Document 01, "The trial session": "writes one line for each".
+-- The whole input, byte by byte: a line ends at a byte 10, and a last line may lack it. Document 01, "The trial
+-- session": "writes one line for each".
 use mathlib.Core.Bool.{Bool, true, false, cond}
 use mathlib.Core.List.{List, [], _∷_, _++_}
 use Prim.Native.Nat.{ℕ, _+_}

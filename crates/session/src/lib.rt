@@ -1,5 +1,5 @@
 // The trial session, and that it answers as the plain map does: types, definitions and laws.
-use face::State;
+use interface::State;
 use text::Parse;
 use text::Reply;
 
@@ -9,7 +9,8 @@ pub enum Waiting {
     Counts { a: usize, b: usize },
 }
 
-// What a session keeps beside the image and the index: the number of slots, 0 before an accepted n, the state and the waiting cut.
+// What a session keeps beside the image and the index: the number of slots, 0 before an accepted n, the state and the
+// waiting cut.
 pub struct Session {
     pub n: u64,
     pub state: State,
@@ -22,7 +23,8 @@ pub struct Stepped {
     pub session: Session,
 }
 
-// Where the input stands: the part of a line that was read and whether there is one, the session, and the end of the output that is stored.
+// Where the input stands: the part of a line that was read and whether there is one, the session, and the end of the
+// output that is stored.
 pub struct Progress {
     pub parse: Parse,
     pub begun: bool,

@@ -2,7 +2,7 @@
 ghost use mathlib.Core.Path.{_≡_};
 ghost use mathlib.Core.List.{[], _∷_};
 ghost use Prim.Native.Nat.{_≤_};
-ghost use Rattle.face.specs.Set.{zipped, storesIn, leftIn, changeEnd, removeResult, getResult};
+ghost use Rattle.interface.specs.Set.{zipped, storesIn, buffersAfter, changeEnd, removeResult, getResult, indexOf};
 ghost use Rattle.text.specs.inner.Output.{replySays};
 ghost use Rattle.session.specs.inner.Step.{stepEnd};
 ghost use Rattle.session.specs.Step.{playedAll, recoverStep, makeStep, storedWith, changeStep, wordChange, writeStep, gotBy, wordFound};
@@ -10,8 +10,8 @@ use crate::start::start;
 use orderset::Change;
 use orderset::Formatted;
 use orderset::Got;
+use orderset::Invalidations;
 use orderset::Located;
-use orderset::Openings;
 use orderset::Outcome;
 use orderset::Recovered;
 use orderset::State;
@@ -32,24 +32,25 @@ use text::Reply;
 use words_code::padded_word;
 use words_code::write_word;
 
-// The opening stores of a recovery are made.
-fn open_slots(image: &mut [u8], openings: Openings)
-    requires { ⌜ openings .count ≤ 8 ⌝ }
-    ensures { λ _. ⌜ now (image .exit) ≡ playedAll (now (image .entry)) (storesIn openings) ⌝ }
+// The invalidating stores of a recovery are made.
+fn open_slots(image: &mut [u8], invalidations: Invalidations)
+    requires { ⌜ invalidations .count ≤ 8 ⌝ }
+    ensures { λ _. ⌜ now (image .exit) ≡ playedAll (now (image .entry)) (storesIn invalidations) ⌝ }
 {
-    let count = openings.count as usize;
-    let at = openings.at;
-    let value = openings.value;
+    let count = invalidations.count as usize;
+    let at = invalidations.at;
+    let value = invalidations.value;
     play_list(image, &at[..count], &value[..count]);
 }
 
-// Recovery and its opening stores, after which the session goes on with this answer.
+// Recovery and its invalidating stores, after which the session goes on with this answer.
 fn recovered(reply: Reply, n: u64, image: &mut [u8], heads: &mut [u32], next: &mut [u32]) -> Stepped
-    ensures { λ r. ⌜ stepEnd r (now (image .exit)) (now (heads .exit)) (now (next .exit)) ≡ recoverStep (replySays reply) n (now (image .entry)) (now (heads .entry)) (now (next .entry)) ⌝ }
+    ensures { λ r. ⌜ stepEnd r (now (image .exit)) (now (heads .exit)) (now (next .exit))
+        ≡ recoverStep (replySays reply) n (now (image .entry)) (now (heads .entry)) (now (next .entry)) ⌝ }
 {
     let answer = recover(image, heads, next);
-    let openings = answer.openings;
-    open_slots(image, openings);
+    let invalidations = answer.invalidations;
+    open_slots(image, invalidations);
     let index = answer.recovered;
     match index {
         Recovered::Rebuilt(state) => Stepped {
@@ -75,7 +76,8 @@ pub fn make(
     heads: &mut [u32],
     next: &mut [u32],
 ) -> Stepped
-    ensures { λ r. ⌜ stepEnd r (now (image .exit)) (now (heads .exit)) (now (next .exit)) ≡ makeStep n session (now (image .entry)) (now (heads .entry)) (now (next .entry)) ⌝ }
+    ensures result { λ r. ⌜ stepEnd r (now (image .exit)) (now (heads .exit)) (now (next .exit))
+        ≡ makeStep n session (now (image .entry)) (now (heads .entry)) (now (next .entry)) ⌝ }
 {
     let formatted = format(image, 1);
     match formatted {
@@ -87,7 +89,8 @@ pub fn make(
     }
 }
 
-// The stores of an accepted call are played: all of them, or those that the waiting cut leaves, after which recovery runs.
+// The stores of an accepted call are played: all of them, or those that the waiting cut leaves, after which recovery
+// runs.
 fn carry_out(
     slot: u32,
     version: u64,
@@ -98,7 +101,9 @@ fn carry_out(
     heads: &mut [u32],
     next: &mut [u32],
 ) -> Stepped
-    ensures { λ r. ⌜ stepEnd r (now (image .exit)) (now (heads .exit)) (now (next .exit)) ≡ storedWith (session .n) (slot ∷ version ∷ []) (change .state) (zipped (stores .at) (stores .value)) (now (image .entry)) (now (heads .entry)) (now (next .entry)) (session .waiting) ⌝ }
+    ensures { λ r. ⌜ stepEnd r (now (image .exit)) (now (heads .exit)) (now (next .exit))
+        ≡ storedWith (session .n) (slot ∷ version ∷ []) (change .state) (zipped (stores .at) (stores .value)) (now (image .entry))
+        (now (heads .entry)) (now (next .entry)) (session .waiting) ⌝ }
 {
     let waiting = session.waiting;
     match waiting {
@@ -138,7 +143,8 @@ pub fn carry_change(
     heads: &mut [u32],
     next: &mut [u32],
 ) -> Stepped
-    ensures { λ r. ⌜ stepEnd r (now (image .exit)) (now (heads .exit)) (now (next .exit)) ≡ changeStep session (now (image .entry)) (changeEnd change (stores .at) (stores .value) (now (heads .entry)) (now (next .entry)) .left) ⌝ }
+    ensures result { λ r. ⌜ stepEnd r (now (image .exit)) (now (heads .exit)) (now (next .exit))
+        ≡ changeStep session (now (image .entry)) (changeEnd change (stores .at) (stores .value) (now (heads .entry)) (now (next .entry))) ⌝ }
 {
     let outcome = change.outcome;
     match outcome {
@@ -167,7 +173,9 @@ pub fn write_key(
     at: &mut [u32; 16],
     words: &mut [u64; 16],
 ) -> Change
-    ensures { λ r. ⌜ changeEnd r (now (at .exit)) (now (words .exit)) (now (heads .exit)) (now (next .exit)) .left ≡ leftIn (zipped (now (at .entry)) (now (words .entry))) (wordChange key word state (now (image .entry)) (now (heads .entry)) (now (next .entry))) ⌝ }
+    ensures result { λ r. ⌜ changeEnd r (now (at .exit)) (now (words .exit)) (now (heads .exit)) (now (next .exit))
+        ≡ buffersAfter (zipped (now (at .entry)) (now (words .entry)))
+        (wordChange key word state (now (image .entry)) (now (heads .entry)) (now (next .entry))) ⌝ }
 {
     let mut value = [0u8; 8];
     write_word(&mut value, 0, word);
@@ -192,7 +200,8 @@ pub fn write_line(
     heads: &mut [u32],
     next: &mut [u32],
 ) -> Stepped
-    ensures { λ r. ⌜ stepEnd r (now (image .exit)) (now (heads .exit)) (now (next .exit)) ≡ writeStep key word session (now (image .entry)) (now (heads .entry)) (now (next .entry)) ⌝ }
+    ensures result { λ r. ⌜ stepEnd r (now (image .exit)) (now (heads .exit)) (now (next .exit))
+        ≡ writeStep key word session (now (image .entry)) (now (heads .entry)) (now (next .entry)) ⌝ }
 {
     let state = session.state;
     let mut at = [0u32; 16];
@@ -209,7 +218,9 @@ pub fn remove_line(
     heads: &mut [u32],
     next: &mut [u32],
 ) -> Stepped
-    ensures { λ r. ⌜ stepEnd r (now (image .exit)) (now (heads .exit)) (now (next .exit)) ≡ changeStep session (now (image .entry)) (removeResult 1 (now (image .entry)) (now (heads .entry)) (now (next .entry)) (session .state) key) ⌝ }
+    ensures result { λ r. ⌜ stepEnd r (now (image .exit)) (now (heads .exit)) (now (next .exit))
+        ≡ changeStep session (now (image .entry))
+        (removeResult 1 (now (image .entry)) (indexOf (now (heads .entry)) (now (next .entry)) (session .state)) key) ⌝ }
 {
     let state = session.state;
     let mut at = [0u32; 16];
@@ -233,7 +244,7 @@ fn get_by(image: &[u8], heads: &[u32], next: &[u32], key: u64, out: &mut [u8]) -
 
 // `g K`.
 pub fn get_word(image: &[u8], heads: &[u32], next: &[u32], key: u64) -> Reply
-    ensures { λ r. ⌜ replySays r ≡ wordFound (now (image .entry)) (now (heads .entry)) (now (next .entry)) key ⌝ }
+    ensures result { λ r. ⌜ replySays r ≡ wordFound (now (image .entry)) (now (heads .entry)) (now (next .entry)) key ⌝ }
 {
     let mut out = [0u8; 80];
     get_by(image, heads, next, key, &mut out)

@@ -7,7 +7,7 @@ use session::Waiting;
 
 // A session before an accepted n.
 pub fn start() -> Session
-    ensures { λ r. ⌜ r ≡ noSet ⌝ }
+    ensures result { λ r. ⌜ r ≡ noSet ⌝ }
 {
     Session {
         n: 0,

@@ -37,7 +37,8 @@ pub fn carry_line(
     heads: &mut [u32],
     next: &mut [u32],
 ) -> Stepped
-    ensures { λ r. ⌜ stepEnd r (now (image .exit)) (now (heads .exit)) (now (next .exit)) ≡ lineStep line session (now (image .entry)) (now (heads .entry)) (now (next .entry)) ⌝ }
+    ensures result { λ r. ⌜ stepEnd r (now (image .exit)) (now (heads .exit)) (now (next .exit))
+        ≡ lineStep line session (now (image .entry)) (now (heads .entry)) (now (next .entry)) ⌝ }
 {
     match line {
         Line::New(n) => make(n, session, image, heads, next),
@@ -66,7 +67,8 @@ pub fn step(
     heads: &mut [u32],
     next: &mut [u32],
 ) -> Stepped
-    ensures { λ r. ⌜ stepEnd r (now (image .exit)) (now (heads .exit)) (now (next .exit)) ≡ stepResult line session (now (image .entry)) (now (heads .entry)) (now (next .entry)) ⌝ }
+    ensures result { λ r. ⌜ stepEnd r (now (image .exit)) (now (heads .exit)) (now (next .exit))
+        ≡ stepResult line session (now (image .entry)) (now (heads .entry)) (now (next .entry)) ⌝ }
 {
     let fault = line_fault(line, session, image.len(), heads.len(), next.len());
     if fault != 0 {

@@ -20,7 +20,7 @@ fn form_fault(line: Line) -> u32
 
 // The number of slots that a line is carried out with.
 pub fn slots_for(line: Line, session: Session) -> u64
-    ensures { λ r. ⌜ r ≡ slotsFor line session ⌝ }
+    ensures result { λ r. ⌜ r ≡ slotsFor line session ⌝ }
 {
     match line {
         Line::New(n) => n,
@@ -83,7 +83,7 @@ fn cut_fault(line: Line) -> u32
 
 // 16, 1 or 14, else 0.
 pub fn line_fault(line: Line, session: Session, image: usize, heads: usize, next: usize) -> u32
-    ensures { λ r. ⌜ r ≡ lineFault line session image heads next ⌝ }
+    ensures result { λ r. ⌜ r ≡ lineFault line session image heads next ⌝ }
 {
     let form = form_fault(line);
     if form != 0 {

@@ -3,7 +3,7 @@ ghost use Rattle.io.specs.Counts.{Counts};
 
 // So many word numbers, or all.
 pub fn numbers_of(n: usize, list: &[u32]) -> usize
-    ensures { λ r. ⌜ Counts r (now (list .entry)) ⌝ }
+    ensures result { λ r. ⌜ Counts r (now (list .entry)) ⌝ }
 {
     if n < list.len() {
         return n;
@@ -13,7 +13,7 @@ pub fn numbers_of(n: usize, list: &[u32]) -> usize
 
 // So many values, or all.
 pub fn values_of(n: usize, list: &[u64]) -> usize
-    ensures { λ r. ⌜ Counts r (now (list .entry)) ⌝ }
+    ensures result { λ r. ⌜ Counts r (now (list .entry)) ⌝ }
 {
     if n < list.len() {
         return n;

@@ -1,4 +1,5 @@
-// For the programs: printing to standard output, of labels, numbers and lists of them and of the answers of the calls; lines of input; and lines of progress.
+// For the programs: printing to standard output, of labels, numbers and lists of them and of the answers of the calls;
+// lines of input; and lines of progress.
 pub mod fronts;
 pub mod lines;
 pub mod progress;
@@ -6,7 +7,7 @@ pub mod progress;
 use libc::STDOUT_FILENO;
 use orderset::Formatted;
 use orderset::Got;
-use orderset::Openings;
+use orderset::Invalidations;
 use orderset::Outcome;
 use orderset::Recovered;
 use orderset::State;
@@ -93,8 +94,8 @@ fn first_stores(at: &[u32], value: &[u64], count: u32) {
     }
 }
 
-// Recovery's opening stores, each a word number and a value; nothing where there are none.
-pub fn openings(stores: Openings) {
+// Recovery's invalidating stores, each a word number and a value; nothing where there are none.
+pub fn invalidations(stores: Invalidations) {
     if stores.count == 0 {
         return;
     }

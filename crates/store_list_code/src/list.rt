@@ -8,7 +8,7 @@ use stores::Store;
 // The first count elements become the stores that at and words name.
 pub fn put_stores(list: &mut [Store], at: &[u32], words: &[u64], count: usize)
     requires { ⌜ (count ≤ length (now list)) × (count ≤ length (now at)) × (count ≤ length (now words)) ⌝ }
-    ensures { λ _. ⌜ now (list .exit) ≡ storesPut (now (at .entry)) (now (words .entry)) count (now (list .entry)) ⌝ }
+    ensures result { λ _. ⌜ now (list .exit) ≡ storesPut (now (at .entry)) (now (words .entry)) count (now (list .entry)) ⌝ }
 {
     let mut i = 0;
     while i < count {

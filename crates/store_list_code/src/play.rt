@@ -3,7 +3,7 @@ ghost use mathlib.Core.Path.{_≡_};
 ghost use Prim.Native.Nat.{_+_, _*_};
 ghost use lib.Dec.{ltb};
 ghost use lib.ListN.{length};
-ghost use Rattle.prelude.specs.Refusal.{say};
+ghost use Rattle.prelude.specs.Refusal.{refuseIf};
 ghost use Rattle.stores.specs.Store.{played};
 ghost use Rattle.stores.specs.Play.{wordNumbers, values, listFault, playEnd, playListResult};
 ghost use Rattle.stores.specs.inner.List.{AllInside};
@@ -12,7 +12,7 @@ use words_code::write_word;
 
 // 15 by a store of this word, else the refusal so far.
 fn fault_with(fault: u32, len: usize, word: u32) -> u32
-    ensures { λ r. ⌜ r ≡ say (ltb len (8 * word + 8)) 15 fault ⌝ }
+    ensures { λ r. ⌜ r ≡ refuseIf (ltb len (8 * word + 8)) 15 fault ⌝ }
 {
     let w = word as usize;
     if len < 8 * w + 8 {
@@ -49,7 +49,8 @@ fn make_all(image: &mut [u8], list: &[Store])
 
 // All stores of a list are made, in order: 0, or refusal 15, which changes no byte.
 pub fn play_stores(image: &mut [u8], list: &[Store]) -> u32
-    ensures { λ r. ⌜ playEnd r (now (image .exit)) ≡ playListResult (now (image .entry)) (wordNumbers (now (list .entry))) (values (now (list .entry))) ⌝ }
+    ensures result { λ r. ⌜ playEnd r (now (image .exit))
+        ≡ playListResult (now (image .entry)) (wordNumbers (now (list .entry))) (values (now (list .entry))) ⌝ }
 {
     let fault = stores_fault(list, image.len());
     if fault != 0 {

@@ -14,7 +14,7 @@ use Rattle.words.specs.Word.{AreBytes, word, setWord}
 use Rattle.prelude.proofs.Choice.{pick-true, pick-false}
 use Rattle.words.proofs.Laws.{setWord-length, setWord-bytes, word-same, word-other}
 use Rattle.layout.specs.Record.{limit}
-use Rattle.layout.specs.Content.{top}
+use Rattle.layout.specs.Content.{highestWhole}
 use Rattle.stores.specs.Store.{Store, played, stored, playedWords, less, standing}
 use Rattle.stores.specs.Written.{marked, bodyA, bodyB, run, lineStores, recordStores}
 use Rattle.stores.specs.Cut.{afterCut, Fields, Lawful, Written}
@@ -112,7 +112,7 @@ record-inside n l m s key kind number value version fine small h =
 -- ---- THE TABLE LAW on bytes
 
 pub image-law : (l : ℕ) (counts : ℕ → ℕ) (img : List ℕ) (s key kind number : ℕ) (value : List ℕ) (version : ℕ)
-    → Fields l key kind number value → Lawful kind number value → top (word img) s < version → version < 2 ^ 63 → 128 * (s + 1) ≤ length img
+    → Fields l key kind number value → Lawful kind number value → highestWhole (word img) s < version → version < 2 ^ 63 → 128 * (s + 1) ≤ length img
     → Written l (word img) (word (played (standing counts (recordStores l (word img) s key kind number value version)) img)) s key kind number value version
     (counts (2 * s)) (counts (2 * s + 1))
 image-law l counts img s key kind number value version fine good above small h =

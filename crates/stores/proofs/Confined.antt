@@ -1,4 +1,4 @@
--- Stores that write nothing, a record or an opening store into each slot leave the other slots, and no slot with a new fault. Assumes nothing.
+-- Stores that write nothing, a record or an invalidating store into each slot leave the other slots, and no slot with a new fault. Assumes nothing.
 use mathlib.Core.Path.{_≡_, refl, sym, ap, _∙_}
 use mathlib.Core.Bool.{cond}
 use mathlib.Core.Logic.{_⊎_, inl, inr, ⊎-elim, by-cases}

@@ -14,11 +14,11 @@ use Rattle.prelude.proofs.Choice.{pick-true, pick-false}
 use Rattle.words.proofs.Laws.{word-byte}
 use Rattle.layout.specs.Line.{whole, versionOf}
 use Rattle.layout.specs.Slot.{paired}
-use Rattle.layout.specs.Record.{keyOf, keyWord, kindWord, kindOf, lengthOf, recordNumber, limit, slotWord, valueWord, valueByte, valueFront, valueOf}
-use Rattle.layout.specs.Content.{made, contentOf}
+use Rattle.layout.specs.Record.{keyOf, keyWord, kindWord, kindOf, lengthOf, sizeField, limit, slotWord, valueWord, valueByte, valueFront, valueOf}
+use Rattle.layout.specs.Content.{contentOfRecord, contentOf}
 use Rattle.layout.specs.Fault.{bitsFault, kindFault, kindLimit, wordFault, tailFault, faultOf}
 use Rattle.prelude.proofs.Any.{any-clear}
-use Rattle.prelude.proofs.Refusals.{say-false, orElse-later}
+use Rattle.prelude.proofs.Refusals.{refuseIf-false, orElse-later}
 use Rattle.prelude.proofs.Tabulate.{tabulate-list}
 use Rattle.layout.proofs.KeyWords.{key-again}
 use Rattle.layout.proofs.Places.{place-A, place-B}
@@ -61,8 +61,8 @@ module _ (l stamp key kind number : ℕ) (value : List ℕ) (version : ℕ) (fin
       marked-body stamp version (bodyA l key kind number value) (l + 1) (omega arith) (omega (arith, fine .layout .high))
       ∙ body-kind l key kind number value
 
-  pub number-written : (A : ℕ → ℕ) → A (l + 1) ≡ newA l stamp key kind number value version (l + 1) → recordNumber (A (l + 1)) ≡ number
-  number-written A e = ap recordNumber (e ∙ new-kind) ∙ omega (arith, fine .kind-fits, fine .number-fits, fine .size)
+  pub number-written : (A : ℕ → ℕ) → A (l + 1) ≡ newA l stamp key kind number value version (l + 1) → sizeField (A (l + 1)) ≡ number
+  number-written A e = ap sizeField (e ∙ new-kind) ∙ omega (arith, fine .kind-fits, fine .number-fits, fine .size)
 
 -- ---- two lines that hold a record's words, over lines with stamps stampA and stampB
 module _ (l stampA stampB key kind number : ℕ) (value : List ℕ) (version : ℕ) (fine : Fields l key kind number value) (A B : ℕ → ℕ)
@@ -95,7 +95,7 @@ module _ (l stampA stampB key kind number : ℕ) (value : List ℕ) (version : �
   pub the-length : lengthOf (A (l + 1)) ≡ length value
   the-length = ap lengthOf the-kind-word ∙ omega (arith, fine .kind-fits, fine .size)
 
-  the-number : recordNumber (A (l + 1)) ≡ number
+  the-number : sizeField (A (l + 1)) ≡ number
   the-number = number-written l stampA key kind number value version fine A (onA (l + 1) (omega (arith, fine .layout .high)))
 
   pub the-key : keyOf l A ≡ key
@@ -129,7 +129,7 @@ module _ (l stampA stampB key kind number : ℕ) (value : List ℕ) (version : �
   some-version h e = omega (arith, the-version, e)
 
   -- the content is the record
-  pub the-content : 0 < version → contentOf l A B ≡ made kind version key value
+  pub the-content : 0 < version → contentOf l A B ≡ contentOfRecord kind version key value
   the-content h = valid-content l A B the-pair (some-version h) ∙ rw (the-kind, the-version, the-key, the-value)
 
   -- ---- without a fault
@@ -152,7 +152,7 @@ module _ (l stampA stampB key kind number : ℕ) (value : List ℕ) (version : �
   no-bits n =
       pick-false (leb (2 ^ 24) (A (l + 1))) _ _
       (lt-leb (2 ^ 24) (A (l + 1)) (omega (arith, the-kind-word, fine .size, fine .kind-fits, fine .number-fits)))
-      ∙ pick-false (eqb (recordNumber (A (l + 1))) 1) _ _ (ap (λ (x : ℕ). eqb x 1) the-number ∙ ne-eqb number 1 (not-one n))
+      ∙ pick-false (eqb (sizeField (A (l + 1))) 1) _ _ (ap (λ (x : ℕ). eqb x 1) the-number ∙ ne-eqb number 1 (not-one n))
       ∙ ap (ltb 8) the-number ∙ le-ltb 8 number (few n)
     where
       not-one : LawfulNumber number → number ≡ 1 → ⊥
@@ -176,13 +176,13 @@ module _ (l stampA stampB key kind number : ℕ) (value : List ℕ) (version : �
   no-word : Lawful kind number value → wordFault l (A (l + 1)) ≡ 0
   unfolding wordFault
   no-word good =
-      say-false (bitsFault (A (l + 1))) 6 _ (no-bits (right-number good))
-      ∙ say-false (kindFault (kindOf (A (l + 1)))) 22 _ (ap kindFault the-kind ∙ no-kind good)
-      ∙ say-false (ltb (kindLimit l (kindOf (A (l + 1)))) (lengthOf (A (l + 1)))) 23 _
+      refuseIf-false (bitsFault (A (l + 1))) 6 _ (no-bits (right-number good))
+      ∙ refuseIf-false (kindFault (kindOf (A (l + 1)))) 22 _ (ap kindFault the-kind ∙ no-kind good)
+      ∙ refuseIf-false (ltb (kindLimit l (kindOf (A (l + 1)))) (lengthOf (A (l + 1)))) 23 _
       (ap₂ (λ (x y : ℕ). ltb (kindLimit l x) y) the-kind the-length ∙ le-ltb (kindLimit l kind) (length value) (no-length good))
 
   pub the-fault : Lawful kind number value → faultOf l A B ≡ 0
   unfolding faultOf
   the-fault good =
       orElse-later (wordFault l (A (l + 1))) _ (no-word good)
-      ∙ say-false (tailFault l A B (lengthOf (A (l + 1)))) 24 0 (ap (tailFault l A B) the-length ∙ no-tail)
+      ∙ refuseIf-false (tailFault l A B (lengthOf (A (l + 1)))) 24 0 (ap (tailFault l A B) the-length ∙ no-tail)

@@ -13,7 +13,7 @@ use Rattle.prelude.proofs.Choice.{split}
 use Rattle.layout.specs.Size.{slotsOf}
 use Rattle.prelude.specs.Range.{anyOf}
 use Rattle.prelude.proofs.Any.{or-none, any-none, any-clear}
-use Rattle.prelude.proofs.Refusals.{say-zero}
+use Rattle.prelude.proofs.Refusals.{refuseIf-zero}
 use Rattle.stores.specs.Store.{Store, zipped, less, standing, played}
 use Rattle.stores.specs.Play.{halfFault, halvesFault, playFault, counted, listFault, playEnd, playResult, playListResult}
 use Rattle.stores.specs.inner.Needs.{Makeable}
@@ -93,12 +93,12 @@ pub record Playable (len : ℕ) (at : List ℕ) (a b : ℕ) : Type 0 where
 pub playable : (len : ℕ) (at : List ℕ) (a b : ℕ) → playFault len at a b ≡ 0 → Playable len at a b
 unfolding playFault halvesFault
 playable len at a b e =
-    let sized = say-zero (eqb (slotsOf len) 0) _ _ e (omega arith) in
-    let front = say-zero (ltb 8 a) _ _ (sized .1) (omega arith) in
-    let back = say-zero (ltb 8 b) _ _ (front .1) (omega arith) in
-    let one = say-zero (halfFault len at 0) _ _ (back .1) (omega arith) in
-    let two = say-zero (halfFault len at 8) _ _ (one .1) (omega arith) in
-    let differ = say-zero (eqb (getD at 0 0) (getD at 8 0)) _ _ (two .1) (omega arith) in
+    let sized = refuseIf-zero (eqb (slotsOf len) 0) _ _ e (omega arith) in
+    let front = refuseIf-zero (ltb 8 a) _ _ (sized .1) (omega arith) in
+    let back = refuseIf-zero (ltb 8 b) _ _ (front .1) (omega arith) in
+    let one = refuseIf-zero (halfFault len at 0) _ _ (back .1) (omega arith) in
+    let two = refuseIf-zero (halfFault len at 8) _ _ (one .1) (omega arith) in
+    let differ = refuseIf-zero (eqb (getD at 0 0) (getD at 8 0)) _ _ (two .1) (omega arith) in
     record {
       first-count = ltb-false 8 a (front .0);
       second-count = ltb-false 8 b (back .0);
@@ -174,8 +174,8 @@ half-makeable len size at value k c h g l p q e =
 pub list-makeable : (len : ℕ) (at value : List ℕ) → listFault len at (length value) ≡ 0 → Makeable len at value 0 (length at)
 unfolding listFault
 list-makeable len at value e =
-    let sizes = say-zero _ _ _ e (omega arith) in
-    let fine = say-zero _ _ _ (sizes .1) (omega arith) in
+    let sizes = refuseIf-zero _ _ _ e (omega arith) in
+    let fine = refuseIf-zero _ _ _ (sizes .1) (omega arith) in
     let same : length at ≡ length value = eqb-true _ _ (not-false _ (sizes .0)) in
     record {
       numbers = omega arith;

@@ -11,7 +11,7 @@ pub mod Confined
 pub mod Table
 pub mod Bytes
 pub mod Basket
-pub mod Opening
+pub mod Invalidation
 pub mod Halves
 pub mod RecordStores
 pub mod Pasted

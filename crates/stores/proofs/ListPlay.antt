@@ -9,9 +9,9 @@ use borrow.Author.Tests.{ltb-false}
 use lib.Dec.{eqb, ltb}
 use lib.ListN.{length, getD, take}
 use lib.Seq.{take-length}
-use Rattle.prelude.specs.Refusal.{say}
+use Rattle.prelude.specs.Refusal.{refuseIf}
 use Rattle.prelude.specs.Range.{anyOf}
-use Rattle.prelude.proofs.Refusals.{say-false, say-zero, taken-leaves, alike}
+use Rattle.prelude.proofs.Refusals.{refuseIf-false, refuseIf-zero, taken-leaves, alike}
 use Rattle.prelude.proofs.Any.{any-none, any-last}
 use Rattle.words.specs.Word.{setWord}
 use Rattle.stores.specs.Store.{Store, zipped, played}
@@ -33,45 +33,45 @@ number-at (s ∷ list) (suc i) = number-at list i
 
 -- by the first i stores
 abbrev pub faultTo : (len : ℕ) → List Store → ℕ → ℕ
-faultTo len list i = say (anyOf (λ k. ltb len (8 * getD (wordNumbers list) k 0 + 8)) 0 i) 15 0
+faultTo len list i = refuseIf (anyOf (λ k. ltb len (8 * getD (wordNumbers list) k 0 + 8)) 0 i) 15 0
 
 pub fault-none : (len : ℕ) (list : List Store) → 0 ≡ faultTo len list 0
-unfolding anyOf say
+unfolding anyOf refuseIf
 fault-none len list = refl
 
-small : (b : Bool) → say b 15 0 < 2 ^ 32
-unfolding say
+small : (b : Bool) → refuseIf b 15 0 < 2 ^ 32
+unfolding refuseIf
 small true = omega arith
 small false = omega arith
 
 pub fault-fits : (len : ℕ) (list : List Store) (i : ℕ) → faultTo len list i < 2 ^ 32
 fault-fits len list i = small (anyOf (λ k. ltb len (8 * getD (wordNumbers list) k 0 + 8)) 0 i)
 
-say-either : (a b : Bool) → say a 15 (say b 15 0) ≡ say (cond b true a) 15 0
-unfolding say
-say-either true true = refl
-say-either true false = refl
-say-either false true = refl
-say-either false false = refl
+refuseIf-either : (a b : Bool) → refuseIf a 15 (refuseIf b 15 0) ≡ refuseIf (cond b true a) 15 0
+unfolding refuseIf
+refuseIf-either true true = refl
+refuseIf-either true false = refl
+refuseIf-either false true = refl
+refuseIf-either false false = refl
 
-pub fault-next : (len : ℕ) (list : List Store) (i : ℕ) → say (ltb len (8 * getD list i none .word + 8)) 15 (faultTo len list i) ≡ faultTo len list (i + 1)
+pub fault-next : (len : ℕ) (list : List Store) (i : ℕ) → refuseIf (ltb len (8 * getD list i none .word + 8)) 15 (faultTo len list i) ≡ faultTo len list (i + 1)
 fault-next len list i =
-    ap (λ (w : ℕ). say (ltb len (8 * w + 8)) 15 (faultTo len list i)) (sym (number-at list i) ∙ ap (λ (k : ℕ). getD (wordNumbers list) k 0) (sym (zero-add i)))
-    ∙ say-either _ _
-    ∙ ap (λ (b : Bool). say b 15 0) (sym (any-last (λ k. ltb len (8 * getD (wordNumbers list) k 0 + 8)) 0 i))
+    ap (λ (w : ℕ). refuseIf (ltb len (8 * w + 8)) 15 (faultTo len list i)) (sym (number-at list i) ∙ ap (λ (k : ℕ). getD (wordNumbers list) k 0) (sym (zero-add i)))
+    ∙ refuseIf-either _ _
+    ∙ ap (λ (b : Bool). refuseIf b 15 0) (sym (any-last (λ k. ltb len (8 * getD (wordNumbers list) k 0 + 8)) 0 i))
     ∙ ap (faultTo len list) (sym (add-suc i 0 ∙ ap suc (add-zero i)))
 
 pub fault-all : (len : ℕ) (list : List Store) → faultTo len list (length list) ≡ listFault len (wordNumbers list) (length (values list))
 unfolding listFault
 fault-all len list =
     ap (faultTo len list) (sym (numbers-length list))
-    ∙ sym (say-false (not (eqb (length (wordNumbers list)) (length (values list)))) 15 _ (alike _ _ _ _ refl refl (numbers-length list ∙ sym (values-length list))))
+    ∙ sym (refuseIf-false (not (eqb (length (wordNumbers list)) (length (values list)))) 15 _ (alike _ _ _ _ refl refl (numbers-length list ∙ sym (values-length list))))
 
 pub all-inside : (len : ℕ) (list : List Store) (f : ℕ) → f ≡ listFault len (wordNumbers list) (length (values list)) → f ≡ 0 → AllInside len list
 all-inside len list f e z i h =
     subst (λ (w : ℕ). 8 * w + 8 ≤ len) (ap (λ (k : ℕ). getD (wordNumbers list) k 0) (zero-add i) ∙ number-at list i)
     (ltb-false len (8 * getD (wordNumbers list) (0 + i) 0 + 8)
-    (any-none (λ k. ltb len (8 * getD (wordNumbers list) k 0 + 8)) 0 (length list) (say-zero _ 15 0 (fault-all len list ∙ sym e ∙ z) (omega arith) .0) i h))
+    (any-none (λ k. ltb len (8 * getD (wordNumbers list) k 0 + 8)) 0 (length list) (refuseIf-zero _ 15 0 (fault-all len list ∙ sym e ∙ z) (omega arith) .0) i h))
 
 -- ---- the making
 

@@ -11,7 +11,7 @@ use borrow.Author.Tests.{eq-eqb, ne-eqb, lt-ltb, le-ltb}
 use Rattle.prelude.proofs.Choice.{pick-true, pick-false}
 use Rattle.prelude.specs.Range.{anyOf}
 use Rattle.layout.specs.Size.{slotsOf}
-use Rattle.prelude.proofs.Refusals.{say-true, say-false, apart, alike, refused-keeps, taken-leaves}
+use Rattle.prelude.proofs.Refusals.{refuseIf-true, refuseIf-false, apart, alike, refused-keeps, taken-leaves}
 use Rattle.words.specs.Word.{setWord}
 use Rattle.stores.specs.Store.{Store, zipped, played}
 use Rattle.stores.specs.Play.{playEnd, halfFault, halvesFault, playFault, counted, playResult, listFault, playListResult}
@@ -43,33 +43,33 @@ module _ (len : ℕ) (at : List ℕ) (k first : ℕ) (e : first ≡ getD at k 0)
 module _ (len : ℕ) (at : List ℕ) (p : Bool) (e : p ≡ halfFault len at 0) where
   pub halves-first : p ≡ true → 15 ≡ halvesFault len at
   unfolding halvesFault
-  halves-first t = sym (say-true (halfFault len at 0) 15 _ (sym e ∙ t))
+  halves-first t = sym (refuseIf-true (halfFault len at 0) 15 _ (sym e ∙ t))
 
   module _ (np : p ≡ false) (q : Bool) (f : q ≡ halfFault len at 8) where
     pub halves-second : q ≡ true → 15 ≡ halvesFault len at
     unfolding halvesFault
-    halves-second t = sym (say-false (halfFault len at 0) 15 _ (sym e ∙ np) ∙ say-true (halfFault len at 8) 15 _ (sym f ∙ t))
+    halves-second t = sym (refuseIf-false (halfFault len at 0) 15 _ (sym e ∙ np) ∙ refuseIf-true (halfFault len at 8) 15 _ (sym f ∙ t))
 
     module _ (nq : q ≡ false) where
       pub halves-same : getD at 0 0 ≡ getD at 8 0 → 15 ≡ halvesFault len at
       unfolding halvesFault
       halves-same t =
           sym
-          (say-false (halfFault len at 0) 15 _ (sym e ∙ np) ∙ say-false (halfFault len at 8) 15 _ (sym f ∙ nq)
-          ∙ say-true (eqb (getD at 0 0) (getD at 8 0)) 15 0 (eq-eqb (getD at 0 0) (getD at 8 0) t))
+          (refuseIf-false (halfFault len at 0) 15 _ (sym e ∙ np) ∙ refuseIf-false (halfFault len at 8) 15 _ (sym f ∙ nq)
+          ∙ refuseIf-true (eqb (getD at 0 0) (getD at 8 0)) 15 0 (eq-eqb (getD at 0 0) (getD at 8 0) t))
 
       pub halves-fine : (getD at 0 0 ≡ getD at 8 0 → ⊥) → 0 ≡ halvesFault len at
       unfolding halvesFault
       halves-fine t =
           sym
-          (say-false (halfFault len at 0) 15 _ (sym e ∙ np) ∙ say-false (halfFault len at 8) 15 _ (sym f ∙ nq)
-          ∙ say-false (eqb (getD at 0 0) (getD at 8 0)) 15 0 (ne-eqb (getD at 0 0) (getD at 8 0) t))
+          (refuseIf-false (halfFault len at 0) 15 _ (sym e ∙ np) ∙ refuseIf-false (halfFault len at 8) 15 _ (sym f ∙ nq)
+          ∙ refuseIf-false (eqb (getD at 0 0) (getD at 8 0)) 15 0 (ne-eqb (getD at 0 0) (getD at 8 0) t))
 
 -- play with counts
 module _ (len : ℕ) (at : List ℕ) (a b n : ℕ) (e : n ≡ slotsOf len) where
   pub play-length : n ≡ 0 → 1 ≡ playFault len at a b
   unfolding playFault
-  play-length z = sym (say-true (eqb (slotsOf len) 0) 1 _ (eq-eqb (slotsOf len) 0 (sym e ∙ z)))
+  play-length z = sym (refuseIf-true (eqb (slotsOf len) 0) 1 _ (eq-eqb (slotsOf len) 0 (sym e ∙ z)))
 
   module _ (ne : n ≡ 0 → ⊥) where
     sized : eqb (slotsOf len) 0 ≡ false
@@ -77,43 +77,43 @@ module _ (len : ℕ) (at : List ℕ) (a b n : ℕ) (e : n ≡ slotsOf len) where
 
     pub play-first : 8 < a → 14 ≡ playFault len at a b
     unfolding playFault
-    play-first h = sym (say-false (eqb (slotsOf len) 0) 1 _ sized ∙ say-true (ltb 8 a) 14 _ (lt-ltb 8 a h))
+    play-first h = sym (refuseIf-false (eqb (slotsOf len) 0) 1 _ sized ∙ refuseIf-true (ltb 8 a) 14 _ (lt-ltb 8 a h))
 
     pub play-second : a ≤ 8 → 8 < b → 14 ≡ playFault len at a b
     unfolding playFault
     play-second h l =
         sym
-        (say-false (eqb (slotsOf len) 0) 1 _ sized ∙ say-false (ltb 8 a) 14 _ (le-ltb 8 a h)
-        ∙ say-true (ltb 8 b) 14 _ (lt-ltb 8 b l))
+        (refuseIf-false (eqb (slotsOf len) 0) 1 _ sized ∙ refuseIf-false (ltb 8 a) 14 _ (le-ltb 8 a h)
+        ∙ refuseIf-true (ltb 8 b) 14 _ (lt-ltb 8 b l))
 
     pub play-halves : a ≤ 8 → b ≤ 8 → (r : ℕ) → r ≡ halvesFault len at → r ≡ playFault len at a b
     unfolding playFault
     play-halves h l r f =
         f
         ∙ sym
-        (say-false (eqb (slotsOf len) 0) 1 _ sized ∙ say-false (ltb 8 a) 14 _ (le-ltb 8 a h)
-        ∙ say-false (ltb 8 b) 14 _ (le-ltb 8 b l))
+        (refuseIf-false (eqb (slotsOf len) 0) 1 _ sized ∙ refuseIf-false (ltb 8 a) 14 _ (le-ltb 8 a h)
+        ∙ refuseIf-false (ltb 8 b) 14 _ (le-ltb 8 b l))
 
 -- play of a list
 module _ (len : ℕ) (at : List ℕ) (values : ℕ) where
   pub list-sizes : (length at ≡ values → ⊥) → 15 ≡ listFault len at values
   unfolding listFault
-  list-sizes ne = sym (say-true (not (eqb (length at) values)) 15 _ (apart _ _ (length at) values refl refl ne))
+  list-sizes ne = sym (refuseIf-true (not (eqb (length at) values)) 15 _ (apart _ _ (length at) values refl refl ne))
 
   module _ (e : length at ≡ values) (p : Bool) (f : p ≡ anyOf (λ i. ltb len (8 * getD at i 0 + 8)) 0 (length at)) where
     pub list-outside : p ≡ true → 15 ≡ listFault len at values
     unfolding listFault
     list-outside t =
         sym
-        (say-false (not (eqb (length at) values)) 15 _ (alike _ _ (length at) values refl refl e)
-        ∙ say-true (anyOf (λ i. ltb len (8 * getD at i 0 + 8)) 0 (length at)) 15 0 (sym f ∙ t))
+        (refuseIf-false (not (eqb (length at) values)) 15 _ (alike _ _ (length at) values refl refl e)
+        ∙ refuseIf-true (anyOf (λ i. ltb len (8 * getD at i 0 + 8)) 0 (length at)) 15 0 (sym f ∙ t))
 
     pub list-fine : p ≡ false → 0 ≡ listFault len at values
     unfolding listFault
     list-fine t =
         sym
-        (say-false (not (eqb (length at) values)) 15 _ (alike _ _ (length at) values refl refl e)
-        ∙ say-false (anyOf (λ i. ltb len (8 * getD at i 0 + 8)) 0 (length at)) 15 0 (sym f ∙ t))
+        (refuseIf-false (not (eqb (length at) values)) 15 _ (alike _ _ (length at) values refl refl e)
+        ∙ refuseIf-false (anyOf (λ i. ltb len (8 * getD at i 0 + 8)) 0 (length at)) 15 0 (sym f ∙ t))
 
 -- ---- what play leaves
 

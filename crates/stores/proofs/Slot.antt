@@ -6,9 +6,9 @@ use mathlib.Core.List.{List}
 use Prim.Native.Nat.{ℕ, _≤_, _<_}
 use native.Mathlib.Omega.{arith}
 use Rattle.prelude.proofs.Choice.{pick-false}
-use Rattle.layout.specs.Line.{whole, versionOf, lineTop}
-use Rattle.layout.specs.Slot.{paired, slotTop, lineVerdict, isValid}
-use Rattle.layout.specs.Content.{made, contentOf}
+use Rattle.layout.specs.Line.{whole, versionOf, wholeVersion}
+use Rattle.layout.specs.Slot.{paired, highestWholeOf, lineVerdict, isValid}
+use Rattle.layout.specs.Content.{contentOfRecord, contentOf}
 use Rattle.layout.specs.Fault.{faultOf}
 use Rattle.layout.proofs.Content.{top-whole, top-open, unpaired, verdict-broken, broken-content}
 use Rattle.stores.specs.Written.{marked, bodyA, bodyB, newA, newB}
@@ -22,49 +22,49 @@ module _ (old now : ℕ → ℕ) (stamp version : ℕ) (body : ℕ → ℕ) (k :
   full-version : ((i : ℕ) → i < 8 → now i ≡ marked stamp version body i) → versionOf (now 7) ≡ version
   full-version h = ap versionOf (h 7 (omega arith)) ∙ marked-version stamp version body
 
-  full-top : ((i : ℕ) → i < 8 → now i ≡ marked stamp version body i) → lineTop (now 0) (now 7) ≡ version
+  full-top : ((i : ℕ) → i < 8 → now i ≡ marked stamp version body i) → wholeVersion (now 0) (now 7) ≡ version
   full-top h =
       top-whole (now 0) (now 7) (ap₂ whole (h 0 (omega arith)) (h 7 (omega arith)) ∙ marked-whole stamp version body) ∙ full-version h
 
-  cut-top : LineCut old (marked stamp version body) now k → lineTop (old 0) (old 7) < version → lineTop (now 0) (now 7) ≤ version
+  cut-top : LineCut old (marked stamp version body) now k → wholeVersion (old 0) (old 7) < version → wholeVersion (now 0) (now 7) ≤ version
   cut-top (untouched z e) h = rw e (omega arith)
   cut-top (torn p q o) h = omega (arith, top-open (now 0) (now 7) o)
   cut-top (full p w) h = omega (arith, full-top w)
 
-  cut-top-full : LineCut old (marked stamp version body) now k → 8 ≤ k → lineTop (now 0) (now 7) ≡ version
+  cut-top-full : LineCut old (marked stamp version body) now k → 8 ≤ k → wholeVersion (now 0) (now 7) ≡ version
   cut-top-full (untouched z e) h = absurd (omega arith)
   cut-top-full (torn p q o) h = absurd (omega arith)
   cut-top-full (full p w) h = full-top w
 
   -- an old line that is whole has an older version
-  older : now ≡ old → lineTop (old 0) (old 7) < version → whole (now 0) (now 7) ≡ true → versionOf (now 7) < version
+  older : now ≡ old → wholeVersion (old 0) (old 7) < version → whole (now 0) (now 7) ≡ true → versionOf (now 7) < version
   older e h = rw e (λ w. omega (arith, top-whole (old 0) (old 7) w))
 
 -- ---- a cut slot: lines A and B before, A′ and B′ after a stores on A and b on B
 
 module _ (l key kind number : ℕ) (value : List ℕ) (version : ℕ) (fine : Fields l key kind number value) (A A′ B B′ : ℕ → ℕ) (stampA stampB a b : ℕ)
-    (above : slotTop A B < version)
+    (above : highestWholeOf A B < version)
     (cutA : LineCut A (newA l stampA key kind number value version) A′ a) (cutB : LineCut B (newB l stampB value version) B′ b) where
-  above-A : lineTop (A 0) (A 7) < version
-  unfolding slotTop
+  above-A : wholeVersion (A 0) (A 7) < version
+  unfolding highestWholeOf
   above-A = omega (arith, above)
 
-  above-B : lineTop (B 0) (B 7) < version
-  unfolding slotTop
+  above-B : wholeVersion (B 0) (B 7) < version
+  unfolding highestWholeOf
   above-B = omega (arith, above)
 
-  below-A : lineTop (A′ 0) (A′ 7) ≤ version
+  below-A : wholeVersion (A′ 0) (A′ 7) ≤ version
   below-A = cut-top A A′ stampA version (bodyA l key kind number value) a cutA above-A
 
-  below-B : lineTop (B′ 0) (B′ 7) ≤ version
+  below-B : wholeVersion (B′ 0) (B′ 7) ≤ version
   below-B = cut-top B B′ stampB version (bodyB l value) b cutB above-B
 
-  pub slot-top : slotTop A′ B′ ≤ version
-  unfolding slotTop
+  pub slot-top : highestWholeOf A′ B′ ≤ version
+  unfolding highestWholeOf
   slot-top = omega (arith, below-A, below-B)
 
-  pub slot-top-full : (8 ≤ a) ⊎ (8 ≤ b) → slotTop A′ B′ ≡ version
-  unfolding slotTop
+  pub slot-top-full : (8 ≤ a) ⊎ (8 ≤ b) → highestWholeOf A′ B′ ≡ version
+  unfolding highestWholeOf
   slot-top-full (inl h) = omega (arith, cut-top-full A A′ stampA version (bodyA l key kind number value) a cutA h, below-B)
   slot-top-full (inr h) = omega (arith, below-A, cut-top-full B B′ stampB version (bodyB l value) b cutB h)
 
@@ -103,13 +103,13 @@ module _ (l key kind number : ℕ) (value : List ℕ) (version : ℕ) (fine : Fi
           (λ x y r.
           omega (arith, older A A′ stampA version (bodyA l key kind number value) a e above-A x, full-version B B′ stampB version (bodyB l value) b w)))
 
-  pub slot-cut : SlotCut (contentOf l A B) (made kind version key value) (contentOf l A′ B′) version a b
+  pub slot-cut : SlotCut (contentOf l A B) (contentOfRecord kind version key value) (contentOf l A′ B′) version a b
   slot-cut = go way
     where
-      go : Way → SlotCut (contentOf l A B) (made kind version key value) (contentOf l A′ B′) version a b
+      go : Way → SlotCut (contentOf l A B) (contentOfRecord kind version key value) (contentOf l A′ B′) version a b
       go (as-was x y e f) = now-old x y (ap₂ (contentOf l) e f)
       go (all-new x y u w) = now-new x y (the-content l stampA stampB key kind number value version fine A′ B′ u w (omega (arith, above)))
-      go (no-pair x y e) = now-broken x y (slotTop A′ B′) slot-top (broken-content l A′ B′ e)
+      go (no-pair x y e) = now-broken x y (highestWholeOf A′ B′) slot-top (broken-content l A′ B′ e)
 
   -- a slot without a fault stays so
   pub slot-fault : Lawful kind number value → cond (isValid (lineVerdict A B)) (faultOf l A B) 0 ≡ 0

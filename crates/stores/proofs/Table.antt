@@ -5,7 +5,7 @@ use mathlib.Core.List.{List, [], _++_, append-nil}
 use Prim.Native.Nat.{ℕ, _+_, _*_, _/_, _<_}
 use native.Mathlib.Decide.{ℕ-discrete}
 use native.Mathlib.Omega.{arith}
-use Rattle.layout.specs.Content.{top}
+use Rattle.layout.specs.Content.{highestWhole}
 use Rattle.stores.specs.Store.{Store, onLine}
 use Rattle.stores.specs.Written.{recordStores}
 use Rattle.stores.specs.Cut.{afterCut, Fields, Lawful, Written}
@@ -45,7 +45,7 @@ module _ (l : ℕ) (m : ℕ → ℕ) (s key kind number : ℕ) (value : List ℕ
 
 -- THE TABLE LAW
 pub table-law : (l : ℕ) (counts m : ℕ → ℕ) (s key kind number : ℕ) (value : List ℕ) (version : ℕ)
-    → Fields l key kind number value → Lawful kind number value → top m s < version
+    → Fields l key kind number value → Lawful kind number value → highestWhole m s < version
     → Written l m (afterCut counts (recordStores l m s key kind number value version) m) s key kind number value version (counts (2 * s)) (counts (2 * s + 1))
 table-law l counts m s key kind number value version fine good above =
     record {

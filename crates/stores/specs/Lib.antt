@@ -1,7 +1,7 @@
 pub mod Store
 pub mod Written
 pub mod Basket
-pub mod Opening
+pub mod Invalidation
 pub mod Cut
 pub mod Play
 pub mod inner

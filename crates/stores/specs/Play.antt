@@ -1,10 +1,11 @@
--- Play, with two counts and of a list. Document 01, "What each operation may say no to", Play. The stores are lent as word numbers and values.
+-- Play, with two counts and of a list. Document 01, "What each operation may say no to", Play. The stores are lent as
+-- word numbers and values.
 use mathlib.Core.Bool.{Bool, true, cond, not}
 use mathlib.Core.List.{List, [], _∷_, _++_}
 use Prim.Native.Nat.{ℕ, _+_, _*_, _/_, _%_}
 use lib.Dec.{eqb, ltb}
 use lib.ListN.{length, getD, take, drop}
-use Rattle.prelude.specs.Refusal.{say, unlessRefused}
+use Rattle.prelude.specs.Refusal.{refuseIf, unlessRefused}
 use Rattle.prelude.specs.Range.{anyOf}
 use Rattle.layout.specs.Size.{slotsOf}
 use Rattle.stores.specs.Store.{Store, zipped, played}
@@ -36,11 +37,11 @@ halfFault len at k =
 
 -- 15: "either half is not words 0 to 7 of one line inside the image, in order, or both halves name one line"
 unfoldable pub halvesFault : (len : ℕ) → (at : List ℕ) → ℕ
-halvesFault len at = say (halfFault len at 0) 15 (say (halfFault len at 8) 15 (say (eqb (getD at 0 0) (getD at 8 0)) 15 0))
+halvesFault len at = refuseIf (halfFault len at 0) 15 (refuseIf (halfFault len at 8) 15 (refuseIf (eqb (getD at 0 0) (getD at 8 0)) 15 0))
 
 -- "1; 14 when a count exceeds 8; 15"
 unfoldable pub playFault : (len : ℕ) → (at : List ℕ) → (a b : ℕ) → ℕ
-playFault len at a b = say (eqb (slotsOf len) 0) 1 (say (ltb 8 a) 14 (say (ltb 8 b) 14 (halvesFault len at)))
+playFault len at a b = refuseIf (eqb (slotsOf len) 0) 1 (refuseIf (ltb 8 a) 14 (refuseIf (ltb 8 b) 14 (halvesFault len at)))
 
 -- "that many first stores of each half"
 unfoldable pub counted : (a b : ℕ) → List Store → List Store
@@ -54,10 +55,11 @@ playResult image at value a b =
       bytes = unlessRefused (playFault (length image) at a b) (played (counted a b (zipped at value)) image) image;
     }
 
--- "Given a list of stores without counts it tests only 15, here a word outside the lent bytes"; the two lists must have one length
+-- "Given a list of stores without counts it tests only 15, here a word outside the lent bytes"; the two lists must have
+-- one length
 unfoldable pub listFault : (len : ℕ) → (at : List ℕ) → (values : ℕ) → ℕ
 listFault len at values =
-    say (not (eqb (length at) values)) 15 (say (anyOf (λ i. ltb len (8 * getD at i 0 + 8)) 0 (length at)) 15 0)
+    refuseIf (not (eqb (length at) values)) 15 (refuseIf (anyOf (λ i. ltb len (8 * getD at i 0 + 8)) 0 (length at)) 15 0)
 
 -- "and then makes them all in order"
 unfoldable pub playListResult : (image at value : List ℕ) → Played

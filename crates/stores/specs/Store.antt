@@ -1,4 +1,5 @@
--- Stores, what playing them makes of an image, and which of them stand after a power cut. Document 01, "How a call writes".
+-- Stores, what playing them makes of an image, and which of them stand after a power cut. Document 01, "How a call
+-- writes".
 use mathlib.Core.Bool.{Bool, true, false, cond}
 use mathlib.Core.List.{List, [], _∷_}
 use Prim.Native.Nat.{ℕ, _-_, _/_}

@@ -1,4 +1,5 @@
--- The 16 stores of a record for slot s, in layout l. Document 01, "How a call writes". `number` is that of the records which share the version, 0 for one alone.
+-- The 16 stores of a record for slot s, in layout l. Document 01, "How a call writes". `number` is that of the records
+-- which share the version, 0 for one alone.
 use mathlib.Core.Bool.{cond}
 use mathlib.Core.List.{List, [], _∷_, _++_}
 use Prim.Native.Nat.{ℕ, zero, suc, _+_, _-_, _*_, _/_}

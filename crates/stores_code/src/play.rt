@@ -63,7 +63,7 @@ fn halves_fault(len: usize, at: &[u32; 16]) -> u32
 
 // 1, 14 or 15 by what play is given, else 0.
 pub fn play_fault(len: usize, at: &[u32; 16], a: usize, b: usize) -> u32
-    ensures { λ r. ⌜ r ≡ playFault len (now (at .entry)) a b ⌝ }
+    ensures result { λ r. ⌜ r ≡ playFault len (now (at .entry)) a b ⌝ }
 {
     if slot_count(len) == 0 {
         return 1;
@@ -94,7 +94,7 @@ fn any_outside(len: usize, at: &[u32]) -> bool
 
 // 15 by a list of stores, else 0.
 pub fn list_fault(len: usize, at: &[u32], values: usize) -> u32
-    ensures { λ r. ⌜ r ≡ listFault len (now (at .entry)) values ⌝ }
+    ensures result { λ r. ⌜ r ≡ listFault len (now (at .entry)) values ⌝ }
 {
     if at.len() != values {
         return 15;

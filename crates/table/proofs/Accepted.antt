@@ -10,10 +10,10 @@ use Rattle.prelude.specs.Filter.{filter}
 use Rattle.prelude.specs.Members.{In, Once}
 use Rattle.prelude.proofs.Lists.{take-in, once-take}
 use Rattle.sorting.proofs.Order.{filter-in, once-filter, filter-holds}
-use Rattle.table.specs.Complete.{Numbers, NoneVoid, settled}
+use Rattle.table.specs.Complete.{SizeFields, NoneVoid, settled}
 use Rattle.table.specs.Reuse.{BrokenFirst}
 use Rattle.table.specs.Table.{keyIn, liveCount, mapOf, brokenCount, brokenLimit}
-use Rattle.table.specs.Taking.{takenOf, mayTake}
+use Rattle.table.specs.Takeable.{takenOf, mayTake}
 use Rattle.table.proofs.defs.Basket.{Basket, putsIn, heldIn}
 use Rattle.table.proofs.defs.Reuse.{Spares}
 use Rattle.table.proofs.defs.ReuseAfter.{BrokenTaken}
@@ -41,7 +41,7 @@ module _ {f : Table} {n : ℕ} {taken : List ℕ} {reuse : List ℕ}
   taken-once = subst Once first (once-take (length taken) (filter (mayTake f n) reuse) (once-filter (mayTake f n) reuse (sp .once)))
 
   -- the first slots of the reuse chain that may be taken make a basket
-  pub reuse-basket : {num : Numbers} {w : ℕ} {new : Table} → Agreed f num n → NoneVoid f num n → Above f n w → 0 < length taken → length taken ≤ 8
+  pub reuse-basket : {num : SizeFields} {w : ℕ} {new : Table} → Agreed f num n → NoneVoid f num n → Above f n w → 0 < length taken → length taken ≤ 8
       → ((t : ℕ) → In t taken → Record (new t) w (keyIn (new t)))
       → ((s t : ℕ) → In s taken → In t taken → keyIn (new s) ≡ keyIn (new t) → s ≡ t) → Basket f num n w taken new
   reuse-basket a clear above some few records keys =
@@ -62,7 +62,7 @@ module _ {f : Table} {n : ℕ} {taken : List ℕ} {reuse : List ℕ}
   pub taken-broken : BrokenFirst f reuse → BrokenTaken f n taken
   taken-broken o = subst (BrokenTaken f n) first (reuse-broken f n (length taken) reuse sp o)
 
-module _ {f f′ : Table} {num num′ : Numbers} {n w : ℕ} {taken : List ℕ} {new : Table}
+module _ {f f′ : Table} {num num′ : SizeFields} {n w : ℕ} {taken : List ℕ} {new : Table}
     (b : Basket f num n w taken new) (st : Struck f f′ num num′ n taken new) where
   -- a slot is left that is not live
   pub finished-idle : Finished f′ num′ taken new → liveCount f n + putsIn taken new < n + heldIn taken new (mapOf f n) → liveCount f′ n < n

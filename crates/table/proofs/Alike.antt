@@ -11,17 +11,17 @@ use Rattle.prelude.specs.Members.{In, Slot}
 use Rattle.prelude.proofs.Count.{count-same}
 use Rattle.prelude.proofs.Any.{any-same}
 use Rattle.prelude.proofs.Most.{greatest-same, topmost-same, First, nowhere, there, first-is}
-use Rattle.layout.specs.Content.{Content, broken, empty, putRecord, removeRecord, topOf, Table}
-use Rattle.table.specs.Table.{isRecord, keyIn, weight, decider, valueIn, valueAt, mapOf, decidingPut, live, spare, liveCount, nextVersion}
-use Rattle.table.specs.Taking.{validVersion, highestValid, isRemove, older, mayTake, takeableCount, takeableIf, IsNewest}
+use Rattle.layout.specs.Content.{Content, broken, empty, putRecord, removeRecord, highestWholeIn, Table}
+use Rattle.table.specs.Table.{isRecord, keyIn, rankForKey, decider, valueIn, valueAt, mapOf, decidingPut, live, spare, liveCount, nextVersion}
+use Rattle.table.specs.Takeable.{validVersion, highestValid, isRemove, older, mayTake, takeableCount, takeableIf, IsNewest}
 use Rattle.table.specs.Reuse.{OlderFirst, HighestLast}
 
 module _ (f g : Table) (n : ℕ) (same : (t : ℕ) → Slot n t → g t ≡ f t) where
   pub alike-decider : (k : ℕ) → decider g n k ≡ decider f n k
   unfolding decider
-  alike-decider k = topmost-same (λ s. weight k (g s)) (λ s. weight k (f s)) n (λ t i. ap (weight k) (same t i))
+  alike-decider k = topmost-same (λ s. rankForKey k (g s)) (λ s. rankForKey k (f s)) n (λ t i. ap (rankForKey k) (same t i))
 
-  value-alike : (k s : ℕ) → First (λ t. weight k (f t)) n s → valueAt g s ≡ valueAt f s
+  value-alike : (k s : ℕ) → First (λ t. rankForKey k (f t)) n s → valueAt g s ≡ valueAt f s
   unfolding valueAt
   value-alike k zero h = refl
   value-alike k (suc s) (nowhere e z) = absurd (omega arith)
@@ -29,7 +29,7 @@ module _ (f g : Table) (n : ℕ) (same : (t : ℕ) → Slot n t → g t ≡ f t)
 
   pub alike-map : (k : ℕ) → mapOf g n k ≡ mapOf f n k
   unfolding mapOf decider
-  alike-map k = ap (valueAt g) (alike-decider k) ∙ value-alike k (decider f n k) (first-is (λ t. weight k (f t)) n)
+  alike-map k = ap (valueAt g) (alike-decider k) ∙ value-alike k (decider f n k) (first-is (λ t. rankForKey k (f t)) n)
 
   deciding-alike : (t : ℕ) (c : Content) → decidingPut g n t c ≡ decidingPut f n t c
   unfolding decidingPut
@@ -48,7 +48,7 @@ module _ (f g : Table) (n : ℕ) (same : (t : ℕ) → Slot n t → g t ≡ f t)
 
   pub alike-next : nextVersion g n ≡ nextVersion f n
   unfolding nextVersion
-  alike-next = ap suc (greatest-same (λ s. topOf (g s)) (λ s. topOf (f s)) n (λ t i. ap topOf (same t i)))
+  alike-next = ap suc (greatest-same (λ s. highestWholeIn (g s)) (λ s. highestWholeIn (f s)) n (λ t i. ap highestWholeIn (same t i)))
 
   pub alike-highest : highestValid g n ≡ highestValid f n
   unfolding highestValid
@@ -61,14 +61,14 @@ module _ (f g : Table) (n : ℕ) (same : (t : ℕ) → Slot n t → g t ≡ f t)
   pub alike-older : (s t : ℕ) → Slot n s → Slot n t → older g s t ≡ older f s t
   unfolding older
   alike-older s t i j =
-      ap₂ (λ (c d : Content). isRecord d && (eqb (keyIn d) (keyIn c) && ltb (topOf d) (topOf c))) (same s i) (same t j)
+      ap₂ (λ (c d : Content). isRecord d && (eqb (keyIn d) (keyIn c) && ltb (highestWholeIn d) (highestWholeIn c))) (same s i) (same t j)
 
   pub alike-take : (s : ℕ) → Slot n s → mayTake g n s ≡ mayTake f n s
   unfolding mayTake takeableIf
   alike-take s i =
-      ap₂ (λ (c : Content) (b : Bool). cond (isRecord c) (ltb (topOf c) (highestValid g n) && not (isRemove c && b)) true) (same s i)
+      ap₂ (λ (c : Content) (b : Bool). cond (isRecord c) (ltb (highestWholeIn c) (highestValid g n) && not (isRemove c && b)) true) (same s i)
       (any-same (older g s) (older f s) 1 n (λ k l h. alike-older s k i (omega arith)))
-      ∙ ap (λ (h : ℕ). cond (isRecord (f s)) (ltb (topOf (f s)) h && not (isRemove (f s) && anyOf (older f s) 1 n)) true) alike-highest
+      ∙ ap (λ (h : ℕ). cond (isRecord (f s)) (ltb (highestWholeIn (f s)) h && not (isRemove (f s) && anyOf (older f s) 1 n)) true) alike-highest
 
   pub alike-takeable : takeableCount g n ≡ takeableCount f n
   unfolding takeableCount spare
@@ -88,5 +88,5 @@ module _ (f g : Table) (n : ℕ) (same : (t : ℕ) → Slot n t → g t ≡ f t)
   alike-highest-last [] slot h = h
   alike-highest-last (x ∷ l) slot h =
       λ r e t m.
-      let z = h (sym (ap isRecord (same x (slot x (inl refl)))) ∙ r) (sym (ap topOf (same x (slot x (inl refl)))) ∙ e ∙ alike-highest) t m in
-      (ap isRecord (same t (slot t (inr m))) ∙ z .0, ap topOf (same t (slot t (inr m))) ∙ z .1 ∙ sym alike-highest)
+      let z = h (sym (ap isRecord (same x (slot x (inl refl)))) ∙ r) (sym (ap highestWholeIn (same x (slot x (inl refl)))) ∙ e ∙ alike-highest) t m in
+      (ap isRecord (same t (slot t (inr m))) ∙ z .0, ap highestWholeIn (same t (slot t (inr m))) ∙ z .1 ∙ sym alike-highest)

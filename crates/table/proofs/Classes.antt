@@ -10,7 +10,7 @@ use Rattle.prelude.specs.Range.{count}
 use Rattle.table.specs.Table.{isBroken, brokenCount}
 use Rattle.table.specs.Order.{rankOf}
 use Rattle.table.specs.Class.{isEmpty, isPut}
-use Rattle.table.specs.Taking.{isRemove}
+use Rattle.table.specs.Takeable.{isRemove}
 
 -- the rank of an empty slot is 1, and that of no other
 pub rank-empty : (c : Content) → eqb (rankOf c) 1 ≡ isEmpty c

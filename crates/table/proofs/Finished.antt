@@ -7,7 +7,7 @@ use Prim.Native.Nat.{ℕ, suc, _≤_, _<_}
 use native.Mathlib.Omega.{arith}
 use lib.ListN.{length}
 use borrow.Author.Tests.{eq-eqb}
-use Rattle.layout.specs.Content.{Table, topOf}
+use Rattle.layout.specs.Content.{Table, highestWholeIn}
 use Rattle.prelude.specs.Members.{In, Slot}
 use Rattle.prelude.proofs.defs.Among.{member}
 use Rattle.prelude.proofs.Among.{in-member, member-in, count-member, not-member, out-member}
@@ -15,9 +15,9 @@ use Rattle.prelude.proofs.Choice.{true-false, same-test, pick-true}
 use Rattle.prelude.proofs.Count.{count-same}
 use Rattle.prelude.proofs.Lists.{some-element}
 use Rattle.prelude.proofs.Most.{greatest-above, greatest-least}
-use Rattle.table.specs.Complete.{Numbers, numberFor, hasVersion, sharers, complete, said, highestComplete, NoneVoid, settled}
-use Rattle.table.specs.Table.{isRecord, keyIn, weight, decider, mapOf, valueIn, live, nextVersion}
-use Rattle.table.specs.Taking.{validVersion, highestValid, IsNewest}
+use Rattle.table.specs.Complete.{SizeFields, sizeFieldFor, hasVersion, sharers, complete, basketSize, highestComplete, NoneVoid, settled}
+use Rattle.table.specs.Table.{isRecord, keyIn, rankForKey, decider, mapOf, valueIn, live, nextVersion}
+use Rattle.table.specs.Takeable.{validVersion, highestValid, IsNewest}
 use Rattle.table.proofs.defs.Basket.{Basket, changes}
 use Rattle.table.proofs.defs.Struck.{Struck, Finished, Unfinished, SlotAfter, kept, unfinished, lost, done}
 use Rattle.table.proofs.defs.Write.{Outside, Free}
@@ -28,9 +28,9 @@ use Rattle.table.proofs.Map.{newest, set-new, map-kept, live-put, live-
 use Rattle.table.proofs.OneSlot.{says, Says, puts, removes, weight-put}
 use Rattle.table.proofs.Same.{same-map}
 use Rattle.table.proofs.Struck.{new-is, new-version, version-most, not-taken, taken-free}
-use Rattle.table.proofs.Taking.{highest-valid-above, highest-valid-least}
+use Rattle.table.proofs.Takeable.{highest-valid-above, highest-valid-least}
 
-module _ {f f′ : Table} {num num′ : Numbers} {n w : ℕ} {taken : List ℕ} {new : Table}
+module _ {f f′ : Table} {num num′ : SizeFields} {n w : ℕ} {taken : List ℕ} {new : Table}
     (b : Basket f num n w taken new) (st : Struck f f′ num num′ n taken new) where
   -- the basket is finished or it is not
   pub finished-or : Finished f′ num′ taken new ⊎ Unfinished f′ taken new
@@ -38,12 +38,12 @@ module _ {f f′ : Table} {num num′ : Numbers} {n w : ℕ} {taken : List ℕ} 
   finished-or = all taken (λ t i. i)
     where
       All : List ℕ → Type 0
-      All l = ((t : ℕ) → In t l → (f′ t ≡ new t) × (num′ t ≡ numberFor (length taken))) ⊎ Unfinished f′ taken new
+      All l = ((t : ℕ) → In t l → (f′ t ≡ new t) × (num′ t ≡ sizeFieldFor (length taken))) ⊎ Unfinished f′ taken new
 
-      at : (x : ℕ) (l : List ℕ) → In x taken → SlotAfter (f x) (new x) (f′ x) (num x) (numberFor (length taken)) (num′ x) → All l → All (x ∷ l)
+      at : (x : ℕ) (l : List ℕ) → In x taken → SlotAfter (f x) (new x) (f′ x) (num x) (sizeFieldFor (length taken)) (num′ x) → All l → All (x ∷ l)
       at x l j q (inr u) = inr u
       at x l j (kept e d) (inl h) =
-          inr (unfinished x j (λ p. omega (arith, ap topOf (sym e ∙ p), b .above x (b .slot x j), b .records x j .tops)))
+          inr (unfinished x j (λ p. omega (arith, ap highestWholeIn (sym e ∙ p), b .above x (b .slot x j), b .records x j .tops)))
       at x l j (lost y e) (inl h) = inr (unfinished x j (λ p. true-false (b .records x j .counted) (ap isRecord (sym p ∙ e))))
       at x l j (done e d) (inl h) = inl (λ t i. ⊎-elim (λ q. (rw q e, rw q d)) (h t) i)
 
@@ -51,7 +51,7 @@ module _ {f f′ : Table} {num num′ : Numbers} {n w : ℕ} {taken : List ℕ} 
       all [] h = inl (λ t i. absurd i)
       all (x ∷ l) h = at x l (h x (inl refl)) (st .after x (h x (inl refl))) (all l (λ t i. h t (inr i)))
 
-module _ {f f′ : Table} {num num′ : Numbers} {n w : ℕ} {taken : List ℕ} {new : Table}
+module _ {f f′ : Table} {num num′ : SizeFields} {n w : ℕ} {taken : List ℕ} {new : Table}
     (b : Basket f num n w taken new) (st : Struck f f′ num num′ n taken new) (z : Finished f′ num′ taken new) where
   finished-version : (t : ℕ) → Slot n t → hasVersion f′ w t ≡ member taken t
   finished-version t i =
@@ -62,14 +62,14 @@ module _ {f f′ : Table} {num num′ : Numbers} {n w : ℕ} {taken : List ℕ} 
   unfolding sharers
   finished-sharers = count-same (hasVersion f′ w) (member taken) n finished-version ∙ count-member taken n (b .once) (b .slot)
 
-  pub new-top : (t : ℕ) → In t taken → topOf (f′ t) ≡ w
-  new-top t j = ap topOf (z t j .0) ∙ b .records t j .tops
+  pub new-top : (t : ℕ) → In t taken → highestWholeIn (f′ t) ≡ w
+  new-top t j = ap highestWholeIn (z t j .0) ∙ b .records t j .tops
 
   -- THE BASKET IS COMPLETE
   pub finished-complete : (t : ℕ) → In t taken → complete f′ num′ n t ≡ true
   finished-complete t j =
       complete-is f′ num′ n t (ap isRecord (z t j .0) ∙ b .records t j .counted)
-      (omega (arith, ap (sharers f′ n) (new-top t j), finished-sharers, ap said (z t j .1), said-for (length taken) (b .some)))
+      (omega (arith, ap (sharers f′ n) (new-top t j), finished-sharers, ap basketSize (z t j .1), said-for (length taken) (b .some)))
 
   pub finished-highest-complete : highestComplete f′ num′ n ≡ w
   finished-highest-complete =
@@ -95,13 +95,13 @@ module _ {f f′ : Table} {num num′ : Numbers} {n w : ℕ} {taken : List ℕ} 
   all-free = taken-free b st (member taken) (λ t e. e)
 
   -- a record of the basket says nothing of another key
-  new-none : (k t : ℕ) → In t taken → (keyIn (new t) ≡ k → ⊥) → weight k (f′ t) ≡ 0
-  new-none k t j h = ap (weight k) (z t j .0) ∙ b .records t j .other k h
+  new-none : (k t : ℕ) → In t taken → (keyIn (new t) ≡ k → ⊥) → rankForKey k (f′ t) ≡ 0
+  new-none k t j h = ap (rankForKey k) (z t j .0) ∙ b .records t j .other k h
 
-  new-own : (k s : ℕ) → In s taken → keyIn (new s) ≡ k → weight k (f′ s) ≡ suc w
-  new-own k s j e = ap (weight k) (z s j .0) ∙ ap (λ (x : ℕ). weight x (new s)) (sym e) ∙ b .records s j .own
+  new-own : (k s : ℕ) → In s taken → keyIn (new s) ≡ k → rankForKey k (f′ s) ≡ suc w
+  new-own k s j e = ap (rankForKey k) (z s j .0) ∙ ap (λ (x : ℕ). rankForKey x (new s)) (sym e) ∙ b .records s j .own
 
-  others-none : (k s : ℕ) → In s taken → keyIn (new s) ≡ k → (t : ℕ) → Slot n t → member taken t ≡ true → (t ≡ s → ⊥) → weight k (f′ t) ≡ 0
+  others-none : (k s : ℕ) → In s taken → keyIn (new s) ≡ k → (t : ℕ) → Slot n t → member taken t ≡ true → (t ≡ s → ⊥) → rankForKey k (f′ t) ≡ 0
   others-none k s j e t i c ne = let a = member-in taken t c in new-none k t a (λ q. ne (b .keys t s a j (q ∙ sym e)))
 
   -- each new record decides its key
@@ -136,16 +136,16 @@ module _ {f f′ : Table} {num num′ : Numbers} {n w : ℕ} {taken : List ℕ} 
       go (removes u e) = live-remove f′ n s u (keyIn (new s)) (z s j .0 ∙ e) ∙ sym (ap isPut e)
 
   -- no other record of one of its keys,
-  pub finished-over : (t s : ℕ) → Slot n t → (In t taken → ⊥) → In s taken → 0 < weight (keyIn (new s)) (f t) → live f′ n t ≡ false
+  pub finished-over : (t s : ℕ) → Slot n t → (In t taken → ⊥) → In s taken → 0 < rankForKey (keyIn (new s)) (f t) → live f′ n t ≡ false
   finished-over t s i h j p =
       other-idle f′ n (keyIn (new s)) s t (finished-decider (keyIn (new s)) s j refl) (λ e. h (rw e j))
-      (omega (arith, ap (weight (keyIn (new s))) (not-taken b st t i h .0)))
+      (omega (arith, ap (rankForKey (keyIn (new s))) (not-taken b st t i h .0)))
 
   -- and the slots of other keys as before
-  pub finished-kept : (t : ℕ) → Slot n t → (In t taken → ⊥) → ((s : ℕ) → In s taken → weight (keyIn (new s)) (f t) ≡ 0) → live f′ n t ≡ live f n t
+  pub finished-kept : (t : ℕ) → Slot n t → (In t taken → ⊥) → ((s : ℕ) → In s taken → rankForKey (keyIn (new s)) (f t) ≡ 0) → live f′ n t ≡ live f n t
   finished-kept t i h other =
       live-kept f f′ n (member taken) all-free all-outside t i (out-member taken t h)
-      (λ u k v e s j c. new-none k s (member-in taken s c) (λ q. omega (arith, other s (member-in taken s c), ap (λ (x : ℕ). weight x (f t)) q, ap (weight k) e, weight-put u k v)))
+      (λ u k v e s j c. new-none k s (member-in taken s c) (λ q. omega (arith, other s (member-in taken s c), ap (λ (x : ℕ). rankForKey x (f t)) q, ap (rankForKey k) e, weight-put u k v)))
 
   pub finished-next : nextVersion f′ n ≡ suc w
   unfolding nextVersion
@@ -153,14 +153,14 @@ module _ {f f′ : Table} {num num′ : Numbers} {n w : ℕ} {taken : List ℕ} 
       let s = some-element taken (b .some) in
       omega (
         arith,
-        greatest-above (λ t. topOf (f′ t)) n (s .0) (b .slot (s .0) (s .1)),
+        greatest-above (λ t. highestWholeIn (f′ t)) n (s .0) (b .slot (s .0) (s .1)),
         new-top (s .0) (s .1),
-        greatest-least (λ t. topOf (f′ t)) n w (λ t i. most t i (member taken t) refl),
+        greatest-least (λ t. highestWholeIn (f′ t)) n w (λ t i. most t i (member taken t) refl),
       )
     where
-      most : (t : ℕ) → Slot n t → (x : Bool) → member taken t ≡ x → topOf (f′ t) ≤ w
+      most : (t : ℕ) → Slot n t → (x : Bool) → member taken t ≡ x → highestWholeIn (f′ t) ≤ w
       most t i true e = omega (arith, new-top t (member-in taken t e))
-      most t i false e = omega (arith, ap topOf (all-outside t i e), b .above t i)
+      most t i false e = omega (arith, ap highestWholeIn (all-outside t i e), b .above t i)
 
   -- the highest valid version is the basket's
   pub finished-highest-valid : highestValid f′ n ≡ w
@@ -178,5 +178,5 @@ module _ {f f′ : Table} {num num′ : Numbers} {n w : ℕ} {taken : List ℕ} 
   unfolding validVersion
   finished-newest t j some = (
     b .slot t j,
-    pick-true (isRecord (f′ t)) (topOf (f′ t)) 0 (ap isRecord (z t j .0) ∙ b .records t j .counted) ∙ new-top t j ∙ sym finished-highest-valid,
+    pick-true (isRecord (f′ t)) (highestWholeIn (f′ t)) 0 (ap isRecord (z t j .0) ∙ b .records t j .counted) ∙ new-top t j ∙ sym finished-highest-valid,
   )

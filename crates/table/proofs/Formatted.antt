@@ -7,14 +7,14 @@ use Rattle.layout.specs.Content.{Table, empty}
 use Rattle.prelude.specs.Members.{Slot}
 use Rattle.prelude.proofs.Choice.{true-false}
 use Rattle.prelude.proofs.Count.{count-none}
-use Rattle.table.specs.Complete.{Numbers, NoneVoid, settled}
+use Rattle.table.specs.Complete.{SizeFields, NoneVoid, settled}
 use Rattle.table.specs.Table.{isRecord, live, decidingPut, brokenCount, isBroken, liveCount}
 use Rattle.table.proofs.defs.Room.{RoomToTake, room-at}
 use Rattle.table.proofs.defs.Struck.{AcceptedTable}
 use Rattle.table.proofs.Broken.{none-broken}
 use Rattle.table.proofs.Complete.{not-void, settled-same}
 
-module _ (f : Table) (num : Numbers) (n : ℕ) (blank : (t : ℕ) → Slot n t → f t ≡ empty) where
+module _ (f : Table) (num : SizeFields) (n : ℕ) (blank : (t : ℕ) → Slot n t → f t ≡ empty) where
   no-record : (t : ℕ) → Slot n t → isRecord (f t) ≡ true → ⊥
   unfolding isRecord
   no-record t i e = true-false e (ap isRecord (blank t i))

@@ -9,7 +9,7 @@ use Rattle.layout.specs.Content.{Table}
 use Rattle.prelude.specs.Members.{Slot}
 use Rattle.prelude.proofs.Choice.{true-false}
 use Rattle.prelude.proofs.Most.{First, nowhere, there}
-use Rattle.table.specs.Table.{decider, live, mapOf, valueAt, valueIn, weight, isHeld}
+use Rattle.table.specs.Table.{decider, live, mapOf, valueAt, valueIn, rankForKey, isHeld}
 use Rattle.table.proofs.defs.Write.{holder}
 use Rattle.table.proofs.Map.{decider-is, is-live, lives, live-remove, decider-weight, live-is, Live}
 use Rattle.table.proofs.OneSlot.{Says, puts, value-at, removes, says, one-key, weight-put}
@@ -30,7 +30,7 @@ held-or f n k = go (decider-is f n k)
     at i (removes w e) =
         unheld (λ t j q. live-remove f n t w k (ap f (sym q) ∙ e)) (value-at f n (decider f n k) i ∙ ap valueIn e)
 
-    go : First (λ t. weight k (f t)) n (decider f n k) → Held f n k
+    go : First (λ t. rankForKey k (f t)) n (decider f n k) → Held f n k
     go (nowhere z h) = unheld (λ t j q. absurd (omega arith)) (ap (valueAt f) z)
     go (there i p h b) = at i (says k (f (decider f n k)) p)
 
@@ -46,7 +46,7 @@ holder-none f n k h = go (decider-is f n k)
     zeros true b e = e
     zeros false b e = refl
 
-    go : First (λ t. weight k (f t)) n (decider f n k) → holder f n k ≡ 0
+    go : First (λ t. rankForKey k (f t)) n (decider f n k) → holder f n k ≡ 0
     go (nowhere z a) = zeros (live f n (decider f n k)) (decider f n k) z
     go (there i p a b) = ap (λ (x : Bool). cond x (decider f n k) 0) (h (decider f n k) i refl)
 
@@ -61,7 +61,7 @@ holder-value f n k = go (held-or f n k)
 
 -- a held key's slot is live and has a record of it
 pub data Holder (f : Table) (n k : ℕ) : Type 0 where
-  holder-is : Slot n (holder f n k) → live f n (holder f n k) ≡ true → 0 < weight k (f (holder f n k)) → Holder f n k
+  holder-is : Slot n (holder f n k) → live f n (holder f n k) ≡ true → 0 < rankForKey k (f (holder f n k)) → Holder f n k
 
 pub is-holder : (f : Table) (n k : ℕ) → 0 < holder f n k → Holder f n k
 is-holder f n k p = go (held-or f n k)
@@ -73,12 +73,12 @@ is-holder f n k p = go (held-or f n k)
         holder-is (rw q i) (ap (live f n) q ∙ e) (rw q (decider-weight f n k (decider f n k) i refl))
 
 -- and a live slot with a record of k is k's holder
-pub live-holder : (f : Table) (n k t : ℕ) → Slot n t → live f n t ≡ true → 0 < weight k (f t) → holder f n k ≡ t
+pub live-holder : (f : Table) (n k t : ℕ) → Slot n t → live f n t ≡ true → 0 < rankForKey k (f t) → holder f n k ≡ t
 live-holder f n k t i e p = go (live-is f n t e)
   where
     go : Live f n t → holder f n k ≡ t
     go (lives u c v q d) =
-        let z : decider f n k ≡ t = ap (decider f n) (sym (one-key c k (f t) (omega (arith, ap (weight c) q, weight-put u c v)) p)) ∙ d in
+        let z : decider f n k ≡ t = ap (decider f n) (sym (one-key c k (f t) (omega (arith, ap (rankForKey c) q, weight-put u c v)) p)) ∙ d in
         holder-held f n k (ap (live f n) z ∙ e) ∙ z
 
 -- a key that the map holds has a holder

@@ -11,7 +11,7 @@ use lib.ListN.{length}
 use borrow.Author.Tests.{eqb-true, eqb-false}
 use Rattle.prelude.specs.Members.{In, Once, Slot}
 use Rattle.layout.specs.Content.{Table}
-use Rattle.table.specs.Table.{keyIn, weight, decider, mapOf, live, liveCount}
+use Rattle.table.specs.Table.{keyIn, rankForKey, decider, mapOf, live, liveCount}
 use Rattle.prelude.specs.Range.{count}
 use Rattle.table.specs.Keys.{Holds, holds, Keys}
 use Rattle.table.proofs.defs.Keys.{keysTo}
@@ -71,7 +71,7 @@ decider-own f n k i e = go (live-is f n (decider f n k) e)
   where
     go : Live f n (decider f n k) → keyIn (f (decider f n k)) ≡ k
     go (lives w j v q b) =
-        ap keyIn q ∙ one-key j k (f (decider f n k)) (omega (arith, ap (weight j) q, weight-put w j v)) (decider-weight f n k (decider f n k) i refl)
+        ap keyIn q ∙ one-key j k (f (decider f n k)) (omega (arith, ap (rankForKey j) q, weight-put w j v)) (decider-weight f n k (decider f n k) i refl)
 
 pub table-keys : (f : Table) (n : ℕ) → Keys (mapOf f n) (keysTo f n n)
 table-keys f n = record {

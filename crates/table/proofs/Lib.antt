@@ -15,7 +15,7 @@ pub mod Alike
 pub mod Complete
 pub mod Judged
 pub mod Shared
-pub mod Taking
+pub mod Takeable
 pub mod Ranks
 pub mod Order
 pub mod ReuseOrder
@@ -37,4 +37,4 @@ pub mod Room
 pub mod Formatted
 pub mod Accepted
 pub mod Settled
-pub mod TakingAfter
+pub mod TakeableAfter

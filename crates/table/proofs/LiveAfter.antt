@@ -15,8 +15,8 @@ use Rattle.prelude.proofs.defs.Among.{member}
 use Rattle.prelude.proofs.Among.{out-member, member-head, member-tail, member-in, not-member}
 use Rattle.prelude.proofs.Choice.{pick-true, pick-false, is-false, true-false}
 use Rattle.prelude.proofs.Count.{count-more, count-same}
-use Rattle.table.specs.Complete.{Numbers}
-use Rattle.table.specs.Table.{weight, keyIn, live, isHeld, mapOf, decider, liveCount}
+use Rattle.table.specs.Complete.{SizeFields}
+use Rattle.table.specs.Table.{rankForKey, keyIn, live, isHeld, mapOf, decider, liveCount}
 use Rattle.table.proofs.defs.Basket.{oneIf, heldIn, putsIn, HeldRemoved, removesIn, insertsIn, Basket}
 use Rattle.table.proofs.defs.Struck.{Struck, Finished}
 use Rattle.table.specs.Class.{isPut}
@@ -28,16 +28,16 @@ use Rattle.table.proofs.OneSlot.{one-key, weight-put}
 -- slot t has a record of the key of one of these records
 unfoldable overwritten : (f new : Table) → List ℕ → (t : ℕ) → Bool
 overwritten f new [] t = false
-overwritten f new (s ∷ l) t = cond (ltb 0 (weight (keyIn (new s)) (f t))) true (overwritten f new l t)
+overwritten f new (s ∷ l) t = cond (ltb 0 (rankForKey (keyIn (new s)) (f t))) true (overwritten f new l t)
 
-overwritten-is : (f new : Table) (l : List ℕ) (t s : ℕ) → In s l → 0 < weight (keyIn (new s)) (f t) → overwritten f new l t ≡ true
+overwritten-is : (f new : Table) (l : List ℕ) (t s : ℕ) → In s l → 0 < rankForKey (keyIn (new s)) (f t) → overwritten f new l t ≡ true
 unfolding overwritten
 overwritten-is f new [] t s i p = absurd i
-overwritten-is f new (x ∷ l) t s (inl e) p = pick-true (ltb 0 (weight (keyIn (new x)) (f t))) _ _ (lt-ltb 0 (weight (keyIn (new x)) (f t)) (at e))
+overwritten-is f new (x ∷ l) t s (inl e) p = pick-true (ltb 0 (rankForKey (keyIn (new x)) (f t))) _ _ (lt-ltb 0 (rankForKey (keyIn (new x)) (f t)) (at e))
   where
-    at : s ≡ x → 0 < weight (keyIn (new x)) (f t)
+    at : s ≡ x → 0 < rankForKey (keyIn (new x)) (f t)
     at q = rw q at p
-overwritten-is f new (x ∷ l) t s (inr i) p = either (ltb 0 (weight (keyIn (new x)) (f t))) (overwritten-is f new l t s i p)
+overwritten-is f new (x ∷ l) t s (inr i) p = either (ltb 0 (rankForKey (keyIn (new x)) (f t))) (overwritten-is f new l t s i p)
   where
     either : (b : Bool) → overwritten f new l t ≡ true → cond b true (overwritten f new l t) ≡ true
     either true e = refl
@@ -45,23 +45,23 @@ overwritten-is f new (x ∷ l) t s (inr i) p = either (ltb 0 (weight (keyIn (new
 
 -- such a record, or none
 pub data Overwriting (f new : Table) (l : List ℕ) (t : ℕ) : Type 0 where
-  written-by : (s : ℕ) → In s l → 0 < weight (keyIn (new s)) (f t) → Overwriting f new l t
-  written-by-none : ((s : ℕ) → In s l → weight (keyIn (new s)) (f t) ≡ 0) → Overwriting f new l t
+  written-by : (s : ℕ) → In s l → 0 < rankForKey (keyIn (new s)) (f t) → Overwriting f new l t
+  written-by-none : ((s : ℕ) → In s l → rankForKey (keyIn (new s)) (f t) ≡ 0) → Overwriting f new l t
 
 pub overwritten-or : (f new : Table) (l : List ℕ) (t : ℕ) → Overwriting f new l t
 overwritten-or f new [] t = written-by-none (λ s i. absurd i)
-overwritten-or f new (x ∷ l) t = go (ltb 0 (weight (keyIn (new x)) (f t))) refl (overwritten-or f new l t)
+overwritten-or f new (x ∷ l) t = go (ltb 0 (rankForKey (keyIn (new x)) (f t))) refl (overwritten-or f new l t)
   where
-    go : (b : Bool) → ltb 0 (weight (keyIn (new x)) (f t)) ≡ b → Overwriting f new l t → Overwriting f new (x ∷ l) t
-    go true e ih = written-by x (inl refl) (ltb-true 0 (weight (keyIn (new x)) (f t)) e)
+    go : (b : Bool) → ltb 0 (rankForKey (keyIn (new x)) (f t)) ≡ b → Overwriting f new l t → Overwriting f new (x ∷ l) t
+    go true e ih = written-by x (inl refl) (ltb-true 0 (rankForKey (keyIn (new x)) (f t)) e)
     go false e (written-by s i p) = written-by s (inr i) p
-    go false e (written-by-none h) = written-by-none (λ s i. ⊎-elim (λ q. rw q (omega (arith, ltb-false 0 (weight (keyIn (new x)) (f t)) e))) (h s) i)
+    go false e (written-by-none h) = written-by-none (λ s i. ⊎-elim (λ q. rw q (omega (arith, ltb-false 0 (rankForKey (keyIn (new x)) (f t)) e))) (h s) i)
 
-overwritten-none : (f new : Table) (l : List ℕ) (t : ℕ) → ((s : ℕ) → In s l → weight (keyIn (new s)) (f t) ≡ 0) → overwritten f new l t ≡ false
+overwritten-none : (f new : Table) (l : List ℕ) (t : ℕ) → ((s : ℕ) → In s l → rankForKey (keyIn (new s)) (f t) ≡ 0) → overwritten f new l t ≡ false
 unfolding overwritten
 overwritten-none f new [] t h = refl
 overwritten-none f new (x ∷ l) t h =
-    pick-false (ltb 0 (weight (keyIn (new x)) (f t))) _ _ (le-ltb 0 (weight (keyIn (new x)) (f t)) (omega (arith, h x (inl refl))))
+    pick-false (ltb 0 (rankForKey (keyIn (new x)) (f t))) _ _ (le-ltb 0 (rankForKey (keyIn (new x)) (f t)) (omega (arith, h x (inl refl))))
     ∙ overwritten-none f new l t (λ s i. h s (inr i))
 
 -- the live slots once the records of the slots l are written
@@ -107,18 +107,18 @@ module _ (f : Table) (n : ℕ) (new : Table) where
         go false p = omega (arith, count-same (liveAfter f n new (x ∷ l)) mid n (λ t j. each p t j (eqb t x) refl))
 
     -- another slot, which is not the old slot of x's key, is live as before
-    same : (t : ℕ) → (t ≡ x → ⊥) → (0 < weight (keyIn (new x)) (f t) → live f n t ≡ false) → liveAfter f n new (x ∷ l) t ≡ liveAfter f n new l t
+    same : (t : ℕ) → (t ≡ x → ⊥) → (0 < rankForKey (keyIn (new x)) (f t) → live f n t ≡ false) → liveAfter f n new (x ∷ l) t ≡ liveAfter f n new l t
     unfolding overwritten
-    same t ne h = go (member l t) refl (ltb 0 (weight (keyIn (new x)) (f t))) refl
+    same t ne h = go (member l t) refl (ltb 0 (rankForKey (keyIn (new x)) (f t))) refl
       where
-        go : (b : Bool) → member l t ≡ b → (c : Bool) → ltb 0 (weight (keyIn (new x)) (f t)) ≡ c → liveAfter f n new (x ∷ l) t ≡ liveAfter f n new l t
+        go : (b : Bool) → member l t ≡ b → (c : Bool) → ltb 0 (rankForKey (keyIn (new x)) (f t)) ≡ c → liveAfter f n new (x ∷ l) t ≡ liveAfter f n new l t
         go true e c q = live-after-in (x ∷ l) t (member-tail x t l ne ∙ e) ∙ sym (live-after-in l t e)
         go false e true q =
-            idle-after (x ∷ l) t (member-tail x t l ne ∙ e) (h (ltb-true 0 (weight (keyIn (new x)) (f t)) q))
-            ∙ sym (idle-after l t e (h (ltb-true 0 (weight (keyIn (new x)) (f t)) q)))
+            idle-after (x ∷ l) t (member-tail x t l ne ∙ e) (h (ltb-true 0 (rankForKey (keyIn (new x)) (f t)) q))
+            ∙ sym (idle-after l t e (h (ltb-true 0 (rankForKey (keyIn (new x)) (f t)) q)))
         go false e false q =
             live-after-out (x ∷ l) t (member-tail x t l ne ∙ e)
-            ∙ ap (λ (y : Bool). cond y false (live f n t)) (pick-false (ltb 0 (weight (keyIn (new x)) (f t))) true (overwritten f new l t) q)
+            ∙ ap (λ (y : Bool). cond y false (live f n t)) (pick-false (ltb 0 (rankForKey (keyIn (new x)) (f t))) true (overwritten f new l t) q)
             ∙ sym (live-after-out l t e)
 
     live-after-more : count (liveAfter f n new (x ∷ l)) n + oneIf (isHeld (mapOf f n (keyIn (new x)))) ≡ oneIf (isPut (new x)) + count (liveAfter f n new l) n
@@ -137,9 +137,9 @@ module _ (f : Table) (n : ℕ) (new : Table) where
                   (λ t j ne. same t ne (λ p. is-false (live f n t) (λ e. true-false e (lone t j p (live-is f n t e))))),
             )
           where
-            lone : (t : ℕ) → Slot n t → 0 < weight (keyIn (new x)) (f t) → Live f n t → live f n t ≡ false
+            lone : (t : ℕ) → Slot n t → 0 < rankForKey (keyIn (new x)) (f t) → Live f n t → live f n t ≡ false
             lone t j p (lives u c v q d) =
-                h t j (ap (decider f n) (sym (one-key c (keyIn (new x)) (f t) (omega (arith, ap (weight c) q, weight-put u c v)) p)) ∙ d)
+                h t j (ap (decider f n) (sym (one-key c (keyIn (new x)) (f t) (omega (arith, ap (rankForKey c) q, weight-put u c v)) p)) ∙ d)
         go (held v j e m) =
             omega (arith, one-if true (ap isHeld m), add mid mid-x mid-same, count-more mid (liveAfter f n new l) n d j mid-d old-live (λ t a ne. sym (mid-else t ne)))
           where
@@ -155,7 +155,7 @@ module _ (f : Table) (n : ℕ) (new : Table) where
             mid-else : (t : ℕ) → (t ≡ d → ⊥) → mid t ≡ liveAfter f n new l t
             mid-else t ne = pick-false (eqb t d) false (liveAfter f n new l t) (ne-eqb t d ne)
 
-            has : 0 < weight (keyIn (new x)) (f d)
+            has : 0 < rankForKey (keyIn (new x)) (f d)
             has = decider-weight f n (keyIn (new x)) d j refl
 
             not-in : member l d ≡ false
@@ -166,12 +166,12 @@ module _ (f : Table) (n : ℕ) (new : Table) where
                 live-after-out l d not-in ∙ ap (λ (y : Bool). cond y false (live f n d)) (overwritten-none f new l d
                 (λ s a. zero-by s a)) ∙ e
               where
-                zero-by : (s : ℕ) → In s l → weight (keyIn (new s)) (f d) ≡ 0
-                zero-by s a = is-zero (ltb 0 (weight (keyIn (new s)) (f d))) refl
+                zero-by : (s : ℕ) → In s l → rankForKey (keyIn (new s)) (f d) ≡ 0
+                zero-by s a = is-zero (ltb 0 (rankForKey (keyIn (new s)) (f d))) refl
                   where
-                    is-zero : (y : Bool) → ltb 0 (weight (keyIn (new s)) (f d)) ≡ y → weight (keyIn (new s)) (f d) ≡ 0
-                    is-zero true q = absurd (apart s a (one-key (keyIn (new s)) (keyIn (new x)) (f d) (ltb-true 0 (weight (keyIn (new s)) (f d)) q) has))
-                    is-zero false q = omega (arith, ltb-false 0 (weight (keyIn (new s)) (f d)) q)
+                    is-zero : (y : Bool) → ltb 0 (rankForKey (keyIn (new s)) (f d)) ≡ y → rankForKey (keyIn (new s)) (f d) ≡ 0
+                    is-zero true q = absurd (apart s a (one-key (keyIn (new s)) (keyIn (new x)) (f d) (ltb-true 0 (rankForKey (keyIn (new s)) (f d)) q) has))
+                    is-zero false q = omega (arith, ltb-false 0 (rankForKey (keyIn (new s)) (f d)) q)
 
             mid-x : mid x ≡ false
             mid-x = mid-else x (λ q. true-false (ap (live f n) q ∙ e) idle) ∙ idle-after l x off idle
@@ -223,7 +223,7 @@ pub spare-by : (f : Table) (n : ℕ) (l : List ℕ) (new : Table) → HeldRemove
 spare-by f n l new h e = omega (arith, puts-held l new (mapOf f n) h)
 
 -- THE LIVE COUNT: more by its puts, fewer by the keys that were held
-module _ {f f′ : Table} {num num′ : Numbers} {n w : ℕ} {taken : List ℕ} {new : Table}
+module _ {f f′ : Table} {num num′ : SizeFields} {n w : ℕ} {taken : List ℕ} {new : Table}
     (b : Basket f num n w taken new) (st : Struck f f′ num num′ n taken new) (z : Finished f′ num′ taken new) where
   pub finished-count : liveCount f′ n + heldIn taken new (mapOf f n) ≡ liveCount f n + putsIn taken new
   unfolding liveCount

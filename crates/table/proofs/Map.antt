@@ -8,7 +8,7 @@ use native.Mathlib.Omega.{arith}
 use lib.Dec.{eqb}
 use borrow.Author.Tests.{eqb-true, eqb-false, eq-eqb, ne-eqb}
 use Rattle.layout.specs.Content.{Content, broken, empty, putRecord, removeRecord, Table}
-use Rattle.table.specs.Table.{isRecord, keyIn, weight, decider, valueIn, valueAt, mapOf, decidingPut, live}
+use Rattle.table.specs.Table.{isRecord, keyIn, rankForKey, decider, valueIn, valueAt, mapOf, decidingPut, live}
 use Rattle.prelude.specs.Members.{Slot}
 use Rattle.table.proofs.defs.Write.{Above, ApartByKey, Free, Outside, NoRecord}
 use Rattle.table.proofs.OneSlot.{puts, one-key, Says, weight-put, weight-top, removes, value-at, says}
@@ -23,48 +23,48 @@ nearer (suc x) y p l a = omega (arith, a (omega arith))
 
 -- key k is decided by slot s: it says something of k, and no slot says more; or it is 0 and none says anything
 abbrev pub Decided : Table → ℕ → ℕ → ℕ → Type 0
-Decided f n k s = First (λ t. weight k (f t)) n s
+Decided f n k s = First (λ t. rankForKey k (f t)) n s
 
 pub decider-is : (f : Table) (n k : ℕ) → Decided f n k (decider f n k)
 unfolding decider
-decider-is f n k = first-is (λ t. weight k (f t)) n
+decider-is f n k = first-is (λ t. rankForKey k (f t)) n
 
 pub decider-eq : (f : Table) (n k s : ℕ) → Decided f n k s → decider f n k ≡ s
 unfolding decider
-decider-eq f n k s h = first-eq (λ t. weight k (f t)) n s h
+decider-eq f n k s h = first-eq (λ t. rankForKey k (f t)) n s h
 
 -- the slot that says strictly more of k than each other decides k
-pub decider-only : (f : Table) (n k s : ℕ) → Slot n s → 0 < weight k (f s) → ((t : ℕ) → Slot n t → (t ≡ s → ⊥) → weight k (f t) < weight k (f s)) → decider f n k ≡ s
+pub decider-only : (f : Table) (n k s : ℕ) → Slot n s → 0 < rankForKey k (f s) → ((t : ℕ) → Slot n t → (t ≡ s → ⊥) → rankForKey k (f t) < rankForKey k (f s)) → decider f n k ≡ s
 decider-only f n k s i p h = decider-eq f n k s (there i p (λ t j. most t j (eqb t s) refl) (λ t j l. h t j (λ e. omega arith)))
   where
-    most : (t : ℕ) → Slot n t → (b : Bool) → eqb t s ≡ b → weight k (f t) ≤ weight k (f s)
-    most t j true e = omega (arith, ap (λ (x : ℕ). weight k (f x)) (eqb-true t s e))
+    most : (t : ℕ) → Slot n t → (b : Bool) → eqb t s ≡ b → rankForKey k (f t) ≤ rankForKey k (f s)
+    most t j true e = omega (arith, ap (λ (x : ℕ). rankForKey k (f x)) (eqb-true t s e))
     most t j false e = omega (arith, h t j (eqb-false t s e))
 
-pub decider-none : (f : Table) (n k : ℕ) → ((t : ℕ) → Slot n t → weight k (f t) ≡ 0) → decider f n k ≡ 0
+pub decider-none : (f : Table) (n k : ℕ) → ((t : ℕ) → Slot n t → rankForKey k (f t) ≡ 0) → decider f n k ≡ 0
 decider-none f n k h = decider-eq f n k 0 (nowhere refl h)
 
 -- a slot that decides k holds a record of k
-pub decider-weight : (f : Table) (n k s : ℕ) → Slot n s → decider f n k ≡ s → 0 < weight k (f s)
+pub decider-weight : (f : Table) (n k s : ℕ) → Slot n s → decider f n k ≡ s → 0 < rankForKey k (f s)
 decider-weight f n k s i e = go (decider-is f n k)
   where
-    go : Decided f n k (decider f n k) → 0 < weight k (f s)
+    go : Decided f n k (decider f n k) → 0 < rankForKey k (f s)
     go (nowhere z h) = absurd (omega arith)
     go (there j p h b) = rw e at p
 
 -- where versions are apart every other record of the key is older than the deciding one
-pub decider-newest : (f : Table) (n k s t : ℕ) → ApartByKey f n → Slot n s → Slot n t → decider f n k ≡ s → (t ≡ s → ⊥) → weight k (f t) < weight k (f s)
+pub decider-newest : (f : Table) (n k s t : ℕ) → ApartByKey f n → Slot n s → Slot n t → decider f n k ≡ s → (t ≡ s → ⊥) → rankForKey k (f t) < rankForKey k (f s)
 decider-newest f n k s t d i j e ne = go (decider-is f n k)
   where
-    go : Decided f n k (decider f n k) → weight k (f t) < weight k (f s)
+    go : Decided f n k (decider f n k) → rankForKey k (f t) < rankForKey k (f s)
     go (nowhere z h) = absurd (omega arith)
     go (there _ p h b) =
         let most = h t j in
-        nearer (weight k (f t)) (weight k (f s)) (decider-weight f n k s i e) (rw e at most) (λ q z. d k t s j i ne q z)
+        nearer (rankForKey k (f t)) (rankForKey k (f s)) (decider-weight f n k s i e) (rw e at most) (λ q z. d k t s j i ne q z)
 
 -- and the deciding slot is the only one than which no slot says more
-pub decider-unique : (f : Table) (n k s : ℕ) → ApartByKey f n → Slot n s → 0 < weight k (f s) → ((t : ℕ) → Slot n t → weight k (f t) ≤ weight k (f s)) → decider f n k ≡ s
-decider-unique f n k s d i p h = decider-only f n k s i p (λ t j ne. nearer (weight k (f t)) (weight k (f s)) p (h t j) (λ q z. d k t s j i ne q z))
+pub decider-unique : (f : Table) (n k s : ℕ) → ApartByKey f n → Slot n s → 0 < rankForKey k (f s) → ((t : ℕ) → Slot n t → rankForKey k (f t) ≤ rankForKey k (f s)) → decider f n k ≡ s
+decider-unique f n k s d i p h = decider-only f n k s i p (λ t j ne. nearer (rankForKey k (f t)) (rankForKey k (f s)) p (h t j) (λ q z. d k t s j i ne q z))
 
 -- a live slot is a put that decides its key, and such a put is live
 pub data Live (f : Table) (n s : ℕ) : Type 0 where
@@ -104,12 +104,12 @@ live-record f n s e = go (live-is f n s e)
     go (lives w k v q d) = ap isRecord q
 
 -- a record of a key that another slot decides is not live
-pub other-idle : (f : Table) (n k s t : ℕ) → decider f n k ≡ s → (t ≡ s → ⊥) → 0 < weight k (f t) → live f n t ≡ false
+pub other-idle : (f : Table) (n k s t : ℕ) → decider f n k ≡ s → (t ≡ s → ⊥) → 0 < rankForKey k (f t) → live f n t ≡ false
 other-idle f n k s t b ne p = go (live f n t) refl
   where
     other : Live f n t → live f n t ≡ false
     other (lives w j v q d) =
-        absurd (ne (sym d ∙ ap (decider f n) (one-key j k (f t) (omega (arith, ap (weight j) q, weight-put w j v)) p) ∙ b))
+        absurd (ne (sym d ∙ ap (decider f n) (one-key j k (f t) (omega (arith, ap (rankForKey j) q, weight-put w j v)) p) ∙ b))
 
     go : (x : Bool) → live f n t ≡ x → live f n t ≡ false
     go false e = e
@@ -125,19 +125,19 @@ pub data Turn (n : ℕ) (C : ℕ → Bool) (b b′ : ℕ) : Type 0 where
 
 module _ (f f′ : Table) (n : ℕ) (C : ℕ → Bool) (free : Free f n C) (out : Outside f f′ n C) (k : ℕ)
     (quiet : NoRecord f′ n C k) where
-  at-most : (t : ℕ) → Slot n t → weight k (f′ t) ≤ weight k (f t)
+  at-most : (t : ℕ) → Slot n t → rankForKey k (f′ t) ≤ rankForKey k (f t)
   at-most t i = go (C t) refl
     where
-      go : (x : Bool) → C t ≡ x → weight k (f′ t) ≤ weight k (f t)
+      go : (x : Bool) → C t ≡ x → rankForKey k (f′ t) ≤ rankForKey k (f t)
       go true e = omega (arith, quiet t i e)
-      go false e = omega (arith, ap (weight k) (out t i e))
+      go false e = omega (arith, ap (rankForKey k) (out t i e))
 
-  all-gone : C (decider f n k) ≡ true → (t : ℕ) → Slot n t → weight k (f′ t) ≡ 0
+  all-gone : C (decider f n k) ≡ true → (t : ℕ) → Slot n t → rankForKey k (f′ t) ≡ 0
   all-gone b t i = go (C t) refl
     where
-      go : (x : Bool) → C t ≡ x → weight k (f′ t) ≡ 0
+      go : (x : Bool) → C t ≡ x → rankForKey k (f′ t) ≡ 0
       go true e = quiet t i e
-      go false e = ap (weight k) (out t i e) ∙ free .alone k t b i e
+      go false e = ap (rankForKey k) (out t i e) ∙ free .alone k t b i e
 
   pub turn : Turn n C (decider f n k) (decider f′ n k)
   turn = go (decider-is f n k)
@@ -146,7 +146,7 @@ module _ (f f′ : Table) (n : ℕ) (C : ℕ → Bool) (free : Free f n C) (out 
       kept d true e i = lost i e (decider-none f′ n k (all-gone e))
       kept (nowhere z h) false e i = absurd (omega arith)
       kept (there _ p h b) false e i =
-          let q = ap (weight k) (out (decider f n k) i e) in
+          let q = ap (rankForKey k) (out (decider f n k) i e) in
           same i e (decider-eq f′ n k (decider f n k) (there i (omega arith)
           (λ t j. omega (arith, at-most t j, h t j)) (λ t j l. omega (arith, at-most t j, b t j l))))
 
@@ -202,13 +202,13 @@ live-kept f f′ n C free out t i c quiet = ap (decidingPut f′ n t) (out t i c
 
 -- a record above all versions decides its key, where the other slots of C have no record of that key
 pub newest : (f f′ : Table) (n : ℕ) (C : ℕ → Bool) → Outside f f′ n C → (w : ℕ) → Above f n w
-    → (k s : ℕ) → Slot n s → C s ≡ true → weight k (f′ s) ≡ suc w → ((t : ℕ) → Slot n t → C t ≡ true → (t ≡ s → ⊥) → weight k (f′ t) ≡ 0)
+    → (k s : ℕ) → Slot n s → C s ≡ true → rankForKey k (f′ s) ≡ suc w → ((t : ℕ) → Slot n t → C t ≡ true → (t ≡ s → ⊥) → rankForKey k (f′ t) ≡ 0)
     → decider f′ n k ≡ s
 newest f f′ n C out w above k s i c e quiet = decider-only f′ n k s i (omega arith) (λ t j h. less t j h (C t) refl)
   where
-    less : (t : ℕ) → Slot n t → (t ≡ s → ⊥) → (x : Bool) → C t ≡ x → weight k (f′ t) < weight k (f′ s)
+    less : (t : ℕ) → Slot n t → (t ≡ s → ⊥) → (x : Bool) → C t ≡ x → rankForKey k (f′ t) < rankForKey k (f′ s)
     less t j h true d = omega (arith, quiet t j d h)
-    less t j h false d = omega (arith, ap (weight k) (out t j d), weight-top k (f t), above t j)
+    less t j h false d = omega (arith, ap (rankForKey k) (out t j d), weight-top k (f t), above t j)
 
 -- a live slot decides the key that it holds
 pub live-key : (f : Table) (n t : ℕ) → live f n t ≡ true → decider f n (keyIn (f t)) ≡ t
@@ -220,7 +220,7 @@ live-key f n t e = go (live-is f n t e)
 
 -- records of version w in a set of slots, no two of one key: each key that gets one has its value, the others theirs as before
 pub set-new : (f f′ : Table) (n : ℕ) (C : ℕ → Bool) → Outside f f′ n C → (w : ℕ) → Above f n w
-    → (k s : ℕ) → Slot n s → C s ≡ true → weight k (f′ s) ≡ suc w → ((t : ℕ) → Slot n t → C t ≡ true → (t ≡ s → ⊥) → weight k (f′ t) ≡ 0)
+    → (k s : ℕ) → Slot n s → C s ≡ true → rankForKey k (f′ s) ≡ suc w → ((t : ℕ) → Slot n t → C t ≡ true → (t ≡ s → ⊥) → rankForKey k (f′ t) ≡ 0)
     → mapOf f′ n k ≡ valueIn (f′ s)
 unfolding mapOf
 set-new f f′ n C out w above k s i c e quiet = ap (valueAt f′) (newest f f′ n C out w above k s i c e quiet) ∙ value-at f′ n s i

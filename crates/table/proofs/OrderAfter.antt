@@ -5,15 +5,15 @@ use mathlib.Core.Logic.{inl, inr}
 use mathlib.Core.List.{List, [], _∷_, _++_}
 use Prim.Native.Nat.{ℕ, zero, suc, _<_}
 use native.Mathlib.Omega.{arith}
-use Rattle.layout.specs.Content.{Table, topOf}
+use Rattle.layout.specs.Content.{Table, highestWholeIn}
 use Rattle.prelude.specs.Members.{Slot, Once, In}
 use Rattle.prelude.proofs.defs.Among.{member}
 use Rattle.prelude.proofs.Choice.{true-false}
 use Rattle.prelude.proofs.Lists.{in-at}
-use Rattle.table.specs.Complete.{Numbers}
+use Rattle.table.specs.Complete.{SizeFields}
 use Rattle.table.specs.Reuse.{HighestLast, OlderFirst}
-use Rattle.table.specs.Table.{live, weight, keyIn, mapOf}
-use Rattle.table.specs.Taking.{isRemove, highestValid, older}
+use Rattle.table.specs.Table.{live, rankForKey, keyIn, mapOf}
+use Rattle.table.specs.Takeable.{isRemove, highestValid, older}
 use Rattle.table.proofs.defs.Basket.{Basket, HeldRemoved}
 use Rattle.table.proofs.defs.Reuse.{joins, appended, Spares}
 use Rattle.table.proofs.defs.ReuseAfter.{joinsOf, reuseAfter, leftOf}
@@ -29,7 +29,7 @@ use Rattle.table.proofs.OneSlot.{weight-key}
 use Rattle.table.proofs.ReuseAfter.{left-same, left-in}
 use Rattle.table.proofs.ReuseOrder.{older-append, older-carry, older-filter, remove-is-record}
 use Rattle.table.proofs.Struck.{not-taken}
-use Rattle.table.proofs.Taking.{older-below, older-key, older-idle, older-same}
+use Rattle.table.proofs.Takeable.{older-below, older-key, older-idle, older-same}
 
 -- a live slot has no remove record
 live-no-remove : (f : Table) (n t : ℕ) → live f n t ≡ true → isRemove (f t) ≡ true → ⊥
@@ -43,7 +43,7 @@ live-no-remove f n t l e = go (live-is f n t l)
 
 abbrev FirstBelow : Table → ℕ → List ℕ → Type 0
 FirstBelow f v [] = Unit
-FirstBelow f v (x ∷ l) = topOf (f x) < v
+FirstBelow f v (x ∷ l) = highestWholeIn (f x) < v
 
 below-last : (f : Table) (n : ℕ) (l : List ℕ) → FirstBelow f (highestValid f n) l → HighestLast f n l
 below-last f n [] h = tt
@@ -51,11 +51,11 @@ below-last f n (x ∷ l) h = λ e top t i. absurd (omega arith)
 
 -- ---- after a call
 
-module _ {f f′ : Table} {num num′ : Numbers} {n w : ℕ} {taken : List ℕ} {new : Table}
+module _ {f f′ : Table} {num num′ : SizeFields} {n w : ℕ} {taken : List ℕ} {new : Table}
     (b : Basket f num n w taken new) (st : Struck f f′ num num′ n taken new) (z : Finished f′ num′ taken new) where
   -- the old slot of a key: its put, below w
   data Old (k o : ℕ) : Type 0 where
-    old-slot : Slot n o → live f n o ≡ true → 0 < weight k (f o) → f′ o ≡ f o → Old k o
+    old-slot : Slot n o → live f n o ≡ true → 0 < rankForKey k (f o) → f′ o ≡ f o → Old k o
 
   old-is : (k o : ℕ) → 0 < o → o ≡ holder f n k → Old k o
   old-is k o p e = go (is-holder f n k (omega arith))
@@ -64,7 +64,7 @@ module _ {f f′ : Table} {num num′ : Numbers} {n w : ℕ} {taken : List ℕ} 
       go (holder-is i a x) =
           let l : live f n o ≡ true = ap (live f n) e ∙ a in
           let j : Slot n o = omega arith in
-          old-slot j l (omega (arith, ap (λ (y : ℕ). weight k (f y)) e)) (not-taken b st o j (λ t. true-false l (b .spare o t)) .0)
+          old-slot j l (omega (arith, ap (λ (y : ℕ). rankForKey k (f y)) e)) (not-taken b st o j (λ t. true-false l (b .spare o t)) .0)
 
   -- what is appended for the records of l, which are some of the basket's
   joins-older : (l : List ℕ) → Once l → ((t : ℕ) → In t l → In t taken) → OlderFirst f′ (joinsOf f n l new)
@@ -90,7 +90,7 @@ module _ {f f′ : Table} {num num′ : Numbers} {n w : ℕ} {taken : List ℕ} 
       cross : (y t : ℕ) → Joined (holder f n (keyIn (new x))) (isPut (new x)) x y → From f n l new t → isRemove (f′ y) ≡ true → older f′ y t ≡ true → ⊥
       cross y t (from-old p e) from r o = old-put y (omega arith) e r
       cross y t (from-own p e) (own-slot j q) r o =
-          omega (arith, older-below f′ y t o, new-top b st z t (sub t (inr j)), ap (λ (a : ℕ). topOf (f′ a)) e, new-top b st z x (sub x (inl refl)))
+          omega (arith, older-below f′ y t o, new-top b st z t (sub t (inr j)), ap (λ (a : ℕ). highestWholeIn (f′ a)) e, new-top b st z x (sub x (inl refl)))
       cross y t (from-own p e) (old s j q d) r o = go (old-is (keyIn (new s)) t (omega arith) d)
         where
           key : keyIn (f′ y) ≡ keyIn (new x)
@@ -108,11 +108,11 @@ module _ {f f′ : Table} {num num′ : Numbers} {n w : ℕ} {taken : List ℕ} 
   joins-first held-only (x ∷ l) sub =
       go (holder f n (keyIn (new x))) refl (isPut (new x)) refl (joins-first held-only l (λ t i. sub t (inr i)))
     where
-      below : (o : ℕ) → 0 < o → o ≡ holder f n (keyIn (new x)) → topOf (f′ o) < w
+      below : (o : ℕ) → 0 < o → o ≡ holder f n (keyIn (new x)) → highestWholeIn (f′ o) < w
       below o p e = by (old-is (keyIn (new x)) o p e)
         where
-          by : Old (keyIn (new x)) o → topOf (f′ o) < w
-          by (old-slot i a v same) = omega (arith, ap topOf same, b .above o i)
+          by : Old (keyIn (new x)) o → highestWholeIn (f′ o) < w
+          by (old-slot i a v same) = omega (arith, ap highestWholeIn same, b .above o i)
 
       go : (o : ℕ) → o ≡ holder f n (keyIn (new x)) → (p : Bool) → isPut (new x) ≡ p → FirstBelow f′ w (joinsOf f n l new)
           → FirstBelow f′ w (appended o p x ++ joinsOf f n l new)
@@ -132,7 +132,7 @@ module _ {f f′ : Table} {num num′ : Numbers} {n w : ℕ} {taken : List ℕ} 
       where
         cross : (x t : ℕ) → In x (leftOf taken reuse) → From f n taken new t → isRemove (f′ x) ≡ true → older f′ x t ≡ true → ⊥
         cross x t i (own-slot j q) e o =
-            omega (arith, older-below f′ x t o, new-top b st z t j, ap topOf (left-same b st z sp x i), b .above x (sp .slot x (left-in b st z sp x i)))
+            omega (arith, older-below f′ x t o, new-top b st z t j, ap highestWholeIn (left-same b st z sp x i), b .above x (sp .slot x (left-in b st z sp x i)))
         cross x t i (old s j q d) e o = go (old-is (keyIn (new s)) t (omega arith) d)
           where
             go : Old (keyIn (new s)) t → ⊥
@@ -151,4 +151,4 @@ module _ {f f′ : Table} {num num′ : Numbers} {n w : ℕ} {taken : List ℕ} 
         left-first : (l : List ℕ) → ((t : ℕ) → In t l → In t (leftOf taken reuse)) → FirstBelow f′ w (joinsOf f n taken new) → FirstBelow f′ w (l ++ joinsOf f n taken new)
         left-first [] sub h = h
         left-first (x ∷ l) sub h =
-            omega (arith, ap topOf (left-same b st z sp x (sub x (inl refl))), b .above x (sp .slot x (left-in b st z sp x (sub x (inl refl)))))
+            omega (arith, ap highestWholeIn (left-same b st z sp x (sub x (inl refl))), b .above x (sp .slot x (left-in b st z sp x (sub x (inl refl)))))

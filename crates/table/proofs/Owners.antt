@@ -12,8 +12,8 @@ use Rattle.prelude.specs.Members.{In, Once, Slot}
 use Rattle.prelude.proofs.defs.Among.{member}
 use Rattle.prelude.proofs.Among.{member-in, not-member}
 use Rattle.prelude.proofs.Choice.{pick-false, pick-true, true-false}
-use Rattle.table.specs.Complete.{Numbers}
-use Rattle.table.specs.Table.{keyIn, weight, live}
+use Rattle.table.specs.Complete.{SizeFields}
+use Rattle.table.specs.Table.{keyIn, rankForKey, live}
 use Rattle.table.proofs.defs.Basket.{Basket}
 use Rattle.table.proofs.defs.Owners.{moved, ownerIn}
 use Rattle.table.proofs.defs.Struck.{Struck, Finished}
@@ -78,13 +78,13 @@ module _ {A : Type 0} (f : Table) (n : ℕ) (chain : ℕ → A) (reuse : A) (new
           at s (inr j) d = inr (s, j, d)
 
 -- EACH SLOT STANDS WHERE THE MOVES KEY BY KEY PUT IT
-module _ {A : Type 0} {f f′ : Table} {num num′ : Numbers} {n w : ℕ} {taken : List ℕ} {new : Table}
+module _ {A : Type 0} {f f′ : Table} {num num′ : SizeFields} {n w : ℕ} {taken : List ℕ} {new : Table}
     (b : Basket f num n w taken new) (st : Struck f f′ num num′ n taken new) (z : Finished f′ num′ taken new) (chain : ℕ → A) (reuse : A) where
-  holder-weight : (s t : ℕ) → 1 ≤ t → holder f n (keyIn (new s)) ≡ t → 0 < weight (keyIn (new s)) (f t)
+  holder-weight : (s t : ℕ) → 1 ≤ t → holder f n (keyIn (new s)) ≡ t → 0 < rankForKey (keyIn (new s)) (f t)
   holder-weight s t p e = go (is-holder f n (keyIn (new s)) (omega arith))
     where
-      go : Holder f n (keyIn (new s)) → 0 < weight (keyIn (new s)) (f t)
-      go (holder-is i a x) = omega (arith, ap (λ (y : ℕ). weight (keyIn (new s)) (f y)) e)
+      go : Holder f n (keyIn (new s)) → 0 < rankForKey (keyIn (new s)) (f t)
+      go (holder-is i a x) = omega (arith, ap (λ (y : ℕ). rankForKey (keyIn (new s)) (f y)) e)
 
   -- from any owners that are those of the table but for the slots taken: "A basket takes all its slots before any other index change"
   pub finished-owner : (owner : ℕ → A) → ((t : ℕ) → Slot n t → (In t taken → ⊥) → owner t ≡ ownerIn f n chain reuse t)

@@ -7,7 +7,7 @@ use native.Mathlib.Omega.{arith}
 use lib.Dec.{ltb}
 use lib.ListN.{length}
 use borrow.Author.Tests.{lt-ltb, ltb-true}
-use Rattle.layout.specs.Content.{Content, topOf, broken, empty, putRecord, removeRecord, Table}
+use Rattle.layout.specs.Content.{Content, highestWholeIn, broken, empty, putRecord, removeRecord, Table}
 use Rattle.prelude.specs.Filter.{filter}
 use Rattle.prelude.specs.Members.{slotNumbers, In}
 use Rattle.prelude.specs.Range.{count}
@@ -16,21 +16,21 @@ use Rattle.prelude.proofs.Count.{count-filter}
 use Rattle.prelude.proofs.Lists.{filter-append, filter-none, filter-all}
 use Rattle.sorting.specs.Sorted.{sorted}
 use Rattle.sorting.proofs.Order.{filter-sorted, length-sorted}
-use Rattle.table.specs.Complete.{Numbers, sharers, hasVersion, isVoid, highestComplete, settled}
+use Rattle.table.specs.Complete.{SizeFields, sharers, hasVersion, isVoid, highestComplete, settled}
 use Rattle.table.specs.Order.{rankOf}
 use Rattle.table.specs.Table.{isRecord}
 use Rattle.table.proofs.Complete.{version-record, version-top, has-version, void-record, void-above, void-is, settled-void, settled-same}
 
-rank-is : (c : Content) (v : ℕ) → rankOf c ≡ 2 + v → (isRecord c ≡ true) × (topOf c ≡ v)
-unfolding rankOf isRecord topOf
+rank-is : (c : Content) (v : ℕ) → rankOf c ≡ 2 + v → (isRecord c ≡ true) × (highestWholeIn c ≡ v)
+unfolding rankOf isRecord highestWholeIn
 rank-is (broken t) v e = absurd (omega arith)
 rank-is empty v e = absurd (omega arith)
 rank-is (putRecord w k x) v e = (refl, omega arith)
 rank-is (removeRecord w k) v e = (refl, omega arith)
 
 -- the rank of a record, and of what is none
-pub record-rank : (c : Content) → isRecord c ≡ true → rankOf c ≡ 2 + topOf c
-unfolding rankOf isRecord topOf
+pub record-rank : (c : Content) → isRecord c ≡ true → rankOf c ≡ 2 + highestWholeIn c
+unfolding rankOf isRecord highestWholeIn
 record-rank (broken t) e = absurd (true-false e refl)
 record-rank empty e = absurd (true-false e refl)
 record-rank (putRecord w k x) e = refl
@@ -72,7 +72,7 @@ run-sharers f n v below run above e lo at hi =
         ∙ append-nil run
 
 -- so the void slots are the end of that order
-pub void-rank : (f : Table) (num : Numbers) (n s : ℕ) → isVoid f num n s ≡ ltb (2 + highestComplete f num n) (rankOf (f s))
+pub void-rank : (f : Table) (num : SizeFields) (n s : ℕ) → isVoid f num n s ≡ ltb (2 + highestComplete f num n) (rankOf (f s))
 unfolding rankOf
 void-rank f num n s = same-test _ _ forth back
   where
@@ -91,7 +91,7 @@ void-rank f num n s = same-test _ _ forth back
         go false c = absurd (omega (arith, high, low-rank (f s) c))
 
 -- and in the settled table their rank is that of broken slots
-pub settled-rank : (f : Table) (num : Numbers) (n s : ℕ) → rankOf (settled f num n s) ≡ cond (ltb (2 + highestComplete f num n) (rankOf (f s))) 0 (rankOf (f s))
+pub settled-rank : (f : Table) (num : SizeFields) (n s : ℕ) → rankOf (settled f num n s) ≡ cond (ltb (2 + highestComplete f num n) (rankOf (f s))) 0 (rankOf (f s))
 unfolding rankOf
 settled-rank f num n s = go (isVoid f num n s) refl
   where

@@ -10,7 +10,7 @@ use Rattle.prelude.specs.Filter.{filter}
 use Rattle.prelude.specs.Members.{In, slotNumbers}
 use Rattle.prelude.proofs.defs.Members.{Rising}
 use Rattle.sorting.proofs.Order.{sorted-in, in-sorted, rising-sorted, filter-in, in-filter, filter-holds, once-sorted, once-filter}
-use Rattle.table.specs.Table.{keyIn, weight, live, spare}
+use Rattle.table.specs.Table.{keyIn, rankForKey, live, spare}
 use Rattle.table.specs.Order.{rankOf, ordered, chainOf, reuseOf}
 use Rattle.table.proofs.defs.Reuse.{Spares}
 use Rattle.table.specs.Reuse.{BrokenFirst}
@@ -33,13 +33,13 @@ recovery-spares f n = record {
     kept : (t : ℕ) → In t (reuseOf f n) → In t (filter (spare f n) (slotNumbers n))
     kept t i = sorted-in (λ x. rankOf (f x)) t (filter (spare f n) (slotNumbers n)) i
 
-pub rank-weight : (k : ℕ) (c : Content) → 0 < weight k c → rankOf c ≡ suc (weight k c)
+pub rank-weight : (k : ℕ) (c : Content) → 0 < rankForKey k c → rankOf c ≡ suc (rankForKey k c)
 unfolding rankOf
 rank-weight k c p = go (says k c p)
   where
-    go : Says k c → rankOf c ≡ suc (weight k c)
-    go (puts w v e) = omega (arith, ap rankOf e, ap (weight k) e, weight-put w k v)
-    go (removes w e) = omega (arith, ap rankOf e, ap (weight k) e, weight-remove w k)
+    go : Says k c → rankOf c ≡ suc (rankForKey k c)
+    go (puts w v e) = omega (arith, ap rankOf e, ap (rankForKey k) e, weight-put w k v)
+    go (removes w e) = omega (arith, ap rankOf e, ap (rankForKey k) e, weight-remove w k)
 
 -- recovery's reuse never falls in rank: broken slots, empty slots, then by version
 pub recovery-rising : (f : Table) (n : ℕ) → Rising (λ t. rankOf (f t)) (reuseOf f n)

@@ -10,7 +10,7 @@ use Rattle.prelude.proofs.defs.Among.{member}
 use Rattle.prelude.proofs.Among.{not-member}
 use Rattle.prelude.proofs.Choice.{true-false}
 use Rattle.sorting.proofs.Order.{filter-in, filter-holds}
-use Rattle.table.specs.Complete.{Numbers}
+use Rattle.table.specs.Complete.{SizeFields}
 use Rattle.table.specs.Reuse.{BrokenFirst}
 use Rattle.table.specs.Table.{live, keyIn, isRecord}
 use Rattle.table.proofs.defs.Basket.{Basket}
@@ -24,7 +24,7 @@ use Rattle.table.proofs.Joins.{old, From, own-slot, joins-from}
 use Rattle.table.proofs.OneSlot.{weight-counts}
 use Rattle.table.proofs.Struck.{not-taken}
 
-module _ {f f′ : Table} {num num′ : Numbers} {n w : ℕ} {taken : List ℕ} {new : Table}
+module _ {f f′ : Table} {num num′ : SizeFields} {n w : ℕ} {taken : List ℕ} {new : Table}
     (b : Basket f num n w taken new) (st : Struck f f′ num num′ n taken new) (z : Finished f′ num′ taken new)
     {reuse : List ℕ} (sp : Spares f n reuse) where
   pub left-in : (t : ℕ) → In t (leftOf taken reuse) → In t reuse

@@ -6,7 +6,7 @@ use mathlib.Core.List.{List, [], _∷_, _++_}
 use Prim.Native.Nat.{ℕ}
 use native.Mathlib.Omega.{arith}
 use lib.ListN.{take}
-use Rattle.layout.specs.Content.{Content, broken, empty, putRecord, removeRecord, Table, topOf}
+use Rattle.layout.specs.Content.{Content, broken, empty, putRecord, removeRecord, Table, highestWholeIn}
 use Rattle.prelude.specs.Filter.{filter}
 use Rattle.prelude.specs.Members.{In, Slot}
 use Rattle.prelude.proofs.defs.Members.{Rising}
@@ -16,11 +16,11 @@ use Rattle.sorting.proofs.Order.{filter-in}
 use Rattle.table.specs.Order.{rankOf, reuseOf}
 use Rattle.table.specs.Reuse.{OlderFirst, HighestLast}
 use Rattle.table.specs.Table.{isRecord}
-use Rattle.table.specs.Taking.{isRemove, older, highestValid, takenOf, mayTake}
+use Rattle.table.specs.Takeable.{isRemove, older, highestValid, takenOf, mayTake}
 use Rattle.table.proofs.defs.Reuse.{Spares}
 use Rattle.table.proofs.Ranks.{record-rank, low-rank}
 use Rattle.table.proofs.Recovery.{recovery-rising, recovery-spares}
-use Rattle.table.proofs.Taking.{older-record, older-below, highest-valid-above, older-same, highest-barred, barred, Barred, of-highest, has-older, older-idle}
+use Rattle.table.proofs.Takeable.{older-record, older-below, highest-valid-above, older-same, highest-barred, barred, Barred, of-highest, has-older, older-idle}
 
 -- ---- recovery's reuse chain
 
@@ -54,8 +54,8 @@ rising-highest-last : (f : Table) (n : ℕ) (l : List ℕ) → ((t : ℕ) → In
 rising-highest-last f n [] s r = tt
 rising-highest-last f n (x ∷ l) s r = λ e top t i. go e top t i (isRecord (f t)) refl
   where
-    go : isRecord (f x) ≡ true → topOf (f x) ≡ highestValid f n → (t : ℕ) → In t l → (b : Bool) → isRecord (f t) ≡ b
-        → (isRecord (f t) ≡ true) × (topOf (f t) ≡ highestValid f n)
+    go : isRecord (f x) ≡ true → highestWholeIn (f x) ≡ highestValid f n → (t : ℕ) → In t l → (b : Bool) → isRecord (f t) ≡ b
+        → (isRecord (f t) ≡ true) × (highestWholeIn (f t) ≡ highestValid f n)
     go e top t i true d =
         (d, omega (arith, r .0 t i, record-rank (f x) e, record-rank (f t) d, highest-valid-above f n t (s t (inr i)) d))
     go e top t i false d = absurd (omega (arith, r .0 t i, record-rank (f x) e, low-rank (f t) d))
@@ -104,13 +104,13 @@ unfolding takenOf filter
 single-first f n [] sp older-first last = takes-none refl
 single-first f n (s ∷ l) sp older-first last = go (mayTake f n s) refl
   where
-    none : topOf (f s) ≡ highestValid f n → isRecord (f s) ≡ true → (t : ℕ) → In t (s ∷ l) → mayTake f n t ≡ false
+    none : highestWholeIn (f s) ≡ highestValid f n → isRecord (f s) ≡ true → (t : ℕ) → In t (s ∷ l) → mayTake f n t ≡ false
     none top e t (inl q) = ap (mayTake f n) q ∙ highest-barred f n s e top
     none top e t (inr i) = highest-barred f n t (last e top t i .0) (last e top t i .1)
 
     -- an older record of its key is spare and stands before it
     hiding : isRecord (f s) ≡ true → isRemove (f s) ≡ true → (t : ℕ) → older f s t ≡ true → In t (s ∷ l) → ⊥
-    hiding e m t o (inl q) = omega (arith, older-below f s t o, ap (λ (x : ℕ). topOf (f x)) q)
+    hiding e m t o (inl q) = omega (arith, older-below f s t o, ap (λ (x : ℕ). highestWholeIn (f x)) q)
     hiding e m t o (inr i) = older-first .0 t i m o
 
     by : Barred f n s → SingleTaken f n (s ∷ l)

@@ -6,7 +6,7 @@ use Prim.Native.Nat.{ℕ, zero, suc, _<_}
 use native.Mathlib.Omega.{arith}
 use lib.ListN.{take, length}
 use borrow.Author.Tests.{not-true}
-use Rattle.layout.specs.Content.{Table, topOf}
+use Rattle.layout.specs.Content.{Table, highestWholeIn}
 use Rattle.prelude.specs.Filter.{filter}
 use Rattle.prelude.specs.Members.{Slot, In}
 use Rattle.prelude.proofs.defs.Among.{member}
@@ -15,9 +15,9 @@ use Rattle.prelude.proofs.Any.{passing, Passing, passes, none-passes}
 use Rattle.prelude.proofs.Choice.{both, both-right, is-false, true-false, both-left}
 use Rattle.prelude.proofs.Count.{gap, Gap}
 use Rattle.sorting.proofs.Order.{in-filter}
-use Rattle.table.specs.Complete.{Numbers, settled}
+use Rattle.table.specs.Complete.{SizeFields, settled}
 use Rattle.table.specs.Table.{live, isRecord, liveCount, mapOf, keyIn}
-use Rattle.table.specs.Taking.{highestValid, mayTake, takenOf}
+use Rattle.table.specs.Takeable.{highestValid, mayTake, takenOf}
 use Rattle.table.proofs.defs.Basket.{Basket, HeldRemoved}
 use Rattle.table.proofs.defs.Reuse.{Spares}
 use Rattle.table.proofs.defs.Room.{Takeable, takeable, RoomToTake, room-at}
@@ -29,33 +29,33 @@ use Rattle.table.proofs.LiveCount.{room-spare}
 use Rattle.table.proofs.Map.{live-record}
 use Rattle.table.proofs.Same.{same-live, same-highest-valid}
 use Rattle.table.proofs.Struck.{not-taken}
-use Rattle.table.proofs.Taking.{Barred, of-highest, has-older, older-below, older-idle, barred}
+use Rattle.table.proofs.Takeable.{Barred, of-highest, has-older, older-below, older-idle, barred}
 use Rattle.table.proofs.Unfinished.{unfinished-same}
 
 -- ---- room gives a slot
 
 module _ (f : Table) (n : ℕ) where
   -- from a spare slot below the highest valid version down through older records of a key, to one that may be taken
-  down : (fuel s : ℕ) → topOf (f s) < fuel → Slot n s → live f n s ≡ false → (isRecord (f s) ≡ true → topOf (f s) < highestValid f n) → Takeable f n
+  down : (fuel s : ℕ) → highestWholeIn (f s) < fuel → Slot n s → live f n s ≡ false → (isRecord (f s) ≡ true → highestWholeIn (f s) < highestValid f n) → Takeable f n
   down zero s l i idle low = absurd (omega arith)
   down (suc m) s l i idle low = go (mayTake f n s) refl (λ t. down m t)
     where
       next : Barred f n s
-          → ((t : ℕ) → topOf (f t) < m → Slot n t → live f n t ≡ false → (isRecord (f t) ≡ true → topOf (f t) < highestValid f n) → Takeable f n)
+          → ((t : ℕ) → highestWholeIn (f t) < m → Slot n t → live f n t ≡ false → (isRecord (f t) ≡ true → highestWholeIn (f t) < highestValid f n) → Takeable f n)
           → Takeable f n
       next (of-highest r e) ih = absurd (omega (arith, low r))
       next (has-older r e t j o) ih =
           ih t (omega (arith, older-below f s t o)) j (older-idle f n s t i r o) (λ a. omega (arith, low r, older-below f s t o))
 
       go : (x : Bool) → mayTake f n s ≡ x
-          → ((t : ℕ) → topOf (f t) < m → Slot n t → live f n t ≡ false → (isRecord (f t) ≡ true → topOf (f t) < highestValid f n) → Takeable f n)
+          → ((t : ℕ) → highestWholeIn (f t) < m → Slot n t → live f n t ≡ false → (isRecord (f t) ≡ true → highestWholeIn (f t) < highestValid f n) → Takeable f n)
           → Takeable f n
       go true e ih = takeable s i idle e
       go false e ih = next (barred f n s i e) ih
 
   -- ROOM GIVES A SLOT THAT MAY BE TAKEN
   pub room-takes : RoomToTake f n → Takeable f n
-  room-takes (room-at t i idle low) = down (suc (topOf (f t))) t (omega arith) i idle low
+  room-takes (room-at t i idle low) = down (suc (highestWholeIn (f t))) t (omega arith) i idle low
 
 -- so a single call finds its slot in the reuse chain: of 28 only the live count is left
 pub room-reuse : (f : Table) (n : ℕ) (reuse : List ℕ) → RoomToTake f n → Spares f n reuse → length (takenOf f n 1 reuse) ≡ 1
@@ -74,9 +74,9 @@ room-reuse f n reuse r sp = go (room-takes f n r)
 -- a table equal at its slots
 pub room-same : (f f′ : Table) (n : ℕ) → ((t : ℕ) → Slot n t → f′ t ≡ f t) → RoomToTake f n → RoomToTake f′ n
 room-same f f′ n h (room-at t i idle low) =
-    room-at t i (same-live f f′ n h t i ∙ idle) (λ c. omega (arith, ap topOf (h t i), same-highest-valid f f′ n h, low (sym (ap isRecord (h t i)) ∙ c)))
+    room-at t i (same-live f f′ n h t i ∙ idle) (λ c. omega (arith, ap highestWholeIn (h t i), same-highest-valid f f′ n h, low (sym (ap isRecord (h t i)) ∙ c)))
 
-module _ {f f′ : Table} {num num′ : Numbers} {n w : ℕ} {taken : List ℕ} {new : Table}
+module _ {f f′ : Table} {num num′ : SizeFields} {n w : ℕ} {taken : List ℕ} {new : Table}
     (b : Basket f num n w taken new) (st : Struck f f′ num num′ n taken new) where
   -- a cut keeps it: a slot taken that has no record now may be taken, or the settled table is as before
   pub unfinished-room : Unfinished f′ taken new → RoomToTake f n → RoomToTake (settled f′ num′ n) n
@@ -112,5 +112,5 @@ module _ {f f′ : Table} {num num′ : Numbers} {n w : ℕ} {taken : List ℕ} 
       go (passes s i q) =
           let out = not-member taken s (not-true (member taken s) (both-left (not (member taken s)) _ q)) in
           room-at s i (not-true (live f′ n s) (both-right (not (member taken s)) _ q))
-          (λ c. omega (arith, ap topOf (not-taken b st s i out .0), b .above s i, finished-highest-valid b st z))
+          (λ c. omega (arith, ap highestWholeIn (not-taken b st s i out .0), b .above s i, finished-highest-valid b st z))
       go (none-passes none) = absurd (by-gap none (room-spare f′ n left))

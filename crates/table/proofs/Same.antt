@@ -8,7 +8,7 @@ use Rattle.prelude.proofs.Choice.{true-false}
 use Rattle.prelude.proofs.Count.{count-same}
 use Rattle.prelude.proofs.Most.{greatest-same}
 use Rattle.table.specs.Table.{mapOf, live, liveCount}
-use Rattle.table.specs.Taking.{highestValid, validVersion}
+use Rattle.table.specs.Takeable.{highestValid, validVersion}
 use Rattle.table.proofs.defs.Write.{Free}
 use Rattle.table.proofs.Map.{map-kept, live-kept}
 

@@ -5,14 +5,14 @@ use mathlib.Core.List.{List}
 use Prim.Native.Nat.{ℕ, _≤_, _<_}
 use native.Mathlib.Omega.{arith}
 use lib.ListN.{length}
-use Rattle.layout.specs.Content.{Table, broken, topOf}
+use Rattle.layout.specs.Content.{Table, broken, highestWholeIn}
 use Rattle.prelude.specs.Members.{In, Slot}
 use Rattle.prelude.proofs.defs.Among.{member}
 use Rattle.prelude.proofs.Among.{member-in, not-member, in-member, count-member}
 use Rattle.prelude.proofs.Choice.{is-false, true-false, same-test}
 use Rattle.prelude.proofs.Count.{count-fewer}
 use Rattle.prelude.proofs.Lists.{some-element}
-use Rattle.table.specs.Complete.{Numbers, numberFor, hasVersion, sharers, highestComplete}
+use Rattle.table.specs.Complete.{SizeFields, sizeFieldFor, hasVersion, sharers, highestComplete}
 use Rattle.table.specs.Table.{isRecord}
 use Rattle.table.proofs.defs.Basket.{Basket}
 use Rattle.table.proofs.defs.Struck.{Struck, SlotAfter, kept, lost, done}
@@ -20,20 +20,20 @@ use Rattle.table.proofs.defs.Write.{Free}
 use Rattle.table.proofs.Complete.{has-version, version-top, version-record, highest-complete-is, HighestComplete, none-complete, completed, not-void-below, version-same}
 use Rattle.table.proofs.OneSlot.{broken-no-record}
 use Rattle.table.proofs.Shared.{agreed-apart}
-use Rattle.table.proofs.Taking.{may-free, may-higher, higher, Higher}
+use Rattle.table.proofs.Takeable.{may-free, may-higher, higher, Higher}
 
-module _ {f f′ : Table} {num num′ : Numbers} {n w : ℕ} {taken : List ℕ} {new : Table}
+module _ {f f′ : Table} {num num′ : SizeFields} {n w : ℕ} {taken : List ℕ} {new : Table}
     (b : Basket f num n w taken new) (st : Struck f f′ num num′ n taken new) where
   -- a slot now: as it was, broken, or with its new record
   data Now (t : ℕ) : Type 0 where
     as-was : f′ t ≡ f t → num′ t ≡ num t → Now t
     broke : In t taken → (x : ℕ) → f′ t ≡ broken x → Now t
-    wrote : In t taken → f′ t ≡ new t → num′ t ≡ numberFor (length taken) → Now t
+    wrote : In t taken → f′ t ≡ new t → num′ t ≡ sizeFieldFor (length taken) → Now t
 
   now : (t : ℕ) → Slot n t → Now t
   now t i = go (member taken t) refl
     where
-      by : In t taken → SlotAfter (f t) (new t) (f′ t) (num t) (numberFor (length taken)) (num′ t) → Now t
+      by : In t taken → SlotAfter (f t) (new t) (f′ t) (num t) (sizeFieldFor (length taken)) (num′ t) → Now t
       by j (kept e d) = as-was e d
       by j (lost x e) = broke j x e
       by j (done e d) = wrote j e d
@@ -44,18 +44,18 @@ module _ {f f′ : Table} {num num′ : Numbers} {n w : ℕ} {taken : List ℕ} 
 
   -- the slots with version w are those with their new record
   pub data NewOrOld (t : ℕ) : Type 0 where
-    is-new : In t taken → f′ t ≡ new t → num′ t ≡ numberFor (length taken) → hasVersion f′ w t ≡ true → NewOrOld t
+    is-new : In t taken → f′ t ≡ new t → num′ t ≡ sizeFieldFor (length taken) → hasVersion f′ w t ≡ true → NewOrOld t
     is-old : hasVersion f′ w t ≡ false → (isRecord (f′ t) ≡ true → (f′ t ≡ f t) × (num′ t ≡ num t)) → NewOrOld t
 
   pub new-version : (t : ℕ) → In t taken → f′ t ≡ new t → hasVersion f′ w t ≡ true
-  new-version t j e = has-version f′ w t (ap isRecord e ∙ b .records t j .counted) (ap topOf e ∙ b .records t j .tops)
+  new-version t j e = has-version f′ w t (ap isRecord e ∙ b .records t j .counted) (ap highestWholeIn e ∙ b .records t j .tops)
 
   pub new-or-old : (t : ℕ) → Slot n t → NewOrOld t
   new-or-old t i = go (now t i)
     where
       go : Now t → NewOrOld t
       go (as-was e d) =
-          is-old (is-false (hasVersion f′ w t) (λ c. omega (arith, version-top f′ w t c, ap topOf e, b .above t i))) (λ c. (e, d))
+          is-old (is-false (hasVersion f′ w t) (λ c. omega (arith, version-top f′ w t c, ap highestWholeIn e, b .above t i))) (λ c. (e, d))
       go (broke j x e) =
           is-old (is-false (hasVersion f′ w t) (λ c. true-false (version-record f′ w t c) (broken-no-record (f′ t) x e)))
           (λ c. absurd (true-false c (broken-no-record (f′ t) x e)))
@@ -68,20 +68,20 @@ module _ {f f′ : Table} {num num′ : Numbers} {n w : ℕ} {taken : List ℕ} 
       go (is-new j q d a) = absurd (true-false a e)
       go (is-old a h) = h c
 
-  pub new-is : (t : ℕ) → Slot n t → hasVersion f′ w t ≡ true → (j : In t taken) × (f′ t ≡ new t) × (num′ t ≡ numberFor (length taken))
+  pub new-is : (t : ℕ) → Slot n t → hasVersion f′ w t ≡ true → (j : In t taken) × (f′ t ≡ new t) × (num′ t ≡ sizeFieldFor (length taken))
   new-is t i e = go (new-or-old t i)
     where
-      go : NewOrOld t → (j : In t taken) × (f′ t ≡ new t) × (num′ t ≡ numberFor (length taken))
+      go : NewOrOld t → (j : In t taken) × (f′ t ≡ new t) × (num′ t ≡ sizeFieldFor (length taken))
       go (is-new j q d a) = (j, q, d)
       go (is-old a h) = absurd (true-false e a)
 
   -- every valid version is at most w, and below it but for the new records
-  pub version-most : (t : ℕ) → Slot n t → isRecord (f′ t) ≡ true → topOf (f′ t) ≤ w
+  pub version-most : (t : ℕ) → Slot n t → isRecord (f′ t) ≡ true → highestWholeIn (f′ t) ≤ w
   version-most t i c = go (new-or-old t i)
     where
-      go : NewOrOld t → topOf (f′ t) ≤ w
+      go : NewOrOld t → highestWholeIn (f′ t) ≤ w
       go (is-new j q d a) = omega (arith, version-top f′ w t a)
-      go (is-old a h) = omega (arith, ap topOf (h c .0), b .above t i)
+      go (is-old a h) = omega (arith, ap highestWholeIn (h c .0), b .above t i)
 
   -- versions are not 0
   w-some : 0 < w
@@ -106,10 +106,10 @@ module _ {f f′ : Table} {num num′ : Numbers} {n w : ℕ} {taken : List ℕ} 
       go (completed s i e q) = omega (arith, b .above s i)
 
   -- the slots of the highest complete version before the call are not taken
-  pub highest-kept : (t : ℕ) → Slot n t → isRecord (f t) ≡ true → topOf (f t) ≡ highestComplete f num n → In t taken → ⊥
+  pub highest-kept : (t : ℕ) → Slot n t → isRecord (f t) ≡ true → highestWholeIn (f t) ≡ highestComplete f num n → In t taken → ⊥
   highest-kept t i c e j = go (may-higher f n t (b .may t j) c)
     where
-      go : Higher f n (topOf (f t)) → ⊥
+      go : Higher f n (highestWholeIn (f t)) → ⊥
       go (higher s k d l) = omega (arith, not-void-below f num n s (b .none-void s k) d)
 
   pub not-taken : (t : ℕ) → Slot n t → (In t taken → ⊥) → (f′ t ≡ f t) × (num′ t ≡ num t)

@@ -16,10 +16,10 @@ use Rattle.prelude.proofs.Among.{member-in, not-member, count-member, in-member
 use Rattle.prelude.proofs.Any.{passing, Passing, passes, none-passes}
 use Rattle.prelude.proofs.Choice.{both, both-right, both-left, is-false, true-false, pick-false}
 use Rattle.prelude.proofs.Count.{count-same, count-fewer}
-use Rattle.table.specs.Complete.{Numbers, settled}
+use Rattle.table.specs.Complete.{SizeFields, settled}
 use Rattle.table.specs.Reuse.{BrokenFirst}
 use Rattle.table.specs.Table.{isBroken, brokenCount, brokenLimit, isRecord}
-use Rattle.table.specs.Taking.{mayTake, takenOf, takeableIf}
+use Rattle.table.specs.Takeable.{mayTake, takenOf, takeableIf}
 use Rattle.table.proofs.defs.Basket.{Basket}
 use Rattle.table.proofs.defs.Reuse.{Spares}
 use Rattle.table.proofs.defs.ReuseAfter.{BrokenTaken}
@@ -30,7 +30,7 @@ use Rattle.table.proofs.Finished.{finished-or, finished-settled}
 use Rattle.table.proofs.Struck.{not-taken}
 use Rattle.table.proofs.Unfinished.{unfinished-outside}
 
-module _ {f f′ : Table} {num num′ : Numbers} {n w : ℕ} {taken : List ℕ} {new : Table}
+module _ {f f′ : Table} {num num′ : SizeFields} {n w : ℕ} {taken : List ℕ} {new : Table}
     (b : Basket f num n w taken new) (st : Struck f f′ num num′ n taken new) where
   -- outside the slots taken nothing becomes void or broken
   pub settled-outside : (t : ℕ) → Slot n t → (In t taken → ⊥) → settled f′ num′ n t ≡ f t

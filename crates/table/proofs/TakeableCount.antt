@@ -16,7 +16,7 @@ use Rattle.prelude.proofs.Count.{count-same}
 use Rattle.prelude.proofs.Lists.{front-length}
 use Rattle.sorting.proofs.Order.{once-filter, filter-in, in-filter, filter-holds}
 use Rattle.table.specs.Table.{spare, live}
-use Rattle.table.specs.Taking.{mayTake, takeableCount, takenOf}
+use Rattle.table.specs.Takeable.{mayTake, takeableCount, takenOf}
 use Rattle.table.proofs.defs.Reuse.{Spares}
 
 -- as many slots of reuse may be taken as the table says

@@ -6,14 +6,14 @@ use Prim.Native.Nat.{ℕ, _≤_, _<_}
 use native.Mathlib.Omega.{arith}
 use lib.ListN.{length}
 use borrow.Author.Tests.{not-true}
-use Rattle.layout.specs.Content.{Table, topOf}
+use Rattle.layout.specs.Content.{Table, highestWholeIn}
 use Rattle.prelude.specs.Members.{Slot, In}
 use Rattle.prelude.specs.Range.{count}
 use Rattle.prelude.proofs.defs.Among.{member}
 use Rattle.prelude.proofs.Among.{in-member, count-member, not-member}
 use Rattle.prelude.proofs.Choice.{is-false, true-false, same-test, both, both-left, both-right}
 use Rattle.prelude.proofs.Count.{count-less}
-use Rattle.table.specs.Complete.{Numbers, sharers, hasVersion, complete, said, highestComplete, isVoid, settled}
+use Rattle.table.specs.Complete.{SizeFields, sharers, hasVersion, complete, basketSize, highestComplete, isVoid, settled}
 use Rattle.table.specs.Table.{isRecord, mapOf, live, liveCount}
 use Rattle.table.proofs.defs.Basket.{Basket}
 use Rattle.table.proofs.defs.Struck.{Struck, Unfinished, unfinished}
@@ -24,7 +24,7 @@ use Rattle.table.proofs.OneSlot.{broken-no-record, no-record-weight}
 use Rattle.table.proofs.Same.{same-count}
 use Rattle.table.proofs.Struck.{new-is, old-same, not-taken, highest-kept, highest-has-version, highest-below, taken-free}
 
-module _ {f f′ : Table} {num num′ : Numbers} {n w : ℕ} {taken : List ℕ} {new : Table}
+module _ {f f′ : Table} {num num′ : SizeFields} {n w : ℕ} {taken : List ℕ} {new : Table}
     (b : Basket f num n w taken new) (st : Struck f f′ num num′ n taken new) (u : Unfinished f′ taken new) where
   pub sharers-less : sharers f′ n w < length taken
   unfolding sharers
@@ -47,7 +47,7 @@ module _ {f f′ : Table} {num num′ : Numbers} {n w : ℕ} {taken : List ℕ} 
         arith,
         complete-enough f′ num′ n t c,
         ap (sharers f′ n) (version-top f′ w t e),
-        ap said (new-is b st t i e .2),
+        ap basketSize (new-is b st t i e .2),
         said-for (length taken) (b .some),
         sharers-less,
       ))
@@ -59,11 +59,11 @@ module _ {f f′ : Table} {num num′ : Numbers} {n w : ℕ} {taken : List ℕ} 
       at-most : highestComplete f′ num′ n ≤ highestComplete f num n
       at-most = highest-complete-least f′ num′ n (highestComplete f num n) (λ t i c. go t i c (hasVersion f′ w t) refl)
         where
-          go : (t : ℕ) → Slot n t → complete f′ num′ n t ≡ true → (x : Bool) → hasVersion f′ w t ≡ x → topOf (f′ t) ≤ highestComplete f num n
+          go : (t : ℕ) → Slot n t → complete f′ num′ n t ≡ true → (x : Bool) → hasVersion f′ w t ≡ x → highestWholeIn (f′ t) ≤ highestComplete f num n
           go t i c true e = absurd (true-false c (incomplete t i e))
           go t i c false e =
               let q = old-same b st t i e (complete-record f′ num′ n t c) .0 in
-              omega (arith, ap topOf q, not-void-below f num n t (b .none-void t i) (sym (ap isRecord q) ∙ complete-record f′ num′ n t c))
+              omega (arith, ap highestWholeIn q, not-void-below f num n t (b .none-void t i) (sym (ap isRecord q) ∙ complete-record f′ num′ n t c))
 
       at-least : highestComplete f num n ≤ highestComplete f′ num′ n
       at-least = go (highest-complete-is f num n)
@@ -76,9 +76,9 @@ module _ {f f′ : Table} {num num′ : Numbers} {n w : ℕ} {taken : List ℕ} 
               let same = sharers-same f f′ n (highestComplete f num n) (highest-has-version b st) in
               omega (
                 arith,
-                ap topOf (k .0),
+                ap highestWholeIn (k .0),
                 highest-complete-above f′ num′ n s i (complete-is f′ num′ n s (ap isRecord (k .0) ∙ c)
-                    (omega (arith, complete-enough f num n s e, ap said (k .1), ap (sharers f n) q, ap (sharers f′ n) (ap topOf (k .0) ∙ q), same))),
+                    (omega (arith, complete-enough f num n s e, ap basketSize (k .1), ap (sharers f n) q, ap (sharers f′ n) (ap highestWholeIn (k .0) ∙ q), same))),
               )
 
   -- THE RECORDS WRITTEN ARE VOID, and no others
@@ -97,7 +97,7 @@ module _ {f f′ : Table} {num num′ : Numbers} {n w : ℕ} {taken : List ℕ} 
                 arith,
                 void-above f′ num′ n t e,
                 unfinished-highest-complete,
-                ap topOf q,
+                ap highestWholeIn q,
                 not-void-below f num n t (b .none-void t i) (sym (ap isRecord q) ∙ c),
               ))
 

@@ -1,4 +1,5 @@
--- The classes of slots that the content of a slot alone tells: broken (`isBroken` of Table), empty, and of the valid ones put and remove (`isRemove` of Taking).
+-- The classes of slots that the content of a slot alone tells: broken (`isBroken` of Table), empty, and of the valid
+-- ones put and remove (`isRemove` of Taking).
 use mathlib.Core.Bool.{Bool, true, false}
 use Rattle.layout.specs.Content.{Content, broken, empty, putRecord, removeRecord}
 

@@ -5,5 +5,5 @@ pub mod Reuse
 pub mod Keys
 pub mod Complete
 pub mod Shared
-pub mod Taking
+pub mod Takeable
 pub mod Class

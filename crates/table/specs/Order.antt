@@ -20,7 +20,8 @@ rankOf (removeRecord version key) = 2 + version
 unfoldable pub ordered : Table → List ℕ → List ℕ
 ordered f xs = sorted (λ s. rankOf (f s)) xs
 
--- "Recovery orders each head's chain by rising version", and document 02, A.7: "Recovery settles ties in a head's chain by slot number too": the live slots whose key belongs to head h; `head` gives a key's head
+-- "Recovery orders each head's chain by rising version", and document 02, A.7: "Recovery settles ties in a head's chain
+-- by slot number too": the live slots whose key belongs to head h; `head` gives a key's head
 unfoldable pub chainOf : Table → (n : ℕ) → (head : ℕ → ℕ) → (h : ℕ) → List ℕ
 chainOf f n head h = ordered f (filter (λ s. live f n s && eqb (head (keyIn (f s))) h) (slotNumbers n))
 

@@ -1,11 +1,12 @@
--- The table of an image, f : what each of the slots 1 to n holds. Document 01, "Which record counts" and "How a call writes".
+-- The table of an image, f : what each of the slots 1 to n holds. Document 01, "Which record counts" and "How a call
+-- writes".
 use mathlib.Core.Bool.{Bool, true, false, cond, not}
 use mathlib.Core.Option.{Option, some, none}
 use mathlib.Core.List.{List, [], _∷_}
 use Prim.Native.Nat.{ℕ, zero, suc}
 use lib.Dec.{eqb, ltb}
 use Rattle.prelude.specs.Range.{greatest, topmost, count}
-use Rattle.layout.specs.Content.{Content, broken, empty, putRecord, removeRecord, topOf, Table}
+use Rattle.layout.specs.Content.{Content, broken, empty, putRecord, removeRecord, highestWholeIn, Table}
 
 -- does the slot's record count: is the slot valid?
 unfoldable pub isRecord : Content → Bool
@@ -29,23 +30,24 @@ keyIn (putRecord version key value) = key
 keyIn (removeRecord version key) = key
 
 -- one more than the version of a record of key k; 0 for any other content
-unfoldable pub weight : (k : ℕ) → Content → ℕ
-weight k (broken top) = 0
-weight k empty = 0
-weight k (putRecord version key value) = cond (eqb key k) (suc version) 0
-weight k (removeRecord version key) = cond (eqb key k) (suc version) 0
+unfoldable pub rankForKey : (k : ℕ) → Content → ℕ
+rankForKey k (broken top) = 0
+rankForKey k empty = 0
+rankForKey k (putRecord version key value) = cond (eqb key k) (suc version) 0
+rankForKey k (removeRecord version key) = cond (eqb key k) (suc version) 0
 
--- "The next version is one more than the highest version on any whole line of slots 1 to N, lines of broken slots included; with no line whole it is 1"
+-- "The next version is one more than the highest version on any whole line of slots 1 to N, lines of broken slots
+-- included; with no line whole it is 1"
 unfoldable pub nextVersion : Table → (n : ℕ) → ℕ
-nextVersion f n = suc (greatest (λ s. topOf (f s)) n)
+nextVersion f n = suc (greatest (λ s. highestWholeIn (f s)) n)
 
 -- "For each key the valid slot with the greatest version decides": that slot, 0 if there is none
 unfoldable pub decider : Table → (n k : ℕ) → ℕ
-decider f n k = topmost (λ s. weight k (f s)) n
+decider f n k = topmost (λ s. rankForKey k (f s)) n
 
 -- that slot and its version, for a key that is held
 unfoldable pub holder : Table → (n k : ℕ) → List ℕ
-holder f n k = decider f n k ∷ topOf (f (decider f n k)) ∷ []
+holder f n k = decider f n k ∷ highestWholeIn (f (decider f n k)) ∷ []
 
 -- "a put gives the value, a remove means absent"
 unfoldable pub valueIn : Content → Option (List ℕ)
@@ -86,7 +88,8 @@ liveCount f n = count (live f n) n
 unfoldable pub brokenCount : Table → (n : ℕ) → ℕ
 brokenCount f n = count (λ s. isBroken (f s)) n
 
--- document 02, A.7: "A void slot stands with the broken ones, in the reuse chain and in A.6's limit, now eight together"
+-- document 02, A.7: "A void slot stands with the broken ones, in the reuse chain and in A.6's limit, now eight
+-- together"
 unfoldable pub brokenLimit : ℕ
 brokenLimit = 8
 

@@ -1,4 +1,5 @@
--- The forms of a line. Document 01, "The trial session": "lines of decimal numbers with one space between", after a letter.
+-- The forms of a line. Document 01, "The trial session": "lines of decimal numbers with one space between", after a
+-- letter.
 use mathlib.Core.Bool.{Bool, true, false, cond}
 use mathlib.Core.List.{List, [], _∷_}
 use Prim.Native.Nat.{ℕ, _+_, _-_, _*_, _^_}

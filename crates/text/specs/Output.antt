@@ -1,5 +1,5 @@
--- A line of output. Document 01, "The trial session": `ok N`, `ok slot version`, `found W`, `absent`, `cut A B`, and `no` with a refusal's number. Document
--- 02, A.9: "A line must read `80 1`, or `81 81` ..; all else prints nothing".
+-- A line of output. Document 01, "The trial session": `ok N`, `ok slot version`, `found W`, `absent`, `cut A B`, and
+-- `no` with a refusal's number. Document 02, A.9: "A line must read `80 1`, or `81 81` ..; all else prints nothing".
 use mathlib.Core.Bool.{cond}
 use mathlib.Core.List.{List, [], _∷_, _++_}
 use Prim.Native.Nat.{ℕ, zero, suc, _+_, _/_, _%_}
@@ -18,7 +18,8 @@ pub data Printed : Type 0 where
 
 -- ---- as bytes
 
--- the decimal digits of n, at most `places`, and after them the bytes `rest`: of a number below 10, its one digit; of another, the digits of its tenth and its last one
+-- the decimal digits of n, at most `places`, and after them the bytes `rest`: of a number below 10, its one digit; of
+-- another, the digits of its tenth and its last one
 unfoldable pub digitsOnto : (places n : ℕ) → (rest : List ℕ) → List ℕ
 digitsOnto zero n rest = rest
 digitsOnto (suc places) n rest = cond (ltb n 10) ((48 + n) ∷ rest) (digitsOnto places (n / 10) ((48 + n % 10) ∷ rest))

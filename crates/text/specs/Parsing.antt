@@ -1,4 +1,5 @@
--- A line read byte by byte, with what was read so far kept in a `Parse`. The law `parsed` says that this finds the line of all its bytes.
+-- A line read byte by byte, with what was read so far kept in a `Parse`. The law `parsed` says that this finds the line
+-- of all its bytes.
 use mathlib.Core.Bool.{cond}
 use Prim.Native.Nat.{ℕ, _+_, _-_, _*_, _^_}
 use lib.Dec.{eqb, ltb}

@@ -17,7 +17,8 @@ pub enum Digits {
     NotNumber,
 }
 
-// The part of a line that was read: nothing, its letter, up to its first number, up to its second number, or what no line starts with.
+// The part of a line that was read: nothing, its letter, up to its first number, up to its second number, or what no
+// line starts with.
 pub enum Parse {
     Start,
     Letter(u8),
@@ -33,8 +34,8 @@ pub enum Parse {
     NotLine,
 }
 
-// A step's answer: an accepted n, the slot taken and the version, the word found, absent, the cut that now waits, or a refusal; in a trace the counts of a
-// call's cuts, or nothing.
+// A step's answer: an accepted n, the slot taken and the version, the word found, absent, the cut that now waits, or a
+// refusal; in a trace the counts of a call's cuts, or nothing.
 pub enum Reply {
     Made(u64),
     Stored { slot: u32, version: u64 },

@@ -104,7 +104,7 @@ fn after_other(parse: Parse, byte: u8) -> Parse
 
 // One more byte of the line.
 pub fn feed(parse: Parse, byte: u8) -> Parse
-    ensures { λ r. ⌜ r ≡ fed parse byte ⌝ }
+    ensures result { λ r. ⌜ r ≡ fed parse byte ⌝ }
 {
     if byte == 32 {
         return after_space(parse);
@@ -171,7 +171,7 @@ fn end_two(letter: u8, first: u64, digits: Digits) -> Line
 
 // The line ends here.
 pub fn finish(parse: Parse) -> Line
-    ensures { λ r. ⌜ r ≡ lineRead parse ⌝ }
+    ensures result { λ r. ⌜ r ≡ lineRead parse ⌝ }
 {
     match parse {
         Parse::Start => Line::Bad,

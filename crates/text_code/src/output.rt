@@ -67,7 +67,7 @@ fn store_line(out: &mut [u8], at: usize, word: &[u8], numbers: &[u64]) -> usize
 // The word and one number after it.
 pub fn store_one(out: &mut [u8], at: usize, word: &[u8], n: u64) -> usize
     requires { ⌜ at + length (now word) + 22 ≤ length (now out) ⌝ }
-    ensures { λ r. ⌜ Wrote (now (out .entry)) (now (out .exit)) at r (now (word .entry) ++ numbersText (n ∷ [])) ⌝ }
+    ensures result { λ r. ⌜ Wrote (now (out .entry)) (now (out .exit)) at r (now (word .entry) ++ numbersText (n ∷ [])) ⌝ }
 {
     store_line(out, at, word, &[n])
 }
@@ -75,7 +75,7 @@ pub fn store_one(out: &mut [u8], at: usize, word: &[u8], n: u64) -> usize
 // Numbers alone, with one space between: the position after them and the end of the line.
 pub fn store_numbers(out: &mut [u8], at: usize, first: u64, rest: &[u64]) -> usize
     requires { ⌜ at + 21 * length (now rest) + 21 ≤ length (now out) ⌝ }
-    ensures { λ r. ⌜ Wrote (now (out .entry)) (now (out .exit)) at r (lineText (first ∷ now (rest .entry))) ⌝ }
+    ensures result { λ r. ⌜ Wrote (now (out .entry)) (now (out .exit)) at r (lineText (first ∷ now (rest .entry))) ⌝ }
 {
     let mut space = [0u8; 20];
     let from = store_digits(first, &mut space);
@@ -109,9 +109,10 @@ fn store_reply(reply: Reply, out: &mut [u8], at: usize) -> usize
     }
 }
 
-// The answer's line is stored from position at on: the position after it. Where fewer than 64 bytes are left, nothing is stored.
+// The answer's line is stored from position at on: the position after it. Where fewer than 64 bytes are left, nothing
+// is stored.
 pub fn render(reply: Reply, out: &mut [u8], at: usize) -> usize
-    ensures { λ r. ⌜ renderEnd r (now (out .exit)) ≡ renderResult (replySays reply) (now (out .entry)) at ⌝ }
+    ensures result { λ r. ⌜ renderEnd r (now (out .exit)) ≡ renderResult (replySays reply) (now (out .entry)) at ⌝ }
 {
     if out.len() < at {
         return at;

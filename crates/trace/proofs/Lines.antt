@@ -11,10 +11,10 @@ use lib.ListN.{length, take, replicate}
 use lib.Seq.{length-take-le}
 use Rattle.prelude.specs.Answer.{Answer, gives, absent, refused}
 use Rattle.prelude.proofs.Refusals.{taken-leaves, refused-keeps}
-use Rattle.face.specs.Laws.{Writes, write-writes, remove-writes, SetLaws}
-use Rattle.face.specs.CutCount.{dueCounts, CutsCounted}
-use Rattle.face.proofs.Stored.{refusal-still}
-use Rattle.face.specs.Set.{Store, wordNumbers, values, World, Call, write, remove, get, Called, called, calledChange, calledGet, ChangeResult, PlainMap, isHeld, Typed, write-typed, remove-typed, cutCountResult, earlierCount, laterCount}
+use Rattle.interface.specs.Laws.{Writes, write-writes, remove-writes, SetLaws}
+use Rattle.interface.specs.CutCount.{expectedCounts, CutsCounted}
+use Rattle.interface.proofs.Stored.{refusal-still}
+use Rattle.interface.specs.Set.{Store, wordNumbers, values, World, Call, write, remove, get, CallResult, callResult, PlainMap, isHeld, Typed, write-typed, remove-typed, cutCountResult, earlierCount, laterCount, readsOnly}
 use Rattle.text.specs.Output.{Printed, nothing, text, lineText}
 use Rattle.text.specs.declared.Line.{Line}
 use Rattle.text.specs.declared.Line.the-variants.{New, Write, Remove, Get, Cut, Bad}
@@ -39,14 +39,14 @@ no-text = refl
 -- the counts that a line prints are those of the call's cuts
 abbrev pub CountsEach : (Inv : World → PlainMap → Type 0) → (counts : World → PlainMap → Call → List ℕ) → Type 0
 CountsEach Inv counts =
-    (w : World) (m : PlainMap) → Inv w m → (call : Call) → Typed 1 call → (called 1 w call .stores ≡ [] → ⊥) → cutCounts w call ≡ counts w m call
+    (w : World) (m : PlainMap) → Inv w m → (call : Call) → Typed 1 call → (callResult 1 w call .stores ≡ [] → ⊥) → cutCounts w call ≡ counts w m call
 
 module _ (Inv : World → PlainMap → Type 0) (laws : SetLaws 1 Inv) (counted : CutsCounted 1 Inv) where
   -- by the cut rule these are 80 and 1, or 81 and 81
-  pub due-each : CountsEach Inv (λ w. dueCounts)
+  pub due-each : CountsEach Inv (λ w. expectedCounts)
   unfolding cutCounts
   due-each w m i call typed some-there =
-      counts-given (w .image) (called 1 w call .stores) (w .image) (w .image) _ (counted w m i call typed some-there (w .image) (w .image) refl refl)
+      counts-given (w .image) (callResult 1 w call .stores) (w .image) (w .image) _ (counted w m i call typed some-there (w .image) (w .image) refl refl)
 
   module _ (counts : World → PlainMap → Call → List ℕ) (each : CountsEach Inv counts) where
     -- ---- a call
@@ -54,37 +54,37 @@ module _ (Inv : World → PlainMap → Type 0) (laws : SetLaws 1 Inv) (counted :
     module _ (w : World) (m : PlainMap) (i : Inv w m) (call : Call) (typed : Typed 1 call) (writes : Writes call) (copy later : ℕ)
         (c : copy ≡ length (w .image)) (d : later ≡ length (w .image)) where
       -- nothing is stored
-      none-prints : called 1 w call .stores ≡ [] → text nothing ≡ storesPrint counts w m call (called 1 w call .stores)
+      none-prints : callResult 1 w call .stores ≡ [] → text nothing ≡ storesPrint counts w m call (callResult 1 w call .stores)
       unfolding storesPrint text
       none-prints e = sym (ap (storesPrint counts w m call) e)
 
-      some-prints : (ss : List Store) → called 1 w call .stores ≡ ss → (ss ≡ [] → ⊥) → lineText (counts w m call) ≡ storesPrint counts w m call ss
+      some-prints : (ss : List Store) → callResult 1 w call .stores ≡ ss → (ss ≡ [] → ⊥) → lineText (counts w m call) ≡ storesPrint counts w m call ss
       unfolding storesPrint
       some-prints [] e some-there = absurd (some-there refl)
       some-prints (s ∷ ss) e some-there = refl
 
       -- the counts are printed
-      stored-prints : (ss : List Store) → called 1 w call .stores ≡ ss → (called 1 w call .stores ≡ [] → ⊥)
-          → text (triedCounts (w .image) ss copy later) ≡ storesPrint counts w m call (called 1 w call .stores)
+      stored-prints : (ss : List Store) → callResult 1 w call .stores ≡ ss → (callResult 1 w call .stores ≡ [] → ⊥)
+          → text (triedCounts (w .image) ss copy later) ≡ storesPrint counts w m call (callResult 1 w call .stores)
       unfolding cutCounts
       stored-prints ss e some-there =
           ap (λ (x : List Store). text (triedCounts (w .image) x copy later)) (sym e)
-          ∙ ap₂ (λ (x y : ℕ). text (triedCounts (w .image) (called 1 w call .stores) x y)) c d
-          ∙ counts-printed (w .image) (called 1 w call .stores) (w .image) (w .image) _
+          ∙ ap₂ (λ (x y : ℕ). text (triedCounts (w .image) (callResult 1 w call .stores) x y)) c d
+          ∙ counts-printed (w .image) (callResult 1 w call .stores) (w .image) (w .image) _
           (counted w m i call typed some-there (w .image) (w .image) refl refl)
           ∙ ap lineText (each w m i call typed some-there)
-          ∙ some-prints (called 1 w call .stores) refl some-there
+          ∙ some-prints (callResult 1 w call .stores) refl some-there
 
-      pub change-prints : (r : ChangeResult) → called 1 w call ≡ calledChange r
-          → text (changeCounts (w .image) copy later r) ≡ storesPrint counts w m call (called 1 w call .stores)
-      unfolding changeCounts answerCounts calledChange
-      change-prints r e = go (r .answer) (ap (λ (x : Called). x .answer) e)
+      pub change-prints : (r : CallResult) → callResult 1 w call ≡ r
+          → text (changeCounts (w .image) copy later r) ≡ storesPrint counts w m call (callResult 1 w call .stores)
+      unfolding changeCounts answerCounts
+      change-prints r e = go (r .answer) (ap (λ (x : CallResult). x .answer) e)
         where
-          go : (answer : Answer) → called 1 w call .answer ≡ answer
-              → text (answerCounts (w .image) (r .stores) copy later answer) ≡ storesPrint counts w m call (called 1 w call .stores)
-          go (gives given) a = stored-prints (r .stores) (ap (λ (x : Called). x .stores) e) (laws .some-stores w m i call typed writes given a)
-          go absent a = none-prints (laws .answers w m i call typed .absent-still a .stores)
-          go (refused number) a = none-prints (refusal-still 1 w m call (laws .answers w m i call typed) number a .stores)
+          go : (answer : Answer) → callResult 1 w call .answer ≡ answer
+              → text (answerCounts (w .image) (r .stores) copy later answer) ≡ storesPrint counts w m call (callResult 1 w call .stores)
+          go (gives given) a = stored-prints (r .stores) (ap (λ (x : CallResult). x .stores) e) (laws .some-stores w m i call typed writes given a)
+          go absent a = none-prints (laws .answers w m i call typed .absent-still a .no-stores)
+          go (refused number) a = none-prints (refusal-still 1 w m call (laws .answers w m i call typed) number a .no-stores)
 
     -- ---- a line
 
@@ -106,7 +106,7 @@ module _ (Inv : World → PlainMap → Type 0) (laws : SetLaws 1 Inv) (counted :
       taken-prints : (line : Line) → SizedLine line → faultAt r line ≡ 0
           → text (frontCounts copy later line (r .session) (slotsFor line (r .session) + 1) (r .image) (r .heads) (r .next)) ≡
           callPrint counts (worldOf r) m (callIn m line)
-      unfolding frontCounts lineCounts callPrint callIn storesPrint text called calledGet slotsFor worldOf
+      unfolding frontCounts lineCounts callPrint callIn storesPrint text callResult readsOnly slotsFor worldOf
       taken-prints (New n) s z = refl
       taken-prints (Write key x) (sized-write p q) z =
           let t = has-set Inv laws r m (Write key x) refl z k in

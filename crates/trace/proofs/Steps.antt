@@ -7,9 +7,9 @@ use lib.ListN.{length, take, drop}
 use lib.Seq.{length-take-le}
 use Rattle.prelude.specs.Answer.{Answer, gives, absent, refused}
 use Rattle.prelude.proofs.Refusals.{taken-leaves, refused-keeps}
-use Rattle.face.specs.Laws.{write-writes, remove-writes}
-use Rattle.face.proofs.SetLaws.{layout-1, call-laws}
-use Rattle.face.specs.Set.{Store, Mode, World, write, remove, called, calledChange, handedOut, leftIn, ChangeResult, writeResult, removeResult}
+use Rattle.interface.specs.Laws.{write-writes, remove-writes}
+use Rattle.interface.proofs.SetLaws.{layout-1, call-laws}
+use Rattle.interface.specs.Set.{Store, Mode, World, write, remove, callResult, storesAfter, buffersAfter, writeResult, removeResult, CallResult, indexOf}
 use Rattle.text.specs.Output.{Printed, nothing}
 use Rattle.text.specs.declared.Line.{Line}
 use Rattle.session.specs.Step.{StepResult, leaves, slotsFor, lineFault, changeStep, lineStep, stepResult}
@@ -20,39 +20,39 @@ use Rattle.trace.specs.Step.{withoutCut, answerCounts, changeCounts, lin
 -- ---- the stores of a call
 
 -- what is printed by what a call left in the stores lent to it: they are looked at only where it handed stores out
-left-counts : (image : List ℕ) (copy later : ℕ) (lent : List Store) (c : ChangeResult)
-    → ((given : List ℕ) → c .answer ≡ gives given → handedOut (c .stores) lent ≡ c .stores)
-    → changeCounts image copy later (leftIn lent c) ≡ changeCounts image copy later c
-unfolding changeCounts answerCounts leftIn
+left-counts : (image : List ℕ) (copy later : ℕ) (lent : List Store) (c : CallResult)
+    → ((given : List ℕ) → c .answer ≡ gives given → storesAfter (c .stores) lent ≡ c .stores)
+    → changeCounts image copy later (buffersAfter lent c) ≡ changeCounts image copy later c
+unfolding changeCounts answerCounts buffersAfter
 left-counts image copy later lent c h = go (c .answer) h
   where
-    go : (answer : Answer) → ((given : List ℕ) → answer ≡ gives given → handedOut (c .stores) lent ≡ c .stores)
-        → answerCounts image (handedOut (c .stores) lent) copy later answer ≡ answerCounts image (c .stores) copy later answer
+    go : (answer : Answer) → ((given : List ℕ) → answer ≡ gives given → storesAfter (c .stores) lent ≡ c .stores)
+        → answerCounts image (storesAfter (c .stores) lent) copy later answer ≡ answerCounts image (c .stores) copy later answer
     go (gives given) out = ap (λ (ss : List Store). answerCounts image ss copy later (gives given)) (out given refl)
     go absent out = refl
     go (refused number) out = refl
 
 -- the step of a change
-abbrev pub changeTraced : Session → (image : List ℕ) → (copy later : ℕ) → ChangeResult → StepResult
+abbrev pub changeTraced : Session → (image : List ℕ) → (copy later : ℕ) → CallResult → StepResult
 changeTraced s image copy later c = printing (changeCounts image copy later c) (changeStep s image c)
 
 module _ (s : Session) (image heads next : List ℕ) (copy later : ℕ) (lent : List Store) where
   abbrev lineWorld : World
-  lineWorld = record { image = image; heads = heads; next = next; state = s .state }
+  lineWorld = record { image = image; index = indexOf heads next (s .state) }
 
   pub write-traced : (mode : Mode) (key : ℕ) (value : List ℕ)
-      → changeTraced s image copy later (leftIn lent (writeResult 1 image heads next (s .state) mode key value)) ≡
-      changeTraced s image copy later (writeResult 1 image heads next (s .state) mode key value)
-  unfolding called calledChange
+      → changeTraced s image copy later (buffersAfter lent (writeResult 1 image (indexOf heads next (s .state)) mode key value)) ≡
+      changeTraced s image copy later (writeResult 1 image (indexOf heads next (s .state)) mode key value)
+  unfolding callResult
   write-traced mode key value =
       ap₂ printing
       (left-counts image copy later lent _ (λ given e. call-laws 1 layout-1 .hands-out lineWorld (write mode key value) write-writes given e lent))
       (write-left s image heads next lent mode key value)
 
   pub remove-traced : (key : ℕ)
-      → changeTraced s image copy later (leftIn lent (removeResult 1 image heads next (s .state) key)) ≡
-      changeTraced s image copy later (removeResult 1 image heads next (s .state) key)
-  unfolding called calledChange
+      → changeTraced s image copy later (buffersAfter lent (removeResult 1 image (indexOf heads next (s .state)) key)) ≡
+      changeTraced s image copy later (removeResult 1 image (indexOf heads next (s .state)) key)
+  unfolding callResult
   remove-traced key =
       ap₂ printing
       (left-counts image copy later lent _ (λ given e. call-laws 1 layout-1 .hands-out lineWorld (remove key) remove-writes given e lent))

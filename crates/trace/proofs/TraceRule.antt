@@ -4,11 +4,11 @@ use mathlib.Core.Bool.{false}
 use mathlib.Core.List.{List, [], _∷_, _++_}
 use Prim.Native.Nat.{ℕ, _≤_}
 use lib.ListN.{length}
-use Rattle.face.specs.Laws.{SetLaws}
-use Rattle.face.specs.CutCount.{dueCounts, CutsCounted}
-use Rattle.face.proofs.SetLaws.{layout-1, set-laws}
-use Rattle.face.proofs.CutCounts.{cuts-counted}
-use Rattle.face.specs.Set.{Store, World, Call, PlainMap}
+use Rattle.interface.specs.Laws.{SetLaws}
+use Rattle.interface.specs.CutCount.{expectedCounts, CutsCounted}
+use Rattle.interface.proofs.SetLaws.{layout-1, set-laws}
+use Rattle.interface.proofs.CutCounts.{cuts-counted}
+use Rattle.interface.specs.Set.{Store, World, Call, PlainMap}
 use Rattle.prelude.specs.Answer.{Answer, gives, absent, refused}
 use Rattle.prelude.proofs.Refusals.{by-refusal}
 use Rattle.text.specs.Forms.{lineOf}
@@ -100,5 +100,5 @@ trace-rule copy later image heads next output c d room p m reads =
     let laws = set-laws 1 layout-1 in
     let cuts = cuts-counted 1 layout-1 in (
       written-prints _ laws cuts (λ w m. cutCounts w) (λ w m i call typed some-there. refl) copy later c d image heads next output room p m reads,
-      written-prints _ laws cuts (λ w. dueCounts) (due-each _ laws cuts) copy later c d image heads next output room p m reads,
+      written-prints _ laws cuts (λ w. expectedCounts) (due-each _ laws cuts) copy later c d image heads next output room p m reads,
     )

@@ -4,7 +4,7 @@ use Prim.Native.Nat.{ℕ, _+_, _*_, min}
 use lib.ListN.{length, take}
 use Rattle.prelude.specs.Refusal.{unlessRefused}
 use Rattle.prelude.specs.Answer.{Answer, gives, absent, refused}
-use Rattle.face.specs.Set.{Store, wordNumbers, values, ChangeResult, removeResult, cutCountFault, earlierCount, laterCount}
+use Rattle.interface.specs.Set.{Store, wordNumbers, values, removeResult, cutCountFault, earlierCount, laterCount, CallResult, indexOf}
 use Rattle.text.specs.Output.{Printed, counted, nothing}
 use Rattle.text.specs.declared.Line.{Line}
 use Rattle.text.specs.declared.Line.the-variants.{New, Write, Remove, Get, Cut, Bad}
@@ -22,8 +22,8 @@ withoutCut Bad = Bad
 
 -- ---- what a line prints; copy and later are the lengths of the two slices that `count_cuts` is lent
 
--- "try all 81 pairs of counts for its two lines, recover each, and print how many gave the earlier map and how many the later"; what `count_cuts` refuses
--- prints nothing
+-- "try all 81 pairs of counts for its two lines, recover each, and print how many gave the earlier map and how many the
+-- later"; what `count_cuts` refuses prints nothing
 unfoldable pub triedCounts : (image : List ℕ) → List Store → (copy later : ℕ) → Printed
 triedCounts image ss copy later =
     unlessRefused (cutCountFault 1 image (wordNumbers ss) copy later)
@@ -37,14 +37,14 @@ answerCounts image ss copy later absent = nothing
 answerCounts image ss copy later (refused number) = nothing
 
 -- by the result of a call that writes on this image
-unfoldable pub changeCounts : (image : List ℕ) → (copy later : ℕ) → ChangeResult → Printed
+unfoldable pub changeCounts : (image : List ℕ) → (copy later : ℕ) → CallResult → Printed
 changeCounts image copy later r = answerCounts image (r .stores) copy later (r .answer)
 
 -- a line on an image and an index of the set's size: "all else prints nothing"
 unfoldable pub lineCounts : (copy later : ℕ) → Line → Session → (image heads next : List ℕ) → Printed
 lineCounts copy later (New n) s image heads next = nothing
 lineCounts copy later (Write key w) s image heads next = changeCounts image copy later (wordChange key w (s .state) image heads next)
-lineCounts copy later (Remove key) s image heads next = changeCounts image copy later (removeResult 1 image heads next (s .state) key)
+lineCounts copy later (Remove key) s image heads next = changeCounts image copy later (removeResult 1 image (indexOf heads next (s .state)) key)
 lineCounts copy later (Get key) s image heads next = nothing
 lineCounts copy later (Cut a b) s image heads next = nothing
 lineCounts copy later Bad s image heads next = nothing

@@ -1,7 +1,8 @@
-// A line of a trace on an image and an index of the set's size: the session's line, and the counts of the cuts of a call that stores.
+// A line of a trace on an image and an index of the set's size: the session's line, and the counts of the cuts of a
+// call that stores.
 ghost use mathlib.Core.Path.{_≡_};
 ghost use lib.ListN.{length};
-ghost use Rattle.face.specs.Set.{zipped, changeEnd, changeSays};
+ghost use Rattle.interface.specs.Set.{zipped, changeEnd, changeSays};
 ghost use Rattle.text.specs.inner.Output.{replySays};
 ghost use Rattle.text.specs.Output.{nothing};
 ghost use Rattle.text.specs.declared.Line.the-variants.{Write, Remove};
@@ -70,8 +71,8 @@ fn trace_change(
 ) -> Stepped
     ensures step { λ r. ⌜ stepEnd r (now (image .exit)) (now (heads .exit)) (now (next .exit)) ≡
         printing (changeCounts (now (image .entry)) (length (now (copy .entry))) (length (now (later .entry)))
-        (changeEnd change (stores .at) (stores .value) (now (heads .entry)) (now (next .entry)) .left))
-        (changeStep session (now (image .entry)) (changeEnd change (stores .at) (stores .value) (now (heads .entry)) (now (next .entry)) .left)) ⌝ }
+        (changeEnd change (stores .at) (stores .value) (now (heads .entry)) (now (next .entry))))
+        (changeStep session (now (image .entry)) (changeEnd change (stores .at) (stores .value) (now (heads .entry)) (now (next .entry)))) ⌝ }
 {
     let reply = try_change(change, stores, image, copy, later);
     let stepped = carry_change(change, stores, session, image, heads, next);

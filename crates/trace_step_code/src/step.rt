@@ -26,8 +26,9 @@ fn without_cut(line: Line) -> Line
     }
 }
 
-// A line of a trace is the session's step, and the counts of the cuts of a call that stores are its answer. A refused line changes nothing. The cuts are tried
-// in the last two slices; where these are shorter than the set's image, nothing is counted.
+// A line of a trace is the session's step, and the counts of the cuts of a call that stores are its answer. A refused
+// line changes nothing. The cuts are tried in the last two slices; where these are shorter than the set's image,
+// nothing is counted.
 pub fn trace_step(
     line: Line,
     session: Session,

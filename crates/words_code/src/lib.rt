@@ -6,7 +6,7 @@ ghost use Rattle.words.specs.Word.{joined, word, setBytes, setWord};
 
 // The lesser of two numbers.
 pub fn lesser(a: usize, b: usize) -> usize
-    ensures { λ r. ⌜ r ≡ min a b ⌝ }
+    ensures result { λ r. ⌜ r ≡ min a b ⌝ }
 {
     if b < a {
         return b;
@@ -16,7 +16,7 @@ pub fn lesser(a: usize, b: usize) -> usize
 
 // The number whose bytes are b0 to b7, low byte first.
 pub fn join(b0: u8, b1: u8, b2: u8, b3: u8, b4: u8, b5: u8, b6: u8, b7: u8) -> u64
-    ensures { λ r. ⌜ r ≡ joined b0 b1 b2 b3 b4 b5 b6 b7 ⌝ }
+    ensures result { λ r. ⌜ r ≡ joined b0 b1 b2 b3 b4 b5 b6 b7 ⌝ }
 {
     b0 as u64
         | (b1 as u64) << 8
@@ -31,7 +31,7 @@ pub fn join(b0: u8, b1: u8, b2: u8, b3: u8, b4: u8, b5: u8, b6: u8, b7: u8) -> u
 // Word i of the image.
 pub fn read_word(image: &[u8], i: usize) -> u64
     requires { ⌜ 8 * i + 8 ≤ length (now image) ⌝ }
-    ensures { λ r. ⌜ r ≡ word (now (image .entry)) i ⌝ }
+    ensures result { λ r. ⌜ r ≡ word (now (image .entry)) i ⌝ }
 {
     let at = 8 * i;
     join(
@@ -49,7 +49,7 @@ pub fn read_word(image: &[u8], i: usize) -> u64
 // Word i of the image becomes v.
 pub fn write_word(image: &mut [u8], i: usize, v: u64)
     requires { ⌜ 8 * i + 8 ≤ length (now image) ⌝ }
-    ensures { λ _. ⌜ now (image .exit) ≡ setWord (now (image .entry)) i v ⌝ }
+    ensures result { λ _. ⌜ now (image .exit) ≡ setWord (now (image .entry)) i v ⌝ }
 {
     let at = 8 * i;
     image[at] = (v % 256) as u8;
@@ -79,7 +79,7 @@ fn write_bytes(image: &mut [u8], at: usize, n: usize, v: u64)
 // Word i of the first n bytes becomes v: a whole word, or the bytes of it that are among them.
 pub fn write_part(image: &mut [u8], i: usize, n: usize, v: u64)
     requires { ⌜ (8 * i ≤ n) × (n ≤ length (now image)) ⌝ }
-    ensures { λ _. ⌜ now (image .exit) ≡ setBytes (now (image .entry)) (8 * i) (min 8 (n - 8 * i)) v ⌝ }
+    ensures result { λ _. ⌜ now (image .exit) ≡ setBytes (now (image .entry)) (8 * i) (min 8 (n - 8 * i)) v ⌝ }
 {
     if i < n / 8 {
         write_word(image, i, v);
@@ -102,7 +102,7 @@ fn byte_or_zero(value: &[u8], i: usize) -> u8
 // Word i of the value, with zeros past its end: a whole word, no byte of one, or the bytes that there are.
 pub fn padded_word(value: &[u8], i: usize) -> u64
     requires { ⌜ i ≤ 65536 ⌝ }
-    ensures { λ r. ⌜ r ≡ word (now (value .entry)) i ⌝ }
+    ensures result { λ r. ⌜ r ≡ word (now (value .entry)) i ⌝ }
 {
     let at = 8 * i;
     if at + 8 <= value.len() {

@@ -1,7 +1,7 @@
 -- The events of the set's calls that events of book steps come to.
 use Prim.Native.Nat.{ℕ}
-use Rattle.face.specs.Set.{World, Call, PlainMap}
-use Rattle.face.specs.Event.{Event, done, struck}
+use Rattle.interface.specs.Set.{World, Call, PlainMap}
+use Rattle.interface.specs.Event.{Event, done, struck}
 use Rattle.book.specs.Steps.{Step}
 use Rattle.book.specs.Plain.{callFor}
 

@@ -4,7 +4,7 @@ use mathlib.Core.Option.{Option, some, none}
 use mathlib.Core.List.{[], _∷_}
 use Prim.Native.Nat.{ℕ}
 use Rattle.prelude.specs.Answer.{gives}
-use Rattle.face.specs.Set.{World, Call, called, calledChange, ChangeResult, PlainMap, dueAnswer, holder, nextVersion, tableOf, slotsIn}
+use Rattle.interface.specs.Set.{World, Call, callResult, PlainMap, expectedAnswer, holder, nextVersion, tableOf, slotsIn, CallResult}
 use Rattle.book.specs.Steps.{Step, already, declined, idle, asChange, Sought, order, none-there, booked}
 use Rattle.book.specs.Plain.{bookFault, stepCall, stepKey}
 use Rattle.book.specs.declared.Order.{Order}
@@ -18,7 +18,7 @@ soughtFor (some o) = order o
 pub record Declines (l : ℕ) (w : World) (m : PlainMap) (step : Step) (number : ℕ) : Type 0 where
   pub fault : bookFault m step ≡ number
   pub some : number ≡ 0 → ⊥
-  pub result : booked l w step ≡ idle (declined number) (w .state) (w .heads) (w .next)
+  pub result : booked l w step ≡ idle (declined number) (w .index)
 
 -- the step comes to no call
 pub record Repeats (l : ℕ) (w : World) (m : PlainMap) (step : Step) : Type 0 where
@@ -26,12 +26,12 @@ pub record Repeats (l : ℕ) (w : World) (m : PlainMap) (step : Step) : Type 0 w
   pub comes : stepCall m step ≡ none
   pub result :
       booked l w step ≡
-      idle (already (holder (tableOf l (w .image)) (slotsIn (w .image)) (stepKey step))) (w .state) (w .heads) (w .next)
+      idle (already (holder (tableOf l (w .image)) (slotsIn (w .image)) (stepKey step))) (w .index)
 
 -- the step comes to this call, which leaves c and which the plain map does not answer with absent
-pub record Calls (l : ℕ) (w : World) (m : PlainMap) (step : Step) (call : Call) (c : ChangeResult) : Type 0 where
+pub record Calls (l : ℕ) (w : World) (m : PlainMap) (step : Step) (call : Call) (c : CallResult) : Type 0 where
   pub fault : bookFault m step ≡ 0
   pub comes : stepCall m step ≡ some call
-  pub answer : dueAnswer l w m call ≡ gives (w .state .first ∷ nextVersion (tableOf l (w .image)) (slotsIn (w .image)) ∷ [])
-  pub change : called l w call ≡ calledChange c
+  pub answer : expectedAnswer l w m call ≡ gives (w .index .state .first ∷ nextVersion (tableOf l (w .image)) (slotsIn (w .image)) ∷ [])
+  pub change : callResult l w call ≡ c
   pub result : booked l w step ≡ asChange c

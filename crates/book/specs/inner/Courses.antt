@@ -5,7 +5,7 @@ use Prim.Native.Nat.{ℕ}
 use lib.Dec.{eqb, ltb}
 use Rattle.prelude.specs.Answer.{Answer, gives, absent, refused}
 use Rattle.prelude.specs.Refusal.{unlessRefused}
-use Rattle.face.specs.Set.{State, Mode, Insert, Replace, writeResultBy, removeResultBy}
+use Rattle.interface.specs.Set.{State, Mode, Insert, Replace, writeResultBy, removeResultBy, Index}
 use Rattle.book.specs.Orders.{orderBytes, isState, openOf, sent, acknowledged, filledBy}
 use Rattle.book.specs.Steps.{BookAnswer, already, declined, BookResult, idle, asChange, Sought, order, none-there, quantityFault}
 use Rattle.book.specs.declared.Order.{Order}
@@ -44,10 +44,10 @@ planSays (Already slot version) = answers (already (slot ∷ version ∷ []))
 planSays (Refused number) = answers (declined number)
 
 -- what it comes to
-unfoldable pub courseResult : (own : Bool) → (l : ℕ) → (image heads next : List ℕ) → State → (key : ℕ) → Course → BookResult
-courseResult own l image heads next s key (writes mode o) = asChange (writeResultBy own l image heads next s mode key (orderBytes o))
-courseResult own l image heads next s key removes = asChange (removeResultBy own l image heads next s key)
-courseResult own l image heads next s key (answers answer) = idle answer s heads next
+unfoldable pub courseResult : (own : Bool) → (l : ℕ) → (image : List ℕ) → Index → (key : ℕ) → Course → BookResult
+courseResult own l image i key (writes mode o) = asChange (writeResultBy own l image i mode key (orderBytes o))
+courseResult own l image i key removes = asChange (removeResultBy own l image i key)
+courseResult own l image i key (answers answer) = idle answer i
 
 -- ---- each step's, by what locate answers or what a seek finds
 

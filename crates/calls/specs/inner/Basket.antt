@@ -1,5 +1,5 @@
--- A basket as the functions have it: its keys, the slots of their old records and the slots taken stand in arrays. What is asked of the bytes of its values is their
--- count alone, so what is read before the writes holds for any `values`.
+-- A basket as the functions have it: its keys, the slots of their old records and the slots taken stand in arrays. What
+-- is asked of the bytes of its values is their count alone, so what is read before the writes holds for any `values`.
 use mathlib.Core.Path.{_≡_}
 use mathlib.Core.Bool.{Bool, not, cond}
 use mathlib.Core.List.{List, [], _∷_}
@@ -11,20 +11,24 @@ use Rattle.layout.specs.Record.{Layout, limit}
 use Rattle.layout.specs.inner.Sized.{Sized}
 use Rattle.stores.specs.Store.{zipped}
 use Rattle.stores.specs.Basket.{BasketRecord}
-use Rattle.index.specs.Index.{headOf}
+use Rattle.index.specs.Index.{Index, indexOf, headOf}
 use Rattle.index.specs.Walk.{search, chainFault}
 use Rattle.index.specs.Change.{isFound}
-use Rattle.index.specs.Taking.{Taking, taken}
+use Rattle.index.specs.Allocation.{Allocation, taken}
 use Rattle.index.specs.Basket.{Item}
 use Rattle.index.specs.inner.Basket.{takensFrom}
 use Rattle.index.specs.declared.State.{State}
 use Rattle.index.specs.declared.Action.{Action}
 use Rattle.index.specs.declared.Action.the-variants.{Insert, Replace, Remove}
 use Rattle.index.specs.declared.Found.{Found}
-use Rattle.taking.specs.Taking.{takingBy, choiceBy}
-use Rattle.taking.specs.declared.Choice.{Choice}
-use Rattle.calls.specs.Change.{ChangeResult, storeFault}
-use Rattle.calls.specs.Basket.{itemKey, itemAt, itemValue, changesOf, firstFault, actionFault, keysFault, basketFaultBy, kindBy, oldIn, sumOver, insertsBy, removesBy, BasketListLeft, basketListEnd, leftWith}
+use Rattle.allocation.specs.Allocation.{allocationBy, allocationChosenBy}
+use Rattle.allocation.specs.declared.Choice.{Choice}
+use Rattle.calls.specs.Change.{storeFault}
+use Rattle.calls.specs.Result.{CallResult}
+use Rattle.calls.specs.BasketItems.{itemKey, itemAt, itemValue, changesOf}
+use Rattle.calls.specs.BasketRefusals.{firstFault, actionFault, keysFault, basketFaultBy, sumOver, insertsBy, removesBy}
+use Rattle.calls.specs.BasketList.{BasketListBuffers, basketListEnd, leftWith}
+use Rattle.calls.specs.Basket.{kindBy, oldIn}
 use Rattle.calls.specs.declared.BasketItem.{BasketItem}
 use Rattle.calls.specs.declared.Olds.{Olds}
 use Rattle.calls.specs.declared.Totals.{Totals}
@@ -89,7 +93,7 @@ pub record TotalsOf (l count : ℕ) (items : List BasketItem) (t : Totals) : Typ
   pub removes-few : t .removes ≤ count
 
 -- c is the slots `choice` of a call that wants so many, or its refusal by the slots `taking` after those for its keys
-pub record StoreChoice (taking choice : Taking) (n : ℕ) (s : State) (wanted inserts removes : ℕ) (c : Choice) : Type 0 where
+pub record StoreChoice (taking choice : Allocation) (n : ℕ) (s : State) (wanted inserts removes : ℕ) (c : Choice) : Type 0 where
   pub fault-is : c .fault ≡ storeFault taking n s inserts removes
   pub slots-are : c .fault ≡ 0 → choice ≡ taken (takensFrom (c .slots) (c .prevs) 0 wanted)
   pub zeros : c .fault ≡ 0 → (j : ℕ) → wanted ≤ j → getD (c .slots) j 0 ≡ 0
@@ -98,10 +102,10 @@ pub record StoreChoice (taking choice : Taking) (n : ℕ) (s : State) (wanted in
 pub record KeysPlanned (own : Bool) (l : ℕ) (image heads next : List ℕ) (n : ℕ) (s : State) (count : ℕ) (items : List BasketItem) (p : Plan) : Type 0 where
   pub fault-is : (values : List ℕ) → p .fault
       ≡ orElse (keysFault (search l image heads next) (changesOf l count items values))
-      (storeFault (takingBy own l image next n (s .first) (s .newest) count) n s (sumOver insertsBy (changesOf l count items values))
+      (storeFault (allocationBy own l image next n (s .first) (s .newest) count) n s (sumOver insertsBy (changesOf l count items values))
       (sumOver removesBy (changesOf l count items values)))
   pub olds-are : p .fault ≡ 0 → (j : ℕ) → j < count → getD (p .olds) j 0 ≡ oldIn (search l image heads next (itemKeyAt l items j))
-  pub choice-is : p .fault ≡ 0 → choiceBy own l image next n (s .first) (s .newest) count ≡ taken (takensFrom (p .slots) (p .prevs) 0 count)
+  pub choice-is : p .fault ≡ 0 → allocationChosenBy own l image next n (s .first) (s .newest) count ≡ taken (takensFrom (p .slots) (p .prevs) 0 count)
   pub zeros : p .fault ≡ 0 → (j : ℕ) → count ≤ j → getD (p .slots) j 0 ≡ 0
 
 -- a basket that is not refused can be written by p; at and words are the lengths of the lent lists
@@ -113,7 +117,7 @@ pub record BasketReady (own : Bool) (l : ℕ) (image heads next : List ℕ) (n :
   pub words-room : 16 * count ≤ words
   pub size-fits : (j : ℕ) → j < count → sizeAt items j ≤ limit l
   pub olds-are : (j : ℕ) → j < count → getD (p .olds) j 0 ≡ oldIn (search l image heads next (itemKeyAt l items j))
-  pub choice-is : choiceBy own l image next n (s .first) (s .newest) count ≡ taken (takensFrom (p .slots) (p .prevs) 0 count)
+  pub choice-is : allocationChosenBy own l image next n (s .first) (s .newest) count ≡ taken (takensFrom (p .slots) (p .prevs) 0 count)
   pub zeros : (j : ℕ) → count ≤ j → getD (p .slots) j 0 ≡ 0
   pub last-in : s .last ≤ n
   pub version-fits : s .version < 2 ^ 63
@@ -122,7 +126,7 @@ pub record BasketReady (own : Bool) (l : ℕ) (image heads next : List ℕ) (n :
 
 -- p is what a basket reads
 pub record Planned (own : Bool) (l : ℕ) (image heads next : List ℕ) (n : ℕ) (s : State) (count : ℕ) (items : List BasketItem) (at words : ℕ) (p : Plan) : Type 0 where
-  pub fault-is : (values : List ℕ) → p .fault ≡ basketFaultBy own l image heads next s (changesOf l count items values) at words
+  pub fault-is : (values : List ℕ) → p .fault ≡ basketFaultBy own l image (indexOf heads next s) (changesOf l count items values) at words
   pub ready : p .fault ≡ 0 → BasketReady own l image heads next n s count items at words p
 
 -- ---- what the writes ask
@@ -160,12 +164,12 @@ unfoldable pub basketStoreCount : BasketOutcome → (count : ℕ) → ℕ
 basketStoreCount outcome count = cond (ltb 8 count) 0 (storesBy outcome count)
 
 -- what a call that made its stores in arrays left
-abbrev pub madeEnd : (count : ℕ) → BasketMade → (heads next : List ℕ) → BasketListLeft
+abbrev pub madeEnd : (count : ℕ) → BasketMade → (heads next : List ℕ) → BasketListBuffers
 madeEnd count m heads next =
     basketListEnd count (m .answer) (zipped (take (m .stored) (m .at)) (take (m .stored) (m .words))) heads next
 
 -- r is the result; all its stores are made, and a list with this room holds them
-pub record MadeOf (r : ChangeResult) (room count : ℕ) (m : BasketMade) (heads next : List ℕ) : Type 0 where
+pub record MadeOf (r : CallResult) (room count : ℕ) (m : BasketMade) (heads next : List ℕ) : Type 0 where
   pub left : madeEnd count m heads next ≡ leftWith r (r .stores)
   pub in-room : m .stored ≤ room
   pub in-arrays : m .stored ≤ 128

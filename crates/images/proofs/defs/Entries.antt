@@ -3,12 +3,12 @@ use mathlib.Core.Bool.{cond}
 use mathlib.Core.List.{List, [], _∷_}
 use Prim.Native.Nat.{ℕ}
 use lib.Dec.{eqb}
-use Rattle.layout.specs.Content.{Content, empty, made}
+use Rattle.layout.specs.Content.{Content, empty, contentOfRecord}
 use Rattle.stores.specs.Basket.{BasketRecord}
 
 -- the record that an entry makes
 abbrev pub recordOf : (version : ℕ) → BasketRecord → Content
-recordOf version e = made (e .kind) version (e .key) (e .value)
+recordOf version e = contentOfRecord (e .kind) version (e .key) (e .value)
 
 -- the record that goes to slot t; an empty slot where none does
 unfoldable pub recordAt : (version : ℕ) → List BasketRecord → (t : ℕ) → Content

@@ -1,11 +1,13 @@
--- A basket's index writes as the functions have them: the slots taken stand in two arrays, and a write goes by numbers that lie inside the index.
+-- A basket's index writes as the functions have them: the slots taken stand in two arrays, and a write goes by numbers
+-- that lie inside the index.
 use mathlib.Core.Path.{_≡_}
 use mathlib.Core.Bool.{cond}
 use mathlib.Core.List.{List, [], _∷_}
 use Prim.Native.Nat.{ℕ, zero, suc, _+_, _≤_, _<_}
 use lib.Dec.{eqb}
 use lib.ListN.{length, getD}
-use Rattle.index.specs.Taking.{Taken}
+use Rattle.index.specs.Allocation.{Taken}
+use Rattle.index.specs.Index.{withEnds}
 use Rattle.index.specs.declared.State.{State}
 
 -- n slots that are taken and the slots before them, from number i on
@@ -21,14 +23,7 @@ pub record TakensInside (slots prevs : List ℕ) (count links : ℕ) : Type 0 wh
 
 -- the state after such a slot left the reuse chain
 unfoldable pub leftState : (next : List ℕ) → State → (slot prev : ℕ) → State
-leftState next s slot prev =
-    record {
-      first = cond (eqb prev 0) (getD next slot 0) (s .first);
-      last = cond (eqb (s .last) slot) prev (s .last);
-      live = s .live;
-      version = s .version;
-      newest = s .newest;
-    }
+leftState next s slot prev = withEnds s (cond (eqb prev 0) (getD next slot 0) (s .first)) (cond (eqb (s .last) slot) prev (s .last))
 
 -- the numbers by which a key's links go lie inside an index of n slots
 pub record LinksInside (heads next : List ℕ) (n : ℕ) (s : State) (h old slot : ℕ) : Type 0 where

@@ -4,12 +4,12 @@ use mathlib.Core.List.{List, [], _∷_}
 use Prim.Native.Nat.{ℕ, zero, suc, _≤_, _<_}
 use lib.Dec.{eqb}
 use lib.ListN.{length, getD}
-use Rattle.index.specs.Index.{Index, Chain, reuse, head, setLast}
+use Rattle.index.specs.Index.{Index, indexOf, noState, Chain, reuse, head, setLast}
 use Rattle.index.specs.Change.{linkNew}
 
 -- slot s at the front of chain c; a first slot of reuse is its last too
 unfoldable pub push : Index → (c : Chain) → (s : ℕ) → Index
-push i reuse s = setLast (linkNew i reuse 0 s (i .first)) (cond (eqb (i .last) 0) s (i .last))
+push i reuse s = setLast (linkNew i reuse 0 s (i .state .first)) (cond (eqb (i .state .last) 0) s (i .state .last))
 push i (head h) s = linkNew i (head h) 0 s (getD (i .heads) h 0)
 
 -- the slots of a list, pushed from its end, each at the front of its chain
@@ -30,7 +30,7 @@ placeIn places s = chainFrom (getD places s 0)
 
 -- the index before the first push
 abbrev pub unbuilt : (heads next : List ℕ) → Index
-unbuilt heads next = record { heads = heads; next = next; first = 0; last = 0 }
+unbuilt heads next = indexOf heads next noState
 
 -- every slot of the order and its place lie inside the index
 pub record Ordered (heads next order places : List ℕ) : Type 0 where

@@ -1,11 +1,11 @@
--- What the functions on the index ask of their callers, what they leave, and their writes on the parts that the code has: heads, next and a state.
-use mathlib.Core.Path.{_≡_}
+-- What the functions on the index ask of their callers, what they leave, and their writes on the parts that the code
+-- has: heads, next and a state.
 use mathlib.Core.Bool.{cond}
 use mathlib.Core.List.{List}
 use Prim.Native.Nat.{ℕ, _+_, _^_, _≤_, _<_}
 use lib.Dec.{eqb}
 use lib.ListN.{length, getD, set}
-use Rattle.index.specs.Index.{Index, indexOf}
+use Rattle.index.specs.Index.{Index, withEnds}
 use Rattle.index.specs.Change.{takeFirst, insertAt, replaceAt, removeAt}
 use Rattle.index.specs.declared.State.{State}
 use Rattle.index.specs.declared.Place.{Place}
@@ -28,13 +28,13 @@ PlaceInside heads next s h (NotHeld prev) = WritesInside heads next s h prev pre
 
 -- the index after an insert, a replace and a remove that take the first slot of reuse
 unfoldable pub insertNew : Index → (h prev : ℕ) → Index
-insertNew i h prev = insertAt (takeFirst i) h prev (i .first)
+insertNew i h prev = insertAt (takeFirst i) h prev (i .state .first)
 
 unfoldable pub replaceHeld : Index → (h prev old : ℕ) → Index
-replaceHeld i h prev old = replaceAt (takeFirst i) h prev old (i .first)
+replaceHeld i h prev old = replaceAt (takeFirst i) h prev old (i .state .first)
 
 unfoldable pub removeHeld : Index → (h prev old : ℕ) → Index
-removeHeld i h prev old = removeAt (takeFirst i) h prev old (i .first)
+removeHeld i h prev old = removeAt (takeFirst i) h prev old (i .state .first)
 
 -- that of an insert or a replace of a key at such a place, and the live count
 unfoldable pub writeAt : Index → (h : ℕ) → Place → Index
@@ -44,13 +44,6 @@ writeAt i h (NotHeld prev) = insertNew i h prev
 unfoldable pub liveAt : (live : ℕ) → Place → ℕ
 liveAt live (Held slot prev) = live
 liveAt live (NotHeld prev) = live + 1
-
--- heads, next and the state r are those of index i, with this live count, this next version and this newest slot
-pub record PartsOf (heads next : List ℕ) (r : State) (i : Index) (live version newest : ℕ) : Type 0 where
-  pub index : indexOf heads next r ≡ i
-  pub live-count : r .live ≡ live
-  pub next-version : r .version ≡ version
-  pub newest-slot : r .newest ≡ newest
 
 -- ---- what `link`, `takeFirst` and `append` make of the parts
 
@@ -64,14 +57,7 @@ linkNext next prev slot = cond (eqb prev 0) next (set next prev slot)
 
 -- the state after the first reuse slot was taken; heads and next stay
 unfoldable pub takeState : (next : List ℕ) → State → State
-takeState next s =
-    record {
-      first = getD next (s .first) 0;
-      last = cond (eqb (getD next (s .first) 0) 0) 0 (s .last);
-      live = s .live;
-      version = s .version;
-      newest = s .newest;
-    }
+takeState next s = withEnds s (getD next (s .first) 0) (cond (eqb (getD next (s .first) 0) 0) 0 (s .last))
 
 -- next after a slot was appended to the reuse chain
 unfoldable pub appendNext : (next : List ℕ) → State → ℕ → List ℕ
@@ -79,5 +65,4 @@ appendNext next s slot = linkNext (set next slot 0) (s .last) slot
 
 -- and the state; heads stay
 unfoldable pub appendState : State → ℕ → State
-appendState s slot =
-    record { first = cond (eqb (s .last) 0) slot (s .first); last = slot; live = s .live; version = s .version; newest = s .newest }
+appendState s slot = withEnds s (cond (eqb (s .last) 0) slot (s .first)) slot

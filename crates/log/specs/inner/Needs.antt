@@ -11,7 +11,7 @@ use Rattle.stores.specs.Play.{wordNumbers, values}
 use Rattle.log.specs.Area.{cellsIn, markedLine}
 use Rattle.log.specs.Bit.{differingPlace}
 use Rattle.log.specs.Append.{messageLine, payloadsFrom, pairsWord, nextMessage, appendStores, appendFault}
-use Rattle.log.specs.Recover.{openings}
+use Rattle.log.specs.Recover.{invalidations}
 
 -- ---- the area
 
@@ -79,15 +79,15 @@ pub record MessageRoom (area message : List ℕ) (c number pairs ats vals : ℕ)
   pub pairs-are : pairs ≡ pairsWord (word area) c message
 
 -- the store that opens cell c, if there is one, at position n
-pub record OpeningRoom (area : List ℕ) (ats vals n top c : ℕ) : Type 0 where
+pub record InvalidationRoom (area : List ℕ) (ats vals n top c : ℕ) : Type 0 where
   pub inside : 448 * (c + 1) ≤ length area
   pub cell : c < 1000
-  pub room : ListRoom ats vals n (length (openings (word area) top c 1))
+  pub room : ListRoom ats vals n (length (invalidations (word area) top c 1))
 
 -- and all of them at the front
-pub record OpeningsRoom (area : List ℕ) (ats vals k top : ℕ) : Type 0 where
+pub record InvalidationsRoom (area : List ℕ) (ats vals k top : ℕ) : Type 0 where
   pub all : CellCount (length area) k
-  pub room : ListRoom ats vals 0 (length (openings (word area) top 0 k))
+  pub room : ListRoom ats vals 0 (length (invalidations (word area) top 0 k))
 
 -- ---- plans
 

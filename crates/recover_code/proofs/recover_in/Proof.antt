@@ -6,7 +6,7 @@ use Rattle.recover_code.proofs.recover_in.Statement.{statement}
 use Rattle.recover_code.proofs.recover_in.Tie as tie
 
 returns : tie.Need-returns
-returns c = lent-refused _ _ _ _ _ _ _ (c .before .before .lent-fault .ensures) (c .before .if1 .taken) (c .no-openings .ensures)
+returns c = lent-refused _ _ _ _ _ _ _ (c .before .before .lent-fault .ensures) (c .before .if1 .taken) (c .no-invalidations .ensures)
 
 recover-64-requires : tie.Need-recover-64-requires
 recover-64-requires c κs = (lent-ready _ _ _ _ _ _ (c .before .before .before .before .before .before .before .before .before .pre) (c .before .before .before .before .before .lent-fault .ensures) (omega (arith, c .before .before .before .before .if1 .left)) (c .before .before .before .slot-count .ensures), omega (arith, c .before .before .if2 .taken))

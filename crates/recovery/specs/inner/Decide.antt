@@ -1,4 +1,5 @@
--- How recovery finds 7, the void slots and 8: runs of one rank in the order by rank, and the last slot of each key in the order by key and rank.
+-- How recovery finds 7, the void slots and 8: runs of one rank in the order by rank, and the last slot of each key in
+-- the order by key and rank.
 use mathlib.Core.Path.{_≡_}
 use mathlib.Core.Bool.{Bool, true, false, cond, not, _&&_}
 use mathlib.Core.List.{List}
@@ -7,7 +8,7 @@ use lib.Dec.{eqb, ltb, leb}
 use lib.ListN.{length, getD, set}
 use Rattle.layout.specs.Content.{Table}
 use Rattle.table.specs.Table.{keyIn, live}
-use Rattle.table.specs.Complete.{Numbers, said}
+use Rattle.table.specs.Complete.{SizeFields, basketSize}
 use Rattle.prelude.specs.Range.{count}
 use Rattle.index.specs.Index.{headOf}
 
@@ -21,25 +22,26 @@ equalNeighbours ranks order i =
     cond (ltb (entryAt ranks order i) 2) false (eqb (entryAt ranks order i) (entryAt ranks order (i + 1)))
 
 -- from position i on the run of its rank goes on for more slots than the number of slot i says
-unfoldable pub tooMany : Numbers → (ranks order : List ℕ) → ℕ → Bool
+unfoldable pub tooMany : SizeFields → (ranks order : List ℕ) → ℕ → Bool
 tooMany num ranks order i =
-    ltb (i + said (num (getD order i 0))) (length order)
-    && eqb (entryAt ranks order (i + said (num (getD order i 0)))) (entryAt ranks order i)
+    ltb (i + basketSize (num (getD order i 0))) (length order)
+    && eqb (entryAt ranks order (i + basketSize (num (getD order i 0)))) (entryAt ranks order i)
 
 -- the slots at positions i and i + 1 share a version, and their numbers differ or their run is too long
-unfoldable pub runFault : Numbers → (ranks order : List ℕ) → ℕ → Bool
+unfoldable pub runFault : SizeFields → (ranks order : List ℕ) → ℕ → Bool
 runFault num ranks order i =
     equalNeighbours ranks order i
     && cond (eqb (num (getD order i 0)) (num (getD order (i + 1) 0))) (tooMany num ranks order i) true
 
 -- up to position i the run of its rank is as long as the number of slot i says
-unfoldable pub fullRun : Numbers → (ranks order : List ℕ) → ℕ → Bool
+unfoldable pub fullRun : SizeFields → (ranks order : List ℕ) → ℕ → Bool
 fullRun num ranks order i =
-    leb (said (num (getD order i 0))) (i + 1)
-    && eqb (entryAt ranks order (i + 1 - said (num (getD order i 0)))) (entryAt ranks order i)
+    leb (basketSize (num (getD order i 0))) (i + 1)
+    && eqb (entryAt ranks order (i + 1 - basketSize (num (getD order i 0)))) (entryAt ranks order i)
 
--- judging from position i − 1 down: the rank of the first slot whose run is as long as its number says, 2 where no record is left
-unfoldable pub judgedRank : Numbers → (ranks order : List ℕ) → (i : ℕ) → ℕ
+-- judging from position i − 1 down: the rank of the first slot whose run is as long as its number says, 2 where no
+-- record is left
+unfoldable pub judgedRank : SizeFields → (ranks order : List ℕ) → (i : ℕ) → ℕ
 judgedRank num ranks order zero = 2
 judgedRank num ranks order (suc i) =
     cond (ltb (entryAt ranks order i) 2) 2

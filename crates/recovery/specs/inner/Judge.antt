@@ -5,29 +5,29 @@ use mathlib.Core.List.{List, []}
 use Prim.Native.Nat.{ℕ, suc, _+_, _-_, _*_, _^_, _≤_, _<_}
 use lib.Dec.{eqb, ltb}
 use lib.ListN.{length, getD, set, replicate}
-use Rattle.prelude.specs.Refusal.{say, orElse}
+use Rattle.prelude.specs.Refusal.{refuseIf, orElse}
 use Rattle.prelude.specs.Range.{anyOf}
 use Rattle.prelude.specs.Filter.{filter}
-use Rattle.layout.specs.Content.{content, numberIn, Table}
+use Rattle.layout.specs.Content.{content, sizeFieldIn, Table}
 use Rattle.layout.specs.Header.{lentFault}
 use Rattle.layout.specs.Record.{Layout}
 use Rattle.layout.specs.inner.Sized.{Sized}
+use Rattle.index.specs.Index.{indexOf, withCounts}
 use Rattle.index.specs.Chained.{lastOf}
-use Rattle.index.specs.inner.Parts.{PartsOf}
 use Rattle.index.specs.inner.Build.{build, placeIn, unbuilt}
 use Rattle.index.specs.declared.State.{State}
 use Rattle.prelude.specs.Members.{slotNumbers}
 use Rattle.table.specs.Table.{brokenLimit, liveCount, nextVersion}
 use Rattle.table.specs.Order.{ordered}
-use Rattle.table.specs.Complete.{Numbers, settled}
+use Rattle.table.specs.Complete.{SizeFields, settled}
 use Rattle.sorting.specs.Sorted.{sorted}
 use Rattle.recovery.specs.Recover.{slotsFault, slotsNamed}
 use Rattle.stores.specs.Store.{Store}
-use Rattle.stores.specs.Opening.{openingStores}
-use Rattle.recovery.specs.Opening.{voidSlots, openingsOf}
+use Rattle.stores.specs.Invalidation.{invalidatingStores}
+use Rattle.recovery.specs.Invalidation.{voidSlots, invalidationsOf}
 use Rattle.recovery.specs.inner.Scan.{keyAt, Classed}
 use Rattle.recovery.specs.inner.Decide.{runFault, keyTwice, livePlace, Cleared, Within}
-use Rattle.recovery.specs.declared.Openings.{Openings}
+use Rattle.recovery.specs.declared.Invalidations.{Invalidations}
 use Rattle.recovery.specs.declared.Judged.{Judged}
 use Rattle.recovery.specs.declared.RecoverAnswer.{RecoverAnswer}
 use Rattle.recovery.specs.declared.Recovered.the-variants.{Rebuilt, Refused}
@@ -105,27 +105,30 @@ pub record Roomy (ranks lows highs places order by-key scratch : List ℕ) (n : 
   pub scratch-room : n < length scratch
 
 -- these orders, and whether 7 is found along them
-pub record Compared (num : Numbers) (ranks lows highs : List ℕ) (n : ℕ) (order by-key : List ℕ) (shared : Bool) : Type 0 where
+pub record Compared (num : SizeFields) (ranks lows highs : List ℕ) (n : ℕ) (order by-key : List ℕ) (shared : Bool) : Type 0 where
   pub in-order : InOrder ranks lows highs n order by-key
   pub shared-is : shared
       ≡ cond (anyOf (runFault num ranks order) 0 (n - 1)) true (anyOf (keyTwice (keyAt lows highs) ranks by-key) 0 (n - 1))
 
--- the slots of a rank above the limit lost rank and place, the lists are in order again, and the stores that open those slots
-pub record Settled (m : ℕ → ℕ) (limit n : ℕ) (ranks lows highs places ranks′ places′ order by-key : List ℕ) (opened : Openings) : Type 0 where
+-- the slots of a rank above the limit lost rank and place, the lists are in order again, and the stores that open those
+-- slots
+pub record Settled (m : ℕ → ℕ) (limit n : ℕ) (ranks lows highs places ranks′ places′ order by-key : List ℕ) (opened : Invalidations) : Type 0 where
   pub cleared : Cleared limit n ranks places ranks′ places′
   pub in-order : InOrder ranks′ lows highs n order by-key
-  pub opened-is : opened ≡ openingsOf (openingStores m (filter (λ s. ltb limit (getD ranks s 0)) (slotNumbers n)))
+  pub opened-is : opened ≡ invalidationsOf (invalidatingStores m (filter (λ s. ltb limit (getD ranks s 0)) (slotNumbers n)))
 
--- the refusal of the slots from what was found: 5, the fault of the lowest slot at fault, 7, 25, 8; `broken` counts void slots too
+-- the refusal of the slots from what was found: 5, the fault of the lowest slot at fault, 7, 25, 8; `broken` counts
+-- void slots too
 unfoldable pub foundFault : (mark : Bool) → (fault : ℕ) → (shared : Bool) → (broken live n : ℕ) → ℕ
 foundFault mark fault shared broken live n =
-    say mark 5 (orElse fault (say shared 7 (say (ltb brokenLimit broken) 25 (say (eqb live n) 8 0))))
+    refuseIf mark 5 (orElse fault (refuseIf shared 7 (refuseIf (ltb brokenLimit broken) 25 (refuseIf (eqb live n) 8 0))))
 
 -- the slot that it names
 unfoldable pub foundSlot : (mark : Bool) → (slot : ℕ) → ℕ
-foundSlot mark slot = say mark 0 slot
+foundSlot mark slot = refuseIf mark 0 slot
 
--- of the settled table f of an accepted image: the order of all slots, the chain of each as a number, the live count and the highest version
+-- of the settled table f of an accepted image: the order of all slots, the chain of each as a number, the live count
+-- and the highest version
 pub record Arranged (f : Table) (n b : ℕ) (order places : List ℕ) (live top : ℕ) : Type 0 where
   pub order-is : order ≡ ordered f (slotNumbers n)
   pub place-is : (s : ℕ) → 0 < s → s ≤ n → getD places s 0 ≡ livePlace f n b s
@@ -133,28 +136,30 @@ pub record Arranged (f : Table) (n b : ℕ) (order places : List ℕ) (live top 
   pub top-is : suc top ≡ nextVersion f n
   pub top-fits : top < 2 ^ 63
 
--- what judging answers: the refusal, the classes of the slots, and of an accepted image the arranged slots of its settled table and the stores that
--- open its void slots
+-- what judging answers: the refusal, the classes of the slots, and of an accepted image the arranged slots of its
+-- settled table and the stores that open its void slots
 pub record Judgement (l : ℕ) (m : ℕ → ℕ) (n b : ℕ) (order places : List ℕ) (r : Judged) : Type 0 where
   pub fault-is : r .fault ≡ slotsFault l m n
   pub slot-is : r .slot ≡ slotsNamed l m n
-  pub arranged : r .fault ≡ 0 → Arranged (settled (content l m) (numberIn l m) n) n b order places (r .live) (r .top)
+  pub arranged : r .fault ≡ 0 → Arranged (settled (content l m) (sizeFieldIn l m) n) n b order places (r .live) (r .top)
   pub classed : Classed (content l m) n (r .classes)
-  pub openings-are : r .fault ≡ 0 → r .openings ≡ openingsOf (openingStores m (voidSlots l m n))
+  pub invalidations-are : r .fault ≡ 0 → r .invalidations ≡ invalidationsOf (invalidatingStores m (voidSlots l m n))
 
--- what is left of the lent heads and next: the chains of the order and the state r beside them, or with a refusal what was lent
+-- what is left of the lent heads and next: the chains of the order and the state r beside them, or with a refusal what
+-- was lent
 pub record Left (fault : ℕ) (heads next order places : List ℕ) (live top : ℕ) (heads′ next′ : List ℕ) (r : State) : Type 0 where
   pub rebuilt : fault ≡ 0
-      → PartsOf heads′ next′ r (build (placeIn places) (unbuilt (replicate (length heads) 0) (replicate (length next) 0)) order) live (top + 1) (lastOf order)
+      → indexOf heads′ next′ r
+      ≡ withCounts (build (placeIn places) (unbuilt (replicate (length heads) 0) (replicate (length next) 0)) order) live (top + 1) (lastOf order)
   pub kept : (fault ≡ 0 → ⊥) → (heads′ ≡ heads) × (next′ ≡ next)
 
--- opening stores with one more of them; past the eighth it is only counted
-unfoldable pub withStore : Openings → Store → Openings
+-- invalidating stores with one more of them; past the eighth it is only counted
+unfoldable pub withStore : Invalidations → Store → Invalidations
 withStore o s =
     record { count = o .count + 1; at = set (o .at) (o .count) (s .word); value = set (o .value) (o .count) (s .value) }
 
--- the state and the opening stores, or the refusal and no stores
-unfoldable pub answerBy : (fault slot : ℕ) → State → Openings → RecoverAnswer
-answerBy fault slot state openings =
-    cond (eqb fault 0) (record { recovered = Rebuilt state; openings = openings })
-    (record { recovered = Refused fault slot; openings = openingsOf [] })
+-- the state and the invalidating stores, or the refusal and no stores
+unfoldable pub answerBy : (fault slot : ℕ) → State → Invalidations → RecoverAnswer
+answerBy fault slot state invalidations =
+    cond (eqb fault 0) (record { recovered = Rebuilt state; invalidations = invalidations })
+    (record { recovered = Refused fault slot; invalidations = invalidationsOf [] })

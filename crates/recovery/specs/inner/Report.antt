@@ -11,5 +11,5 @@ use Rattle.recovery.specs.declared.RecoveryReport.{RecoveryReport}
 
 -- heads and next were lent, and heads′ and next′ are left; the slots of an image that is not refused are counted
 pub record RecoveredWith (l : ℕ) (image heads next heads′ next′ : List ℕ) (r : RecoveryReport) : Type 0 where
-  pub result-is : recoverEnd (r .answer .recovered) (r .answer .openings) heads′ next′ ≡ recoverResult l image heads next
+  pub result-is : recoverEnd (r .answer .recovered) (r .answer .invalidations) heads′ next′ ≡ recoverResult l image heads next
   pub classed : recoverFault l image (length heads) (length next) ≡ 0 → Classed (contentsOf l image) (slotsIn image) (r .classes)

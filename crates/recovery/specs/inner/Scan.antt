@@ -1,34 +1,37 @@
--- What recovery's scan of the slots keeps: rank, key and place of each slot, and what all slots together say. A key is kept as its low and its high word.
+-- What recovery's scan of the slots keeps: rank, key and place of each slot, and what all slots together say. A key is
+-- kept as its low and its high word.
 use mathlib.Core.Path.{_≡_}
 use mathlib.Core.Bool.{Bool, true, false, cond}
 use mathlib.Core.List.{List}
 use Prim.Native.Nat.{ℕ, suc, _+_, _-_, _*_, _≤_, _<_, max}
 use lib.Dec.{eqb, ltb}
 use lib.ListN.{length, getD}
-use Rattle.prelude.specs.Refusal.{say, orElse}
+use Rattle.prelude.specs.Refusal.{refuseIf, orElse}
 use Rattle.prelude.specs.Range.{anyOf, greatest, lowest, atLowest, count}
 use Rattle.layout.specs.Line.{lineA, lineB}
 use Rattle.layout.specs.Record.{Layout, keyOf, keyWith, kindOf}
-use Rattle.layout.specs.Content.{Content, broken, empty, putRecord, removeRecord, content, topOf, Table}
+use Rattle.layout.specs.Content.{Content, broken, empty, putRecord, removeRecord, content, highestWholeIn, Table}
 use Rattle.layout.specs.Fault.{markFault, faultOf, recordFault}
 use Rattle.layout.specs.inner.Key.{highWord}
 use Rattle.table.specs.Table.{keyIn, brokenCount}
 use Rattle.table.specs.Order.{rankOf}
 use Rattle.table.specs.Class.{isEmpty, isPut}
-use Rattle.table.specs.Taking.{isRemove}
+use Rattle.table.specs.Takeable.{isRemove}
 use Rattle.index.specs.Index.{headOf}
 use Rattle.recovery.specs.declared.Summary.{Summary}
 use Rattle.recovery.specs.declared.Classes.{Classes}
 use Rattle.recovery.specs.declared.Scan.{Scan}
 
--- a chain as a number: 0 is the reuse chain, h + 1 the chain of head h. A put belongs to its key's head, any other slot to reuse
+-- a chain as a number: 0 is the reuse chain, h + 1 the chain of head h. A put belongs to its key's head, any other slot
+-- to reuse
 unfoldable pub putPlace : (b : ℕ) → Content → ℕ
 putPlace b (broken top) = 0
 putPlace b empty = 0
 putPlace b (putRecord version key value) = headOf key b + 1
 putPlace b (removeRecord version key) = 0
 
--- the image has n slots, the lists an entry for each slot and entry 0, but in layout 1 highs has none, and there are b heads
+-- the image has n slots, the lists an entry for each slot and entry 0, but in layout 1 highs has none, and there are b
+-- heads
 pub record Scannable (image : List ℕ) (l : ℕ) (ranks lows highs places : List ℕ) (n b : ℕ) : Type 0 where
   pub layout : Layout l
   pub image-size : length image ≡ 128 * (n + 1)
@@ -60,7 +63,7 @@ pub record Summed (l : ℕ) (m : ℕ → ℕ) (s b : ℕ) (r : Summary) : Type 0
   -- the high word is 0 in layout 1
   pub no-high : l ≡ 1 → r .high ≡ 0
   pub place-is : r .place ≡ putPlace b (content l m s)
-  pub top-is : r .top ≡ topOf (content l m s)
+  pub top-is : r .top ≡ highestWholeIn (content l m s)
   pub mark-is : r .mark ≡ markFault m s
   pub fault-is : r .fault ≡ recordFault l m s
 
@@ -83,7 +86,7 @@ slotsCounted classes = classes .broken + classes .empty + classes .puts + classe
 pub record ScanWith (scan : Scan) (slot : Summary) (s : ℕ) (r : Scan) : Type 0 where
   pub mark-is : r .mark ≡ cond (scan .mark) true (slot .mark)
   pub fault-is : r .fault ≡ orElse (scan .fault) (slot .fault)
-  pub slot-is : r .slot ≡ orElse (scan .slot) (say (eqb (slot .fault) 0) 0 s)
+  pub slot-is : r .slot ≡ orElse (scan .slot) (refuseIf (eqb (slot .fault) 0) 0 s)
   pub classes-are : ClassesWith (scan .classes) (slot .rank) (slot .place) (r .classes)
   pub top-is : r .top ≡ max (scan .top) (slot .top)
 
@@ -111,4 +114,4 @@ pub record Scanned (l : ℕ) (m : ℕ → ℕ) (n b : ℕ) (ranks lows highs pla
   pub fault-is : r .fault ≡ atLowest (recordFault l m) n
   pub slot-is : r .slot ≡ lowest (recordFault l m) n
   pub classed : Classed (content l m) n (r .classes)
-  pub top-is : r .top ≡ greatest (λ s. topOf (content l m s)) n
+  pub top-is : r .top ≡ greatest (λ s. highestWholeIn (content l m s)) n

@@ -30,7 +30,7 @@ pub record Laws {Lent Held Request M : Type 0} (library : Library Lent Held Requ
 
   pub use-ready : (image : List ℕ) (held : Held) (m : M) → InUse image held m → Ready image m
   pub request-right : (image : List ℕ) (held : Held) (m : M) → InUse image held m → (request : Request)
-      → promise .RequestRight image held m request
+      → promise .RequestCorrect image held m request
   pub request-inside : (image : List ℕ) (held : Held) (m : M) → InUse image held m → (request : Request)
       → Inside (length image) (library .call image held request .stores)
   -- with any part of a request's stores it is ready, wholly done or not at all; with all of them it is in use

@@ -1,7 +1,7 @@
 -- What a session keeps between lines: the invariant of a set, for which nothing but the laws of the face is known.
 use mathlib.Core.Path.{_≡_}
 use lib.ListN.{length}
-use Rattle.face.specs.Set.{World, PlainMap}
+use Rattle.interface.specs.Set.{World, PlainMap}
 use Rattle.session.specs.Step.{StepResult, noSet, sizeFault}
 use Rattle.session.specs.Lines.{worldOf}
 use Rattle.session.specs.Rule.{FewWait}

@@ -3,10 +3,10 @@ use mathlib.Core.Path.{_≡_}
 use mathlib.Core.List.{List, [], _∷_}
 use Prim.Native.Nat.{ℕ, _+_, _*_, _^_, _≤_, _<_}
 use Rattle.layout.specs.Line.{line}
-use Rattle.layout.specs.Content.{top}
+use Rattle.layout.specs.Content.{highestWhole}
 use Rattle.stores.specs.Store.{Store, onLine}
 use Rattle.stores.specs.Written.{newA, newB, lineStores}
-use Rattle.stores.specs.Opening.{openingStore}
+use Rattle.stores.specs.Invalidation.{invalidatingStore}
 use Rattle.stores.specs.Cut.{Fields, Lawful}
 
 -- the stores ss, whatever else they hold, write this record into slot s
@@ -21,7 +21,7 @@ pub record Avoids (ss : List Store) (s : ℕ) : Type 0 where
 
 -- they open slot s, and write nothing else into it
 pub record Opens (m : ℕ → ℕ) (ss : List Store) (s : ℕ) : Type 0 where
-  pub line-A : onLine (2 * s) ss ≡ openingStore m s ∷ []
+  pub line-A : onLine (2 * s) ss ≡ invalidatingStore m s ∷ []
   pub line-B : onLine (2 * s + 1) ss ≡ []
 
 -- one of the three
@@ -29,7 +29,7 @@ pub data SlotStores (l : ℕ) (m : ℕ → ℕ) (ss : List Store) (s : ℕ) : Ty
   avoids : Avoids ss s → SlotStores l m ss s
   opens : Opens m ss s → SlotStores l m ss s
   carries : (key kind number : ℕ) (value : List ℕ) (version : ℕ) → Carries l m ss s key kind number value version
-      → Fields l key kind number value → Lawful kind number value → top m s < version → SlotStores l m ss s
+      → Fields l key kind number value → Lawful kind number value → highestWhole m s < version → SlotStores l m ss s
 
 -- every store is inside an image of n bytes, and its value is a word
 pub data StoresInside (n : ℕ) : List Store → Type 0 where

@@ -4,7 +4,8 @@ use Prim.Native.Nat.{ℕ, _+_, _*_, _≤_, _<_}
 use lib.ListN.{length, getD, take, drop}
 use Rattle.stores.specs.Store.{Store, zipped}
 
--- "records past them are kept": the first n stores that a list of word numbers and a list of values name, at the front of a lent list
+-- "records past them are kept": the first n stores that a list of word numbers and a list of values name, at the front
+-- of a lent list
 abbrev pub storesPut : (at value : List ℕ) → (n : ℕ) → (lent : List Store) → List Store
 storesPut at value n lent = zipped (take n at) (take n value) ++ drop n lent
 

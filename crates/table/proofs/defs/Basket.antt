@@ -8,15 +8,15 @@ use lib.Dec.{eqb}
 use lib.ListN.{length}
 use Rattle.layout.specs.Content.{Table}
 use Rattle.prelude.specs.Members.{Once, In, Slot}
-use Rattle.table.specs.Complete.{Numbers, NoneVoid}
+use Rattle.table.specs.Complete.{SizeFields, NoneVoid}
 use Rattle.table.specs.Table.{live, keyIn, valueIn, isHeld}
-use Rattle.table.specs.Taking.{mayTake}
+use Rattle.table.specs.Takeable.{mayTake}
 use Rattle.table.proofs.defs.Shared.{Agreed}
 use Rattle.table.proofs.defs.Write.{Above, Record}
 use Rattle.table.specs.Class.{isPut}
 
 -- a call that writes the records `new` of version w into the slots `taken`, one for each of its keys
-pub record Basket (f : Table) (num : Numbers) (n w : ℕ) (taken : List ℕ) (new : Table) : Type 0 where
+pub record Basket (f : Table) (num : SizeFields) (n w : ℕ) (taken : List ℕ) (new : Table) : Type 0 where
   -- 7 is not due
   pub agreed : Agreed f num n
   -- recovery's stores "are played and fenced before any other call"

@@ -1,7 +1,7 @@
 -- `basket_plan_code::given::any_twice` meets its contract. Assumes nothing.
 use Prim.Native.Nat.{_-_}
 use native.Mathlib.Omega.{arith}
-use Rattle.calls.specs.Basket.{itemAt}
+use Rattle.calls.specs.BasketItems.{itemAt}
 use Rattle.calls.proofs.BasketChecks.{Pairing, pairs-start, pair-hit, pair-on, pair-end}
 use borrow.Author.Needs.{needs}
 use Rattle.basket_plan_code.proofs.given.any_twice.Statement.{statement}

@@ -1,12 +1,12 @@
 -- `basket_plan_code::given::count_fault` meets its contract. Assumes nothing.
 use Rattle.prelude.proofs.Tests.{tests}
-use Rattle.prelude.specs.Refusal.{say}
-use Rattle.calls.specs.Basket.{keyCountFault}
+use Rattle.prelude.specs.Refusal.{refuseIf}
+use Rattle.calls.specs.BasketRefusals.{keyCountFault}
 use Rattle.basket_plan_code.proofs.given.count_fault.Statement.{statement}
 use Rattle.basket_plan_code.proofs.given.count_fault.Tie as tie
 
 pub count-fault-spec : {M : Type 1} → statement M
-unfolding keyCountFault say
+unfolding keyCountFault refuseIf
 count-fault-spec =
     tie.close
     (tie.spec

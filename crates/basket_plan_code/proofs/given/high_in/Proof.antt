@@ -1,6 +1,6 @@
 -- `basket_plan_code::given::high_in` meets its contract. Assumes nothing.
 use Rattle.prelude.proofs.Tests.{tests}
-use Rattle.calls.specs.Basket.{highIn}
+use Rattle.calls.specs.BasketItems.{highIn}
 use Rattle.basket_plan_code.proofs.given.high_in.Statement.{statement}
 use Rattle.basket_plan_code.proofs.given.high_in.Tie as tie
 

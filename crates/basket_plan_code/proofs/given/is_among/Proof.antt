@@ -2,7 +2,7 @@
 use Prim.Native.Nat.{_-_}
 use native.Mathlib.Omega.{arith}
 use Rattle.layout.specs.Record.{keyWith}
-use Rattle.calls.specs.Basket.{itemAt}
+use Rattle.calls.specs.BasketItems.{itemAt}
 use Rattle.calls.proofs.BasketChecks.{Seeking, seek-starts, seek-hit, seek-on, seek-end}
 use borrow.Author.Needs.{needs}
 use Rattle.basket_plan_code.proofs.given.is_among.Statement.{statement}

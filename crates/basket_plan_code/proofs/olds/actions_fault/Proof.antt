@@ -1,7 +1,7 @@
 -- `basket_plan_code::olds::actions_fault` meets its contract. Assumes nothing.
 use Prim.Native.Nat.{_-_}
 use native.Mathlib.Omega.{arith}
-use Rattle.calls.specs.Basket.{itemAt}
+use Rattle.calls.specs.BasketItems.{itemAt}
 use Rattle.calls.proofs.BasketChecks.{Acting, acting-starts, acting-stops, acting-on, acting-ends}
 use borrow.Author.Needs.{needs}
 use Rattle.basket_plan_code.proofs.olds.actions_fault.Statement.{statement}

@@ -2,7 +2,7 @@
 use Prim.Native.Nat.{_-_}
 use native.Mathlib.Omega.{arith}
 use Rattle.index.specs.Walk.{search as following}
-use Rattle.calls.specs.Basket.{itemAt}
+use Rattle.calls.specs.BasketItems.{itemAt}
 use Rattle.calls.proofs.BasketChecks.{Finding, finding-starts, finding-stops, finding-on, finding-ends}
 use borrow.Author.Needs.{needs}
 use Rattle.basket_plan_code.proofs.olds.find_olds.Statement.{statement}

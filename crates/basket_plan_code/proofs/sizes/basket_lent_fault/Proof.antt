@@ -1,5 +1,5 @@
 -- `basket_plan_code::sizes::basket_lent_fault` meets its contract. Assumes nothing.
-use Rattle.calls.specs.Basket.{basketLentFault}
+use Rattle.calls.specs.BasketRefusals.{basketLentFault}
 use Rattle.calls.proofs.Lookups.{said, passed}
 use borrow.Author.Needs.{needs}
 use Rattle.basket_plan_code.proofs.sizes.basket_lent_fault.Statement.{statement}

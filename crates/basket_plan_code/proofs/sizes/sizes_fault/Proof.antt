@@ -2,7 +2,8 @@
 use Prim.Native.Nat.{_-_}
 use native.Mathlib.Omega.{arith}
 use lib.ListN.{length}
-use Rattle.calls.specs.Basket.{itemAt, valueFault}
+use Rattle.calls.specs.BasketItems.{itemAt}
+use Rattle.calls.specs.BasketRefusals.{valueFault}
 use Rattle.calls.proofs.BasketChecks.{Checking, check-starts, check-stops, check-on, check-ends, size-at}
 use borrow.Author.Needs.{needs}
 use Rattle.basket_plan_code.proofs.sizes.sizes_fault.Statement.{statement}

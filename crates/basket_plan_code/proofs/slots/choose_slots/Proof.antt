@@ -2,8 +2,8 @@
 use mathlib.Core.Path.{refl, _∙_}
 use native.Mathlib.Omega.{arith}
 use Rattle.layout.specs.Line.{versionFault}
-use Rattle.taking.specs.Taking.{takingBy}
-use Rattle.taking.proofs.Looks.{ends-by, full-refused}
+use Rattle.allocation.specs.Allocation.{allocationBy}
+use Rattle.allocation.proofs.Looks.{ends-by, full-refused}
 use Rattle.calls.specs.Change.{storeFault}
 use Rattle.calls.proofs.Lookups.{store-ends, store-live, store-take, store-room, store-version}
 use Rattle.calls.proofs.BasketPlans.{no-choice, a-choice}
@@ -28,7 +28,7 @@ returns-3 c =
     no-choice _ _ _ _ _ _ _ _ _ (c .none-chosen3 .ensures) (c .before .if3 .taken)
     (c .before .before .full-fault .ensures (c .before .if3 .taken) .0
     ∙ full-refused
-    (takingBy (c .before .before .before .before .before .before .before .before .before .before .args .own) (c .before .before .before .before .before .before .before .before .before .before .args .l) (c .before .before .before .before .before .before .before .before .before .before .args .image .now) (c .before .before .before .before .before .before .before .before .before .before .args .next .now) (c .before .before .before .before .before .before .before .before .before .before .args .n) (c .before .before .before .before .before .before .before .before .before .before .args .state .first) (c .before .before .before .before .before .before .before .before .before .before .args .state .newest) (c .before .before .before .before .before .before .before .before .before .before .args .wanted))
+    (allocationBy (c .before .before .before .before .before .before .before .before .before .before .args .own) (c .before .before .before .before .before .before .before .before .before .before .args .l) (c .before .before .before .before .before .before .before .before .before .before .args .image .now) (c .before .before .before .before .before .before .before .before .before .before .args .next .now) (c .before .before .before .before .before .before .before .before .before .before .args .n) (c .before .before .before .before .before .before .before .before .before .before .args .state .first) (c .before .before .before .before .before .before .before .before .before .before .args .state .newest) (c .before .before .before .before .before .before .before .before .before .before .args .wanted))
     (c .before .before .before .before .before .before .before .before .before .before .args .n) (c .before .before .before .before .before .before .before .before .before .before .args .state .first) (c .before .before .before .before .before .before .before .before .before .before .args .state .last) (c .before .before .before .before .before .before .before .before .before .before .args .state .live) (c .before .before .before .before .before .before .before .before .before .before .args .inserts) (c .before .before .before .before .before .before .before .before .before .before .args .removes) _ _ (versionFault (c .before .before .before .before .before .before .before .before .before .before .args .state .version))
     (c .before .before .before .before .before .before .before .ends-fault .ensures) (c .before .before .before .before .before .before .if1 .left) (c .before .before .before .before .if2 .left)
     (ends-by (c .before .before .before .before .before .before .before .before .before .before .args .own) (c .before .before .before .before .before .before .before .before .before .before .args .l) (c .before .before .before .before .before .before .before .before .before .before .args .image .now) (c .before .before .before .before .before .before .before .before .before .before .args .next .now) (c .before .before .before .before .before .before .before .before .before .before .args .n) (c .before .before .before .before .before .before .before .before .before .before .args .state .first) (c .before .before .before .before .before .before .before .before .before .before .args .state .newest) (c .before .before .before .before .before .before .before .before .before .before .args .wanted)

@@ -1,7 +1,7 @@
 -- `basket_plan_code::totals::removes_by` meets its contract. Assumes nothing.
 use borrow.Author.Needs.{needs}
 use Rattle.prelude.proofs.Tests.{tests}
-use Rattle.calls.specs.Basket.{removesBy}
+use Rattle.calls.specs.BasketRefusals.{removesBy}
 use Rattle.basket_plan_code.proofs.totals.removes_by.Statement.{statement}
 use Rattle.basket_plan_code.proofs.totals.removes_by.Tie as tie
 

@@ -1,7 +1,7 @@
 -- `basket_plan_code::totals::totals_of` meets its contract. Assumes nothing.
 use Prim.Native.Nat.{_-_}
 use native.Mathlib.Omega.{arith}
-use Rattle.calls.specs.Basket.{itemAt}
+use Rattle.calls.specs.BasketItems.{itemAt}
 use Rattle.calls.proofs.BasketChecks.{Counting, counting-starts, counting-on, counting-ends, adds-one, takes-one}
 use borrow.Author.Needs.{needs}
 use Rattle.basket_plan_code.proofs.totals.totals_of.Statement.{statement}

@@ -2,7 +2,7 @@
 use Prim.Native.Nat.{_-_}
 use native.Mathlib.Omega.{arith}
 use mathlib.Core.Path.{_∙_}
-use Rattle.calls.specs.Basket.{itemAt}
+use Rattle.calls.specs.BasketItems.{itemAt}
 use Rattle.calls.proofs.BasketLinks.{Linking, linking-starts, linking-on, linking-ends}
 use Rattle.basket_write_code.proofs.links.link_all.Statement.{statement}
 use Rattle.basket_write_code.proofs.links.link_all.Tie as tie

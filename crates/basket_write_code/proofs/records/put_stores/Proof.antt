@@ -2,8 +2,8 @@
 use mathlib.Core.Path.{_≡_}
 use Prim.Native.Nat.{_-_}
 use native.Mathlib.Omega.{arith}
-use Rattle.table.specs.Complete.{numberFor}
-use Rattle.calls.specs.Basket.{itemAt}
+use Rattle.table.specs.Complete.{sizeFieldFor}
+use Rattle.calls.specs.BasketItems.{itemAt}
 use Rattle.calls.proofs.BasketStores.{value-of, size-within, Storing, storing-starts, storing-on, recordable, storing-ends}
 use borrow.Author.Needs.{needs}
 use Rattle.basket_write_code.proofs.records.put_stores.Statement.{statement}
@@ -11,7 +11,7 @@ use Rattle.basket_write_code.proofs.records.put_stores.Tie as tie
 
 abbrev Inv-loop : tie.InvT-loop
 Inv-loop image l version count at₀ words₀ items values slots number j₀ at words j =
-    (number ≡ numberFor count) × Storing l image version count items values slots at₀ words₀ at words j
+    (number ≡ sizeFieldFor count) × Storing l image version count items values slots at₀ words₀ at words j
 
 abbrev μ-loop : tie.MeasureT-loop
 μ-loop image l version count at₀ words₀ items values slots number j₀ at words j = count - j

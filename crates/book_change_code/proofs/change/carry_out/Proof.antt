@@ -1,8 +1,8 @@
 -- `book_change_code::change::carry_out` meets its contract. Assumes nothing.
 use mathlib.Core.Path.{refl, ap}
 use borrow.Author.Needs.{needs}
-use Rattle.face.specs.Set.{Reported, ChangeResult, handedOut}
-use Rattle.book.specs.Steps.{bookSays, bookLeftIn, idle}
+use Rattle.interface.specs.Set.{storesAfter, CallResult}
+use Rattle.book.specs.Steps.{bookSays, bookBuffersAfter, idle}
 use Rattle.book.specs.inner.Courses.{planSays}
 use Rattle.book.proofs.Courses.{course-write, course-remove, course-answer}
 use Rattle.book_change_code.proofs.change.carry_out.Statement.{statement}
@@ -17,7 +17,7 @@ same-length-2 c = c .before .before .before .before .before .write-in-layout .ke
 returns : tie.Need-returns
 unfolding planSays
 returns c =
-    course-write _ _ _ _ _ _ _ _ _ _ _ _ (ap planSays (c .before .before .before .before .before .before .before .before .before .before .before .before .before .plan .given .1)) _ (c .before .before .before .before .before .before .before .before .before .before .before .order-bytes .ensures) _ (ap (λ (x : Reported ChangeResult). x .left) (c .before .before .before .before .before .write-in-layout .ensures .0)) (c .by-change .ensures _ _ _ _)
+    course-write _ _ _ _ _ _ _ _ _ _ (ap planSays (c .before .before .before .before .before .before .before .before .before .before .before .before .before .plan .given .1)) _ (c .before .before .before .before .before .before .before .before .before .before .before .order-bytes .ensures) _ ((c .before .before .before .before .before .write-in-layout .ensures .0)) (c .by-change .ensures _ _ _ _)
 
 same-length-3 : tie.Need-same-length-3
 same-length-3 c = c .before .before .before .before .before .remove-in-layout .kept .1 .1 .0
@@ -27,15 +27,15 @@ same-length-4 c = c .before .before .before .before .before .remove-in-layout .k
 
 returns-2 : tie.Need-returns-2
 unfolding planSays
-returns-2 c = course-remove _ _ _ _ _ _ _ _ _ _ (ap planSays (c .before .before .before .before .before .before .before .before .before .before .enum-told .given .1)) _ (ap (λ (x : Reported ChangeResult). x .left) (c .before .before .before .before .before .remove-in-layout .ensures .0)) (c .by-change2 .ensures _ _ _ _)
+returns-2 c = course-remove _ _ _ _ _ _ _ _ (ap planSays (c .before .before .before .before .before .before .before .before .before .before .enum-told .given .1)) _ ((c .before .before .before .before .before .remove-in-layout .ensures .0)) (c .by-change2 .ensures _ _ _ _)
 
 returns-3 : tie.Need-returns-3
-unfolding planSays bookSays bookLeftIn idle handedOut
-returns-3 c = course-answer _ _ _ _ _ _ _ _ _ _ _ (ap planSays (c .before .plan2 .given .1)) refl
+unfolding planSays bookSays bookBuffersAfter idle storesAfter
+returns-3 c = course-answer _ _ _ _ _ _ _ _ _ (ap planSays (c .before .plan2 .given .1)) refl
 
 returns-4 : tie.Need-returns-4
-unfolding planSays bookSays bookLeftIn idle handedOut
-returns-4 c = course-answer _ _ _ _ _ _ _ _ _ _ _ (ap planSays (c .before .plan3 .given .1)) refl
+unfolding planSays bookSays bookBuffersAfter idle storesAfter
+returns-4 c = course-answer _ _ _ _ _ _ _ _ _ (ap planSays (c .before .plan3 .given .1)) refl
 
 pub carry-out-spec : {M : Type 1} → statement M
 carry-out-spec =

@@ -1,6 +1,6 @@
 -- `book_change_code::change::outcome_of` meets its contract. Assumes nothing.
 use borrow.Author.Needs.{needs}
-use Rattle.face.specs.Set.{changeSays}
+use Rattle.interface.specs.Set.{changeSays}
 use Rattle.book.specs.Steps.{bookSays, changeAnswers}
 use Rattle.book_change_code.proofs.change.outcome_of.Statement.{statement}
 use Rattle.book_change_code.proofs.change.outcome_of.Tie as tie

@@ -2,18 +2,18 @@
 use mathlib.Core.Path.{sym, ap, _∙_}
 use borrow.Author.Needs.{needs}
 use Rattle.prelude.specs.Answer.{Answer}
-use Rattle.face.specs.Set.{Reported}
 use Rattle.book.specs.Orders.{acknowledged}
 use Rattle.book.specs.inner.Courses.{seekSays, planSays, acknowledgeCourse}
 use Rattle.book.proofs.Courses.{acknowledge-again, acknowledge-first}
 use Rattle.book_plan_code.proofs.plans.acknowledge_plan.Statement.{statement}
 use Rattle.book_plan_code.proofs.plans.acknowledge_plan.Tie as tie
+use Rattle.interface.specs.Set.{ReadOnlyResult}
 
 returns : tie.Need-returns
 unfolding seekSays
 returns c =
     (c .already-located .ensures)
-    ∙ acknowledge-again _ _ _ (sym (ap seekSays (c .before .before .before .before .before .sought .given .1)) ∙ (c .before .before .before .before .before .before .before .seek-order .ensures)) (c .before .before .if1 .taken) _ (ap (λ (x : Reported Answer). x .left) (c .before .locate-in-layout .ensures))
+    ∙ acknowledge-again _ _ _ (sym (ap seekSays (c .before .before .before .before .before .sought .given .1)) ∙ (c .before .before .before .before .before .before .before .seek-order .ensures)) (c .before .before .if1 .taken) _ (ap (λ (x : ReadOnlyResult). x .answer) (c .before .locate-in-layout .ensures))
 
 returns-2 : tie.Need-returns-2
 unfolding seekSays planSays acknowledged

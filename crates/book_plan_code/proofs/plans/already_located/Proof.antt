@@ -1,6 +1,6 @@
 -- `book_plan_code::plans::already_located` meets its contract. Assumes nothing.
 use borrow.Author.Needs.{needs}
-use Rattle.face.specs.Set.{locateSays}
+use Rattle.interface.specs.Set.{locateSays}
 use Rattle.book.specs.inner.Courses.{planSays, alreadyCourse}
 use Rattle.book_plan_code.proofs.plans.already_located.Statement.{statement}
 use Rattle.book_plan_code.proofs.plans.already_located.Tie as tie

@@ -1,6 +1,6 @@
 -- `book_plan_code::plans::fill_order` meets its contract. Assumes nothing.
 use borrow.Author.Needs.{needs}
-use Rattle.prelude.specs.Refusal.{say, unlessRefused}
+use Rattle.prelude.specs.Refusal.{refuseIf, unlessRefused}
 use Rattle.prelude.proofs.Tests.{tests}
 use Rattle.book.specs.Orders.{filledBy}
 use Rattle.book.specs.Steps.{quantityFault}
@@ -9,7 +9,7 @@ use Rattle.book_plan_code.proofs.plans.fill_order.Statement.{statement}
 use Rattle.book_plan_code.proofs.plans.fill_order.Tie as tie
 
 pub fill-order-spec : {M : Type 1} → statement M
-unfolding planSays fillOrder quantityFault say unlessRefused filledBy
+unfolding planSays fillOrder quantityFault refuseIf unlessRefused filledBy
 fill-order-spec =
     tie.close
     (tie.spec

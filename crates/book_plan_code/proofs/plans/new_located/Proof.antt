@@ -1,7 +1,7 @@
 -- `book_plan_code::plans::new_located` meets its contract. Assumes nothing.
 use borrow.Author.Needs.{needs}
 use Rattle.prelude.proofs.Tests.{tests}
-use Rattle.face.specs.Set.{locateSays}
+use Rattle.interface.specs.Set.{locateSays}
 use Rattle.book.specs.Orders.{sent}
 use Rattle.book.specs.inner.Courses.{planSays, newCourse}
 use Rattle.book_plan_code.proofs.plans.new_located.Statement.{statement}

@@ -5,8 +5,8 @@ use native.Mathlib.Omega.{arith}
 use lib.ListN.{replicate}
 use lib.Seq.{length-take-le}
 use borrow.Author.Needs.{needs}
-use Rattle.face.specs.Set.{Layout}
-use Rattle.face.proofs.SetLaws.{layout-numbered}
+use Rattle.interface.specs.Set.{Layout}
+use Rattle.interface.proofs.SetLaws.{layout-numbered}
 use Rattle.book.proofs.Seeks.{room-zeros}
 use Rattle.book_plan_code.proofs.plans.seek_order.Statement.{statement}
 use Rattle.book_plan_code.proofs.plans.seek_order.Tie as tie

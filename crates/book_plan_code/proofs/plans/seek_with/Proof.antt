@@ -1,8 +1,8 @@
 -- `book_plan_code::plans::seek_with` meets its contract. Assumes nothing.
 use mathlib.Core.Path.{ap, _∙_}
 use borrow.Author.Needs.{needs}
-use Rattle.face.specs.Set.{Reported, GetResult, getSays}
-use Rattle.face.proofs.SetLaws.{layout-numbered}
+use Rattle.interface.specs.Set.{getSays, ReadOnlyResult}
+use Rattle.interface.proofs.SetLaws.{layout-numbered}
 use Rattle.book.specs.Steps.{none-there, soughtIn}
 use Rattle.book.specs.inner.Courses.{seekSays, soughtNumber}
 use Rattle.book.proofs.Seeks.{seek-given, room-left}
@@ -14,15 +14,15 @@ order-in-requires c κs = room-left _ (layout-numbered (c .before .before .befor
 
 returns : tie.Need-returns
 unfolding getSays
-returns c = (c .order-in .ensures) ∙ seek-given _ _ _ _ _ _ (c .before .before .before .before .before .before .before .before .before .before .before .before .before .pre) _ (ap (λ (x : Reported GetResult). x .left) (c .before .before .before .before .before .before .before .get-in-layout .ensures .0)) _ (ap getSays (c .before .before .before .got .given .1))
+returns c = (c .order-in .ensures) ∙ seek-given _ _ _ _ _ _ (c .before .before .before .before .before .before .before .before .before .before .before .before .before .pre) _ (c .before .before .before .before .before .before .before .get-in-layout .ensures .0) _ (ap getSays (c .before .before .before .got .given .1))
 
 returns-2 : tie.Need-returns-2
 unfolding getSays seekSays soughtIn
-returns-2 c = seek-given _ _ _ _ _ _ (c .before .before .before .before .before .before .before .before .before .before .pre) _ (ap (λ (x : Reported GetResult). x .left) (c .before .before .before .before .get-in-layout .ensures .0)) _ (ap getSays (c .enum-told .given .1))
+returns-2 c = seek-given _ _ _ _ _ _ (c .before .before .before .before .before .before .before .before .before .before .pre) _ (c .before .before .before .before .get-in-layout .ensures .0) _ (ap getSays (c .enum-told .given .1))
 
 returns-3 : tie.Need-returns-3
 unfolding getSays seekSays soughtIn soughtNumber
-returns-3 c = ap none-there (c .sought-number .ensures) ∙ seek-given _ _ _ _ _ _ (c .before .before .before .before .before .before .before .before .before .before .before .before .pre) _ (ap (λ (x : Reported GetResult). x .left) (c .before .before .before .before .before .before .get-in-layout .ensures .0)) _ (ap getSays (c .before .before .got2 .given .1))
+returns-3 c = ap none-there (c .sought-number .ensures) ∙ seek-given _ _ _ _ _ _ (c .before .before .before .before .before .before .before .before .before .before .before .before .pre) _ (c .before .before .before .before .before .before .get-in-layout .ensures .0) _ (ap getSays (c .before .before .got2 .given .1))
 
 pub seek-with-spec : {M : Type 1} → statement M
 seek-with-spec =

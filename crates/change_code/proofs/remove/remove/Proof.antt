@@ -1,6 +1,5 @@
 -- `change_code::remove::remove` meets its contract. Assumes nothing.
 use borrow.Author.Needs.{needs}
-use Rattle.calls.specs.Change.{removeResult}
 use Rattle.calls.proofs.Changes.{key-alone}
 use Rattle.change_code.proofs.remove.remove.Statement.{statement}
 use Rattle.change_code.proofs.remove.remove.Tie as tie

@@ -1,6 +1,5 @@
 -- `change_code::remove::remove2` meets its contract. Assumes nothing.
 use borrow.Author.Needs.{needs}
-use Rattle.calls.specs.Change.{removeResult}
 use Rattle.change_code.proofs.remove.remove2.Statement.{statement}
 use Rattle.change_code.proofs.remove.remove2.Tie as tie
 

@@ -1,6 +1,5 @@
 -- `change_code::write::insert2` meets its contract. Assumes nothing.
 use borrow.Author.Needs.{needs}
-use Rattle.calls.specs.Change.{writeResult}
 use Rattle.change_code.proofs.write.insert2.Statement.{statement}
 use Rattle.change_code.proofs.write.insert2.Tie as tie
 

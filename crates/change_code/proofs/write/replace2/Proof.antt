@@ -1,6 +1,5 @@
 -- `change_code::write::replace2` meets its contract. Assumes nothing.
 use borrow.Author.Needs.{needs}
-use Rattle.calls.specs.Change.{writeResult}
 use Rattle.change_code.proofs.write.replace2.Statement.{statement}
 use Rattle.change_code.proofs.write.replace2.Tie as tie
 

@@ -1,13 +1,13 @@
 -- `change_layout_code::remove::remove_in` meets its contract. Assumes nothing.
-use mathlib.Core.Path.{refl, ap, ap₂, _∙_}
-use Prim.Native.Nat.{ℕ}
+use mathlib.Core.Path.{refl, ap, _∙_}
 use native.Mathlib.Omega.{arith}
 use borrow.Author.Needs.{needs}
 use Rattle.index.proofs.LookedUp.{allowed-at}
-use Rattle.calls.specs.Compared.{reported, keyCompared}
-use Rattle.calls.specs.Change.{ChangeResult, changeSays, handedOut, leftIn, unchanged}
+use Rattle.calls.specs.Compared.{keyCompared}
+use Rattle.calls.specs.Change.{changeSays, buffersAfter}
 use Rattle.calls.proofs.Changes.{inside, some-head, changed-end}
 use Rattle.calls.proofs.Results.{refused-count, allowed-count, remove-refused, remove-held, remove-not-held}
+use Rattle.change_layout_code.proofs.Ends.{kept-end, changed-by}
 use Rattle.change_layout_code.proofs.remove.remove_in.Statement.{statement}
 use Rattle.change_layout_code.proofs.remove.remove_in.Tie as tie
 
@@ -27,20 +27,18 @@ remove-stores-requires c κs =
     (c .before .before .before .before .before .before .before .before .before .before .before .before .before .before .before .before .before .before .before .before .before .before .pre, omega arith, w .index .version-fits, w .slot-fits, w .slot-in)
 
 returns : tie.Need-returns
-unfolding changeSays handedOut leftIn unchanged keyCompared
+unfolding changeSays keyCompared
 returns c = (
-  ap₂ (λ (x : ChangeResult) (k : ℕ). reported x k)
-      (ap (leftIn _) (remove-refused _ _ _ _ _ _ _ _ (c .before .before .before .remove-lookup .ensures) _ _ (c .before .lookup .given .1)))
-      (refused-count (c .before .before .before .remove-lookup .ensures) _ _ (c .before .lookup .given .1)),
+  kept-end (refused-count (c .before .before .before .remove-lookup .ensures) _ _ (c .before .lookup .given .1)) _ _ _
+      (remove-refused _ _ _ _ _ _ (c .before .before .before .remove-lookup .ensures) _ _ (c .before .lookup .given .1)),
   refl,
 )
 
 returns-2 : tie.Need-returns-2
-unfolding changeSays handedOut leftIn unchanged keyCompared
+unfolding changeSays keyCompared
 returns-2 c = (
-  ap₂ (λ (x : ChangeResult) (k : ℕ). reported x k)
-      (ap (leftIn _) (remove-not-held _ _ _ _ _ _ _ _ (c .before .before .before .before .before .remove-lookup .ensures) _ _ (allowed-at (c .before .before .before .lookup2 .given .1) (c .enum-told .given .1))))
-      (allowed-count (c .before .before .before .before .before .remove-lookup .ensures) _ _ (c .before .before .before .lookup2 .given .1)),
+  kept-end (allowed-count (c .before .before .before .before .before .remove-lookup .ensures) _ _ (c .before .before .before .lookup2 .given .1)) _ _ _
+      (remove-not-held _ _ _ _ _ _ (c .before .before .before .before .before .remove-lookup .ensures) _ _ (allowed-at (c .before .before .before .lookup2 .given .1) (c .enum-told .given .1))),
   refl,
 )
 
@@ -53,11 +51,10 @@ same-length-6 c = c .before .before .before .before .before .before .before .rem
 returns-3 : tie.Need-returns-3
 unfolding changeSays keyCompared
 returns-3 c = (
-  ap₂ (λ (x : ChangeResult) (k : ℕ). reported x k)
-      (changed-end _ _ _ _ _ _ _ _ _ _ (c .remove-stores .ensures) _ _ _ _ (c .before .before .before .before .before .before .before .remove-held .ensures)
-      ∙ ap (leftIn _)
-      (remove-held _ _ _ _ _ _ _ _ (c .before .before .before .before .before .before .before .before .before .before .before .before .before .before .before .before .before .remove-lookup .ensures) _ _ _ _ (allowed-at (c .before .before .before .before .before .before .before .before .before .before .before .before .before .before .before .lookup2 .given .1) (c .before .before .before .before .before .before .before .before .before .before .before .before .place .given .1)) (c .before .before .before .before .before .before .before .before .before .before .head-of .ensures .1 (c .before .before .before .before .before .before .before .before .before .before .before .before .before .before .before .before .before .before .before .before .before .before .before .args .high))))
-      (allowed-count (c .before .before .before .before .before .before .before .before .before .before .before .before .before .before .before .before .before .remove-lookup .ensures) _ _ (c .before .before .before .before .before .before .before .before .before .before .before .before .before .before .before .lookup2 .given .1)),
+  changed-end _ _ _ _ _ _ _ _ _ _ (c .remove-stores .ensures) _ _ _ _ _ (c .before .before .before .before .before .before .before .remove-held .ensures)
+      ∙ ap (buffersAfter _)
+      (changed-by (allowed-count (c .before .before .before .before .before .before .before .before .before .before .before .before .before .before .before .before .before .remove-lookup .ensures) _ _ (c .before .before .before .before .before .before .before .before .before .before .before .before .before .before .before .lookup2 .given .1)) _ _ _ _ _ _ _ _ _
+      (remove-held _ _ _ _ _ _ (c .before .before .before .before .before .before .before .before .before .before .before .before .before .before .before .before .before .remove-lookup .ensures) _ _ _ _ (allowed-at (c .before .before .before .before .before .before .before .before .before .before .before .before .before .before .before .lookup2 .given .1) (c .before .before .before .before .before .before .before .before .before .before .before .before .place .given .1)) (c .before .before .before .before .before .before .before .before .before .before .head-of .ensures .1 (c .before .before .before .before .before .before .before .before .before .before .before .before .before .before .before .before .before .before .before .before .before .before .before .args .high)))),
   refl,
 )
 

@@ -1,13 +1,12 @@
 -- `change_layout_code::write::write_in` meets its contract. Assumes nothing.
-use mathlib.Core.Path.{refl, ap, ap₂, _∙_}
-use Prim.Native.Nat.{ℕ}
+use mathlib.Core.Path.{refl, ap, _∙_}
 use native.Mathlib.Omega.{arith}
 use borrow.Author.Needs.{needs}
-use Rattle.calls.specs.Compared.{reported}
 use Rattle.calls.specs.Moved.{writeMoved}
-use Rattle.calls.specs.Change.{ChangeResult, changeSays, handedOut, leftIn, unchanged, writeCompared}
+use Rattle.calls.specs.Change.{changeSays, buffersAfter, writeCompared}
 use Rattle.calls.proofs.Changes.{allowed, allowed-inside, changed-end}
 use Rattle.calls.proofs.Results.{refused-count, allowed-count, write-refused, write-allowed}
+use Rattle.change_layout_code.proofs.Ends.{kept-end, changed-by}
 use Rattle.change_layout_code.proofs.write.write_in.Statement.{statement}
 use Rattle.change_layout_code.proofs.write.write_in.Tie as tie
 
@@ -24,22 +23,20 @@ record-stores-requires c κs =
     (record { layout = c .before .before .before .before .before .before .before .before .before .before .before .before .before .before .before .before .before .before .before .before .pre; kind-fits = omega arith; number-fits = omega arith; size = ready .0; version-fits = ready .1 }, ready .2, ready .3)
 
 returns : tie.Need-returns
-unfolding changeSays handedOut leftIn unchanged writeCompared writeMoved
+unfolding changeSays writeCompared writeMoved
 returns c = (
-  ap₂ (λ (x : ChangeResult) (k : ℕ). reported x k)
-      (ap (leftIn _) (write-refused _ _ _ _ _ _ _ _ _ _ (c .before .before .before .write-lookup .ensures) _ _ (c .before .lookup .given .1)))
-      (refused-count (c .before .before .before .write-lookup .ensures) _ _ (c .before .lookup .given .1)),
+  kept-end (refused-count (c .before .before .before .write-lookup .ensures) _ _ (c .before .lookup .given .1)) _ _ _
+      (write-refused _ _ _ _ _ _ _ _ (c .before .before .before .write-lookup .ensures) _ _ (c .before .lookup .given .1)),
   refl,
 )
 
 returns-2 : tie.Need-returns-2
 unfolding changeSays writeCompared writeMoved
 returns-2 c = (
-  ap₂ (λ (x : ChangeResult) (k : ℕ). reported x k)
-      (changed-end _ _ _ _ _ _ _ _ _ _ (c .record-stores .ensures .0) _ _ _ _ (c .before .before .before .before .before .before .before .write-place .ensures)
-      ∙ ap (leftIn _)
-      (write-allowed _ _ _ _ _ _ _ _ _ _ (c .before .before .before .before .before .before .before .before .before .before .before .before .before .before .write-lookup .ensures) _ _ _ (c .before .before .before .before .before .before .before .before .before .before .before .before .lookup2 .given .1) (c .before .before .before .before .before .before .before .before .before .before .head-of .ensures .1 (c .before .before .before .before .before .before .before .before .before .before .before .before .before .before .before .before .before .before .before .before .before .args .high))))
-      (allowed-count (c .before .before .before .before .before .before .before .before .before .before .before .before .before .before .write-lookup .ensures) _ _ (c .before .before .before .before .before .before .before .before .before .before .before .before .lookup2 .given .1)),
+  changed-end _ _ _ _ _ _ _ _ _ _ (c .record-stores .ensures .0) _ _ _ _ _ (c .before .before .before .before .before .before .before .write-place .ensures)
+      ∙ ap (buffersAfter _)
+      (changed-by (allowed-count (c .before .before .before .before .before .before .before .before .before .before .before .before .before .before .write-lookup .ensures) _ _ (c .before .before .before .before .before .before .before .before .before .before .before .before .lookup2 .given .1)) _ _ _ _ _ _ _ _ _
+      (write-allowed _ _ _ _ _ _ _ _ (c .before .before .before .before .before .before .before .before .before .before .before .before .before .before .write-lookup .ensures) _ _ _ (c .before .before .before .before .before .before .before .before .before .before .before .before .lookup2 .given .1) (c .before .before .before .before .before .before .before .before .before .before .head-of .ensures .1 (c .before .before .before .before .before .before .before .before .before .before .before .before .before .before .before .before .before .before .before .before .before .args .high)))),
   c .record-stores .ensures .1,
 )
 

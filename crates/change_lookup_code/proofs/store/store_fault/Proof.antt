@@ -3,8 +3,8 @@ use mathlib.Core.Path.{sym, _∙_}
 use borrow.Author.Needs.{needs}
 use Rattle.layout.specs.Line.{versionFault}
 use Rattle.index.proofs.Faults.{reusable}
-use Rattle.taking.specs.Taking.{takingBy}
-use Rattle.taking.proofs.Looks.{ends-by, full-refused}
+use Rattle.allocation.specs.Allocation.{allocationBy}
+use Rattle.allocation.proofs.Looks.{ends-by, full-refused}
 use Rattle.calls.specs.Change.{storeFault}
 use Rattle.calls.proofs.Lookups.{store-ends, store-live, store-take, store-room, store-version}
 use Rattle.change_lookup_code.proofs.store.store_fault.Statement.{statement}
@@ -24,7 +24,7 @@ unfolding storeFault
 returns-3 c =
     c .before .full-fault .ensures (c .if3 .taken) .0
     ∙ full-refused
-    (takingBy (c .before .before .before .before .before .before .before .before .before .args .own) (c .before .before .before .before .before .before .before .before .before .args .l) (c .before .before .before .before .before .before .before .before .before .args .image .now) (c .before .before .before .before .before .before .before .before .before .args .next .now) (c .before .before .before .before .before .before .before .before .before .args .n) (c .before .before .before .before .before .before .before .before .before .args .state .first) (c .before .before .before .before .before .before .before .before .before .args .state .newest) 1)
+    (allocationBy (c .before .before .before .before .before .before .before .before .before .args .own) (c .before .before .before .before .before .before .before .before .before .args .l) (c .before .before .before .before .before .before .before .before .before .args .image .now) (c .before .before .before .before .before .before .before .before .before .args .next .now) (c .before .before .before .before .before .before .before .before .before .args .n) (c .before .before .before .before .before .before .before .before .before .args .state .first) (c .before .before .before .before .before .before .before .before .before .args .state .newest) 1)
     (c .before .before .before .before .before .before .before .before .before .args .n) (c .before .before .before .before .before .before .before .before .before .args .state .first) (c .before .before .before .before .before .before .before .before .before .args .state .last) (c .before .before .before .before .before .before .before .before .before .args .state .live) (c .before .before .before .before .before .before .before .before .before .args .inserts) (c .before .before .before .before .before .before .before .before .before .args .removes) _ _ (versionFault (c .before .before .before .before .before .before .before .before .before .args .state .version))
     (c .before .before .before .before .before .before .ends-fault .ensures) (c .before .before .before .before .before .if1 .left) (c .before .before .before .if2 .left)
     (ends-by (c .before .before .before .before .before .before .before .before .before .args .own) (c .before .before .before .before .before .before .before .before .before .args .l) (c .before .before .before .before .before .before .before .before .before .args .image .now) (c .before .before .before .before .before .before .before .before .before .args .next .now) (c .before .before .before .before .before .before .before .before .before .args .n) (c .before .before .before .before .before .before .before .before .before .args .state .first) (c .before .before .before .before .before .before .before .before .before .args .state .newest) 1 (c .before .full-fault .ensures (c .if3 .taken) .1))

@@ -2,6 +2,7 @@
 use Prim.Native.Nat.{_-_}
 use native.Mathlib.Omega.{arith}
 use borrow.Author.Needs.{needs}
+use Rattle.index.specs.Index.{noState}
 use Rattle.index.proofs.Pushes.{Going, going-starts, going-slot, going-on, going-ends}
 use Rattle.index_code.proofs.build.chain_up.Statement.{statement}
 use Rattle.index_code.proofs.build.chain_up.Tie as tie
@@ -13,6 +14,7 @@ abbrev μ-loop : tie.MeasureT-loop
 μ-loop heads₀ next₀ order places state₀ left₀ heads next state left = left
 
 loop-holds : tie.Need-loop-holds Inv-loop μ-loop
+unfolding noState
 loop-holds c = going-starts _ _ _ _
 
 shared-slice-read-slot : tie.Need-shared-slice-read-slot Inv-loop μ-loop

@@ -47,11 +47,11 @@ use Rattle.mir_steps.proofs.Statements.{copied, sets}
 use Rattle.stores.specs.Store.{Store}
 use Rattle.stores.proofs.Store as T
 use Rattle.stores.proofs.Store.Laws as T′
-use Rattle.log.specs.Handed.{handedSays, logListEnd}
+use Rattle.log.specs.LogOutcome.{logAnswer, logListEnd}
 use Rattle.log.specs.Append.{appendListResult}
-use Rattle.log.specs.declared.Handed.{Handed}
-use Rattle.log.proofs.Handed as B
-use Rattle.log.proofs.Handed.Laws as B′
+use Rattle.log.specs.declared.LogOutcome.{LogOutcome}
+use Rattle.log.proofs.LogOutcome as B
+use Rattle.log.proofs.LogOutcome.Laws as B′
 use Rattle.log_list_code.proofs.append_list as g
 use Rattle.log_list_code.proofs.append_list.Symbol as g-def
 use Rattle.log_list_code.proofs.append_list.Symbol.{name as #append-list}
@@ -159,12 +159,12 @@ module _ {M : Type 1} (𝓤 : URA M) (H : Heap 𝓤) (A : Atoms 𝓤) (W : Given
         move ! (1 ∷ 0 ∷ []) $ fjoin ! $ move ! (1 ∷ 0 ∷ []) $ fjoin ! $ move ! (1 ∷ 0 ∷ []) $ fjoin ! $
         move ! (1 ∷ 0 ∷ []) $ join ! $ nothing ! $ move ! (1 ∷ 0 ∷ []) $ join ! $ done !
 
-  abbrev Result : Handed → List Store → Type 0
-  Result r zs = logListEnd (handedSays r) zs ≡ appendListResult area message list
+  abbrev Result : LogOutcome → List Store → Type 0
+  Result r zs = logListEnd (logAnswer r) zs ≡ appendListResult area message list
 
   -- ---- `log_listed`
 
-  module _ (r : Handed) (w : Val) (is-r : Is B.the-row r (w ∷ [])) (zs : List Store) (is-zs : Is (Array T.the-row 48) zs (array-vals svals zs))
+  module _ (r : LogOutcome) (w : Val) (is-r : Is B.the-row r (w ∷ [])) (zs : List Store) (is-zs : Is (Array T.the-row 48) zs (array-vals svals zs))
       (told : Result r zs) where
     abbrev to-joined : Joined 𝓤 H A mem run .Ghost
     to-joined = ((tt, tt, tt, (r, (zs, tt)), (w ∷ [], (array-vals svals zs, tt))), tt)
@@ -184,7 +184,7 @@ module _ {M : Type 1} (𝓤 : URA M) (H : Heap 𝓤) (A : Atoms 𝓤) (W : Given
     exits m v is-m same =
         qed W (‵ (flft κ₁ q₁) ∷ ‵ (flft κ₀ q₀) ∷ []) ∵
         suffices ! _ (ends-at 𝓤 H A f.ended stayed (f.clauses 𝓤 H A mem run) W bound v m (tt, (tt, (tt, tt))) (tt, (tt, (tt, tt)))) $
-        says ! (ap (λ (x : Handed). logListEnd (handedSays x) (m .list)) (same .0) ∙ ap (logListEnd (handedSays r)) (same .1) ∙ told) $
+        says ! (ap (λ (x : LogOutcome). logListEnd (logAnswer x) (m .list)) (same .0) ∙ ap (logListEnd (logAnswer r)) (same .1) ∙ told) $
         nothing ! $ move ! (1 ∷ 0 ∷ []) $ join ! $ move ! (1 ∷ 0 ∷ []) $ join ! $ frame ! $
         dropped ! 3 $ owned ! D.the-row (Is D.the-row) (LL.makes D.the-type D′.the-plain 𝓤 H A) m _ is-m $ move ! (1 ∷ 0 ∷ []) $ done !
 
@@ -207,7 +207,7 @@ module _ {M : Type 1} (𝓤 : URA M) (H : Heap 𝓤) (A : Atoms 𝓤) (W : Given
         bs 4) α γ) $
         calls-at ! fm (Call 𝓤 H A mem run) known (ghosts (block body.locals bs 4) α γ) (and-then ! (copied ! 4 refl) (and-then ! (copied ! 6 refl)
         (and-then ! (copied ! 15 refl) (no-more !)))) (λ w.
-        use1 W (later (some (λ (r : Handed). ((‵ (flft κ₀ q₀) ⊛ (‵ (flft κ₁ q₁) ⊛ (‵ (flft (α ∷ []) fullShare) ⊛ ‵ ftrue))) ⊛ ‵ (B.the-row .own r (w ∷ [])))
+        use1 W (later (some (λ (r : LogOutcome). ((‵ (flft κ₀ q₀) ⊛ (‵ (flft κ₁ q₁) ⊛ (‵ (flft (α ∷ []) fullShare) ⊛ ‵ ftrue))) ⊛ ‵ (B.the-row .own r (w ∷ [])))
         ⊛ raw (ensured 𝓤 H A g.ended (g.clauses 𝓤 H A mem run) (κ₀, (κ₁, (α ∷ [], tt))) (args (block body.locals bs 4) α γ) tt r)))) (id⊢ 𝓤 _) $ await ! tt $
         pick ! (λ r.
         split ! $ move ! (1 ∷ []) $ use1 W (some (λ (zs : Unit {0} × (Unit {0} × (List Store × Unit {0}))). ‵ (lasts g.ended (κ₀, (κ₁, (α ∷ [], tt)))

@@ -47,11 +47,11 @@ use Rattle.mir_steps.proofs.Statements.{copied, sets}
 use Rattle.stores.specs.Store.{Store}
 use Rattle.stores.proofs.Store as T
 use Rattle.stores.proofs.Store.Laws as T′
-use Rattle.log.specs.Handed.{handedSays, logListEnd}
+use Rattle.log.specs.LogOutcome.{logAnswer, logListEnd}
 use Rattle.log.specs.Recover.{logRecoverListResult}
-use Rattle.log.specs.declared.Handed.{Handed}
-use Rattle.log.proofs.Handed as B
-use Rattle.log.proofs.Handed.Laws as B′
+use Rattle.log.specs.declared.LogOutcome.{LogOutcome}
+use Rattle.log.proofs.LogOutcome as B
+use Rattle.log.proofs.LogOutcome.Laws as B′
 use Rattle.log_list_code.proofs.recover_list as g
 use Rattle.log_list_code.proofs.recover_list.Symbol as g-def
 use Rattle.log_list_code.proofs.recover_list.Symbol.{name as #recover-list}
@@ -144,12 +144,12 @@ module _ {M : Type 1} (𝓤 : URA M) (H : Heap 𝓤) (A : Atoms 𝓤) (W : Given
         move ! (1 ∷ []) $ fsplit ! $ move ! (1 ∷ []) $ drop ! $ move ! (2 ∷ []) $ nothing ! $ move ! (1 ∷ 0 ∷ []) $ fjoin ! $ move ! (1 ∷ 0 ∷ []) $ fjoin ! $
         move ! (1 ∷ 0 ∷ []) $ join ! $ nothing ! $ move ! (1 ∷ 0 ∷ []) $ join ! $ done !
 
-  abbrev Result : Handed → List Store → Type 0
-  Result r zs = logListEnd (handedSays r) zs ≡ logRecoverListResult area list
+  abbrev Result : LogOutcome → List Store → Type 0
+  Result r zs = logListEnd (logAnswer r) zs ≡ logRecoverListResult area list
 
   -- ---- `log_listed`
 
-  module _ (r : Handed) (w : Val) (is-r : Is B.the-row r (w ∷ [])) (zs : List Store) (is-zs : Is (Array T.the-row 48) zs (array-vals svals zs))
+  module _ (r : LogOutcome) (w : Val) (is-r : Is B.the-row r (w ∷ [])) (zs : List Store) (is-zs : Is (Array T.the-row 48) zs (array-vals svals zs))
       (told : Result r zs) where
     abbrev to-joined : Joined 𝓤 H A mem run .Ghost
     to-joined = ((tt, tt, tt, (r, (zs, tt)), (w ∷ [], (array-vals svals zs, tt))), tt)
@@ -169,7 +169,7 @@ module _ {M : Type 1} (𝓤 : URA M) (H : Heap 𝓤) (A : Atoms 𝓤) (W : Given
     exits m v is-m same =
         qed W (‵ (flft κ₀ q₀) ∷ []) ∵
         suffices ! _ (ends-at 𝓤 H A f.ended stayed (f.clauses 𝓤 H A mem run) W bound v m (tt, (tt, tt)) (tt, (tt, tt))) $
-        says ! (ap (λ (x : Handed). logListEnd (handedSays x) (m .list)) (same .0) ∙ ap (logListEnd (handedSays r)) (same .1) ∙ told) $
+        says ! (ap (λ (x : LogOutcome). logListEnd (logAnswer x) (m .list)) (same .0) ∙ ap (logListEnd (logAnswer r)) (same .1) ∙ told) $
         nothing ! $ move ! (1 ∷ 0 ∷ []) $ join ! $ frame ! $
         dropped ! 2 $ owned ! D.the-row (Is D.the-row) (LL.makes D.the-type D′.the-plain 𝓤 H A) m _ is-m $ move ! (1 ∷ 0 ∷ []) $ done !
 
@@ -191,7 +191,7 @@ module _ {M : Type 1} (𝓤 : URA M) (H : Heap 𝓤) (A : Atoms 𝓤) (W : Given
         bs 3) α γ) $
         calls-at ! fm (Call 𝓤 H A mem run) known (ghosts (block body.locals bs 3) α γ) (and-then ! (copied ! 4 refl) (and-then ! (copied ! 13 refl)
         (no-more !))) (λ w.
-        use1 W (later (some (λ (r : Handed). ((‵ (flft κ₀ q₀) ⊛ (‵ (flft (α ∷ []) fullShare) ⊛ ‵ ftrue)) ⊛ ‵ (B.the-row .own r (w ∷ []))) ⊛ raw (ensured 𝓤 H
+        use1 W (later (some (λ (r : LogOutcome). ((‵ (flft κ₀ q₀) ⊛ (‵ (flft (α ∷ []) fullShare) ⊛ ‵ ftrue)) ⊛ ‵ (B.the-row .own r (w ∷ []))) ⊛ raw (ensured 𝓤 H
         A g.ended (g.clauses 𝓤 H A mem run) (κ₀, (α ∷ [], tt)) (args (block body.locals bs 3) α γ) tt r)))) (id⊢ 𝓤 _) $ await ! tt $ pick ! (λ r.
         split ! $ move ! (1 ∷ []) $ use1 W (some (λ (zs : Unit {0} × (List Store × Unit {0})). ‵ (lasts g.ended (κ₀, (α ∷ [], tt)) (args (block body.locals
         bs 3) α γ) zs) ⊛ raw (fact 𝓤 (Result r (zs .1 .0))))) (id⊢ 𝓤 _) $ pick ! (λ zs.

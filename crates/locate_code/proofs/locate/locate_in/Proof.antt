@@ -1,17 +1,22 @@
 -- `locate_code::locate::locate_in` meets its contract. Assumes nothing.
 use mathlib.Core.Path.{ap₂}
+use mathlib.Core.List.{[]}
 use Prim.Native.Nat.{ℕ}
 use native.Mathlib.Omega.{arith}
 use borrow.Author.Needs.{needs}
 use Rattle.layout.proofs.Lents.{lent-sized}
 use Rattle.prelude.specs.Answer.{Answer}
 use Rattle.index.specs.Walk.{comparedIn}
-use Rattle.calls.specs.Compared.{reported}
+use Rattle.calls.specs.Result.{ReadOnlyResult}
 use Rattle.calls.specs.Locate.{locateSays}
 use Rattle.calls.proofs.Lookups.{lent-inside}
 use Rattle.calls.proofs.Locates.{refused-compares, locate-refused, locate-compares, locate-held, locate-not-held, locate-bad}
 use Rattle.locate_code.proofs.locate.locate_in.Statement.{statement}
 use Rattle.locate_code.proofs.locate.locate_in.Tie as tie
+
+-- it has no output
+abbrev left : Answer → ℕ → ReadOnlyResult
+left answer compared = record { answer = answer; out = []; compared = compared }
 
 read-word-requires : tie.Need-read-word-requires
 read-word-requires c κs =
@@ -23,27 +28,27 @@ read-word-requires c κs =
 returns : tie.Need-returns
 unfolding locateSays
 returns c =
-    ap₂ (λ (x : Answer) (k : ℕ). reported x k) (locate-refused _ _ _ _ _ _ (c .before .lent-fault .ensures) (c .if1 .taken))
+    ap₂ left (locate-refused _ _ _ _ _ _ (c .before .lent-fault .ensures) (c .if1 .taken))
     (refused-compares _ _ _ _ _ _ (c .before .lent-fault .ensures) (c .if1 .taken))
 
 returns-2 : tie.Need-returns-2
 unfolding locateSays comparedIn
 returns-2 c =
-    ap₂ (λ (x : Answer) (k : ℕ). reported x k)
+    ap₂ left
     (locate-held _ _ _ _ _ _ (c .before .before .before .before .before .before .before .lent-fault .ensures) (c .before .before .before .before .before .before .if1 .left) _ (c .before .before .before .before .find .ensures) _ _ _ _ (c .before .before .found .given .1) (c .read-word .ensures))
     (locate-compares _ _ _ _ _ _ (c .before .before .before .before .before .before .before .lent-fault .ensures) (c .before .before .before .before .before .before .if1 .left) _ (c .before .before .before .before .find .ensures) _ (c .before .before .found .given .1))
 
 returns-3 : tie.Need-returns-3
 unfolding locateSays comparedIn
 returns-3 c =
-    ap₂ (λ (x : Answer) (k : ℕ). reported x k)
+    ap₂ left
     (locate-not-held _ _ _ _ _ _ (c .before .before .before .before .before .before .lent-fault .ensures) (c .before .before .before .before .before .if1 .left) _ (c .before .before .before .find .ensures) _ _ (c .before .found2 .given .1))
     (locate-compares _ _ _ _ _ _ (c .before .before .before .before .before .before .lent-fault .ensures) (c .before .before .before .before .before .if1 .left) _ (c .before .before .before .find .ensures) _ (c .before .found2 .given .1))
 
 returns-4 : tie.Need-returns-4
 unfolding locateSays comparedIn
 returns-4 c =
-    ap₂ (λ (x : Answer) (k : ℕ). reported x k)
+    ap₂ left
     (locate-bad _ _ _ _ _ _ (c .before .before .before .before .before .lent-fault .ensures) (c .before .before .before .before .if1 .left) _ (c .before .before .find .ensures) (c .enum-told .given .1))
     (locate-compares _ _ _ _ _ _ (c .before .before .before .before .before .lent-fault .ensures) (c .before .before .before .before .if1 .left) _ (c .before .before .find .ensures) _ (c .enum-told .given .1))
 

@@ -1,13 +1,13 @@
 -- `log_c::calls::orderset_raw_log_append` meets its contract. Assumes nothing.
 use borrow.Author.Needs.{needs}
 use Rattle.prelude.specs.Answer.{refusalIn, givenOr}
-use Rattle.log.specs.Handed.{handedSays}
+use Rattle.log.specs.LogOutcome.{logAnswer}
 use Rattle.log_exports.specs.Call.{handCall}
 use Rattle.log_c.proofs.calls.orderset_raw_log_append.Statement.{statement}
 use Rattle.log_c.proofs.calls.orderset_raw_log_append.Tie as tie
 
 pub orderset-raw-log-append-spec : {M : Type 1} → statement M
-unfolding refusalIn givenOr handedSays handCall
+unfolding refusalIn givenOr logAnswer handCall
 orderset-raw-log-append-spec =
     tie.close
     (tie.spec

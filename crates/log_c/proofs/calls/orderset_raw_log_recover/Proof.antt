@@ -1,13 +1,13 @@
 -- `log_c::calls::orderset_raw_log_recover` meets its contract. Assumes nothing.
 use borrow.Author.Needs.{needs}
 use Rattle.prelude.specs.Answer.{refusalIn, givenOr}
-use Rattle.log.specs.Handed.{handedSays}
+use Rattle.log.specs.LogOutcome.{logAnswer}
 use Rattle.log_exports.specs.Call.{handCall}
 use Rattle.log_c.proofs.calls.orderset_raw_log_recover.Statement.{statement}
 use Rattle.log_c.proofs.calls.orderset_raw_log_recover.Tie as tie
 
 pub orderset-raw-log-recover-spec : {M : Type 1} → statement M
-unfolding refusalIn givenOr handedSays handCall
+unfolding refusalIn givenOr logAnswer handCall
 orderset-raw-log-recover-spec =
     tie.close
     (tie.spec

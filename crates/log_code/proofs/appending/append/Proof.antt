@@ -1,12 +1,12 @@
 -- `log_code::appending::append` meets its contract. Assumes nothing.
 use borrow.Author.Needs.{needs}
 use Rattle.log.proofs.Plans.{append-refused, append-taken}
-use Rattle.log.specs.Handed.{handedSays}
+use Rattle.log.specs.LogOutcome.{logAnswer}
 use Rattle.log_code.proofs.appending.append.Statement.{statement}
 use Rattle.log_code.proofs.appending.append.Tie as tie
 
 pub append-spec : {M : Type 1} → statement M
-unfolding handedSays
+unfolding logAnswer
 append-spec =
     tie.close
     (tie.spec

@@ -48,12 +48,12 @@ use Rattle.stores.specs.Store.{Store}
 use Rattle.stores.specs.inner.List.{storesPut}
 use Rattle.stores.proofs.Store as T
 use Rattle.log.specs.Area.{cellsIn}
-use Rattle.log.specs.Handed.{handedSays, logListEnd}
+use Rattle.log.specs.LogOutcome.{logAnswer, logListEnd}
 use Rattle.log.specs.Append.{nextMessage, appendStores, appendFault, appendListResult}
 use Rattle.log.specs.inner.List.{StoresMade}
 use Rattle.log.specs.declared.AppendMade.{AppendMade}
-use Rattle.log.proofs.Handed as B
-use Rattle.log.proofs.Handed.Laws as B′
+use Rattle.log.proofs.LogOutcome as B
+use Rattle.log.proofs.LogOutcome.Laws as B′
 use Rattle.log.proofs.AppendMade as D
 use Rattle.log.proofs.AppendMade.Laws as D′
 use Rattle.log.proofs.Lists.{in-list}
@@ -169,7 +169,7 @@ module _ {M : Type 1} (𝓤 : URA M) (H : Heap 𝓤) (A : Atoms 𝓤) (W : Given
     arrays : Arrays 56 at value (m .stored) (length list)
     arrays = record { few = lit< tt; is-at = is-at; is-words = is-value; fits = LL.owed D.the-type D′.the-laws m _ is .1 .0 .1; in-room = made-it .in-room; in-arrays = made-it .in-arrays }
 
-    ends : (zs : List Store) → zs ≡ storesPut at value (m .stored) list → logListEnd (handedSays (m .answer)) zs ≡ appendListResult area message list
+    ends : (zs : List Store) → zs ≡ storesPut at value (m .stored) list → logListEnd (logAnswer (m .answer)) zs ≡ appendListResult area message list
     unfolding appendListResult
     ends zs e = in-list _ _ _ _ _ _ _ _ _ at value made-it (map-id (m .at)) (map-id (m .value)) (is-at .1 .0 .1) (is-value .1 .0 .1) list zs e
 

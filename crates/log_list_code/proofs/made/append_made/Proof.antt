@@ -15,7 +15,7 @@ slice-aggregate-append-2 c = front-length _ _ (omega (arith, c .before .before .
 
 returns : tie.Need-returns
 returns c =
-    append-made _ _ _ _ _ _ _ _ _ _ (c .handed-count .ensures) _
+    append-made _ _ _ _ _ _ _ _ _ _ (c .stored-count .ensures) _
     (sym (front-length _ _ (omega (arith, c .before .before .before .before .before .before .lesser .ensures))) ∙ c .before .before .before .before .before .before .lesser .ensures) (sym (front-length _ _ (omega (arith, c .before .before .before .before .before .before .lesser .ensures))) ∙ c .before .before .before .before .before .before .lesser .ensures) (c .before .before .before .append .ensures)
 
 pub append-made-spec : {M : Type 1} → statement M

@@ -15,7 +15,7 @@ slice-aggregate-recover-log-2 c = front-length _ _ (omega (arith, c .before .bef
 
 returns : tie.Need-returns
 returns c =
-    recovery-made _ _ _ _ _ _ _ _ _ _ (c .handed-count .ensures)
+    recovery-made _ _ _ _ _ _ _ _ _ _ (c .stored-count .ensures)
     (sym (front-length _ _ (omega (arith, c .before .before .before .before .before .before .lesser .ensures))) ∙ c .before .before .before .before .before .before .lesser .ensures) (sym (front-length _ _ (omega (arith, c .before .before .before .before .before .before .lesser .ensures))) ∙ c .before .before .before .before .before .before .lesser .ensures) (c .before .before .before .recover-log .ensures)
 
 pub recovery-made-spec : {M : Type 1} → statement M

@@ -4,7 +4,7 @@ use Rattle.orderset2_c.proofs.count.orderset2_count_slots.Statement.{st
 use Rattle.orderset2_c.proofs.count.orderset2_count_slots.Tie as tie
 
 returns : tie.Need-returns
-returns c = rw (← (c .before .before .before .before .before .before .count-slots2 .ensures)) (c .hand-out-counted .ensures _ _)
+returns c = rw (← (c .before .before .before .before .before .before .count-slots2 .ensures)) (c .write-answer-counted .ensures _ _)
 
 pub orderset2-count-slots-spec : {M : Type 1} → statement M
 orderset2-count-slots-spec =

@@ -5,7 +5,7 @@ use Rattle.orderset2_c.proofs.locate.orderset2_locate.Statement.{statem
 use Rattle.orderset2_c.proofs.locate.orderset2_locate.Tie as tie
 
 returns : tie.Need-returns
-returns c = locate-called _ _ _ _ _ _ (c .before .before .locate2 .ensures) (c .hand-out-located .ensures)
+returns c = locate-called _ _ _ _ _ (c .before .before .locate2 .ensures) (c .write-answer-located .ensures)
 
 pub orderset2-locate-spec : {M : Type 1} → statement M
 orderset2-locate-spec = tie.close (tie.spec (λ c κs. search needs) (λ c κs. search needs) returns)

@@ -4,7 +4,7 @@ use Rattle.orderset2_c.proofs.recover.orderset2_recover.Statement.{stat
 use Rattle.orderset2_c.proofs.recover.orderset2_recover.Tie as tie
 
 returns : tie.Need-returns
-returns c = rw (← (c .before .before .before .before .before .before .before .before .before .before .recover2 .ensures)) (c .hand-out-recovered .ensures _ _)
+returns c = rw (← (c .before .before .before .before .before .before .before .before .before .before .recover2 .ensures)) (c .write-answer-recovered .ensures _ _)
 
 pub orderset2-recover-spec : {M : Type 1} → statement M
 orderset2-recover-spec =

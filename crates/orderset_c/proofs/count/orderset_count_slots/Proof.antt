@@ -4,7 +4,7 @@ use Rattle.orderset_c.proofs.count.orderset_count_slots.Statement.{stat
 use Rattle.orderset_c.proofs.count.orderset_count_slots.Tie as tie
 
 returns : tie.Need-returns
-returns c = rw (← (c .before .before .before .before .before .before .count-slots .ensures)) (c .hand-out-counted .ensures _ _)
+returns c = rw (← (c .before .before .before .before .before .before .count-slots .ensures)) (c .write-answer-counted .ensures _ _)
 
 pub orderset-count-slots-spec : {M : Type 1} → statement M
 orderset-count-slots-spec =

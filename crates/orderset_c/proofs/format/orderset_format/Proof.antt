@@ -4,7 +4,7 @@ use Rattle.orderset_c.proofs.format.orderset_format.Statement.{statemen
 use Rattle.orderset_c.proofs.format.orderset_format.Tie as tie
 
 returns : tie.Need-returns
-returns c = rw (← (c .before .before .before .before .format .ensures)) (c .hand-out-formatted .ensures _)
+returns c = rw (← (c .before .before .before .before .format .ensures)) (c .write-answer-formatted .ensures _)
 
 pub orderset-format-spec : {M : Type 1} → statement M
 orderset-format-spec =

@@ -5,7 +5,7 @@ use Rattle.orderset_c.proofs.get.orderset_get.Statement.{statement}
 use Rattle.orderset_c.proofs.get.orderset_get.Tie as tie
 
 returns : tie.Need-returns
-returns c = get-called _ _ _ _ (c .before .before .before .before .get .result) _ _ (c .before .before .before .before .get .ensures .0) (c .hand-out-got .ensures)
+returns c = get-called _ _ _ _ (c .before .before .before .before .get .result) _ (c .before .before .before .before .get .ensures .0) (c .write-answer-got .ensures)
 
 pub orderset-get-spec : {M : Type 1} → statement M
 orderset-get-spec = tie.close (tie.spec (λ c κs. search needs) (λ c κs. search needs) (λ c. search needs) returns)

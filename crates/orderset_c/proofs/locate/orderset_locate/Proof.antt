@@ -5,7 +5,7 @@ use Rattle.orderset_c.proofs.locate.orderset_locate.Statement.{statemen
 use Rattle.orderset_c.proofs.locate.orderset_locate.Tie as tie
 
 returns : tie.Need-returns
-returns c = locate-called _ _ _ _ _ _ (c .before .before .locate .ensures) (c .hand-out-located .ensures)
+returns c = locate-called _ _ _ _ _ (c .before .before .locate .ensures) (c .write-answer-located .ensures)
 
 pub orderset-locate-spec : {M : Type 1} → statement M
 orderset-locate-spec = tie.close (tie.spec (λ c κs. search needs) (λ c κs. search needs) returns)

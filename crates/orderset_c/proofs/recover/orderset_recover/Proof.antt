@@ -4,7 +4,7 @@ use Rattle.orderset_c.proofs.recover.orderset_recover.Statement.{statem
 use Rattle.orderset_c.proofs.recover.orderset_recover.Tie as tie
 
 returns : tie.Need-returns
-returns c = rw (← (c .before .before .before .before .before .before .before .before .before .before .recover .ensures)) (c .hand-out-recovered .ensures _ _)
+returns c = rw (← (c .before .before .before .before .before .before .before .before .before .before .recover .ensures)) (c .write-answer-recovered .ensures _ _)
 
 pub orderset-recover-spec : {M : Type 1} → statement M
 orderset-recover-spec =

@@ -5,7 +5,7 @@ use Rattle.own_book_code.proofs.own.own_acknowledge2.Statement.{stateme
 use Rattle.own_book_code.proofs.own.own_acknowledge2.Tie as tie
 
 returns : tie.Need-returns
-returns c = acknowledge-result _ _ _ _ _ _ _ _ _ _ (c .before .before .before .before .carry-out .ensures) (c .before .before .before .before .before .before .before .before .before .acknowledge-plan .ensures)
+returns c = acknowledge-result _ _ _ _ _ _ _ _ (c .before .before .before .before .carry-out .ensures) (c .before .before .before .before .before .before .before .before .before .acknowledge-plan .ensures)
 
 pub own-acknowledge2-spec : {M : Type 1} → statement M
 own-acknowledge2-spec =

@@ -1,12 +1,12 @@
 -- `own_book_code::own::own_fill` meets its contract. Assumes nothing.
 use borrow.Author.Needs.{needs}
-use Rattle.face.proofs.SetLaws.{key-alone}
+use Rattle.interface.proofs.SetLaws.{key-alone}
 use Rattle.book.proofs.Courses.{fill-result}
 use Rattle.own_book_code.proofs.own.own_fill.Statement.{statement}
 use Rattle.own_book_code.proofs.own.own_fill.Tie as tie
 
 returns : tie.Need-returns
-returns c = rw (key-alone (c .before .before .before .before .before .before .before .before .before .before .before .before .before .before .before .args .key)) at (fill-result _ _ _ _ _ _ _ _ _ _ (c .before .before .before .before .carry-out .ensures) _ (c .before .before .before .before .before .before .before .before .before .fill-plan .ensures))
+returns c = rw (key-alone (c .before .before .before .before .before .before .before .before .before .before .before .before .before .before .before .args .key)) at (fill-result _ _ _ _ _ _ _ _ (c .before .before .before .before .carry-out .ensures) _ (c .before .before .before .before .before .before .before .before .before .fill-plan .ensures))
 
 pub own-fill-spec : {M : Type 1} → statement M
 own-fill-spec =

@@ -5,7 +5,7 @@ use Rattle.own_book_code.proofs.own.own_new2.Statement.{statement}
 use Rattle.own_book_code.proofs.own.own_new2.Tie as tie
 
 returns : tie.Need-returns
-returns c = new-result _ _ _ _ _ _ _ _ _ _ (c .before .before .before .before .carry-out .ensures) _ (c .before .before .before .before .before .before .before .before .before .new-plan .ensures)
+returns c = new-result _ _ _ _ _ _ _ _ (c .before .before .before .before .carry-out .ensures) _ (c .before .before .before .before .before .before .before .before .before .new-plan .ensures)
 
 pub own-new2-spec : {M : Type 1} → statement M
 own-new2-spec =

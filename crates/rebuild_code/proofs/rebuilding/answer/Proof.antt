@@ -10,7 +10,7 @@ use Rattle.rebuild_code.proofs.rebuilding.answer.Tie as tie
 returns-2 : tie.Need-returns-2
 unfolding answerBy
 returns-2 c =
-    rw (c .no-openings .ensures, ne-eqb (c .before .before .args .fault) 0 (c .before .if1 .left)) refl
+    rw (c .no-invalidations .ensures, ne-eqb (c .before .before .args .fault) 0 (c .before .if1 .left)) refl
 
 pub answer-spec : {M : Type 1} → statement M
 unfolding answerBy

@@ -4,14 +4,14 @@ use Prim.Native.Nat.{_-_}
 use native.Mathlib.Omega.{arith}
 use borrow.Author.Needs.{needs}
 use Rattle.words.specs.Word.{word}
-use Rattle.layout.specs.Content.{numberIn}
+use Rattle.layout.specs.Content.{sizeFieldIn}
 use Rattle.prelude.proofs.Any.{Going, any-start, any-hit, any-next, any-end, any-whole}
 use Rattle.recovery.specs.inner.Decide.{runFault}
 use Rattle.recovery_code.proofs.comparing.any_run_fault.Statement.{statement}
 use Rattle.recovery_code.proofs.comparing.any_run_fault.Tie as tie
 
 abbrev Inv-loop : tie.InvT-loop
-Inv-loop image l ranks order n end i₀ i = Going (runFault (numberIn l (word image)) ranks order) end 0 i
+Inv-loop image l ranks order n end i₀ i = Going (runFault (sizeFieldIn l (word image)) ranks order) end 0 i
 
 abbrev μ-loop : tie.MeasureT-loop
 μ-loop image l ranks order n end i₀ i = end - i

@@ -2,7 +2,7 @@
 use mathlib.Core.Path.{ap, _∙_}
 use native.Mathlib.Omega.{arith}
 use borrow.Author.Needs.{needs}
-use Rattle.table.specs.Complete.{said}
+use Rattle.table.specs.Complete.{basketSize}
 use Rattle.recovery.proofs.Orders.{within-at}
 use Rattle.recovery.proofs.Compares.{too-many-past, too-many-test}
 use Rattle.recovery_code.proofs.comparing.is_too_many.Statement.{statement}
@@ -13,7 +13,7 @@ add-end c = omega (arith, c .before .before .before .before .before .pre .0 .few
 
 returns : tie.Need-returns
 returns c =
-    too-many-past _ _ _ _ _ (c .before .records-said .ensures .0 ∙ ap said (c .before .before .number-at .ensures .0)) (omega (arith, c .before .before .before .before .before .before .pre .0 .order-size, c .if1 .taken))
+    too-many-past _ _ _ _ _ (c .before .records-said .ensures .0 ∙ ap basketSize (c .before .before .number-at .ensures .0)) (omega (arith, c .before .before .before .before .before .before .pre .0 .order-size, c .if1 .taken))
 
 entry-at-requires : tie.Need-entry-at-requires
 entry-at-requires c κs =
@@ -27,7 +27,7 @@ entry-at-requires-2 c κs =
 
 returns-2 : tie.Need-returns-2
 returns-2 c =
-    too-many-test _ _ _ _ _ (c .before .before .before .records-said .ensures .0 ∙ ap said (c .before .before .before .before .number-at .ensures .0)) _ _ (omega (arith, c .before .before .before .before .before .before .before .before .pre .0 .order-size, c .before .before .if1 .left))
+    too-many-test _ _ _ _ _ (c .before .before .before .records-said .ensures .0 ∙ ap basketSize (c .before .before .before .before .number-at .ensures .0)) _ _ (omega (arith, c .before .before .before .before .before .before .before .before .pre .0 .order-size, c .before .before .if1 .left))
     (c .before .entry-at .ensures) (c .entry-at2 .ensures)
 
 pub is-too-many-spec : {M : Type 1} → statement M

@@ -2,14 +2,14 @@
 use mathlib.Core.Path.{ap, _∙_}
 use native.Mathlib.Omega.{arith}
 use borrow.Author.Needs.{needs}
-use Rattle.table.specs.Complete.{said}
+use Rattle.table.specs.Complete.{basketSize}
 use Rattle.recovery.proofs.Orders.{within-at}
 use Rattle.recovery.proofs.Compares.{full-short, full-test}
 use Rattle.recovery_code.proofs.settling.is_full.Statement.{statement}
 use Rattle.recovery_code.proofs.settling.is_full.Tie as tie
 
 returns : tie.Need-returns
-returns c = full-short _ _ _ _ _ (c .before .records-said .ensures .0 ∙ ap said (c .before .before .number-at .ensures .0)) (c .if1 .taken)
+returns c = full-short _ _ _ _ _ (c .before .records-said .ensures .0 ∙ ap basketSize (c .before .before .number-at .ensures .0)) (c .if1 .taken)
 
 sub-entry-at : tie.Need-sub-entry-at
 sub-entry-at c = omega (arith, c .if1 .left)
@@ -28,7 +28,7 @@ entry-at-requires-2 c κs =
 
 returns-2 : tie.Need-returns-2
 returns-2 c =
-    full-test _ _ _ _ _ (c .before .before .before .records-said .ensures .0 ∙ ap said (c .before .before .before .before .number-at .ensures .0)) _ _ (omega (arith, c .before .before .if1 .left)) (c .before .entry-at .ensures) (c .entry-at2 .ensures)
+    full-test _ _ _ _ _ (c .before .before .before .records-said .ensures .0 ∙ ap basketSize (c .before .before .before .before .number-at .ensures .0)) _ _ (omega (arith, c .before .before .if1 .left)) (c .before .entry-at .ensures) (c .entry-at2 .ensures)
 
 pub is-full-spec : {M : Type 1} → statement M
 is-full-spec =

@@ -3,14 +3,14 @@ use Prim.Native.Nat.{_-_}
 use native.Mathlib.Omega.{arith}
 use borrow.Author.Needs.{needs}
 use Rattle.words.specs.Word.{word}
-use Rattle.layout.specs.Content.{numberIn}
+use Rattle.layout.specs.Content.{sizeFieldIn}
 use Rattle.recovery.proofs.Orders.{within-at}
 use Rattle.recovery.proofs.Settles.{Judging, judging-start, judging-low, judging-full, judging-next, judging-end}
 use Rattle.recovery_code.proofs.settling.judged_rank.Statement.{statement}
 use Rattle.recovery_code.proofs.settling.judged_rank.Tie as tie
 
 abbrev Inv-loop : tie.InvT-loop
-Inv-loop image l ranks order n i₀ i = Judging (numberIn l (word image)) ranks order n i
+Inv-loop image l ranks order n i₀ i = Judging (sizeFieldIn l (word image)) ranks order n i
 
 abbrev μ-loop : tie.MeasureT-loop
 μ-loop image l ranks order n i₀ i = i

@@ -10,7 +10,7 @@ entry-at-requires : tie.Need-entry-at-requires
 entry-at-requires c κs = settle-last _ _ _ _ _ _ _ _ _ (c .before .before .before .before .before .before .before .before .before .before .pre)
 
 returns : tie.Need-returns
-returns c = settled-none _ _ _ _ _ _ _ _ _ (c .before .before .before .before .before .before .before .before .before .before .before .before .before .pre) _ _ _ (c .before .before .entry-at .ensures) (c .before .if1 .taken) _ (c .no-openings .ensures)
+returns c = settled-none _ _ _ _ _ _ _ _ _ (c .before .before .before .before .before .before .before .before .before .before .before .before .before .pre) _ _ _ (c .before .before .entry-at .ensures) (c .before .if1 .taken) _ (c .no-invalidations .ensures)
 
 order-by-rank-requires : tie.Need-order-by-rank-requires
 order-by-rank-requires c κs =
@@ -38,7 +38,7 @@ same-length-7 c = c .before .before .before .before .order-by-key .kept .1 .1 .1
 
 returns-2 : tie.Need-returns-2
 returns-2 c =
-    settled-again _ _ _ _ _ _ _ _ _ (c .before .before .before .before .before .before .before .before .before .before .before .before .before .before .before .before .before .before .before .before .before .before .before .before .before .before .before .before .before .before .before .before .before .before .before .before .before .pre) _ _ _ _ _ _ _ (c .before .before .before .before .before .before .before .before .before .before .before .before .before .before .before .before .before .before .before .before .before .before .before .opening-stores .ensures) (c .before .before .before .before .before .before .before .before .before .before .before .before .before .before .before .before .before .before .before .before .clear-above .ensures) (c .before .before .before .before .before .before .before .before .before .before .before .before .order-by-rank .ensures) (c .before .before .before .before .order-by-key .ensures)
+    settled-again _ _ _ _ _ _ _ _ _ (c .before .before .before .before .before .before .before .before .before .before .before .before .before .before .before .before .before .before .before .before .before .before .before .before .before .before .before .before .before .before .before .before .before .before .before .before .before .pre) _ _ _ _ _ _ _ (c .before .before .before .before .before .before .before .before .before .before .before .before .before .before .before .before .before .before .before .before .before .before .before .invalidating-stores .ensures) (c .before .before .before .before .before .before .before .before .before .before .before .before .before .before .before .before .before .before .before .before .clear-above .ensures) (c .before .before .before .before .before .before .before .before .before .before .before .before .order-by-rank .ensures) (c .before .before .before .before .order-by-key .ensures)
 
 pub settle-spec : {M : Type 1} → statement M
 settle-spec =

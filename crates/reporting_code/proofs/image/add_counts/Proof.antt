@@ -2,7 +2,7 @@
 use mathlib.Core.Path.{refl}
 use native.Mathlib.Omega.{arith}
 use borrow.Author.Needs.{needs}
-use Rattle.face.specs.Set.{countValues}
+use Rattle.interface.specs.Set.{countValues}
 use Rattle.reporting.specs.Report.{totalsWith}
 use Rattle.reporting_code.proofs.image.add_counts.Statement.{statement}
 use Rattle.reporting_code.proofs.image.add_counts.Tie as tie

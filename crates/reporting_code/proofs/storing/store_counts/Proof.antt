@@ -1,6 +1,6 @@
 -- `reporting_code::storing::store_counts` meets its contract. Assumes nothing.
 use Rattle.text.specs.Output.{lineText}
-use Rattle.face.specs.Set.{countValues}
+use Rattle.interface.specs.Set.{countValues}
 use borrow.Author.Needs.{needs}
 use Rattle.reporting_code.proofs.storing.store_counts.Statement.{statement}
 use Rattle.reporting_code.proofs.storing.store_counts.Tie as tie

@@ -1,5 +1,5 @@
 -- `session_code::lines::carry_change` meets its contract. Assumes nothing.
-use Rattle.face.specs.Set.{changeSays}
+use Rattle.interface.specs.Set.{changeSays}
 use Rattle.text.specs.inner.Output.{replySays}
 use Rattle.session.specs.Step.{changeStep, changedAs}
 use borrow.Author.Needs.{needs}

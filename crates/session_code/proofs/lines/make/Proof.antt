@@ -1,5 +1,5 @@
 -- `session_code::lines::make` meets its contract. Assumes nothing.
-use Rattle.face.specs.Set.{formatSays}
+use Rattle.interface.specs.Set.{formatSays}
 use Rattle.text.specs.inner.Output.{replySays}
 use Rattle.session.specs.Step.{makeStep, madeBy, madeAs}
 use borrow.Author.Needs.{needs}

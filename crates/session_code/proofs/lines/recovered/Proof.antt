@@ -1,6 +1,6 @@
 -- `session_code::lines::recovered` meets its contract. Assumes nothing.
-use Rattle.face.specs.Set.{recoverEnd}
-use Rattle.face.proofs.Images.{few-openings-left}
+use Rattle.interface.specs.Set.{recoverEnd}
+use Rattle.interface.proofs.Images.{few-invalidations-left}
 use Rattle.text.specs.inner.Output.{replySays}
 use Rattle.session.specs.Step.{recoverStep, recoveredBy, recoveredAs}
 use borrow.Author.Needs.{needs}
@@ -8,7 +8,7 @@ use Rattle.session_code.proofs.lines.recovered.Statement.{statement}
 use Rattle.session_code.proofs.lines.recovered.Tie as tie
 
 open-slots-requires : tie.Need-open-slots-requires
-open-slots-requires c κs = few-openings-left 1 _ _ _ _ _ _ _ (c .before .before .before .before .before .before .recover .ensures)
+open-slots-requires c κs = few-invalidations-left 1 _ _ _ _ _ _ _ (c .before .before .before .before .before .before .recover .ensures)
 
 returns : tie.Need-returns
 unfolding recoverStep recoveredBy recoveredAs recoverEnd replySays

@@ -1,6 +1,6 @@
 -- `session_code::lines::remove_line` meets its contract. Assumes nothing.
 use mathlib.Core.Path.{ap, _∙_}
-use Rattle.face.specs.Set.{Reported, ChangeResult}
+use Rattle.interface.specs.Set.{CallResult}
 use Rattle.session.specs.Step.{changeStep}
 use Rattle.session.proofs.Steps.{remove-left}
 use borrow.Author.Needs.{needs}
@@ -8,7 +8,7 @@ use Rattle.session_code.proofs.lines.remove_line.Statement.{statement}
 use Rattle.session_code.proofs.lines.remove_line.Tie as tie
 
 returns : tie.Need-returns
-returns c = c .before .before .before .before .before .before .carry-change .ensures ∙ ap (changeStep _ _) (ap (λ (x : Reported ChangeResult). x .left) (c .before .before .before .before .before .before .before .before .before .before .before .before .before .before .remove .ensures .0)) ∙ remove-left _ _ _ _ _ _
+returns c = c .before .before .before .before .before .before .carry-change .ensures ∙ ap (changeStep _ _) ((c .before .before .before .before .before .before .before .before .before .before .before .before .before .before .remove .ensures .0)) ∙ remove-left _ _ _ _ _ _
 
 pub remove-line-spec : {M : Type 1} → statement M
 remove-line-spec =

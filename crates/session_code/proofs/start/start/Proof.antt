@@ -3,7 +3,7 @@ use Rattle.session.specs.Step.{noSet}
 use borrow.Author.Needs.{needs}
 use Rattle.session_code.proofs.start.start.Statement.{statement}
 use Rattle.session_code.proofs.start.start.Tie as tie
-use Rattle.face.specs.Set.{noState}
+use Rattle.interface.specs.Set.{noState}
 
 pub start-spec : {M : Type 1} → statement M
 unfolding noSet noState

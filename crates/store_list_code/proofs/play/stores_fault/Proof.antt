@@ -45,7 +45,7 @@ use Rattle.mir_steps.proofs.Lent.{lentAt, Shuts, number-owned, dropped, looked,
 use Rattle.mir_steps.proofs.Locals.{Blocks, block, envOf, Frame, allocates, freed, behind, sinks}
 use Rattle.mir_steps.proofs.Loop.{Upto, Nearer, nearer-wf, next, nearer, at-end, Turned, tests}
 use Rattle.mir_steps.proofs.Statements.{copied, field-of, sets, resets}
-use Rattle.prelude.specs.Refusal.{say}
+use Rattle.prelude.specs.Refusal.{refuseIf}
 use Rattle.stores.specs.Store.{Store}
 use Rattle.stores.proofs.Store as T
 use Rattle.stores.proofs.Store.Laws as T′
@@ -115,8 +115,8 @@ module _ {M : Type 1} (𝓤 : URA M) (H : Heap 𝓤) (A : Atoms 𝓤) (W : Given
         qed W [] ∵ nothing ! $ nothing ! $ number-owned ! w32 word word-fits $ fjoin ! $ number-owned ! w64 len len-fits $ fjoin ! $ number-owned ! w32 (found i) (fault-fits len list i) $ fjoin ! $
         nothing ! $ join ! $ join ! $ done !
 
-    comes-fault : (r : ℕ) → ent 𝓤 (ensured 𝓤 H A fault.ended (fault.clauses 𝓤 H A mem run) tt given tt r) (fact 𝓤 (r ≡ say (ltb len (8 * word + 8)) 15 (found i)))
-    comes-fault r = exE 𝓤 _ (λ ws. snd∗ 𝓤 (sem 𝓤 H A (lasts fault.ended tt given ws)) (fact 𝓤 (r ≡ say (ltb len (8 * word + 8)) 15 (found i))))
+    comes-fault : (r : ℕ) → ent 𝓤 (ensured 𝓤 H A fault.ended (fault.clauses 𝓤 H A mem run) tt given tt r) (fact 𝓤 (r ≡ refuseIf (ltb len (8 * word + 8)) 15 (found i)))
+    comes-fault r = exE 𝓤 _ (λ ws. snd∗ 𝓤 (sem 𝓤 H A (lasts fault.ended tt given ws)) (fact 𝓤 (r ≡ refuseIf (ltb len (8 * word + 8)) 15 (found i))))
 
   module _ (𝓣 : Tables 𝓤 H) (known : Triple 𝓤 (𝓣 .C #fault-with) (Fault 𝓤 H A mem run)) (p : Share) (bs : Blocks body.locals) where
     abbrev En : Env 𝓤 H
@@ -156,7 +156,7 @@ module _ {M : Type 1} (𝓤 : URA M) (H : Heap 𝓤) (A : Atoms 𝓤) (W : Given
         use0 W (raw (Fault 𝓤 H A mem run .pre (to-fault (i .0) is))) (goes-fault (i .0) is) $
         calls-at ! (fmOf 𝓤 H (W .laws) 𝓣) (Fault 𝓤 H A mem run) known (to-fault (i .0) is) (and-then ! (copied ! 7 refl) (and-then ! (copied ! 5 refl) (and-then ! (copied ! 17 refl) (no-more !)))) (λ w.
         use1 W (later (some (λ (r : ℕ). (‵ ftrue ⊛ ‵ (u32 .own r (w ∷ []))) ⊛ raw (ensured 𝓤 H A fault.ended (fault.clauses 𝓤 H A mem run) tt (given (i .0) is) tt r)))) (id⊢ 𝓤 _) $ await ! tt $ pick ! (λ r.
-        split ! $ move ! (1 ∷ []) $ use1 W (raw (fact 𝓤 (r ≡ say (ltb len (8 * word (i .0) is + 8)) 15 (found (i .0))))) (comes-fault (i .0) is r) $ heard ! (r ≡ say (ltb len (8 * word (i .0) is + 8)) 15 (found (i .0))) (λ e.
+        split ! $ move ! (1 ∷ []) $ use1 W (raw (fact 𝓤 (r ≡ refuseIf (ltb len (8 * word (i .0) is + 8)) 15 (found (i .0))))) (comes-fault (i .0) is r) $ heard ! (r ≡ refuseIf (ltb len (8 * word (i .0) is + 8)) 15 (found (i .0))) (λ e.
         split ! $ drop ! $ facts ! u32 (Is u32) (shows 𝓤 H A u32) r (w ∷ []) (λ told.
         land ! (from ! (stop !)) (store ! 6 refl (uint-lawful 𝓤 H A W w32 .typed r _ told .0)) $
         rewrite ! 6 (λ (v : Val). ‵ (fat fullShare (tyInt w32) (block body.locals bs 3) 0 v)) (ap only (told .0) ∙ ap (vint w32) (e ∙ fault-next len list (i .0))) refl $

@@ -1,5 +1,5 @@
 -- `trace_line_code::line::try_change` meets its contract. Assumes nothing.
-use Rattle.face.specs.Set.{changeSays}
+use Rattle.interface.specs.Set.{changeSays}
 use Rattle.text.specs.inner.Output.{replySays}
 use Rattle.trace.specs.Step.{answerCounts}
 use borrow.Author.Needs.{needs}

@@ -1,5 +1,5 @@
 -- `trace_line_code::line::try_cuts` meets its contract. Assumes nothing.
-use Rattle.face.specs.Set.{cutCountSays}
+use Rattle.interface.specs.Set.{cutCountSays}
 use Rattle.text.specs.inner.Output.{replySays}
 use Rattle.trace.proofs.Counts.{tried}
 use borrow.Author.Needs.{needs}
