@@ -185,7 +185,7 @@ static void compare_all(struct set *s) {
     if (!guarded(s->image, s->length) || !guarded(s->heads, 4 * s->model.heads_length)
         || !guarded(s->next, 4 * s->model.next_length) || !guarded(s->state, 4 * ORDERSET_STATE) || !guarded(s->version, 8)
         || !guarded(s->at, 64) || !guarded(s->value, 128) || !guarded(s->count, 4)
-        || !guarded(s->open_at, 4 * ORDERSET_OPENINGS) || !guarded(s->open_value, 8 * ORDERSET_OPENINGS))
+        || !guarded(s->open_at, 4 * ORDERSET_INVALIDATIONS) || !guarded(s->open_value, 8 * ORDERSET_INVALIDATIONS))
         differ("outside the lent memory");
 }
 
@@ -213,8 +213,8 @@ static struct set *open_set(size_t length, size_t heads, size_t next) {
     s->at = lend(4 * ORDERSET_STORES);
     s->value = lend(8 * ORDERSET_STORES);
     s->count = lend(4);
-    s->open_at = lend(4 * ORDERSET_OPENINGS);
-    s->open_value = lend(8 * ORDERSET_OPENINGS);
+    s->open_at = lend(4 * ORDERSET_INVALIDATIONS);
+    s->open_value = lend(8 * ORDERSET_INVALIDATIONS);
     s->model = (struct m_index){lend(4 * heads), heads, lend(4 * next), next, {0, 0, 0, 0, 0}};
     return s;
 }
@@ -327,14 +327,14 @@ static int try_format(struct set *s, uint64_t layout) {
     return refusal;
 }
 
-/* The opening stores one by one, and zeros past them; of a refused recovery what was lent. */
+/* The invalidating stores one by one, and zeros past them; of a refused recovery what was lent. */
 static void compare_openings(const struct set *s, const struct m_recovered *recovered, uint32_t count_lent,
                              const uint32_t *at_lent, const uint64_t *value_lent) {
-    same_number("the count of opening stores", s->count[0], recovered->refusal ? count_lent : recovered->count);
-    for (uint32_t i = 0; i < ORDERSET_OPENINGS; i++) {
+    same_number("the count of invalidating stores", s->count[0], recovered->refusal ? count_lent : recovered->count);
+    for (uint32_t i = 0; i < ORDERSET_INVALIDATIONS; i++) {
         const struct m_store *store = &recovered->opening[i]; /* zero past the count */
-        same_number("an opening store's word", s->open_at[i], recovered->refusal ? at_lent[i] : store->at);
-        same_number("an opening store's value", s->open_value[i], recovered->refusal ? value_lent[i] : store->value);
+        same_number("an invalidating store's word", s->open_at[i], recovered->refusal ? at_lent[i] : store->at);
+        same_number("an invalidating store's value", s->open_value[i], recovered->refusal ? value_lent[i] : store->value);
     }
     openings += recovered->count;
 }
@@ -376,8 +376,8 @@ static void compare_counts(const struct set *s, const struct m_recovered *recove
 }
 
 static int try_recover(struct set *s) {
-    uint32_t count_lent = (uint32_t)chance(), at_lent[ORDERSET_OPENINGS];
-    uint64_t value_lent[ORDERSET_OPENINGS];
+    uint32_t count_lent = (uint32_t)chance(), at_lent[ORDERSET_INVALIDATIONS];
+    uint64_t value_lent[ORDERSET_INVALIDATIONS];
     fill(at_lent, sizeof at_lent);
     fill(value_lent, sizeof value_lent);
     s->count[0] = count_lent;
@@ -768,8 +768,8 @@ static int try_play(struct set *s, size_t a, size_t b) {
 
 /* Makes the stores that open the void slots: all of them, or those whose bits are set. */
 static void open_voids(struct set *s, unsigned which) {
-    uint32_t at[ORDERSET_OPENINGS], count = 0, all = s->count[0];
-    uint64_t value[ORDERSET_OPENINGS];
+    uint32_t at[ORDERSET_INVALIDATIONS], count = 0, all = s->count[0];
+    uint64_t value[ORDERSET_INVALIDATIONS];
     for (uint32_t i = 0; i < all; i++)
         if (which >> i & 1) {
             at[count] = s->open_at[i];
@@ -778,7 +778,7 @@ static void open_voids(struct set *s, unsigned which) {
     begin(s, PLAY_LIST, 0, 0, count, all);
     uint32_t code = orderset_play_list(s->image, s->length, at, count, value, count);
     same_code(code, m_play_list(s->model_image, s->length, at, count, value, count), DONE);
-    same_number("the opening stores' play", code, 0);
+    same_number("the invalidating stores' play", code, 0);
     compare(s);
     s->own = count == all;
 }
@@ -1010,13 +1010,13 @@ static struct set *recover_again(struct set *s, const struct plain *p) {
     while (s->count[0] && below(2)) {
         open_voids(s, (unsigned)below(1u << s->count[0]));
         s = other_index(s, heads_after_cut(s->n));
-        same_number("recovery after a cut among the opening stores", (uint64_t)try_recover(s), 0);
+        same_number("recovery after a cut among the invalidating stores", (uint64_t)try_recover(s), 0);
         same_map(s, p);
     }
     open_voids(s, UINT_MAX);
     if (below(4) == 0) {
-        same_number("recovery after the opening stores", (uint64_t)try_recover(s), 0);
-        same_number("its opening stores", s->count[0], 0);
+        same_number("recovery after the invalidating stores", (uint64_t)try_recover(s), 0);
+        same_number("its invalidating stores", s->count[0], 0);
         same_map(s, p);
     }
     return s;
@@ -2107,7 +2107,7 @@ struct group {
     uint32_t number, records;
 };
 
-/* The records take the slots from 1 on, each a put of a key of its own, and broken slots follow; voids: opening stores. */
+/* The records take the slots from 1 on, each a put of a key of its own, and broken slots follow; voids: invalidating stores. */
 static const struct group_case {
     struct group group[3];
     uint32_t broken, answer, voids, live;
@@ -2162,7 +2162,7 @@ static void directed_group(const struct group_case *c) {
     now = s;
     same_number("a directed case of recovery", (uint64_t)try_recover(s), c->answer);
     if (c->answer == DONE) {
-        same_number("a directed case's opening stores", s->count[0], c->voids);
+        same_number("a directed case's invalidating stores", s->count[0], c->voids);
         same_number("a directed case's live count", s->state[ORDERSET_LIVE], c->live);
     }
     close_set(s);
@@ -2286,7 +2286,7 @@ int main(int count, char **word) {
     far_least = least_met(far_met, far_answers, UINT_MAX);
     printf("%" PRIu64 " calls, %" PRIu64 " of them struck with all 81 pairs of counts, %" PRIu64
            " questions about lines, %" PRIu64 " baskets and %" PRIu64 " that a cut struck, %" PRIu64
-           " opening stores, %" PRIu64 " images counted, each answer of the rules at least %" PRIu64 " times, %" PRIu64
+           " invalidating stores, %" PRIu64 " images counted, each answer of the rules at least %" PRIu64 " times, %" PRIu64
            " with 2 or more slots compared, up to %" PRIu64 "; %" PRIu64 " calls by the owner, each answer at least %" PRIu64
            " times, %" PRIu64 " by both families: no difference (%.0f s)\n",
            calls, strikes, queries, baskets, half_baskets, openings, counted, least, far_least, longest, own_calls,

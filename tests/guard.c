@@ -49,8 +49,8 @@ struct piece piece[PIECES] = {
     {"value", PAGE, NULL, NULL, NULL, 0, 0},
     {"answer", PAGE, NULL, NULL, NULL, 0, 0},
     {"count", PAGE, NULL, NULL, NULL, 0, 0},
-    {"the opening stores' words", PAGE, NULL, NULL, NULL, 0, 0},
-    {"the opening stores' values", PAGE, NULL, NULL, NULL, 0, 0},
+    {"the invalidating stores' words", PAGE, NULL, NULL, NULL, 0, 0},
+    {"the invalidating stores' values", PAGE, NULL, NULL, NULL, 0, 0},
     {"kinds", PAGE, NULL, NULL, NULL, 0, 0},
     {"low words", PAGE, NULL, NULL, NULL, 0, 0},
     {"high words", PAGE, NULL, NULL, NULL, 0, 0},
@@ -102,11 +102,11 @@ static void call_format(void) {
 static void openings_are_sound(void) {
     const uint32_t *at = w(OPEN_AT), count = *(uint32_t *)w(COUNT);
     const uint64_t *value = w(OPEN_VALUE);
-    for (uint32_t i = 0; i < ORDERSET_OPENINGS; i++)
+    for (uint32_t i = 0; i < ORDERSET_INVALIDATIONS; i++)
         if (i < count ? at[i] % 16 || at[i] == 0 || at[i] >= piece[IMAGE].length / 8 || (i && at[i] <= at[i - 1])
                             || value[i] > 1
                       : at[i] || value[i]) {
-            show("opening store %" PRIu32 " of %" PRIu32 ": word %" PRIu32 ", value %" PRIu64, i, count, at[i],
+            show("invalidating store %" PRIu32 " of %" PRIu32 ": word %" PRIu32 ", value %" PRIu64, i, count, at[i],
                  value[i]);
             exit(1);
         }
@@ -123,7 +123,7 @@ static void call_recover(void) {
     opened += *(uint32_t *)w(COUNT);
     if (below(8) && orderset_play_list(w(IMAGE), piece[IMAGE].length, r(OPEN_AT), *(uint32_t *)w(COUNT), r(OPEN_VALUE),
                                        *(uint32_t *)w(COUNT))) {
-        show("the opening stores are not played");
+        show("the invalidating stores are not played");
         exit(1);
     }
 }
@@ -366,8 +366,8 @@ static void lend_for_one_call(void) {
     place(VALUE, 8 * ORDERSET_STORES);
     place(ANSWER, 8 * answer_length());
     place(COUNT, 4);
-    place(OPEN_AT, 4 * ORDERSET_OPENINGS);
-    place(OPEN_VALUE, 8 * ORDERSET_OPENINGS);
+    place(OPEN_AT, 4 * ORDERSET_INVALIDATIONS);
+    place(OPEN_VALUE, 8 * ORDERSET_INVALIDATIONS);
     place(COUNTS, 8 * ORDERSET_COUNTS);
     place(BYTES, any_size());
     if (call >= LINE_WHOLE && call <= LINE_LAST)
@@ -433,7 +433,7 @@ int main(int count, char **word) {
     for (int i = 0; i < WHICH; i++)
         refused += answers[i][1], own += own_answers[i][0] + own_answers[i][1];
     printf("%" PRIu64 " calls, %" PRIu64 " of them refused, %" PRIu64 " by the owner, %" PRIu64
-           " opening stores: no fault, nothing changed that may not be (%.0f s)\n",
+           " invalidating stores: no fault, nothing changed that may not be (%.0f s)\n",
            calls, refused, own, opened, seconds());
     if (!all_met())
         printf("a function was always refused, or never, or no order was acknowledged twice, or no slot was void\n");

@@ -20,8 +20,8 @@ namespace {
 const uint32_t slots = 4;
 alignas(64) uint8_t image[ORDERSET_IMAGE_BYTES(slots)];
 std::vector<uint32_t> heads(3), next(ORDERSET_NEXT_LENGTH(slots));
-uint32_t state[ORDERSET_STATE], at[ORDERSET_STORES], count[1], open_at[ORDERSET_OPENINGS];
-uint64_t open_value[ORDERSET_OPENINGS];
+uint32_t state[ORDERSET_STATE], at[ORDERSET_STORES], count[1], open_at[ORDERSET_INVALIDATIONS];
+uint64_t open_value[ORDERSET_INVALIDATIONS];
 uint32_t list_at[ORDERSET_BASKET_STORES(4)];
 uint64_t list_value[ORDERSET_BASKET_STORES(4)], given[ORDERSET_BASKET_ANSWER];
 uint64_t version[1], value[ORDERSET_STORES], answer[ORDERSET_CHANGE_ANSWER], found[ORDERSET_ANSWER];

@@ -58,8 +58,8 @@ static uint64_t key_of(uint64_t kind, uint64_t step, uint64_t i) {
 }
 
 static void make_image(uint64_t step) {
-    uint32_t voids[1], open_at[ORDERSET_OPENINGS];
-    uint64_t kind = below(3), open_value[ORDERSET_OPENINGS];
+    uint32_t voids[1], open_at[ORDERSET_INVALIDATIONS];
+    uint64_t kind = below(3), open_value[ORDERSET_INVALIDATIONS];
     n = (uint32_t)spread(ORDERSET_SLOTS_MIN, MAX_N);
     length = ORDERSET_IMAGE_BYTES(n);
     count = 0;

@@ -367,9 +367,9 @@ static void make_some(uint64_t *words, const uint32_t *at, const uint64_t *value
 /* What a cut leaves of a basket of orders, where the image has no void slot and the basket is not refused. */
 static void half_basket(uint64_t *words, size_t length) {
     enum { ROOM = BASKET * ORDERSET_STORES };
-    uint32_t heads[1], next[SLOTS + 1], state[ORDERSET_STATE], voids[1], open_at[ORDERSET_OPENINGS], at[ROOM],
+    uint32_t heads[1], next[SLOTS + 1], state[ORDERSET_STATE], voids[1], open_at[ORDERSET_INVALIDATIONS], at[ROOM],
         kinds[ORDERSET_BASKET_MAX], count = 2 + (uint32_t)below(BASKET - 1), first = (uint32_t)below(KEYS);
-    uint64_t version[1], open_value[ORDERSET_OPENINGS], value[ROOM], lows[ORDERSET_BASKET_MAX],
+    uint64_t version[1], open_value[ORDERSET_INVALIDATIONS], value[ROOM], lows[ORDERSET_BASKET_MAX],
         highs[ORDERSET_BASKET_MAX], answer[ORDERSET_BASKET_ANSWER];
     size_t lengths[ORDERSET_BASKET_MAX];
     uint8_t values[ORDERSET_BASKET_BYTES] = {0};

@@ -312,7 +312,7 @@ static void history(void) {
         switch (below(8)) {
         case 0:
             if (recover(any_list(cells), any_list(cells)) == 0)
-                same_number("the opening stores of a sound log", answer[ORDERSET_LOG_COUNT], 0);
+                same_number("the invalidating stores of a sound log", answer[ORDERSET_LOG_COUNT], 0);
             break;
         case 1: read_message(any_number(area, cells)); break;
         case 2: check_plain(); break;

@@ -65,7 +65,7 @@ fault header 'the count of a refusal is not looked for' tests/header.cc \
 fault header 'the result is kept in 32 bits' tests/header.cc 's/refused\(uint64_t code/refused(uint32_t code/' \
     'warning: .*shift count >= width of type'
 
-fault header 'the opening stores are not made' tests/header.cc \
+fault header 'the invalidating stores are not made' tests/header.cc \
     's/orderset_persist_list\((.*), count\[0\], best\)/orderset_persist_list(\1, 0, best)/' 'NOT SO'
 fault header 'a store of a basket is not made' tests/header.cc 's/list_value, stores, best\)/list_value, stores - 1, best)/' \
     'NOT SO'
@@ -282,8 +282,8 @@ fault guard 'the answer of a get one word shorter' tests/guard.c 's/return ORDER
     'NOT SO: (signal 11: answer is touched|answer changed, after what was lent)'
 fault guard 'the answer of an insert one word shorter' tests/guard.c 's/return ORDERSET_CHANGE_ANSWER;/return 3;/' \
     'NOT SO: (signal 11: answer is touched|answer changed, after what was lent)'
-fault guard 'one opening store less' tests/guard.c 's/place\(OPEN_AT, 4 \* ORDERSET_OPENINGS\)/place(OPEN_AT, 28)/' \
-    "NOT SO: (signal 11: the opening stores' words is touched|the opening stores' words changed, after)"
+fault guard 'one invalidating store less' tests/guard.c 's/place\(OPEN_AT, 4 \* ORDERSET_INVALIDATIONS\)/place(OPEN_AT, 28)/' \
+    "NOT SO: (signal 11: the invalidating stores' words is touched|the invalidating stores' words changed, after)"
 fault guard 'five counts' tests/guard.c 's/place\(COUNTS, 8 \* ORDERSET_COUNTS\)/place(COUNTS, 40)/' \
     'NOT SO: (signal 11: counts is touched|counts changed, after what was lent)'
 fault guard 'a count is lost' tests/guard.c 's/sum \+= \(\(uint64_t \*\)w\(COUNTS\)\)\[i\]/sum += i ? ((uint64_t *)w(COUNTS))[i] : 0/' \
@@ -384,13 +384,13 @@ fault differential 'records of one version are chained by falling slot' tests/mo
     's/\(a->slot > b->slot\) - \(a->slot < b->slot\)/(a->slot < b->slot) - (a->slot > b->slot)/' 'DIFFERENCE'
 fault differential 'a void slot is not queued' tests/model.c 's/slot\[s\].kind == BROKEN \|\| slot\[s\].kind == VOID/slot[s].kind == BROKEN/' \
     'DIFFERENCE'
-fault differential 'an opening store closes the line' tests/model.c \
-    's/\{16 \* s, 1 - (\(m_word.*)\};/{16 * s, \1};/' "DIFFERENCE in an opening store's value"
-fault differential 'an opening store is of line B' tests/model.c 's/\{16 \* s, 1 - /{16 * s + 8, 1 - /' \
-    "DIFFERENCE in an opening store's word"
-fault differential 'the opening stores are by falling slot' tests/model.c \
+fault differential 'an invalidating store closes the line' tests/model.c \
+    's/\{16 \* s, 1 - (\(m_word.*)\};/{16 * s, \1};/' "DIFFERENCE in an invalidating store's value"
+fault differential 'an invalidating store is of line B' tests/model.c 's/\{16 \* s, 1 - /{16 * s + 8, 1 - /' \
+    "DIFFERENCE in an invalidating store's word"
+fault differential 'the invalidating stores are by falling slot' tests/model.c \
     '/^static void open_voids/,/^}/s/uint32_t s = 1; s <= n; s\+\+/uint32_t s = n; s > 0; s--/' \
-    "DIFFERENCE in an opening store's word"
+    "DIFFERENCE in an invalidating store's word"
 fault differential 'void slots are not opened' tests/differential.c 's/^    open_voids\(s, UINT_MAX\);$//' 'DIFFERENCE'
 fault differential 'a basket with an open line is to be there' tests/differential.c \
     's/whole \&= a == 8 \&\& b == 8;/whole \&= a == 8 \&\& b > 6;/' 'DIFFERENCE in the plain map'
@@ -882,20 +882,20 @@ fault log_differential "recovery's stores are not made" $differential \
 
 show=tools/orderset-show.c
 check=tools/orderset-check.c
-desk=tools/desk.c
+tool=tools/tool.c
 picture=tools/picture.c
-fault tools 'live and hidden change names' $desk 's/"live", "hidden"/"hidden", "live"/' \
+fault tools 'live and hidden change names' $tool 's/"live", "hidden"/"hidden", "live"/' \
     'NOT SO: a good file: the output of orderset-show'
-fault tools 'void slots are opened before they are shown' $desk \
-    '/^void desk_open/,/^}/s/ORDERSET_FILE_INSPECT/ORDERSET_FILE_READ/' \
+fault tools 'void slots are opened before they are shown' $tool \
+    '/^void tool_open/,/^}/s/ORDERSET_FILE_INSPECT/ORDERSET_FILE_READ/' \
     "NOT SO: a good file: the output of orderset-show is 'slot 1"
-fault tools 'an order is shown as bytes' $desk 's/if \(orderset_file_order\(/if (0 \&\& orderset_file_order(/' \
+fault tools 'an order is shown as bytes' $tool 's/if \(orderset_file_order\(/if (0 \&\& orderset_file_order(/' \
     'NOT SO: a good file: the output of orderset-show'
-fault tools 'a key of layout 2 is shown by its low word' $desk 's/layout == ORDERSET2_LAYOUT/layout == 3/' \
+fault tools 'a key of layout 2 is shown by its low word' $tool 's/layout == ORDERSET2_LAYOUT/layout == 3/' \
     'NOT SO: layout 2: the output of orderset-show'
-fault tools 'a full disk is not told' $desk 's/if \(fflush\(out\) \|\| ferror\(out\)\)/if (0)/' 'NOT SO: a full disk is told'
-fault tools 'progress is not told' $desk 's/^    each_second\(1\);//' 'NOT SO: progress is told'
-fault tools 'a refused file is shown with status 0' $show 's/d.is.refusal \? DESK_REFUSED : DESK_GOOD/DESK_GOOD/' \
+fault tools 'a full disk is not told' $tool 's/if \(fflush\(out\) \|\| ferror\(out\)\)/if (0)/' 'NOT SO: a full disk is told'
+fault tools 'progress is not told' $tool 's/^    each_second\(1\);//' 'NOT SO: progress is told'
+fault tools 'a refused file is shown with status 0' $show 's/d.is.refusal \? TOOL_REFUSED : TOOL_GOOD/TOOL_GOOD/' \
     'NOT SO: a file with no 1: the status of orderset-show is 1'
 fault tools 'a picture takes the place of the set' $show 's/found.st_ino == set.st_ino/0/' 'NOT SO: a picture over the set'
 fault tools 'a link is followed' $show 's/lstat\(a->svg, \&found\)/stat(a->svg, \&found)/' 'NOT SO: a link to another set'
@@ -909,31 +909,31 @@ fault tools 'the other name is left beside the link' $show 's/\(unlink\(fresh\),
     'NOT SO: a picture without RENAME_NOREPLACE leaves no other name'
 fault tools 'a picture with two names is an error' $show 's/ \? 1 : \(unlink\(fresh\), 0\)/ || unlink(fresh)/' \
     'NOT SO: a picture with two names is made'
-fault tools "the limit of a file's size is for the copy too" $desk '/most.rlim_cur = most.rlim_max;/d' \
+fault tools "the limit of a file's size is for the copy too" $tool '/most.rlim_cur = most.rlim_max;/d' \
     "NOT SO: orderset-show with a limit of a file's size, status 0"
-fault tools "a tool raises the limit of a file's size for good" $desk '/setrlimit\(RLIMIT_FSIZE, \&given\);/d' \
+fault tools "a tool raises the limit of a file's size for good" $tool '/setrlimit\(RLIMIT_FSIZE, \&given\);/d' \
     'NOT SO: a picture that cannot be written is told'
 fault tools "a picture is its owner's alone" $show 's/fchmod\(file, new_mode\(\)\)/new_mode() == 1/' \
     'NOT SO: it is a file as any other'
 fault tools 'the words of a line are read from the file again' $check \
-    's/^    memcpy\(words, d->bytes .*/    FILE *f = fopen(d->path, "rb");\n    if (!f || fseek(f, (long)slot * 128, SEEK_SET) || fread(words, 8, WORDS, f) != WORDS)\n        desk_fail(tool, "%s", strerror(errno));\n    fclose(f);/' \
+    's/^    memcpy\(words, d->bytes .*/    FILE *f = fopen(d->path, "rb");\n    if (!f || fseek(f, (long)slot * 128, SEEK_SET) || fread(words, 8, WORDS, f) != WORDS)\n        tool_fail(tool, "%s", strerror(errno));\n    fclose(f);/' \
     'NOT SO: orderset-check says the same where the name becomes fifo'
-fault tools 'a log is looked for in the file again' $desk 's/orderset_log_file_open\(d->copy/orderset_log_file_open(d->path/' \
+fault tools 'a log is looked for in the file again' $tool 's/orderset_log_file_open\(d->copy/orderset_log_file_open(d->path/' \
     'NOT SO: orderset-(check|show) says the same where the name becomes'
-fault tools 'the file is recovered and not the copy' $desk 's/orderset_file_open\(d->copy/orderset_file_open(d->path/' \
+fault tools 'the file is recovered and not the copy' $tool 's/orderset_file_open\(d->copy/orderset_file_open(d->path/' \
     'NOT SO: orderset-check says the same where the name becomes'
-fault tools 'a file that becomes shorter is no error' $desk 's/errno = EIO; .*/errno = 0;/' \
+fault tools 'a file that becomes shorter is no error' $tool 's/errno = EIO; .*/errno = 0;/' \
     'NOT SO: orderset-check tells that the file becomes shorter'
-fault tools 'the copy becomes the output' $desk 's/^    hold_streams\(tool\);/    (void)hold_streams;/' \
+fault tools 'the copy becomes the output' $tool 's/^    hold_streams\(tool\);/    (void)hold_streams;/' \
     'NOT SO: a closed output is told'
-fault tools 'no lock' $desk 's/while \(flock\(file, LOCK_SH \| LOCK_NB\)\)/while (file < 0)/' \
+fault tools 'no lock' $tool 's/while \(flock\(file, LOCK_SH \| LOCK_NB\)\)/while (file < 0)/' \
     'NOT SO: a file that is written: the status'
 fault tools 'a picture has any name' $show 's/length < 5 \|\| //; s/strcmp\(a->svg \+ length - 4, ".svg"\)/length < 1/' \
     'NOT SO: a picture of any name'
 fault tools 'the last slot is not drawn' $picture '/^static void draw_slots/,/^}/s/slot <= d/slot < d/' \
     'NOT SO: a picture has 20 squares'
 fault tools 'a square has the class of another' $picture \
-    '/^static void draw_slot\(/,/^}/s/desk_class\[r->slot_class\]/desk_class[r->slot_class ? 1 : 0]/' \
+    '/^static void draw_slot\(/,/^}/s/tool_class\[r->slot_class\]/tool_class[r->slot_class ? 1 : 0]/' \
     'NOT SO: 2 squares are hidden'
 fault tools 'two squares are in one place' $picture 's/% grid->columns \* grid->pitch;/% 9 * grid->pitch;/' \
     'NOT SO: squares are apart'
@@ -941,7 +941,7 @@ fault tools 'the legend counts another class' $picture 's/: d->is.count\[i\];/: 
     'NOT SO: the legend says 2 hidden'
 fault tools 'the name of the file is not escaped' $picture "s/if \\(byte == '&' .*\\)\$/if (0)/" 'not well-formed|NOT SO'
 fault tools 'the slot at fault is not marked' $picture 's/if \(r->fault \|\| .*/if (0)/' 'NOT SO: the slot at fault is marked'
-fault tools 'an accepted file has status 1' $check '/^static int accepted/,/^}/s/DESK_GOOD/DESK_REFUSED/' \
+fault tools 'an accepted file has status 1' $check '/^static int accepted/,/^}/s/TOOL_GOOD/TOOL_REFUSED/' \
     'NOT SO: a good file: the status of orderset-check is 0'
 fault tools 'the slot at fault is not named' $check '/^static int refused/,/^}/s/if \(d->is.fault_slot\)/if (0)/' \
     'NOT SO: a file with no 6: the output of orderset-check'
@@ -1273,6 +1273,23 @@ fault reads 'a touch is not counted' $reads 's/r->touched \+= \*last != counted;
     'NOT SO: insert for any index reads many slots there: 0'
 fault reads 'the slot of the highest version is not to be read' $reads 's/OF_CHANGE = 2/OF_CHANGE = 1/' \
     'NOT SO: .* reads at most 1 slots more'
+# the archive then makes a second pass, or a part of one
+unnamed='s/^    const uint64_t code = call_by\(0, kind, k\);/    state[ORDERSET_NEWEST] = 0;\n&/'
+fault reads 'the state names no newest slot' $reads "$unnamed" 'NOT SO: .* for any index makes one pass at most'
+fault reads2 'the state names no newest slot' $reads "$unnamed" 'NOT SO: .* for any index makes one pass at most'
+# first refused, with 9, once its slots are found
+twice='s/^    const uint64_t code = call_by\(0, kind, k\);/    const uint64_t due = version[0];\n    version[0] = 1ul << 63;\n'
+twice+='    call_by(0, kind, k);\n    version[0] = due;\n&/'
+fault reads 'a call for any index is made twice' $reads "$twice" 'NOT SO: .* for any index makes one pass at most'
+fault reads 'a link that is followed is not noted' $reads 's/by_link = LINKED;/by_link = 0;/' \
+    'NOT SO: .* for any index makes one pass at most'
+fault reads 'the look ahead is to be shorter' $reads 's/n \/ 2 \+ 1024, others/n \/ 2, others/' \
+    'NOT SO: .* for any index looks ahead in its budget'
+look='s/^        const uint64_t code = call_by\(own, ORDERSET_INSERT, &k\);/        if (n == 1000)\n            look_through();\n&/'
+look+='; s/^static void full\(/static void look_through(void) {\n'
+look+='    const struct basket k = some_basket(2, ORDERSET_REPLACE);\n    call_by(0, 0, \&k);\n}\n\n&/'
+fault reads 'the image is looked through where the set is full' $reads "$look" \
+    'NOT SO: a refused insert for any index reads at most 2 slots more .* 1001 read'
 
 echo "$count faults planted, $((count - unseen)) seen"
 [ $unseen -eq 0 ]

@@ -26,8 +26,8 @@ static uint32_t heads[1], next[SLOTS + 1], state[ORDERSET_STATE], at[ORDERSET_ST
 static uint64_t version[1], value[ORDERSET_STORES], answer[ORDERSET_CHANGE_ANSWER];
 
 static void make_set(void) {
-    uint64_t slots[ORDERSET_FORMAT_ANSWER], open_value[ORDERSET_OPENINGS];
-    uint32_t count[1], open_at[ORDERSET_OPENINGS];
+    uint64_t slots[ORDERSET_FORMAT_ANSWER], open_value[ORDERSET_INVALIDATIONS];
+    uint32_t count[1], open_at[ORDERSET_INVALIDATIONS];
     int there = open(file, O_RDWR | O_CREAT | O_TRUNC, 0600);
     expect(there >= 0 && ftruncate(there, LENGTH) == 0, "a file %s", file);
     image = mmap(NULL, LENGTH, PROT_READ | PROT_WRITE, MAP_SHARED, there, 0);
