@@ -177,13 +177,13 @@ VERSION := 1.0.0
 PREFIX ?= /usr/local
 LIB := target/lib
 ARCHIVES := $(ARCHIVE) $(ARCHIVE2) $(LOG_ARCHIVE)
-DESK := orderset-show orderset-check
+TOOLS := orderset-show orderset-check
 TO = $(DESTDIR)$(PREFIX)
 
 .PHONY: lib tools install uninstall run-tools run-install run-programs
 test: run-tools run-install run-programs
 lib: $(LIB)/liborderset.a $(LIB)/liborderset.so.1
-tools: $(DESK:%=$(OUT)/%)
+tools: $(TOOLS:%=$(OUT)/%)
 
 $(LIB):
 	mkdir -p $@
@@ -202,7 +202,7 @@ $(LIB)/liborderset.so.1: $(LIB)/liborderset.a
 		-Wl,--no-whole-archive -pthread -o $@
 
 $(OUT)/orderset-show: tools/orderset-show.c tools/picture.c
-$(DESK:%=$(OUT)/%): $(OUT)/%: tools/%.c tools/desk.c $(wildcard tools/*.h include/*.h) $(LIB)/liborderset.a | $(OUT)
+$(TOOLS:%=$(OUT)/%): $(OUT)/%: tools/%.c tools/tool.c $(wildcard tools/*.h include/*.h) $(LIB)/liborderset.a | $(OUT)
 	$(C) -DVERSION='"$(VERSION)"' $(filter %.c,$^) $(LIB)/liborderset.a -pthread -o $@
 
 install: lib tools
@@ -214,13 +214,13 @@ install: lib tools
 	ln -sf liborderset.so.$(VERSION) "$(TO)/lib/liborderset.so.1"
 	ln -sf liborderset.so.1 "$(TO)/lib/liborderset.so"
 	sed 's|@PREFIX@|$(PREFIX)|; s|@VERSION@|$(VERSION)|' src/orderset.pc.in >"$(TO)/lib/pkgconfig/orderset.pc"
-	install -m 755 $(DESK:%=$(OUT)/%) "$(TO)/bin"
+	install -m 755 $(TOOLS:%=$(OUT)/%) "$(TO)/bin"
 	install -m 644 man/*.1 "$(TO)/share/man/man1"
 	install -m 644 man/*.3 "$(TO)/share/man/man3"
 	install -m 644 docs/OPERATIONS.md "$(TO)/share/doc/orderset"
 
 uninstall:
-	cd "$(TO)" && rm -f $(DESK:%=bin/%) $(wildcard include/*) lib/liborderset.a lib/liborderset.so \
+	cd "$(TO)" && rm -f $(TOOLS:%=bin/%) $(wildcard include/*) lib/liborderset.a lib/liborderset.so \
 		lib/liborderset.so.1 lib/liborderset.so.$(VERSION) \
 		lib/pkgconfig/orderset.pc $(patsubst man/%,share/man/man1/%,$(wildcard man/*.1)) \
 		$(patsubst man/%,share/man/man3/%,$(wildcard man/*.3)) share/doc/orderset/OPERATIONS.md && rmdir share/doc/orderset
@@ -228,7 +228,7 @@ uninstall:
 # the tools on good, wrong and damaged files; and README's programs, compiled against what install leaves
 $(OUT)/preload.so: tests/preload.c | $(OUT)
 	$(C) -fPIC -shared $< -o $@
-run-tools: $(DESK:%=$(OUT)/%) $(OUT)/preload.so
+run-tools: $(TOOLS:%=$(OUT)/%) $(OUT)/preload.so
 	@tests/tools.py $(OUT)
 # the examples on files that are not theirs
 run-programs: $(OUT)/gateway $(OUT)/recorder $(OUT)/preload.so

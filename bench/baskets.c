@@ -32,8 +32,8 @@ static void must(int done, const char *what) {
 }
 
 static void recover(void) {
-    uint32_t voids[1], open_at[ORDERSET_OPENINGS];
-    uint64_t open_value[ORDERSET_OPENINGS];
+    uint32_t voids[1], open_at[ORDERSET_INVALIDATIONS];
+    uint64_t open_value[ORDERSET_INVALIDATIONS];
     must(orderset_recover(image, length, heads, heads_length, next, next_length, state, version, voids, open_at, open_value) == 0 && voids[0] == 0,
          "recover");
 }

@@ -16,8 +16,8 @@ static uint8_t *image, bytes[80], out[80];
 static size_t length, heads_length, next_length, size;
 static uint32_t *heads, *next, state[ORDERSET_STATE], at[ORDERSET_STORES];
 static uint64_t version[1], value[ORDERSET_STORES], answer[ORDERSET_CHANGE_ANSWER];
-static uint32_t voids[1], open_at[ORDERSET_OPENINGS];
-static uint64_t open_value[ORDERSET_OPENINGS];
+static uint32_t voids[1], open_at[ORDERSET_INVALIDATIONS];
+static uint64_t open_value[ORDERSET_INVALIDATIONS];
 static enum orderset_flush flush;
 
 static inline int hand_inserts(uint64_t key) {

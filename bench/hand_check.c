@@ -59,8 +59,8 @@ uint32_t orderset_format(uint8_t *image, size_t length, uint64_t layout, uint64_
 }
 
 uint64_t orderset_recover(const uint8_t *image, size_t length, uint32_t *heads, size_t heads_length, uint32_t *next, size_t next_length,
-                          uint32_t state[ORDERSET_STATE], uint64_t version[1], uint32_t count[1], uint32_t at[ORDERSET_OPENINGS],
-                          uint64_t value[ORDERSET_OPENINGS]) {
+                          uint32_t state[ORDERSET_STATE], uint64_t version[1], uint32_t count[1], uint32_t at[ORDERSET_INVALIDATIONS],
+                          uint64_t value[ORDERSET_INVALIDATIONS]) {
     struct hand_set s = lend(image, length, heads, heads_length, next, next_length);
     uint64_t code = hand_recover(&s);
     if (code)

@@ -43,8 +43,8 @@ static uint32_t largest_prime(uint32_t up_to) {
 }
 
 static void recover(uint32_t b) {
-    uint32_t voids[1], open_at[ORDERSET_OPENINGS];
-    uint64_t open_value[ORDERSET_OPENINGS];
+    uint32_t voids[1], open_at[ORDERSET_INVALIDATIONS];
+    uint64_t open_value[ORDERSET_INVALIDATIONS];
     must(orderset_recover(image, ORDERSET_IMAGE_BYTES(n), heads, b, next, n + 1, state, version, voids, open_at, open_value) == 0 && voids[0] == 0,
          "recover");
 }

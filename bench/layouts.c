@@ -48,8 +48,8 @@ static void must(int done, const char *what) {
 }
 
 static void recover(struct set *s, const struct way *way) {
-    uint32_t voids[1], open_at[ORDERSET_OPENINGS];
-    uint64_t open_value[ORDERSET_OPENINGS];
+    uint32_t voids[1], open_at[ORDERSET_INVALIDATIONS];
+    uint64_t open_value[ORDERSET_INVALIDATIONS];
     must((way->layout == ORDERSET_LAYOUT ? orderset_recover : orderset2_recover)(s->image, ORDERSET_IMAGE_BYTES(n), s->heads, b, s->next, n + 1, s->state,
                                                                                 s->version, voids, open_at, open_value) == 0 && voids[0] == 0,
          "recover");

@@ -15,8 +15,8 @@ enum { STACK = 8 << 20, FILL = 0xa5, HEADS = 65536 };
 
 static uint8_t *image;
 static size_t length;
-static uint32_t heads[HEADS], next[ORDERSET_SLOTS_MAX + 1], state[ORDERSET_STATE], count[1], at[ORDERSET_OPENINGS];
-static uint64_t version[1], value[ORDERSET_OPENINGS], counts[ORDERSET_COUNTS], returned;
+static uint32_t heads[HEADS], next[ORDERSET_SLOTS_MAX + 1], state[ORDERSET_STATE], count[1], at[ORDERSET_INVALIDATIONS];
+static uint64_t version[1], value[ORDERSET_INVALIDATIONS], counts[ORDERSET_COUNTS], returned;
 
 #define LENT image, length, heads, HEADS, next, length / ORDERSET_SLOT_BYTES
 

@@ -65,8 +65,8 @@ struct set {
     size_t heads_length, next_length; /* heads_length 0 before recovery: as many as suit the slots */
     uint32_t state[ORDERSET_STATE];
     uint64_t version[1];
-    uint32_t voids[1], open_at[ORDERSET_OPENINGS]; /* what recovery hands out */
-    uint64_t open_value[ORDERSET_OPENINGS];
+    uint32_t voids[1], open_at[ORDERSET_INVALIDATIONS]; /* what recovery hands out */
+    uint64_t open_value[ORDERSET_INVALIDATIONS];
     uint64_t returned, counts[ORDERSET_COUNTS]; /* of recovery, or of the count of its slots */
     int flushes; /* the mapping is non-volatile memory */
     enum orderset_flush flush;

@@ -43,8 +43,8 @@
  * with msync, orderset_persist_image_file), or a later power cut can take an order that was answered. Do so at every
  * start that will write.
  *
- * After recovery: it hands out at most ORDERSET_OPENINGS stores, one for each void record, a record of a basket that a
- * cut left incomplete (below). They are made, their lines are flushed and a fence is passed before any other call:
+ * After recovery: it hands out at most ORDERSET_INVALIDATIONS stores, one for each void record, a record of a basket
+ * that a cut left incomplete (below). They are made, their lines are flushed and a fence is passed before any other call:
  * orderset_persist_list(image, image_length, at, value, count[0], flush), or orderset_play_list and a flush of each
  * line. If that was not finished, orderset_recover comes next: it gives the same map and hands out what is left. Where
  * count[0] is 0 there is nothing to do. What they are for: a void record is a whole one, and only its missing companions
@@ -147,7 +147,7 @@ extern "C" {
 #define ORDERSET_SLOT_BYTES 128u
 #define ORDERSET_STORES 16u /* the stores of a call, the first half for line A and the second for line B */
 #define ORDERSET_LINE_STORES 8u
-#define ORDERSET_OPENINGS 8u /* the most stores that recovery hands out */
+#define ORDERSET_INVALIDATIONS 8u /* the most stores that recovery hands out */
 #define ORDERSET_COUNTS 6u /* the counts of orderset_count_slots */
 
 /* a basket: its keys, at the most; the bytes of its values, 80 for each key; and the stores of one of so many keys */
@@ -265,8 +265,8 @@ ORDERSET_CALL uint32_t orderset_format(uint8_t *image, size_t image_length, uint
  * stores that are not durable, make it durable first (above). Refusals: 1, 2, 3, 4, 5; then 6, 22, 23, 24; 7, 25, 8.
  *
  * count[0] is the number of stores that are to be made, flushed and fenced before any other call (above), 0 to
- * ORDERSET_OPENINGS: store i sets the word at[i], counted from the start of the image, to value[i]. Each opens line A
- * of a void slot; they are by rising slot, each in a line of its own. The entries from count[0] on are zero and no
+ * ORDERSET_INVALIDATIONS: store i sets the word at[i], counted from the start of the image, to value[i]. Each opens
+ * line A of a void slot; they are by rising slot, each in a line of its own. The entries from count[0] on are zero and no
  * stores: made, they would clear the header. Of a refused recovery count, at and value stay as they were.
  *
  * Returns 0, or the refusal + 2^32 * the slot that it names. 6, 22, 23 and 24 name the lowest slot at fault, and of
@@ -277,8 +277,8 @@ ORDERSET_CALL uint32_t orderset_format(uint8_t *image, size_t image_length, uint
  * thread of glibc where the stack is unlimited (ulimit -s): too little for N from 16,384 on. */
 ORDERSET_CALL uint64_t orderset_recover(const uint8_t *image, size_t image_length, uint32_t *heads, size_t heads_length,
                                         uint32_t *next, size_t next_length, uint32_t state[ORDERSET_STATE],
-                                        uint64_t version[1], uint32_t count[1], uint32_t at[ORDERSET_OPENINGS],
-                                        uint64_t value[ORDERSET_OPENINGS]);
+                                        uint64_t version[1], uint32_t count[1], uint32_t at[ORDERSET_INVALIDATIONS],
+                                        uint64_t value[ORDERSET_INVALIDATIONS]);
 
 /* Counts the slots of an image that recovery accepts, by what they hold. counts: {live slots, hidden puts, remove
  * records, void slots, broken slots, empty slots}; they add up to N. A live slot has the value of a held key, a hidden

@@ -34,7 +34,7 @@ extern "C" {
 ORDERSET_CALL uint64_t orderset2_recover(const uint8_t *image, size_t image_length, uint32_t *heads,
                                          size_t heads_length, uint32_t *next, size_t next_length,
                                          uint32_t state[ORDERSET_STATE], uint64_t version[1], uint32_t count[1],
-                                         uint32_t at[ORDERSET_OPENINGS], uint64_t value[ORDERSET_OPENINGS]);
+                                         uint32_t at[ORDERSET_INVALIDATIONS], uint64_t value[ORDERSET_INVALIDATIONS]);
 
 /* As orderset_count_slots. */
 ORDERSET_CALL uint64_t orderset2_count_slots(const uint8_t *image, size_t image_length, uint32_t *heads,

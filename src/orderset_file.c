@@ -43,8 +43,8 @@ struct orderset_file {
     size_t heads_length, next_length;
     uint32_t state[ORDERSET_STATE];
     uint64_t version[1];
-    uint32_t voids[1], open_at[ORDERSET_OPENINGS]; /* what recovery hands out */
-    uint64_t open_value[ORDERSET_OPENINGS];
+    uint32_t voids[1], open_at[ORDERSET_INVALIDATIONS]; /* what recovery hands out */
+    uint64_t open_value[ORDERSET_INVALIDATIONS];
     uint32_t refusal, fault_slot; /* of recovery */
     uint32_t compared;
 };

@@ -6,7 +6,7 @@
 #include <stdlib.h>
 #include <string.h>
 
-#include "desk.h"
+#include "tool.h"
 
 static const char tool[] = "orderset-check";
 static const char help[] =
@@ -20,18 +20,18 @@ enum { WORDS = 16, SHOWN = 20 /* slots, at the most, that are printed one by one
 static const char *path_of(int count, char **word) {
     const int first = count > 1 && !strcmp(word[1], "--") ? 2 : 1;
     if (count == first)
-        desk_fail(tool, "which file? (orderset-check --help tells more)");
+        tool_fail(tool, "which file? (orderset-check --help tells more)");
     if (first == 1 && word[1][0] == '-')
-        desk_fail(tool, "no such option: %s (orderset-check --help tells more)", word[1]);
+        tool_fail(tool, "no such option: %s (orderset-check --help tells more)", word[1]);
     if (count > first + 1)
-        desk_fail(tool, "one file at a time, and this is the second: %s (orderset-check --help tells more)",
+        tool_fail(tool, "one file at a time, and this is the second: %s (orderset-check --help tells more)",
                   word[first + 1]);
     return word[first];
 }
 
 /* ---- the words of the copy, as they stand in it; the handle gives a slot by its meaning */
 
-static void read_words(const struct desk *d, uint32_t slot, uint64_t words[WORDS]) {
+static void read_words(const struct tool *d, uint32_t slot, uint64_t words[WORDS]) {
     memcpy(words, d->bytes + (size_t)slot * ORDERSET_SLOT_BYTES, WORDS * sizeof *words);
 }
 
@@ -42,16 +42,16 @@ static void print_line(const char *name, const uint64_t word[8]) {
     putchar('\n');
 }
 
-static void print_lines(const struct desk *d, uint32_t slot) {
+static void print_lines(const struct tool *d, uint32_t slot) {
     uint64_t words[WORDS];
     read_words(d, slot, words);
     print_line("A", words);
     print_line("B", words + 8);
 }
 
-static void print_slot(const struct desk *d, const struct orderset_record *record) {
+static void print_slot(const struct tool *d, const struct orderset_record *record) {
     fputs("  ", stdout);
-    desk_print_slot(stdout, d->is.layout, record);
+    tool_print_slot(stdout, d->is.layout, record);
     putchar('\n');
     print_lines(d, record->slot);
 }
@@ -59,7 +59,7 @@ static void print_slot(const struct desk *d, const struct orderset_record *recor
 /* ---- where a refused file is at fault */
 
 /* The header against the length of the file. */
-static void say_header(const struct desk *d) {
+static void say_header(const struct tool *d) {
     uint64_t words[WORDS];
     if (d->is.refusal == ORDERSET_NO_IMAGE_LENGTH) {
         printf("  it has %" PRIu64 " bytes; a set has 384 to %zu, a multiple of 128\n", d->is.bytes,
@@ -73,17 +73,17 @@ static void say_header(const struct desk *d) {
 }
 
 /* Each slot that is refused by itself, or is broken where that is the refusal. */
-static void say_slots(struct desk *d) {
+static void say_slots(struct tool *d) {
     struct orderset_record record;
     uint32_t found = 0;
-    desk_step(tool, "slots looked at", d->is.slots);
+    tool_step(tool, "slots looked at", d->is.slots);
     for (uint32_t slot = 1; slot <= d->is.slots; slot++) {
-        desk_slot(d, slot, &record);
+        tool_slot(d, slot, &record);
         const int broken = d->is.refusal == ORDERSET_BROKEN_SLOTS && record.slot_class == ORDERSET_SLOT_BROKEN;
         if ((record.fault || broken) && ++found <= SHOWN)
             print_slot(d, &record);
     }
-    desk_rest();
+    tool_rest();
     if (found > SHOWN)
         printf("  and %" PRIu32 " more; orderset-show --slots shows all\n", found - SHOWN);
 }
@@ -103,14 +103,14 @@ static int by_version(const void *left, const void *right) {
 }
 
 /* The whole records, the highest version first. */
-static struct whole *whole_records(struct desk *d, size_t *count) {
+static struct whole *whole_records(struct tool *d, size_t *count) {
     struct whole *whole = calloc((size_t)d->is.slots + 1, sizeof *whole);
     struct orderset_record r;
     if (!whole)
-        desk_fail(tool, "memory: %s", strerror(errno));
+        tool_fail(tool, "memory: %s", strerror(errno));
     *count = 0;
     for (uint32_t slot = 1; slot <= d->is.slots; slot++) {
-        desk_slot(d, slot, &r);
+        tool_slot(d, slot, &r);
         if (r.slot_class == ORDERSET_SLOT_UNKNOWN)
             whole[(*count)++] = (struct whole){r.version, r.key, slot, r.records};
     }
@@ -144,18 +144,18 @@ static int in_conflict(const struct whole *first, size_t count) {
     return 0;
 }
 
-static void print_sharers(struct desk *d, const struct whole *first, size_t count) {
+static void print_sharers(struct tool *d, const struct whole *first, size_t count) {
     struct orderset_record record;
     printf("  %zu slots share version %" PRIu64 ":\n", count, first->version);
     for (size_t i = 0; i < count && i < SHOWN; i++) {
-        desk_slot(d, first[i].slot, &record);
+        tool_slot(d, first[i].slot, &record);
         print_slot(d, &record);
     }
     if (count > SHOWN)
         printf("  and %zu more; orderset-show --slots shows all\n", count - SHOWN);
 }
 
-static void say_shared(struct desk *d) {
+static void say_shared(struct tool *d) {
     size_t count, found = 0;
     struct whole *whole = whole_records(d, &count);
     for (const struct whole *w = whole, *end = whole + count; w < end; w += sharers(w, end))
@@ -167,7 +167,7 @@ static void say_shared(struct desk *d) {
 }
 
 /* Void are the records of the highest versions, as long as fewer of them are there than they say. */
-static void say_void(struct desk *d) {
+static void say_void(struct tool *d) {
     size_t count, found = 0;
     struct whole *whole = whole_records(d, &count);
     const struct whole *end = whole + count;
@@ -179,7 +179,7 @@ static void say_void(struct desk *d) {
     free(whole);
 }
 
-static void say_where(struct desk *d) {
+static void say_where(struct tool *d) {
     switch (d->is.refusal) {
     case ORDERSET_NO_IMAGE_LENGTH:
     case ORDERSET_NO_FORMAT:
@@ -204,28 +204,28 @@ static const char other_file[] =
 static const char start_too[] =
     "See also whether each start made the file durable before it recovered: those by orderset_file_open do.\n";
 
-static int refused(struct desk *d) {
+static int refused(struct tool *d) {
     printf("%s: refused, no %" PRIu32, d->path, d->is.refusal);
     if (d->is.fault_slot)
         printf(" of slot %" PRIu32, d->is.fault_slot);
     printf("\n%s\n", orderset_file_text(d->is.refusal));
     say_where(d);
     if (d->is.refusal <= ORDERSET_NO_HEADER)
-        desk_print_log(stdout, d);
+        tool_print_log(stdout, d);
     fputs(d->is.refusal <= ORDERSET_NO_HEADER ? other_file : keep_it, stdout);
     if (d->is.refusal == ORDERSET_BROKEN_SLOTS)
         fputs(start_too, stdout);
-    return DESK_REFUSED;
+    return TOOL_REFUSED;
 }
 
 /* ---- an accepted file */
 
 /* The slots of a class, which are at most eight. */
-static void list_slots(struct desk *d, uint32_t slot_class) {
+static void list_slots(struct tool *d, uint32_t slot_class) {
     struct orderset_record record;
     const char *before = d->is.count[slot_class] == 1 ? " (slot " : " (slots ";
     for (uint32_t slot = 1; slot <= d->is.slots; slot++) {
-        desk_slot(d, slot, &record);
+        tool_slot(d, slot, &record);
         if (record.slot_class == slot_class) {
             printf("%s%" PRIu32, before, slot);
             before = ", ";
@@ -234,16 +234,16 @@ static void list_slots(struct desk *d, uint32_t slot_class) {
     fputs("):\n", stdout);
 }
 
-static void explain(struct desk *d, uint32_t slot_class, const char *meaning) {
+static void explain(struct tool *d, uint32_t slot_class, const char *meaning) {
     const uint64_t count = d->is.count[slot_class];
     if (!count)
         return;
-    printf("%" PRIu64 " %s", count, desk_class[slot_class]);
+    printf("%" PRIu64 " %s", count, tool_class[slot_class]);
     list_slots(d, slot_class);
     fputs(meaning, stdout);
 }
 
-static int accepted(struct desk *d) {
+static int accepted(struct tool *d) {
     printf("%s: accepted\n", d->path);
     printf("layout %" PRIu32 ", %" PRIu32 " slots, %" PRIu64 " bytes; %" PRIu32 " open order%s, %" PRIu32
            " spare slot%s; next version %" PRIu64 "\n",
@@ -251,9 +251,9 @@ static int accepted(struct desk *d) {
            d->is.spare == 1 ? "" : "s", d->is.next_version);
     fputs("slots:", stdout);
     for (int i = 0; i < ORDERSET_SLOT_UNKNOWN; i++)
-        printf("%s %" PRIu64 " %s", i ? "," : "", d->is.count[i], desk_class[i]);
+        printf("%s %" PRIu64 " %s", i ? "," : "", d->is.count[i], tool_class[i]);
     putchar('\n');
-    desk_step(tool, "slots looked at", d->is.slots);
+    tool_step(tool, "slots looked at", d->is.slots);
     explain(d, ORDERSET_SLOT_VOID,
             "  of a basket that a power cut or a kill struck; none of it counts, and it was not answered. The next\n"
             "  start that writes opens such slots, and then they are broken. Nothing is to be done.\n");
@@ -261,16 +261,16 @@ static int accepted(struct desk *d) {
             "  a power cut or a kill struck the call that wrote there; it does not count, and was not answered.\n"
             "  Such slots are used again first. Nothing is to be done: up to eight broken and void slots are no\n"
             "  sign of damage.\n");
-    desk_rest();
-    return DESK_GOOD;
+    tool_rest();
+    return TOOL_GOOD;
 }
 
 int main(int count, char **word) {
-    struct desk d;
-    desk_options(tool, help, count, word);
-    desk_open(&d, tool, path_of(count, word));
+    struct tool d;
+    tool_options(tool, help, count, word);
+    tool_open(&d, tool, path_of(count, word));
     const int status = d.is.refusal ? refused(&d) : accepted(&d);
-    desk_printed(&d, stdout, "standard output");
+    tool_printed(&d, stdout, "standard output");
     orderset_file_close(d.set);
     return status;
 }

@@ -9,7 +9,7 @@
 #include <sys/stat.h>
 #include <unistd.h>
 
-#include "desk.h"
+#include "tool.h"
 #include "picture.h"
 
 static const char tool[] = "orderset-show";
@@ -27,7 +27,7 @@ struct asked {
 };
 
 static _Noreturn void usage(const char *words, const char *word) {
-    desk_fail(tool, "%s%s%s (orderset-show --help tells more)", words, *word ? ": " : "", word);
+    tool_fail(tool, "%s%s%s (orderset-show --help tells more)", words, *word ? ": " : "", word);
 }
 
 static struct asked ask(int count, char **word) {
@@ -99,7 +99,7 @@ static void test_place(const struct asked *a) {
     int there;
     const char *why = why_not(a, &there);
     if (why)
-        desk_fail(tool, "%s: %s", a->svg, why);
+        tool_fail(tool, "%s: %s", a->svg, why);
 }
 
 /* The picture gets its name, which no other file has, or that of a picture which it replaces. Answers why not, or NULL.
@@ -140,12 +140,12 @@ static void keep_picture(const struct asked *a, const char *bytes, size_t length
     sigset_t all, before;
     char *fresh;
     if (asprintf(&fresh, "%.*s.orderset-show-XXXXXX", slash ? (int)(slash - a->svg + 1) : 0, a->svg) < 0)
-        desk_fail(tool, "memory: %s", strerror(errno));
+        tool_fail(tool, "memory: %s", strerror(errno));
     sigfillset(&all);
     sigprocmask(SIG_BLOCK, &all, &before);
     const int file = mkostemp(fresh, O_CLOEXEC);
     if (file < 0)
-        desk_fail(tool, "%s: %s", a->svg, strerror(errno));
+        tool_fail(tool, "%s: %s", a->svg, strerror(errno));
     if (fchmod(file, new_mode()) || write_all(file, bytes, length) || fsync(file))
         why = strerror(errno);
     if (close(file) && !why)
@@ -156,75 +156,75 @@ static void keep_picture(const struct asked *a, const char *bytes, size_t length
         unlink(fresh);
     sigprocmask(SIG_SETMASK, &before, NULL);
     if (why)
-        desk_fail(tool, "%s: %s", a->svg, why);
+        tool_fail(tool, "%s: %s", a->svg, why);
     free(fresh);
 }
 
-static void show_picture(struct desk *d, const struct asked *a) {
+static void show_picture(struct tool *d, const struct asked *a) {
     char *bytes = NULL;
     size_t length = 0;
     FILE *out = strcmp(a->svg, "-") ? open_memstream(&bytes, &length) : stdout;
     if (!out)
-        desk_fail(tool, "memory: %s", strerror(errno));
+        tool_fail(tool, "memory: %s", strerror(errno));
     draw_picture(d, out);
-    desk_printed(d, out, out == stdout ? "standard output" : "memory");
+    tool_printed(d, out, out == stdout ? "standard output" : "memory");
     if (out == stdout)
         return;
     if (fclose(out))
-        desk_fail(tool, "memory: %s", strerror(errno));
+        tool_fail(tool, "memory: %s", strerror(errno));
     keep_picture(a, bytes, length);
     free(bytes);
 }
 
-static void show_slots(struct desk *d) {
+static void show_slots(struct tool *d) {
     struct orderset_record record;
-    desk_step(tool, "slots shown", d->is.slots);
+    tool_step(tool, "slots shown", d->is.slots);
     for (uint32_t slot = 1; slot <= d->is.slots; slot++) {
-        desk_slot(d, slot, &record);
-        desk_print_slot(stdout, d->is.layout, &record);
+        tool_slot(d, slot, &record);
+        tool_print_slot(stdout, d->is.layout, &record);
         putchar('\n');
     }
-    desk_rest();
+    tool_rest();
 }
 
-static void show_orders(struct desk *d) {
+static void show_orders(struct tool *d) {
     struct orderset_record order = {0};
     uint32_t number;
     if (!d->is.live && !d->is.refusal)
         fprintf(stderr, "%s: %s: no open orders\n", tool, d->path);
-    desk_step(tool, "slots looked at", d->is.slots);
+    tool_step(tool, "slots looked at", d->is.slots);
     while ((number = orderset_file_next(d->set, &order)) == ORDERSET_FILE_OK) {
-        desk_done = order.slot;
-        desk_print_key(stdout, d->is.layout, order.key);
+        tool_done = order.slot;
+        tool_print_key(stdout, d->is.layout, order.key);
         fputs(": ", stdout);
-        desk_print_value(stdout, &order);
+        tool_print_value(stdout, &order);
         putchar('\n');
     }
-    desk_rest();
+    tool_rest();
     if (number != ORDERSET_FILE_END && number != d->is.refusal)
-        desk_fail(tool, "%s: no %" PRIu32 ": %s", d->path, number, orderset_file_text(number));
+        tool_fail(tool, "%s: no %" PRIu32 ": %s", d->path, number, orderset_file_text(number));
 }
 
 /* Says on standard error that recovery refuses the file. */
-static void say_refused(const struct desk *d) {
+static void say_refused(const struct tool *d) {
     fprintf(stderr, "%s: %s: refused, no %" PRIu32, tool, d->path, d->is.refusal);
     if (d->is.fault_slot)
         fprintf(stderr, " of slot %" PRIu32, d->is.fault_slot);
     fprintf(stderr, ": %s\n", orderset_file_text(d->is.refusal));
     if (d->is.refusal <= ORDERSET_NO_HEADER)
-        desk_print_log(stderr, d);
+        tool_print_log(stderr, d);
     fprintf(stderr, "%s: orderset-check %s tells what to do\n", tool, d->path);
 }
 
 int main(int count, char **word) {
-    struct desk d;
-    desk_options(tool, help, count, word);
+    struct tool d;
+    tool_options(tool, help, count, word);
     const struct asked a = ask(count, word);
     if (a.svg && strcmp(a.svg, "-")) {
         test_picture_name(&a);
         test_place(&a);
     }
-    desk_open(&d, tool, a.path);
+    tool_open(&d, tool, a.path);
     if (d.is.refusal)
         say_refused(&d);
     if (a.svg)
@@ -233,7 +233,7 @@ int main(int count, char **word) {
         show_slots(&d);
     else
         show_orders(&d);
-    desk_printed(&d, stdout, "standard output");
+    tool_printed(&d, stdout, "standard output");
     orderset_file_close(d.set);
-    return d.is.refusal ? DESK_REFUSED : DESK_GOOD;
+    return d.is.refusal ? TOOL_REFUSED : TOOL_GOOD;
 }

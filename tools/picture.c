@@ -12,7 +12,7 @@ const char picture_begins[] = "<?xml version=\"1.0\" encoding=\"UTF-8\"?>\n<!-- 
 /* Told apart with each kind of colour blindness (a distance of 30 or more in CIE L*a*b*), and most of them in grey. */
 static const struct look {
     const char *fill, *text, *letter, *meaning;
-} look[DESK_CLASSES] = {
+} look[TOOL_CLASSES] = {
     {"#0060a8", "#ffffff", "L", "the value of a held key: an open order"},
     {"#7cc4f2", "#000000", "H", "a value that a later record of its key hides; spare"},
     {"#8a8a8a", "#000000", "R", "a record that its key was removed; spare"},
@@ -54,7 +54,7 @@ static void put_text(FILE *out, uint32_t x, uint32_t y, const char *attributes, 
 }
 
 /* The name of the file, the numbers of its header, and what recovery refuses. Answers where they end. */
-static uint32_t draw_numbers(const struct desk *d, FILE *out) {
+static uint32_t draw_numbers(const struct tool *d, FILE *out) {
     const char *slash = strrchr(d->path, '/');
     char line[400];
     uint32_t y = MARGIN + 14;
@@ -77,16 +77,16 @@ static uint32_t draw_numbers(const struct desk *d, FILE *out) {
 }
 
 /* A line for each class with its count. Answers where they end. */
-static uint32_t draw_legend(const struct desk *d, FILE *out, uint32_t y) {
+static uint32_t draw_legend(const struct tool *d, FILE *out, uint32_t y) {
     char count[24];
     y += 12;
-    for (uint32_t i = 0; i < DESK_CLASSES; i++) {
+    for (uint32_t i = 0; i < TOOL_CLASSES; i++) {
         const uint64_t slots = i == ORDERSET_SLOT_UNKNOWN ? d->unknown : d->is.count[i];
         if (i == ORDERSET_SLOT_UNKNOWN && !slots)
             break;
         y += LINE;
         fprintf(out, "<path d=\"M%d %" PRIu32 "h13v13h-13z\" fill=\"%s\"/>\n", MARGIN, y - 11, look[i].fill);
-        put_text(out, MARGIN + 22, y, " font-weight=\"bold\"", desk_class[i]);
+        put_text(out, MARGIN + 22, y, " font-weight=\"bold\"", tool_class[i]);
         snprintf(count, sizeof count, "%" PRIu64, slots);
         put_text(out, MARGIN + 140, y, " text-anchor=\"end\"", count);
         put_text(out, MARGIN + 156, y, "", look[i].meaning);
@@ -99,7 +99,7 @@ static void put_title(FILE *out, uint32_t layout, const struct orderset_record *
     size_t length;
     FILE *memory = open_memstream(&text, &length);
     if (memory)
-        desk_print_slot(memory, layout, record);
+        tool_print_slot(memory, layout, record);
     if (memory && fclose(memory) == 0) {
         fputs("<title>", out);
         put_escaped(out, text);
@@ -127,13 +127,13 @@ static void label_square(FILE *out, const struct grid *grid, const struct orders
     put_text(out, middle, y + 16, attributes, number);
 }
 
-static void draw_slot(const struct desk *d, FILE *out, const struct grid *grid, const struct orderset_record *r) {
+static void draw_slot(const struct tool *d, FILE *out, const struct grid *grid, const struct orderset_record *r) {
     const uint32_t x = grid->left + (r->slot - 1) % grid->columns * grid->pitch;
     const uint32_t y = grid->top + (r->slot - 1) / grid->columns * grid->pitch;
     const uint32_t gap = grid->pitch >= NUMBERED ? 3 : grid->pitch > 4 ? 1 : 0, side = grid->pitch - gap;
     fprintf(out, "<rect class=\"%s\" x=\"%" PRIu32 "\" y=\"%" PRIu32 "\" width=\"%" PRIu32 "\" height=\"%" PRIu32
                  "\" fill=\"%s\"",
-            desk_class[r->slot_class], x, y, side, side, look[r->slot_class].fill);
+            tool_class[r->slot_class], x, y, side, side, look[r->slot_class].fill);
     if (r->fault || r->slot == d->is.fault_slot)
         fputs(" stroke=\"#ff00ff\" stroke-width=\"2\"", out);
     if (d->is.slots <= TITLED) {
@@ -158,7 +158,7 @@ static void label_row(FILE *out, const struct grid *grid, uint32_t slot) {
 }
 
 /* Whether a small square is found by a ring around it: where it is at fault, void or broken, and these are few. */
-static int is_ringed(const struct desk *d, const struct grid *grid, const struct orderset_record *r) {
+static int is_ringed(const struct tool *d, const struct grid *grid, const struct orderset_record *r) {
     const uint64_t few = d->is.count[ORDERSET_SLOT_VOID] + d->is.count[ORDERSET_SLOT_BROKEN];
     if (grid->pitch >= LETTERED)
         return 0;
@@ -176,12 +176,12 @@ static void draw_ring(FILE *out, const struct grid *grid, const struct orderset_
             x, y, x, y, look[r->slot_class].fill);
 }
 
-static void draw_slots(struct desk *d, FILE *out, const struct grid *grid) {
+static void draw_slots(struct tool *d, FILE *out, const struct grid *grid) {
     struct orderset_record record, ringed[RINGS];
     uint32_t rings = 0;
-    desk_step(d->tool, "slots drawn", d->is.slots);
+    tool_step(d->tool, "slots drawn", d->is.slots);
     for (uint32_t slot = 1; slot <= d->is.slots; slot++) {
-        desk_slot(d, slot, &record);
+        tool_slot(d, slot, &record);
         label_row(out, grid, slot);
         draw_slot(d, out, grid, &record);
         if (is_ringed(d, grid, &record) && rings < RINGS)
@@ -189,10 +189,10 @@ static void draw_slots(struct desk *d, FILE *out, const struct grid *grid) {
     }
     for (uint32_t i = 0; i < rings; i++) /* above the squares */
         draw_ring(out, grid, &ringed[i]);
-    desk_rest();
+    tool_rest();
 }
 
-void draw_picture(struct desk *d, FILE *out) {
+void draw_picture(struct tool *d, FILE *out) {
     struct grid grid = grid_for(d->is.slots);
     const uint32_t legend = ORDERSET_COUNTS + (d->unknown ? 1 : 0), above = d->is.refusal ? 2 : 0;
     grid.top = MARGIN + 14 + 24 + above * 22 + 12 + legend * LINE + 24;

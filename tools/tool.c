@@ -1,5 +1,5 @@
 #define _GNU_SOURCE
-#include "desk.h"
+#include "tool.h"
 
 #include <errno.h>
 #include <fcntl.h>
@@ -23,27 +23,27 @@
 #define MFD_NOEXEC_SEAL 8u
 #endif
 
-const char *const desk_class[DESK_CLASSES] = {"live", "hidden", "removed", "void", "broken", "empty", "unknown"};
+const char *const tool_class[TOOL_CLASSES] = {"live", "hidden", "removed", "void", "broken", "empty", "unknown"};
 
 /* ---- what is said */
 
-_Noreturn void desk_fail(const char *tool, const char *words, ...) {
+_Noreturn void tool_fail(const char *tool, const char *words, ...) {
     va_list list;
     va_start(list, words);
     fprintf(stderr, "%s: ", tool);
     vfprintf(stderr, words, list);
     fputc('\n', stderr);
     va_end(list);
-    exit(DESK_FAILED);
+    exit(TOOL_FAILED);
 }
 
-void desk_printed(const struct desk *d, FILE *out, const char *name) {
+void tool_printed(const struct tool *d, FILE *out, const char *name) {
     if (fflush(out) || ferror(out))
-        desk_fail(d->tool, "%s: %s", name, strerror(errno));
+        tool_fail(d->tool, "%s: %s", name, strerror(errno));
 }
 
-void desk_options(const char *tool, const char *help, int count, char **word) {
-    const struct desk d = {.tool = tool};
+void tool_options(const char *tool, const char *help, int count, char **word) {
+    const struct tool d = {.tool = tool};
     for (int i = 1; i < count && strcmp(word[i], "--"); i++) {
         if (!strcmp(word[i], "--help"))
             fputs(help, stdout);
@@ -51,8 +51,8 @@ void desk_options(const char *tool, const char *help, int count, char **word) {
             printf("%s %s\n", tool, VERSION);
         else
             continue;
-        desk_printed(&d, stdout, "standard output");
-        exit(DESK_GOOD);
+        tool_printed(&d, stdout, "standard output");
+        exit(TOOL_GOOD);
     }
 }
 
@@ -62,7 +62,7 @@ static struct {
     const char *tool, *what;
     uint32_t all;
 } step;
-volatile uint32_t desk_done;
+volatile uint32_t tool_done;
 
 static char *put_text(char *to, const char *end, const char *text) {
     while (*text && to < end)
@@ -88,7 +88,7 @@ static void tell(int number) {
     (void)number;
     to = put_text(put_text(put_text(to, end, step.tool), end, ": "), end, step.what);
     if (step.all) {
-        to = put_number(put_text(to, end, ", "), end, desk_done);
+        to = put_number(put_text(to, end, ", "), end, tool_done);
         to = put_number(put_text(to, end, " of "), end, step.all);
     }
     *to++ = '\n';
@@ -102,18 +102,18 @@ static void each_second(time_t seconds) {
     setitimer(ITIMER_REAL, &timer, NULL);
 }
 
-void desk_step(const char *tool, const char *what, uint32_t all) {
+void tool_step(const char *tool, const char *what, uint32_t all) {
     struct sigaction action = {.sa_handler = tell, .sa_flags = SA_RESTART};
-    desk_rest();
+    tool_rest();
     step.tool = tool;
     step.what = what;
     step.all = all;
-    desk_done = 0;
+    tool_done = 0;
     sigaction(SIGALRM, &action, NULL);
     each_second(1);
 }
 
-void desk_rest(void) {
+void tool_rest(void) {
     each_second(0);
 }
 
@@ -174,7 +174,7 @@ static int read_all(int file, uint8_t *bytes, size_t length) {
 
 /* Reads the bytes under the lock, and no others after it. A longer file than any set or log is not read: its length is
  * all that is judged. */
-static uint32_t read_file(struct desk *d, size_t *length) {
+static uint32_t read_file(struct tool *d, size_t *length) {
     struct stat found;
     int file = -1;
     uint32_t number = open_locked(d->path, &file, &found);
@@ -199,13 +199,13 @@ static void hold_streams(const char *tool) {
         file = open("/dev/null", O_RDONLY | O_CLOEXEC);
     while (file >= 0 && file <= STDERR_FILENO);
     if (file < 0)
-        desk_fail(tool, "/dev/null: %s", strerror(errno));
+        tool_fail(tool, "/dev/null: %s", strerror(errno));
     close(file);
 }
 
 /* The handles open by name: the copy is a file in memory, which has one as long as it is open. Kernels before 6.3 do
  * not know that it is never to be run; later ones may refuse one of which that is not said. */
-static int fill_copy(struct desk *d, size_t length) {
+static int fill_copy(struct tool *d, size_t length) {
     int file = memfd_create("orderset", MFD_CLOEXEC | MFD_NOEXEC_SEAL);
     if (file < 0 && errno == EINVAL)
         file = memfd_create("orderset", MFD_CLOEXEC);
@@ -222,7 +222,7 @@ static int fill_copy(struct desk *d, size_t length) {
 }
 
 /* The limit of a file's size is for files in memory too: the copy may have all that the process may ask for. */
-static int name_copy(struct desk *d, size_t length) {
+static int name_copy(struct tool *d, size_t length) {
     struct rlimit given, most;
     if (getrlimit(RLIMIT_FSIZE, &given))
         return -1;
@@ -236,37 +236,37 @@ static int name_copy(struct desk *d, size_t length) {
     return failed;
 }
 
-void desk_open(struct desk *d, const char *tool, const char *path) {
+void tool_open(struct tool *d, const char *tool, const char *path) {
     size_t length;
-    *d = (struct desk){.tool = tool, .path = path};
+    *d = (struct tool){.tool = tool, .path = path};
     hold_streams(tool);
     signal(SIGXFSZ, SIG_IGN); /* a limit of a file's size is a failed write */
-    desk_step(tool, "reading and recovering the file", 0);
+    tool_step(tool, "reading and recovering the file", 0);
     uint32_t number = read_file(d, &length);
     if (number == ORDERSET_FILE_SYSTEM)
-        desk_fail(tool, "%s: %s", path, strerror(errno));
+        tool_fail(tool, "%s: %s", path, strerror(errno));
     if (!number && (name_copy(d, length) || (number = orderset_file_open(d->copy, ORDERSET_FILE_INSPECT, &d->set)) ==
                                                 ORDERSET_FILE_SYSTEM))
-        desk_fail(tool, "%s: its copy in memory: %s", path, strerror(errno));
+        tool_fail(tool, "%s: its copy in memory: %s", path, strerror(errno));
     if (number)
-        desk_fail(tool, "%s: no %" PRIu32 ": %s", path, number, orderset_file_text(number));
-    desk_step(tool, "counting the slots", 0);
+        tool_fail(tool, "%s: no %" PRIu32 ": %s", path, number, orderset_file_text(number));
+    tool_step(tool, "counting the slots", 0);
     orderset_file_statistics(d->set, &d->is);
-    desk_rest();
+    tool_rest();
     d->unknown = d->is.slots;
     for (int i = 0; i < ORDERSET_SLOT_UNKNOWN; i++)
         d->unknown -= d->is.count[i];
 }
 
-void desk_slot(struct desk *d, uint32_t slot, struct orderset_record *record) {
+void tool_slot(struct tool *d, uint32_t slot, struct orderset_record *record) {
     uint32_t number = orderset_file_slot(d->set, slot, record);
     if (number)
-        desk_fail(d->tool, "%s: slot %" PRIu32 ": no %" PRIu32 ": %s", d->path, slot, number,
+        tool_fail(d->tool, "%s: slot %" PRIu32 ": no %" PRIu32 ": %s", d->path, slot, number,
                   orderset_file_text(number));
-    desk_done = slot;
+    tool_done = slot;
 }
 
-void desk_print_log(FILE *out, const struct desk *d) {
+void tool_print_log(FILE *out, const struct tool *d) {
     struct orderset_log_statistics is;
     struct orderset_log_file *log;
     if (orderset_log_file_open(d->copy, ORDERSET_FILE_INSPECT, &log))
@@ -281,14 +281,14 @@ void desk_print_log(FILE *out, const struct desk *d) {
 
 /* ---- keys, values and slots in words */
 
-void desk_print_key(FILE *out, uint32_t layout, struct orderset_key key) {
+void tool_print_key(FILE *out, uint32_t layout, struct orderset_key key) {
     if (layout == ORDERSET2_LAYOUT)
         fprintf(out, "0x%016" PRIx64 "%016" PRIx64, key.high, key.low);
     else
         fprintf(out, "%" PRIu64, key.low);
 }
 
-void desk_print_value(FILE *out, const struct orderset_record *record) {
+void tool_print_value(FILE *out, const struct orderset_record *record) {
     struct orderset_order order;
     if (orderset_file_order(record->value, record->length, &order)) {
         fprintf(out, "%s, ordered %" PRIu64 ", filled %" PRIu64,
@@ -300,17 +300,17 @@ void desk_print_value(FILE *out, const struct orderset_record *record) {
         fprintf(out, "%s%02x", i ? "" : " ", (unsigned)record->value[i]);
 }
 
-void desk_print_slot(FILE *out, uint32_t layout, const struct orderset_record *record) {
-    fprintf(out, "slot %" PRIu32 ": %s", record->slot, desk_class[record->slot_class]);
+void tool_print_slot(FILE *out, uint32_t layout, const struct orderset_record *record) {
+    fprintf(out, "slot %" PRIu32 ": %s", record->slot, tool_class[record->slot_class]);
     if (record->slot_class != ORDERSET_SLOT_EMPTY) {
         fputs(record->slot_class == ORDERSET_SLOT_BROKEN ? "; in its words: key " : ", key ", out);
-        desk_print_key(out, layout, record->key);
+        tool_print_key(out, layout, record->key);
         fprintf(out, ", version %" PRIu64, record->version);
         if (record->records)
             fprintf(out, ", one of %" PRIu32 " of a basket", record->records);
         if (record->slot_class != ORDERSET_SLOT_REMOVE) {
             fputs(": ", out);
-            desk_print_value(out, record);
+            tool_print_value(out, record);
         }
     }
     if (record->fault)

@@ -1,20 +1,20 @@
 /* What the tools for the support desk have in common. */
-#ifndef DESK_H
-#define DESK_H
+#ifndef TOOL_H
+#define TOOL_H
 
 #include <stdio.h>
 
 #include "orderset_file.h"
 
 /* exit status */
-enum { DESK_GOOD = 0, DESK_REFUSED = 1, DESK_FAILED = 2 };
+enum { TOOL_GOOD = 0, TOOL_REFUSED = 1, TOOL_FAILED = 2 };
 
 /* What a slot may hold: as orderset_slot_class. */
-enum { DESK_CLASSES = ORDERSET_SLOT_UNKNOWN + 1 };
-extern const char *const desk_class[DESK_CLASSES];
+enum { TOOL_CLASSES = ORDERSET_SLOT_UNKNOWN + 1 };
+extern const char *const tool_class[TOOL_CLASSES];
 
 /* A file that was read once, under a shared lock, and what was found of it: all that is said is of that copy. */
-struct desk {
+struct tool {
     const char *tool, *path;
     uint8_t *bytes; /* null where there are more than a set or a log can have */
     char copy[32];  /* the name of the copy, for the handles */
@@ -23,37 +23,37 @@ struct desk {
     uint64_t unknown; /* whole records of a refused file */
 };
 
-/* Says why on standard error and ends with DESK_FAILED. */
-_Noreturn void desk_fail(const char *tool, const char *words, ...) __attribute__((format(printf, 2, 3)));
+/* Says why on standard error and ends with TOOL_FAILED. */
+_Noreturn void tool_fail(const char *tool, const char *words, ...) __attribute__((format(printf, 2, 3)));
 
 /* Answers --help by the text and --version, and ends; any other option is one of the tool's. */
-void desk_options(const char *tool, const char *help, int count, char **word);
+void tool_options(const char *tool, const char *help, int count, char **word);
 
 /* Reads the file and opens the copy by INSPECT; ends where it cannot be read. */
-void desk_open(struct desk *d, const char *tool, const char *path);
+void tool_open(struct tool *d, const char *tool, const char *path);
 
 /* A slot, 1 to N. */
-void desk_slot(struct desk *d, uint32_t slot, struct orderset_record *record);
+void tool_slot(struct tool *d, uint32_t slot, struct orderset_record *record);
 
 /* Of a step that takes over a second, standard error tells each second how far it is: what, and where all is not 0
- * desk_done of all. what is kept. desk_rest ends it. */
-void desk_step(const char *tool, const char *what, uint32_t all);
-extern volatile uint32_t desk_done;
-void desk_rest(void);
+ * tool_done of all. what is kept. tool_rest ends it. */
+void tool_step(const char *tool, const char *what, uint32_t all);
+extern volatile uint32_t tool_done;
+void tool_rest(void);
 
 /* A key, in layout 1 in decimal digits, in layout 2 in 32 hexadecimal digits. */
-void desk_print_key(FILE *out, uint32_t layout, struct orderset_key key);
+void tool_print_key(FILE *out, uint32_t layout, struct orderset_key key);
 
 /* A value: an order of the book in words, any other by its length and its bytes in hexadecimal digits. */
-void desk_print_value(FILE *out, const struct orderset_record *record);
+void tool_print_value(FILE *out, const struct orderset_record *record);
 
 /* A slot on one line, without its end. */
-void desk_print_slot(FILE *out, uint32_t layout, const struct orderset_record *record);
+void tool_print_slot(FILE *out, uint32_t layout, const struct orderset_record *record);
 
 /* Says in words where the file, which is no set, can be read as a message log. */
-void desk_print_log(FILE *out, const struct desk *d);
+void tool_print_log(FILE *out, const struct tool *d);
 
 /* All that was printed has reached its reader; else the program ends. */
-void desk_printed(const struct desk *d, FILE *out, const char *name);
+void tool_printed(const struct tool *d, FILE *out, const char *name);
 
 #endif
