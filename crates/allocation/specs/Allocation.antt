@@ -21,8 +21,10 @@ allocationByRule l image next n first wanted = allocateFrom (λ chosen. mayTake 
 unfoldable pub allocationChosen : (l : ℕ) → (image next : List ℕ) → (n first wanted : ℕ) → Allocation
 allocationChosen l image next n first wanted = allocateFrom (mayTakeAfter (contentsOf l image) n) next n first wanted
 
--- ---- a call for the owner of its index: no call of document 01, whose refusals hold for any index. It looks at the slots that it meets along the reuse chain
--- and at the one that the state names as the newest, and at no other
+-- ---- a call for the owner of its index
+
+-- It is none of document 01: those refuse by the rules with any index, this one only with the image's own. It looks at
+-- the slots that it meets along the reuse chain and at the one that the state names as the newest, and at no other
 
 -- may slot s be taken after these, where no valid record of version `top` or above may? An older record of a remove
 -- record's key is looked for only in them

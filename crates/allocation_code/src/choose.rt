@@ -24,8 +24,8 @@ use crate::take::slots_told;
 use allocation::Choice;
 use allocation::Known;
 use allocation::Progress;
-use fields_code::fields::slot_high;
-use fields_code::fields::slot_low;
+use layout_fields_code::fields::slot_high;
+use layout_fields_code::fields::slot_low;
 
 // What has to be known of the highest valid version to test slot s: the image is looked through only where what is
 // known does not tell.

@@ -14,9 +14,9 @@ ghost use Rattle.allocation.specs.inner.Takeable.{slotVersion, olderLeft};
 ghost use Rattle.allocation.specs.inner.Choice.{chosenOf, ChosenInside, Marked, ClearAt, Clear};
 use crate::slot::is_older;
 use crate::slot::valid_version;
-use fields_code::fields::slot_high;
-use fields_code::fields::slot_kind;
-use fields_code::fields::slot_low;
+use layout_fields_code::fields::slot_high;
+use layout_fields_code::fields::slot_kind;
+use layout_fields_code::fields::slot_low;
 
 // Is slot s a remove record while slot t has an older valid record of its key?
 fn is_older_left(image: &[u8], l: usize, s: usize, t: usize) -> bool
@@ -65,7 +65,7 @@ fn key_marks(image: &[u8], slots: [u32; 8], got: usize) -> [u8; 4096]
 }
 
 // Is the version of slot t above the one that is known? Tested only where strict says so.
-fn is_above(image: &[u8], t: usize, known: u64, strict: bool) -> bool
+fn is_version_above(image: &[u8], t: usize, known: u64, strict: bool) -> bool
     requires { ⌜ 128 * (t + 1) ≤ length (now image) ⌝ }
     ensures { λ r. ⌜ r ≡ strict && ltb known (slotVersion (word (now (image .entry))) t) ⌝ }
 {
@@ -90,7 +90,7 @@ fn is_left(
     requires { ⌜ SlotInside (now image) l t × ChosenInside (now image) slots got × Marked (word (now image)) slots (now marks) got ⌝ }
     ensures { λ r. ⌜ (r ≡ false → ClearAt l (now (image .entry)) slots got known strict t) ⌝ }
 {
-    if is_above(image, t, known, strict) {
+    if is_version_above(image, t, known, strict) {
         return true;
     }
     if marks[(slot_low(image, t) % 4096) as usize] == 0 {

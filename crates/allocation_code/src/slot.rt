@@ -8,13 +8,13 @@ ghost use Rattle.layout.specs.Record.{Layout, keyWith};
 ghost use Rattle.layout.specs.Content.{contentsOf};
 ghost use Rattle.layout.specs.inner.Inside.{SlotInside};
 ghost use Rattle.allocation.specs.inner.Takeable.{slotVersion, olderThan, lowPut, takeable};
-use fields_code::fields::has_key;
-use fields_code::fields::slot_high;
-use fields_code::fields::slot_kind;
-use fields_code::fields::slot_low;
 use layout::Verdict;
-use line_code::line::greater;
-use line_code::slot::slot_verdict;
+use layout_fields_code::fields::has_key;
+use layout_fields_code::fields::slot_high;
+use layout_fields_code::fields::slot_kind;
+use layout_fields_code::fields::slot_low;
+use layout_line_code::slot::slot_verdict;
+use words_code::greater;
 use words_code::read_word;
 
 // The version of slot s where it is valid, else 0.

@@ -2,7 +2,7 @@
 use crate::set::Named;
 use crate::set::Set;
 use crate::set::no_items;
-use crate::set::show_index;
+use crate::set::show_lent_index;
 use orderset::BasketAnswer;
 use orderset::BasketOutcome;
 use orderset::basket;
@@ -18,7 +18,7 @@ fn stores_for(keys: usize) -> usize {
 }
 
 // The answer is printed; how many stores were handed out.
-fn told(r: BasketAnswer, count: usize) -> usize {
+fn show_basket_answer(r: BasketAnswer, count: usize) -> usize {
     let outcome = r.outcome;
     match outcome {
         BasketOutcome::Stored { version } => {
@@ -44,7 +44,7 @@ fn items_after(named: Named, count: usize) -> Named {
     no_items()
 }
 
-fn called(set: Set) -> Set {
+fn call_basket(set: Set) -> Set {
     let image = set.image;
     let mut heads = set.heads;
     let mut next = set.next;
@@ -71,7 +71,7 @@ fn called(set: Set) -> Set {
         &mut at[..t],
         &mut value[..v],
     );
-    let count = told(r, named.count);
+    let count = show_basket_answer(r, named.count);
     let state = r.state;
     let mut after = set;
     after.heads = heads;
@@ -83,11 +83,11 @@ fn called(set: Set) -> Set {
     after
 }
 
-pub fn made(set: Set) -> Set {
-    let mut after = called(set);
+pub fn run_basket(set: Set) -> Set {
+    let mut after = call_basket(set);
     let state = after.state;
     show::state(state);
-    show_index(after);
+    show_lent_index(after);
     let named = set.basket;
     after.opens = false;
     after.basket = items_after(named, after.count);

@@ -3,7 +3,7 @@ use crate::set::Set;
 use orderset::play_list;
 use show::fronts::numbers_of;
 use show::fronts::values_of;
-use show::lines::digit;
+use show::lines::decimal_digit;
 
 // The set with so many first entries of these at the front of its lists.
 pub fn put_front(set: Set, at: &[u32], value: &[u64], count: usize, opens: bool) -> Set {
@@ -38,7 +38,7 @@ fn line_of(i: usize, opens: bool) -> usize {
 }
 
 // How many stores of its line are before store i.
-fn before(i: usize, opens: bool) -> u64 {
+fn before_on_line(i: usize, opens: bool) -> u64 {
     if opens {
         return 0;
     }
@@ -46,17 +46,17 @@ fn before(i: usize, opens: bool) -> u64 {
 }
 
 // Does store i stand, of so many?
-fn stands(i: usize, count: usize, opens: bool, counts: u64) -> bool {
+fn stands_on_line(i: usize, count: usize, opens: bool, counts: u64) -> bool {
     let lines = line_of(count, opens);
     let line = line_of(i, opens);
     if lines <= line {
         return false;
     }
-    before(i, opens) < digit(counts, lines - 1 - line)
+    before_on_line(i, opens) < decimal_digit(counts, lines - 1 - line)
 }
 
 // The set with those alone handed out that stand.
-fn cut_by(set: Set, counts: u64) -> Set {
+fn cut_set_stores(set: Set, counts: u64) -> Set {
     let at = set.at;
     let value = set.value;
     let mut standing = set.at;
@@ -64,7 +64,7 @@ fn cut_by(set: Set, counts: u64) -> Set {
     let mut n: usize = 0;
     let mut i: usize = 0;
     while i < 130 {
-        if stands(i, set.count, set.opens, counts) {
+        if stands_on_line(i, set.count, set.opens, counts) {
             if n < 130 {
                 standing[n] = at[i];
                 words[n] = value[i];
@@ -80,7 +80,7 @@ fn cut_by(set: Set, counts: u64) -> Set {
     after
 }
 
-pub fn played(set: Set) -> Set {
+pub fn play_set(set: Set) -> Set {
     let mut image = set.image;
     let at = set.at;
     let value = set.value;
@@ -96,14 +96,14 @@ pub fn played(set: Set) -> Set {
 
 // A cut that leaves so many stores of each line.
 pub fn cut(set: Set, counts: u64) -> Set {
-    let left = played(cut_by(set, counts));
+    let left = play_set(cut_set_stores(set, counts));
     let image = left.image;
     let mut after = set;
     after.image = image;
     after
 }
 
-pub fn show_stores(set: Set, count: usize) {
+pub fn show_first_stores(set: Set, count: usize) {
     let at = set.at;
     let value = set.value;
     let n = numbers_of(count, &at);

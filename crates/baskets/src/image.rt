@@ -3,15 +3,13 @@ use crate::handed::put_front;
 use crate::set::Fronts;
 use crate::set::Set;
 use crate::set::no_items;
-use crate::set::show_index;
-use orderset::Recovered;
-use orderset::State;
+use crate::set::show_lent_index;
 use orderset::format;
 use orderset::recover;
 use show::fronts::numbers_of;
 use words_code::read_word;
 
-pub fn formatted(set: Set, n: [u64; 5]) -> Set {
+pub fn format_set(set: Set, n: [u64; 5]) -> Set {
     let slots = (n[1] % 17) as usize;
     let bytes = 128 * (slots + 1);
     let lent = Fronts {
@@ -32,15 +30,7 @@ pub fn formatted(set: Set, n: [u64; 5]) -> Set {
     after
 }
 
-// The state that recovery leaves, or the one given.
-fn state_after(r: Recovered, s: State) -> State {
-    match r {
-        Recovered::Rebuilt(rebuilt) => rebuilt,
-        Recovered::Refused { number: _, slot: _ } => s,
-    }
-}
-
-pub fn recovered(set: Set) -> Set {
+pub fn recover_set(set: Set) -> Set {
     let image = set.image;
     let mut heads = set.heads;
     let mut next = set.next;
@@ -59,19 +49,19 @@ pub fn recovered(set: Set) -> Set {
     let mut after = put_front(set, &at, &value, invalidations.count as usize, true);
     after.heads = heads;
     after.next = next;
-    after.state = state_after(r, s);
-    show_index(after);
+    after.state = show::state_after(r, s);
+    show_lent_index(after);
     after
 }
 
-fn word_of(image: &[u8; 2176], i: usize) -> u64 {
+fn image_word_or_zero(image: &[u8; 2176], i: usize) -> u64 {
     if i < 272 {
         return read_word(image, i);
     }
     0
 }
 
-pub fn show_word(set: Set, i: usize) {
+pub fn show_image_word(set: Set, i: usize) {
     let image = set.image;
-    show::number(word_of(&image, i));
+    show::number(image_word_or_zero(&image, i));
 }

@@ -17,7 +17,7 @@ pub fn with_value(values: [u8; 640], item: usize, byte: u64) -> [u8; 640] {
     after
 }
 
-fn with_item(named: Named, action: Action, n: [u64; 5]) -> Named {
+fn with_item_and_value(named: Named, action: Action, n: [u64; 5]) -> Named {
     let mut items = named.items;
     let values = named.values;
     let i = named.count;
@@ -39,9 +39,9 @@ fn with_item(named: Named, action: Action, n: [u64; 5]) -> Named {
     }
 }
 
-pub fn named(set: Set, action: Action, n: [u64; 5]) -> Set {
+pub fn add_item(set: Set, action: Action, n: [u64; 5]) -> Set {
     let mut after = set;
     let basket = set.basket;
-    after.basket = with_item(basket, action, n);
+    after.basket = with_item_and_value(basket, action, n);
     after
 }

@@ -11,14 +11,14 @@ mod set;
 mod setup;
 mod single;
 
-use basket::made;
+use basket::run_basket;
 use handed::cut;
-use handed::played;
-use handed::show_stores;
-use image::formatted;
-use image::recovered;
-use image::show_word;
-use item::named;
+use handed::play_set;
+use handed::show_first_stores;
+use image::format_set;
+use image::recover_set;
+use image::show_image_word;
+use item::add_item;
 use names::BASKET;
 use names::CUT;
 use names::FORMAT;
@@ -31,30 +31,31 @@ use names::REPLACE;
 use names::STORES;
 use names::WORD;
 use orderset::Action;
+use orderset::Mode;
 use set::Set;
-use set::start;
-use setup::set_up;
+use set::start_baskets;
+use setup::set_up_baskets;
 use show::lines::is_asked;
-use show::lines::numbers;
+use show::lines::parse_numbers;
 use show::lines::until;
-use single::changed;
 use single::is_single;
+use single::run_single;
 use single::show_get;
 use words_code::padded_word;
 
 // A line that ends in a colon.
-fn carry_out(set: Set, name: u64, n: [u64; 5]) -> Set {
+fn run_basket_call(set: Set, name: u64, n: [u64; 5]) -> Set {
     if name == FORMAT {
-        return formatted(set, n);
+        return format_set(set, n);
     }
     if name == RECOVER {
-        return recovered(set);
+        return recover_set(set);
     }
     if name == BASKET {
-        return made(set);
+        return run_basket(set);
     }
     if name == PLAY {
-        return played(set);
+        return play_set(set);
     }
     if name == CUT {
         return cut(set, n[1]);
@@ -64,56 +65,56 @@ fn carry_out(set: Set, name: u64, n: [u64; 5]) -> Set {
         return set;
     }
     if name == STORES {
-        show_stores(set, n[1] as usize);
+        show_first_stores(set, n[1] as usize);
         return set;
     }
     if name == WORD {
-        show_word(set, n[1] as usize);
+        show_image_word(set, n[1] as usize);
         return set;
     }
     if is_single(name) {
-        return changed(set, name, n);
+        return run_single(set, name, n);
     }
     set
 }
 
 // Another line.
-fn prepare(set: Set, name: u64, n: [u64; 5]) -> Set {
+fn prepare_basket(set: Set, name: u64, n: [u64; 5]) -> Set {
     if name == INSERT {
-        return named(set, Action::Insert, n);
+        return add_item(set, Action::Write(Mode::Insert), n);
     }
     if name == REPLACE {
-        return named(set, Action::Replace, n);
+        return add_item(set, Action::Write(Mode::Replace), n);
     }
     if name == REMOVE {
-        return named(set, Action::Remove, n);
+        return add_item(set, Action::Remove, n);
     }
-    set_up(set, name, n)
+    set_up_baskets(set, name, n)
 }
 
-fn answer(set: Set, line: &[u8]) -> Set {
+fn dispatch_basket_line(set: Set, line: &[u8]) -> Set {
     let end = until(line, 0, 97);
     let name = padded_word(&line[..end], 0);
-    let n = numbers(line);
+    let n = parse_numbers(line);
     if is_asked(line) {
-        return carry_out(set, name, n);
+        return run_basket_call(set, name, n);
     }
-    prepare(set, name, n)
+    prepare_basket(set, name, n)
 }
 
-fn serve(set: Set, line: &[u8]) -> Set {
+fn run_basket_line(set: Set, line: &[u8]) -> Set {
     show::text(line);
-    let after = answer(set, line);
+    let after = dispatch_basket_line(set, line);
     show::text(b"\n");
     after
 }
 
-fn serve_all(input: &[u8]) {
-    let mut set = start();
+fn run_baskets(input: &[u8]) {
+    let mut set = start_baskets();
     let mut at = 0;
     while at < input.len() {
         let end = until(input, at, 11);
-        set = serve(set, &input[at..end]);
+        set = run_basket_line(set, &input[at..end]);
         at = end + 1;
     }
 }
@@ -121,5 +122,5 @@ fn serve_all(input: &[u8]) {
 fn main() {
     let mut input = [0u8; 16384];
     let n = io::read_full(libc::STDIN_FILENO, &mut input);
-    serve_all(&input[..n]);
+    run_baskets(&input[..n]);
 }

@@ -3,6 +3,7 @@
 // other, and a call may be lent less than all of it.
 use orderset::Action;
 use orderset::BasketItem;
+use orderset::Mode;
 use orderset::State;
 use show::fronts::numbers_of;
 
@@ -39,7 +40,7 @@ pub struct Set {
 
 pub fn no_items() -> Named {
     let item = BasketItem {
-        action: Action::Insert,
+        action: Action::Write(Mode::Insert),
         low: 0,
         high: 0,
         length: 0,
@@ -52,7 +53,7 @@ pub fn no_items() -> Named {
 }
 
 // Every byte, index number and entry of the lists is 9, no item is named and nothing is lent.
-pub fn start() -> Set {
+pub fn start_baskets() -> Set {
     Set {
         image: [9; 2176],
         heads: [9; 3],
@@ -80,7 +81,7 @@ pub fn start() -> Set {
 }
 
 // What is lent of the index.
-pub fn show_index(set: Set) {
+pub fn show_lent_index(set: Set) {
     let heads = set.heads;
     let next = set.next;
     let lent = set.lent;

@@ -9,11 +9,8 @@ use crate::names::WORD;
 use crate::set::Set;
 use crate::set::no_items;
 use orderset::State;
+use show::lines::low_half;
 use words_code::write_word;
-
-fn low(n: u64) -> u32 {
-    (n % 4294967296) as u32
-}
 
 fn put_word(image: &mut [u8; 2176], place: usize, value: u64) {
     if place < 272 {
@@ -35,12 +32,12 @@ fn with_link(set: Set, name: u64, n: [u64; 5]) -> Set {
     let place = n[1] as usize;
     if name == HEAD {
         if place < 3 {
-            after.heads[place] = low(n[2]);
+            after.heads[place] = low_half(n[2]);
         }
     }
     if name == NEXT {
         if place < 17 {
-            after.next[place] = low(n[2]);
+            after.next[place] = low_half(n[2]);
         }
     }
     after
@@ -63,16 +60,16 @@ fn with_lent(set: Set, name: u64, n: [u64; 5]) -> Set {
 }
 
 // A line of one of these names; another changes nothing.
-pub fn set_up(set: Set, name: u64, n: [u64; 5]) -> Set {
+pub fn set_up_baskets(set: Set, name: u64, n: [u64; 5]) -> Set {
     if name == WORD {
         return with_word(set, n);
     }
     let mut after = with_lent(with_link(set, name, n), name, n);
     if name == STATE {
         let state = State {
-            first: low(n[1]),
-            last: low(n[2]),
-            live: low(n[3]),
+            first: low_half(n[1]),
+            last: low_half(n[2]),
+            live: low_half(n[3]),
             newest: 0,
             version: n[4],
         };

@@ -5,7 +5,7 @@ use crate::names::INSERT;
 use crate::names::REMOVE;
 use crate::names::REPLACE;
 use crate::set::Set;
-use crate::set::show_index;
+use crate::set::show_lent_index;
 use orderset::Change;
 use orderset::Outcome;
 use orderset::State;
@@ -27,7 +27,7 @@ pub fn is_single(name: u64) -> bool {
     name == REMOVE
 }
 
-fn call(
+fn call_by_name(
     image: &[u8],
     heads: &mut [u32],
     next: &mut [u32],
@@ -64,7 +64,7 @@ fn handed(set: Set, at: [u32; 16], words: [u64; 16], outcome: Outcome) -> Set {
     put_front(set, &at, &words, stores_by(outcome), false)
 }
 
-fn called(set: Set, name: u64, n: [u64; 5]) -> Set {
+fn call_single(set: Set, name: u64, n: [u64; 5]) -> Set {
     let image = set.image;
     let mut heads = set.heads;
     let mut next = set.next;
@@ -77,7 +77,7 @@ fn called(set: Set, name: u64, n: [u64; 5]) -> Set {
     let h = numbers_of(lent.heads, &heads);
     let k = numbers_of(lent.next, &next);
     let v = io::count((n[2] % 82) as isize, &bytes);
-    let r = call(
+    let r = call_by_name(
         &image[..i],
         &mut heads[..h],
         &mut next[..k],
@@ -98,15 +98,15 @@ fn called(set: Set, name: u64, n: [u64; 5]) -> Set {
     after
 }
 
-pub fn changed(set: Set, name: u64, n: [u64; 5]) -> Set {
-    let after = called(set, name, n);
+pub fn run_single(set: Set, name: u64, n: [u64; 5]) -> Set {
+    let after = call_single(set, name, n);
     let state = after.state;
     show::state(state);
-    show_index(after);
+    show_lent_index(after);
     after
 }
 
-fn show_words(bytes: &[u8; 80]) {
+fn show_value_words(bytes: &[u8; 80]) {
     show::number(read_word(bytes, 0));
     show::number(read_word(bytes, 3));
     show::number(read_word(bytes, 4));
@@ -125,5 +125,5 @@ pub fn show_get(set: Set, key: u64) {
     let r = get(&image[..i], &heads[..h], &next[..k], key, &mut out);
     let got = r.got;
     show::got(got);
-    show_words(&out);
+    show_value_words(&out);
 }

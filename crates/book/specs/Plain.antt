@@ -101,7 +101,7 @@ refusalNumber (declined number) = number
 unfoldable pub bookEffects : BookResult → Effects
 bookEffects r = record { stores = r .stores; index = r .index }
 
--- the call whose stores, index and state a step's are; a locate, which leaves all as it is, where it comes to none
+-- the call whose stores and index the step's are; a locate, which changes nothing, where the step makes no call
 unfoldable pub callOr : (key : ℕ) → Option Call → Call
 callOr key none = locate key
 callOr key (some call) = call

@@ -104,7 +104,10 @@ newResultBy own l image i key quantity =
 abbrev pub newResult : (l : ℕ) → (image : List ℕ) → Index → (key quantity : ℕ) → BookResult
 newResult l image i key quantity = newResultBy false l image i key quantity
 
--- ---- acknowledge: "A second acknowledge stores nothing and, before any later check, answers the order's present slot and its line A's version"
+-- ---- acknowledge
+
+-- "A second acknowledge stores nothing and, before any later check, answers the order's present slot and its line A's
+-- version"
 
 unfoldable pub alreadyAt : Index → Answer → BookResult
 alreadyAt i (gives values) = idle (already values) i

@@ -39,7 +39,7 @@ fn by_change(change: Change) -> BookChange
 }
 
 // Carries a plan out, in either layout: with `own` by the calls for the owner of the index.
-pub fn carry_out(
+pub fn carry_out_plan(
     image: &[u8],
     wide: bool,
     heads: &mut [u32],

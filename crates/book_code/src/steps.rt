@@ -3,7 +3,7 @@ ghost use mathlib.Core.Path.{_≡_};
 ghost use Rattle.interface.specs.Set.{keyWith, zipped, indexOf};
 ghost use Rattle.book.specs.Steps.{bookEnd, bookBuffersAfter, newResult, acknowledgeResult, fillResult, withdrawResult};
 use book::BookChange;
-use book_change_code::change::carry_out;
+use book_change_code::change::carry_out_plan;
 use book_plan_code::plans::acknowledge_plan;
 use book_plan_code::plans::fill_plan;
 use book_plan_code::plans::new_plan;
@@ -27,7 +27,7 @@ pub fn new(
         (newResult 1 (now (image .entry)) (indexOf (now (heads .entry)) (now (next .entry)) state) key quantity) ⌝ }
 {
     let plan = new_plan(image, false, heads, next, key, 0, quantity);
-    carry_out(
+    carry_out_plan(
         image,
         false,
         heads,
@@ -58,7 +58,7 @@ pub fn acknowledge(
         (acknowledgeResult 1 (now (image .entry)) (indexOf (now (heads .entry)) (now (next .entry)) state) key) ⌝ }
 {
     let plan = acknowledge_plan(image, false, heads, next, key, 0);
-    carry_out(
+    carry_out_plan(
         image,
         false,
         heads,
@@ -89,7 +89,7 @@ pub fn fill(
         (fillResult 1 (now (image .entry)) (indexOf (now (heads .entry)) (now (next .entry)) state) key quantity) ⌝ }
 {
     let plan = fill_plan(image, false, heads, next, key, 0, quantity);
-    carry_out(
+    carry_out_plan(
         image,
         false,
         heads,
@@ -119,7 +119,7 @@ pub fn withdraw(
         (withdrawResult 1 (now (image .entry)) (indexOf (now (heads .entry)) (now (next .entry)) state) key) ⌝ }
 {
     let plan = withdraw_plan(image, false, heads, next, key, 0);
-    carry_out(
+    carry_out_plan(
         image,
         false,
         heads,
@@ -151,7 +151,7 @@ pub fn new2(
         (newResult 2 (now (image .entry)) (indexOf (now (heads .entry)) (now (next .entry)) state) (keyWith low high) quantity) ⌝ }
 {
     let plan = new_plan(image, true, heads, next, low, high, quantity);
-    carry_out(
+    carry_out_plan(
         image,
         true,
         heads,
@@ -182,7 +182,7 @@ pub fn acknowledge2(
         (acknowledgeResult 2 (now (image .entry)) (indexOf (now (heads .entry)) (now (next .entry)) state) (keyWith low high)) ⌝ }
 {
     let plan = acknowledge_plan(image, true, heads, next, low, high);
-    carry_out(
+    carry_out_plan(
         image,
         true,
         heads,
@@ -214,7 +214,7 @@ pub fn fill2(
         (fillResult 2 (now (image .entry)) (indexOf (now (heads .entry)) (now (next .entry)) state) (keyWith low high) quantity) ⌝ }
 {
     let plan = fill_plan(image, true, heads, next, low, high, quantity);
-    carry_out(
+    carry_out_plan(
         image,
         true,
         heads,
@@ -245,7 +245,7 @@ pub fn withdraw2(
         (withdrawResult 2 (now (image .entry)) (indexOf (now (heads .entry)) (now (next .entry)) state) (keyWith low high)) ⌝ }
 {
     let plan = withdraw_plan(image, true, heads, next, low, high);
-    carry_out(
+    carry_out_plan(
         image,
         true,
         heads,

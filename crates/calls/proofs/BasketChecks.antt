@@ -17,9 +17,11 @@ use Rattle.prelude.proofs.Tabulate.{tabulate-length}
 use Rattle.layout.specs.Record.{keyWith, limit}
 use Rattle.layout.proofs.KeyWords.{same-words}
 use Rattle.index.specs.Walk.{chainFault}
-use Rattle.index.specs.Change.{isFound}
+use Rattle.index.specs.Change.{isFound, insertsOf, keyFault}
 use Rattle.index.specs.declared.Action.{Action}
-use Rattle.index.specs.declared.Action.the-variants.{Insert, Replace, Remove}
+use Rattle.index.specs.declared.Mode.{Mode}
+use Rattle.index.specs.declared.Action.the-variants.{Write, Remove}
+use Rattle.index.specs.declared.Mode.the-variants.{Insert, Replace}
 use Rattle.index.specs.declared.Found.{Found}
 use Rattle.calls.specs.Basket.{oldIn}
 use Rattle.calls.specs.BasketItems.{KeyChange, highIn, itemKey, itemAt, itemValue, changeAt, changesFrom, changesOf}
@@ -116,21 +118,13 @@ size-at l items i k e values = e ∙ ap (valueFault l (itemAt items i .action)) 
 
 -- by what is asked; m is the greatest length that the layout has
 module _ (l size : ℕ) (a : Action) where
-  pub inserted-long : a ≡ Insert → (m : ℕ) → m ≡ limit l → m < size → 10 ≡ valueFault l a size
+  pub written-long : (mode : Mode) → a ≡ Write mode → (m : ℕ) → m ≡ limit l → m < size → 10 ≡ valueFault l a size
   unfolding valueFault
-  inserted-long q m e h = sym (ap (λ (x : Action). valueFault l x size) q ∙ refuseIf-true _ _ _ (lt-ltb (limit l) size (omega arith)))
+  written-long mode q m e h = sym (ap (λ (x : Action). valueFault l x size) q ∙ refuseIf-true _ _ _ (lt-ltb (limit l) size (omega arith)))
 
-  pub inserted-fits : a ≡ Insert → (m : ℕ) → m ≡ limit l → size ≤ m → 0 ≡ valueFault l a size
+  pub written-fits : (mode : Mode) → a ≡ Write mode → (m : ℕ) → m ≡ limit l → size ≤ m → 0 ≡ valueFault l a size
   unfolding valueFault
-  inserted-fits q m e h = sym (ap (λ (x : Action). valueFault l x size) q ∙ refuseIf-false _ _ _ (le-ltb (limit l) size (omega arith)))
-
-  pub replaced-long : a ≡ Replace → (m : ℕ) → m ≡ limit l → m < size → 10 ≡ valueFault l a size
-  unfolding valueFault
-  replaced-long q m e h = sym (ap (λ (x : Action). valueFault l x size) q ∙ refuseIf-true _ _ _ (lt-ltb (limit l) size (omega arith)))
-
-  pub replaced-fits : a ≡ Replace → (m : ℕ) → m ≡ limit l → size ≤ m → 0 ≡ valueFault l a size
-  unfolding valueFault
-  replaced-fits q m e h = sym (ap (λ (x : Action). valueFault l x size) q ∙ refuseIf-false _ _ _ (le-ltb (limit l) size (omega arith)))
+  written-fits mode q m e h = sym (ap (λ (x : Action). valueFault l x size) q ∙ refuseIf-false _ _ _ (le-ltb (limit l) size (omega arith)))
 
   pub removed-fits : a ≡ Remove → 0 ≡ valueFault l a size
   unfolding valueFault
@@ -138,8 +132,7 @@ module _ (l size : ℕ) (a : Action) where
 
 fits-by : (l : ℕ) (a : Action) (size : ℕ) → valueFault l a size ≡ 0 → sizeBy a size ≤ limit l
 unfolding valueFault sizeBy
-fits-by l Insert size e = ltb-false (limit l) size (refuseIf-zero _ _ _ e (omega arith) .0)
-fits-by l Replace size e = ltb-false (limit l) size (refuseIf-zero _ _ _ e (omega arith) .0)
+fits-by l (Write mode) size e = ltb-false (limit l) size (refuseIf-zero _ _ _ e (omega arith) .0)
 fits-by l Remove size e = omega arith
 
 pub sizes-fit : (l : ℕ) (items : List BasketItem) (count : ℕ) (values : List ℕ)
@@ -302,21 +295,9 @@ module _ (found : ℕ → Found) (l : ℕ) (items : List BasketItem) (count : �
 
 -- action_fault: by what is asked
 module _ (a : Action) (old : ℕ) where
-  pub insert-held : a ≡ Insert → (old ≡ 0 → ⊥) → 20 ≡ actionFault a (not (eqb old 0))
-  unfolding actionFault refuseIf
-  insert-held q ne = sym (ap₂ actionFault q (ap not (ne-eqb old 0 ne)))
-
-  pub insert-new : a ≡ Insert → old ≡ 0 → 0 ≡ actionFault a (not (eqb old 0))
-  unfolding actionFault refuseIf
-  insert-new q z = sym (ap₂ actionFault q (ap not (eq-eqb old 0 z)))
-
-  pub replace-new : a ≡ Replace → old ≡ 0 → 21 ≡ actionFault a (not (eqb old 0))
-  unfolding actionFault refuseIf
-  replace-new q z = sym (ap₂ actionFault q (ap not (eq-eqb old 0 z)))
-
-  pub replace-held : a ≡ Replace → (old ≡ 0 → ⊥) → 0 ≡ actionFault a (not (eqb old 0))
-  unfolding actionFault refuseIf
-  replace-held q ne = sym (ap₂ actionFault q (ap not (ne-eqb old 0 ne)))
+  pub write-by : (mode : Mode) → a ≡ Write mode → (k : ℕ) → k ≡ keyFault mode (not (eqb old 0)) → k ≡ actionFault a (not (eqb old 0))
+  unfolding actionFault
+  write-by mode q k e = e ∙ sym (ap (λ (x : Action). actionFault x (not (eqb old 0))) q)
 
   pub remove-new : a ≡ Remove → old ≡ 0 → 21 ≡ actionFault a (not (eqb old 0))
   unfolding actionFault refuseIf
@@ -353,15 +334,14 @@ module _ (items : List BasketItem) (count : ℕ) (olds : List ℕ) where
 -- ---- the counts of keys inserted and removed
 
 by-inserts : (a : Action) → insertsBy a ≤ 1
-unfolding insertsBy
-by-inserts Insert = omega arith
-by-inserts Replace = omega arith
+unfolding insertsBy insertsOf
+by-inserts (Write Insert) = omega arith
+by-inserts (Write Replace) = omega arith
 by-inserts Remove = omega arith
 
 by-removes : (a : Action) → removesBy a ≤ 1
 unfolding removesBy
-by-removes Insert = omega arith
-by-removes Replace = omega arith
+by-removes (Write mode) = omega arith
 by-removes Remove = omega arith
 
 pub adds-one : (a : Action) (k : ℕ) → k ≡ insertsBy a → k ≤ 1

@@ -21,7 +21,8 @@ use Rattle.stores.proofs.Pasted.{numbers-append, values-append}
 use Rattle.table.specs.Complete.{sizeFieldFor}
 use Rattle.index.specs.inner.Basket.{takensFrom}
 use Rattle.index.specs.declared.Action.{Action}
-use Rattle.index.specs.declared.Action.the-variants.{Insert, Replace, Remove}
+use Rattle.index.specs.declared.Action.the-variants.{Write, Remove}
+use Rattle.index.specs.declared.Mode.the-variants.{Insert, Replace}
 use Rattle.calls.specs.Basket.{kindBy, valueBy, recordsFor}
 use Rattle.calls.specs.BasketItems.{highIn, itemAt, itemValue, changeAt, changesFrom}
 use Rattle.calls.specs.BasketBuffers.{atFront}
@@ -74,8 +75,7 @@ value-part values i size from end e f h =
 -- its record can be made
 kind-small : (a : Action) → kindBy a < 256
 unfolding kindBy
-kind-small Insert = omega arith
-kind-small Replace = omega arith
+kind-small (Write mode) = omega arith
 kind-small Remove = omega arith
 
 number-small : (count : ℕ) → count ≤ 8 → sizeFieldFor count < 256
@@ -96,7 +96,7 @@ pub value-of : (bytes : List ℕ) (j r size : ℕ) → r ≡ size → 80 * j + r
     → take (80 * j + r - 80 * j) (drop (80 * j) bytes) ≡ itemValue bytes j size
 value-of bytes j r size e h = value-part bytes j r (80 * j) (80 * j + r) refl refl h ∙ ap (itemValue bytes j) e
 
--- ---- put_stores
+-- ---- fill_basket_stores
 
 module _ (l : ℕ) (image : List ℕ) (version count : ℕ) (items : List BasketItem) (bytes slots : List ℕ) where
   abbrev from-item : ℕ → ℕ → List Store
@@ -204,8 +204,7 @@ module _ (l : ℕ) (image : List ℕ) (version count : ℕ) (items : List Basket
 
 value-by : (a : Action) (bytes : List ℕ) (i size : ℕ) → itemValue bytes i (sizeBy a size) ≡ valueBy a (itemValue bytes i size)
 unfolding valueBy sizeBy itemValue tabulate
-value-by Insert bytes i size = refl
-value-by Replace bytes i size = refl
+value-by (Write mode) bytes i size = refl
 value-by Remove bytes i size = refl
 
 pub records-asked : (l : ℕ) (items : List BasketItem) (bytes slots prevs : List ℕ) (i n : ℕ)

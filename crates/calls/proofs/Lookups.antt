@@ -17,7 +17,7 @@ use Rattle.layout.specs.Line.{versionFault}
 use Rattle.layout.specs.inner.Sized.{Sized}
 use Rattle.layout.proofs.Lents.{version-fine, lent-sized, lent-slots}
 use Rattle.index.specs.Walk.{search, chainFault}
-use Rattle.index.specs.Change.{keyFault, isFound}
+use Rattle.index.specs.Change.{insertsOf, keyFault, isFound}
 use Rattle.index.specs.Allocation.{Allocation, endsFault, linkFault, fewFault, reuseFault, roomFault}
 use Rattle.allocation.specs.Allocation.{allocationBy}
 use Rattle.allocation.specs.inner.Walk.{takeFault}
@@ -34,7 +34,7 @@ use Rattle.index.specs.declared.Found.the-variants.{At, Missing, BadChain}
 use Rattle.index.proofs.Walks.{at-inside, absent-inside}
 use Rattle.index.proofs.LookedUp.{held-by-fault, not-held-by-fault, not-held-taken}
 use Rattle.index.proofs.Faults.{reuse-ends, reuse-live, room-fine}
-use Rattle.calls.specs.Change.{writeLentFault, storeFault, insertsOf, writeLaterFault, writeFaultBy, removeLaterFault, removeFaultBy}
+use Rattle.calls.specs.Change.{writeLentFault, storeFault, writeLaterFault, writeFaultBy, removeLaterFault, removeFaultBy}
 use Rattle.calls.specs.Get.{slotLength, lengthFault, getLaterFault, getFault}
 use Rattle.index.specs.Index.{headOf, indexOf}
 use Rattle.index.specs.inner.Parts.{PlaceInside}

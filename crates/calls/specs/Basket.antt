@@ -1,5 +1,4 @@
--- A basket: up to eight keys changed by one call. Document 02, A.7: "Its records share one version"; "It answers its
--- version and slots". The slots are given to the keys in order.
+-- A basket: up to eight keys changed by one call. Document 02, A.7. The slots are given to the keys in order.
 use mathlib.Core.Bool.{Bool, false}
 use mathlib.Core.List.{List, [], _∷_}
 use Prim.Native.Nat.{ℕ, _+_, _-_}
@@ -15,7 +14,8 @@ use Rattle.index.specs.Allocation.{Taken, Allocation, taken, tooFew, badLink}
 use Rattle.index.specs.Basket.{Item, takenSlots, basketIndex}
 use Rattle.index.specs.declared.State.{State}
 use Rattle.index.specs.declared.Action.{Action}
-use Rattle.index.specs.declared.Action.the-variants.{Insert, Replace, Remove}
+use Rattle.index.specs.declared.Action.the-variants.{Write, Remove}
+use Rattle.index.specs.declared.Mode.the-variants.{Insert, Replace}
 use Rattle.index.specs.declared.Found.{Found}
 use Rattle.index.specs.declared.Found.the-variants.{At, Missing, BadChain}
 use Rattle.allocation.specs.Allocation.{allocationByRule, allocationChosenBy}
@@ -26,14 +26,12 @@ use Rattle.calls.specs.BasketRefusals.{insertsBy, removesBy, sumOver, ba
 
 -- "kind 1 put, 2 remove"
 unfoldable pub kindBy : Action → ℕ
-kindBy Insert = 1
-kindBy Replace = 1
+kindBy (Write mode) = 1
 kindBy Remove = 2
 
 -- the value in its record: a remove's has none
 unfoldable pub valueBy : Action → List ℕ → List ℕ
-valueBy Insert value = value
-valueBy Replace value = value
+valueBy (Write mode) value = value
 valueBy Remove value = []
 
 -- the record of each key, and the slot taken for it

@@ -8,7 +8,8 @@ use lib.ListN.{length, getD}
 use Rattle.prelude.specs.Range.{tabulate}
 use Rattle.layout.specs.Record.{keyWith}
 use Rattle.index.specs.declared.Action.{Action}
-use Rattle.index.specs.declared.Action.the-variants.{Insert}
+use Rattle.index.specs.declared.Action.the-variants.{Write}
+use Rattle.index.specs.declared.Mode.the-variants.{Insert}
 use Rattle.calls.specs.declared.BasketItem.{BasketItem}
 
 -- what a basket asks for one key; the value of a remove does not matter
@@ -26,7 +27,7 @@ itemKey l k = keyWith (k .low) (highIn l (k .high))
 
 -- the item with number i, of the eight from 0 on; no basket has another
 unfoldable pub itemAt : List BasketItem → ℕ → BasketItem
-itemAt items i = getD items i (record { action = Insert; low = 0; high = 0; length = 0 })
+itemAt items i = getD items i (record { action = (Write Insert); low = 0; high = 0; length = 0 })
 
 -- the bytes of its value: item i's start at byte 80 × i
 unfoldable pub itemValue : (values : List ℕ) → (i size : ℕ) → List ℕ

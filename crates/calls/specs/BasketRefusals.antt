@@ -10,10 +10,11 @@ use Rattle.layout.specs.Record.{limit}
 use Rattle.layout.specs.Header.{lentFault}
 use Rattle.index.specs.Walk.{search, chainFault}
 use Rattle.index.specs.declared.Action.{Action}
-use Rattle.index.specs.declared.Action.the-variants.{Insert, Replace, Remove}
+use Rattle.index.specs.declared.Action.the-variants.{Write, Remove}
+use Rattle.index.specs.declared.Mode.the-variants.{Insert, Replace}
 use Rattle.index.specs.declared.Found.{Found}
 use Rattle.allocation.specs.Allocation.{allocationBy}
-use Rattle.index.specs.Change.{isFound}
+use Rattle.index.specs.Change.{isFound, keyFault, insertsOf}
 use Rattle.index.specs.Index.{Index}
 use Rattle.calls.specs.Change.{storeFault}
 use Rattle.calls.specs.BasketItems.{KeyChange}
@@ -48,14 +49,12 @@ firstFault fault (c ∷ cs) = orElse (fault c) (firstFault fault cs)
 
 -- "10 when the value exceeds 80 bytes"; a remove has no value
 unfoldable pub valueFault : (l : ℕ) → Action → (size : ℕ) → ℕ
-valueFault l Insert size = refuseIf (ltb (limit l) size) 10 0
-valueFault l Replace size = refuseIf (ltb (limit l) size) 10 0
+valueFault l (Write mode) size = refuseIf (ltb (limit l) size) 10 0
 valueFault l Remove size = 0
 
 -- "20 and 21 being one"; "In a basket, removing an unheld key gives 21"
 unfoldable pub actionFault : Action → (held : Bool) → ℕ
-actionFault Insert held = refuseIf held 20 0
-actionFault Replace held = refuseIf (not held) 21 0
+actionFault (Write mode) held = keyFault mode held
 actionFault Remove held = refuseIf (not held) 21 0
 
 -- 1, 2, 3, 4 and 10
@@ -71,13 +70,11 @@ keysFault found changes =
 
 -- how many keys are inserted, and how many are removed
 unfoldable pub insertsBy : Action → ℕ
-insertsBy Insert = 1
-insertsBy Replace = 0
+insertsBy (Write mode) = insertsOf mode
 insertsBy Remove = 0
 
 unfoldable pub removesBy : Action → ℕ
-removesBy Insert = 0
-removesBy Replace = 0
+removesBy (Write mode) = 0
 removesBy Remove = 1
 
 unfoldable pub sumOver : (Action → ℕ) → List KeyChange → ℕ

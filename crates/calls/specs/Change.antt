@@ -1,6 +1,7 @@
 -- Insert, replace and remove. Document 01, "How a call writes", "The index" and "What each operation may say no to";
--- document 02, A.2: "Put is split in two: insert for a key not held, replace for one that is." None of them writes to
--- the image.
+-- document 02, A.2: "Put is split in two: insert for a key not held, replace for one that is", and A.7: 28 "in place of
+-- 12". None of them writes to the image. Each is of one of two families: calls for any index, and calls for the owner
+-- of an index, which are ours. The taking rule, which says what slots may be taken, is table/specs/Takeable `mayTake`.
 use mathlib.Core.Bool.{Bool, true, false}
 use mathlib.Core.List.{List, [], _∷_}
 use Prim.Native.Nat.{ℕ, _+_, _-_}
@@ -17,7 +18,7 @@ use Rattle.stores.specs.Store.{Store, zipped}
 use Rattle.stores.specs.Written.{recordStores}
 use Rattle.index.specs.Index.{Index, indexOf, withCounts, headOf}
 use Rattle.index.specs.Walk.{search, chainFault}
-use Rattle.index.specs.Change.{takeFirst, insertAt, replaceAt, removeAt, keyFault, isFound}
+use Rattle.index.specs.Change.{takeFirst, insertAt, replaceAt, removeAt, keyFault, insertsOf, isFound}
 use Rattle.index.specs.Allocation.{Taken, Allocation, taken, tooFew, badLink, reuseFault, roomFault}
 use Rattle.index.specs.Basket.{takeSlot}
 use Rattle.allocation.specs.Allocation.{allocationByRule, allocationBy}
@@ -103,11 +104,6 @@ changed l image s t key kind value i live compared =
 unfoldable pub writeLentFault : (l : ℕ) → (image : List ℕ) → (heads next size : ℕ) → ℕ
 writeLentFault l image heads next size = orElse (lentFault l image heads next) (refuseIf (ltb (limit l) size) 10 0)
 
--- how many keys a write inserts
-unfoldable pub insertsOf : Mode → ℕ
-insertsOf Insert = 1
-insertsOf Replace = 0
-
 -- the refusals after these: 11 (chain); 20 or 21, "each straight after the chain check"; 11 (reuse); 28; 9
 unfoldable pub writeLaterFault : Mode → Found → Allocation → (n : ℕ) → State → ℕ
 writeLaterFault mode found taking n s =
@@ -138,16 +134,16 @@ writeDone l image i key value t rest compared (Missing prev count) =
     changed l image (i .state) t key 1 value (insertAt rest (headOf key (length (i .heads))) prev t) (i .state .live + 1) compared
 writeDone l image i key value t rest compared BadChain = unchanged (refused 11) i compared
 
--- where this does not refuse it, into this slot
+-- a write into slot t, unless `fault` refuses it
 unfoldable pub writeUnless : (fault : ℕ) → (l : ℕ) → (image : List ℕ) → Index → (key : ℕ) → List ℕ → (t : ℕ) → (rest : Index) → CallResult
 writeUnless fault l image i key value t rest =
     unlessRefused fault
     (writeDone l image i key value t rest (writeCompared l image i key (length value)) (search l image (i .heads) (i .next) key))
     (unchanged (refused fault) i (writeCompared l image i key (length value)))
 
--- "with an index not the image's own, only refusals are fixed, of single calls too": where `own` is false they are
--- those of the taking rule for any index, where it is true those of `ownAllocation`; the slot is the first of reuse,
--- which with an index that is the image's own is the rule's too, `writeByRule`
+-- "with an index not the image's own, only refusals are fixed, of single calls too". Where `own` is false the refusals
+-- are those of the taking rule, where it is true those of `ownAllocation`. The slot is the first of reuse; with an
+-- index that is the image's own it is the rule's too: cut_rule/specs/AllocationRule says so of `writeByRule`
 unfoldable pub writeResultBy : (own : Bool) → (l : ℕ) → (image : List ℕ) → Index → Mode → (key : ℕ) → List ℕ → CallResult
 writeResultBy own l image i mode key value =
     writeUnless (writeFaultBy own l image i mode key (length value)) l image i key value (i .state .first) (takeFirst i)
@@ -192,13 +188,14 @@ removeUnless fault l image i key t rest =
     (removeDone l image i key t rest (keyCompared l image (i .heads) (i .next) key) (search l image (i .heads) (i .next) key))
     (unchanged (refused fault) i (keyCompared l image (i .heads) (i .next) key))
 
--- the first slot of reuse, and that of the taking rule
+-- into the first slot of reuse
 unfoldable pub removeResultBy : (own : Bool) → (l : ℕ) → (image : List ℕ) → Index → (key : ℕ) → CallResult
 removeResultBy own l image i key = removeUnless (removeFaultBy own l image i key) l image i key (i .state .first) (takeFirst i)
 
 abbrev pub removeResult : (l : ℕ) → (image : List ℕ) → Index → (key : ℕ) → CallResult
 removeResult l image i key = removeResultBy false l image i key
 
+-- into the slot of the taking rule
 unfoldable pub removeByRule : (l : ℕ) → (image : List ℕ) → Index → (key : ℕ) → CallResult
 removeByRule l image i key =
     removeUnless (removeFault l image i key) l image i key (slotByRule l image i .slot) (takeSlot i (slotByRule l image i))

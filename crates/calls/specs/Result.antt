@@ -5,8 +5,8 @@ use Rattle.prelude.specs.Answer.{Answer}
 use Rattle.stores.specs.Store.{Store}
 use Rattle.index.specs.Index.{Index}
 
--- its answer, the output, the stores that are to be played, the index, and the slots compared. Only a get has an output.
--- Insert, replace, remove, get and locate report a count; a basket's is 0
+-- its answer, the output, the stores that are to be played, the index, and the slots compared. Only a get has an
+-- output. Insert, replace, remove, get and locate report a count; a basket's is 0
 pub record CallResult : Type 0 where
   pub answer : Answer
   pub out : List ℕ

@@ -17,7 +17,7 @@ use orderset::remove;
 use orderset::replace;
 
 // The state after a call, whose answer is printed.
-fn told(r: Change) -> State {
+fn show_change(r: Change) -> State {
     let outcome = r.outcome;
     show::outcome(outcome);
     let s = r.state;
@@ -25,7 +25,7 @@ fn told(r: Change) -> State {
 }
 
 // A call of the set by its name, or a step.
-fn call(
+fn call_or_step(
     image: &[u8],
     heads: &mut [u32],
     next: &mut [u32],
@@ -38,19 +38,19 @@ fn call(
     words: &mut [u64; 16],
 ) -> State {
     if name == INSERT {
-        return told(insert(image, heads, next, s, key, value, at, words));
+        return show_change(insert(image, heads, next, s, key, value, at, words));
     }
     if name == REPLACE {
-        return told(replace(image, heads, next, s, key, value, at, words));
+        return show_change(replace(image, heads, next, s, key, value, at, words));
     }
     if name == REMOVE {
-        return told(remove(image, heads, next, s, key, at, words));
+        return show_change(remove(image, heads, next, s, key, at, words));
     }
     step_told(take_step(image, heads, next, s, name, key, quantity, at, words))
 }
 
 // The set after such a call.
-fn called(set: Set, name: u64, n: [u64; 5]) -> Set {
+fn call_case(set: Set, name: u64, n: [u64; 5]) -> Set {
     let image = set.image;
     let mut heads = set.heads;
     let mut next = set.next;
@@ -65,7 +65,7 @@ fn called(set: Set, name: u64, n: [u64; 5]) -> Set {
     let k = fronts.next;
     let v = io::count((n[2] % 82) as isize, &bytes);
     let s = set.state;
-    let state = call(
+    let state = call_or_step(
         &image[..i],
         &mut heads[..h],
         &mut next[..k],
@@ -94,8 +94,8 @@ fn taken(name: u64, before: State, after: State) -> u64 {
     name
 }
 
-pub fn changed(set: Set, name: u64, n: [u64; 5]) -> Set {
-    let mut after = called(set, name, n);
+pub fn run_change(set: Set, name: u64, n: [u64; 5]) -> Set {
+    let mut after = call_case(set, name, n);
     let s = after.state;
     show::state(s);
     let heads = after.heads;

@@ -6,7 +6,6 @@ use crate::set::show_index;
 use crate::step::played_in;
 use orderset::Invalidations;
 use orderset::Recovered;
-use orderset::State;
 use orderset::format;
 use orderset::play;
 use orderset::play_list;
@@ -15,7 +14,7 @@ use show::fronts::values_of;
 use words_code::lesser;
 use words_code::read_word;
 
-pub fn formatted(set: Set) -> Set {
+pub fn format_case(set: Set) -> Set {
     let mut image = set.image;
     let fronts = lent(set);
     let i = fronts.image;
@@ -23,14 +22,6 @@ pub fn formatted(set: Set) -> Set {
     let mut after = set;
     after.image = image;
     after
-}
-
-// The state that recovery leaves, or the one given.
-fn state_after(r: Recovered, s: State) -> State {
-    match r {
-        Recovered::Rebuilt(rebuilt) => rebuilt,
-        Recovered::Refused { number: _, slot: _ } => s,
-    }
 }
 
 // The invalidating stores of a recovery that was not refused, or the ones before.
@@ -41,7 +32,7 @@ fn invalidations_after(r: Recovered, given: Invalidations, before: Invalidations
     }
 }
 
-pub fn recovered(set: Set) -> Set {
+pub fn recover_case(set: Set) -> Set {
     let image = set.image;
     let mut heads = set.heads;
     let mut next = set.next;
@@ -56,7 +47,7 @@ pub fn recovered(set: Set) -> Set {
     show::invalidations(given);
     show_index(&heads, &next);
     let s = set.state;
-    let state = state_after(r, s);
+    let state = show::state_after(r, s);
     let before = set.invalidations;
     let mut after = set;
     after.invalidations = invalidations_after(r, given, before);
@@ -67,7 +58,7 @@ pub fn recovered(set: Set) -> Set {
 }
 
 // How many bytes of the two differ.
-fn differing(image: &[u8; 640], before: &[u8; 640]) -> u64 {
+fn count_differing_bytes(image: &[u8; 640], before: &[u8; 640]) -> u64 {
     let mut n = 0;
     let mut i = 0;
     while i < 640 {
@@ -105,13 +96,13 @@ pub fn opened(set: Set, n: [u64; 5]) -> Set {
     let answer = play_list(&mut image[..i], &at[..count], &value[..count]);
     show::number(answer as u64);
     show::text(b" changed");
-    show::number(differing(&image, &before));
+    show::number(count_differing_bytes(&image, &before));
     let mut after = set;
     after.image = image;
     after
 }
 
-pub fn played(set: Set, n: [u64; 5]) -> Set {
+pub fn play_counts(set: Set, n: [u64; 5]) -> Set {
     let before = set.image;
     let mut image = set.image;
     let stores = set.stores;
@@ -120,7 +111,7 @@ pub fn played(set: Set, n: [u64; 5]) -> Set {
     let answer = play(&mut image[..i], stores, n[1] as usize, n[2] as usize);
     show::number(answer as u64);
     show::text(b" changed");
-    show::number(differing(&image, &before));
+    show::number(count_differing_bytes(&image, &before));
     let book = set.book;
     let mut after = set;
     after.image = image;
@@ -141,14 +132,14 @@ pub fn listed(set: Set, n: [u64; 5]) -> Set {
     after
 }
 
-fn word_of(image: &[u8; 640], i: usize) -> u64 {
+fn case_word_or_zero(image: &[u8; 640], i: usize) -> u64 {
     if i < 80 {
         return read_word(image, i);
     }
     0
 }
 
-pub fn show_word(set: Set, n: [u64; 5]) {
+pub fn show_case_word(set: Set, n: [u64; 5]) {
     let image = set.image;
-    show::number(word_of(&image, n[1] as usize));
+    show::number(case_word_or_zero(&image, n[1] as usize));
 }

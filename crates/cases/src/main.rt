@@ -9,13 +9,13 @@ mod read;
 mod set;
 mod step;
 
-use change::changed;
-use image::formatted;
+use change::run_change;
+use image::format_case;
 use image::listed;
 use image::opened;
-use image::played;
-use image::recovered;
-use image::show_word;
+use image::play_counts;
+use image::recover_case;
+use image::show_case_word;
 use names::FORMAT;
 use names::GET;
 use names::LIST;
@@ -25,35 +25,35 @@ use names::RECOVER;
 use names::STORES;
 use names::TOTAL;
 use names::WORD;
-use read::show_get;
+use read::show_locate_and_get;
 use set::Set;
-use set::set_up;
+use set::set_up_case;
 use set::show_stores;
-use set::start;
+use set::start_cases;
 use show::lines::is_asked;
-use show::lines::numbers;
+use show::lines::parse_numbers;
 use show::lines::until;
 use step::show_total;
 use words_code::padded_word;
 
-fn carry_out(set: Set, name: u64, n: [u64; 5]) -> Set {
+fn run_case_call(set: Set, name: u64, n: [u64; 5]) -> Set {
     if name == FORMAT {
-        return formatted(set);
+        return format_case(set);
     }
     if name == RECOVER {
-        return recovered(set);
+        return recover_case(set);
     }
     if name == OPEN {
         return opened(set, n);
     }
     if name == PLAY {
-        return played(set, n);
+        return play_counts(set, n);
     }
     if name == LIST {
         return listed(set, n);
     }
     if name == GET {
-        show_get(set, n);
+        show_locate_and_get(set, n);
         return set;
     }
     if name == STORES {
@@ -61,39 +61,39 @@ fn carry_out(set: Set, name: u64, n: [u64; 5]) -> Set {
         return set;
     }
     if name == WORD {
-        show_word(set, n);
+        show_case_word(set, n);
         return set;
     }
     if name == TOTAL {
         show_total(set);
         return set;
     }
-    changed(set, name, n)
+    run_change(set, name, n)
 }
 
-fn answer(set: Set, line: &[u8]) -> Set {
+fn dispatch_case_line(set: Set, line: &[u8]) -> Set {
     let end = until(line, 0, 97);
     let name = padded_word(&line[..end], 0);
-    let n = numbers(line);
+    let n = parse_numbers(line);
     if is_asked(line) {
-        return carry_out(set, name, n);
+        return run_case_call(set, name, n);
     }
-    set_up(set, name, n)
+    set_up_case(set, name, n)
 }
 
-fn serve(set: Set, line: &[u8]) -> Set {
+fn run_case_line(set: Set, line: &[u8]) -> Set {
     show::text(line);
-    let after = answer(set, line);
+    let after = dispatch_case_line(set, line);
     show::text(b"\n");
     after
 }
 
-fn serve_all(input: &[u8]) {
-    let mut set = start();
+fn run_cases(input: &[u8]) {
+    let mut set = start_cases();
     let mut at = 0;
     while at < input.len() {
         let end = until(input, at, 11);
-        set = serve(set, &input[at..end]);
+        set = run_case_line(set, &input[at..end]);
         at = end + 1;
     }
 }
@@ -101,5 +101,5 @@ fn serve_all(input: &[u8]) {
 fn main() {
     let mut input = [0u8; 16384];
     let n = io::read_full(libc::STDIN_FILENO, &mut input);
-    serve_all(&input[..n]);
+    run_cases(&input[..n]);
 }

@@ -43,19 +43,19 @@ fn show_located(located: Located) {
     }
 }
 
-fn show_words(bytes: &[u8; 80]) {
+fn show_fetched_words(bytes: &[u8; 80]) {
     show::number(read_word(bytes, 0));
     show::number(read_word(bytes, 1));
     show::number(read_word(bytes, 2));
     show::number(read_word(bytes, 9));
 }
 
-pub fn show_get(set: Set, n: [u64; 5]) {
+pub fn show_locate_and_get(set: Set, n: [u64; 5]) {
     let r = fetch(set, n[1], n[2]);
     let located = r.located;
     show_located(located);
     let got = r.got;
     show::got(got);
     let out = r.out;
-    show_words(&out);
+    show_fetched_words(&out);
 }

@@ -10,6 +10,7 @@ use crate::names::STORE;
 use orderset::Invalidations;
 use orderset::State;
 use orderset::Stores;
+use show::lines::low_half;
 use words_code::lesser;
 
 // How many bytes, heads and next numbers a call is lent, the first ones of each.
@@ -41,7 +42,7 @@ pub struct Set {
 }
 
 // Every byte, index number and store is 9, and nothing is lent.
-pub fn start() -> Set {
+pub fn start_cases() -> Set {
     Set {
         image: [9; 640],
         heads: [9; 2],
@@ -89,15 +90,11 @@ pub fn lent(set: Set) -> Fronts
     }
 }
 
-fn low(n: u64) -> u32 {
-    (n % 4294967296) as u32
-}
-
 fn state_of(n: [u64; 5]) -> State {
     State {
-        first: low(n[1]),
-        last: low(n[2]),
-        live: low(n[3]),
+        first: low_half(n[1]),
+        last: low_half(n[2]),
+        live: low_half(n[3]),
         newest: 0,
         version: n[4],
     }
@@ -112,7 +109,7 @@ fn fronts_of(n: [u64; 5]) -> Fronts {
 }
 
 // A line that sets a part of the set; another changes nothing.
-pub fn set_up(set: Set, name: u64, n: [u64; 5]) -> Set {
+pub fn set_up_case(set: Set, name: u64, n: [u64; 5]) -> Set {
     let mut after = set;
     let place = n[1] as usize;
     if name == BYTE {
@@ -124,14 +121,14 @@ pub fn set_up(set: Set, name: u64, n: [u64; 5]) -> Set {
     if name == STORE {
         let mut stores = set.stores;
         if place < 16 {
-            stores.at[place] = low(n[2]);
+            stores.at[place] = low_half(n[2]);
         }
         after.stores = stores;
         return after;
     }
     if name == INDEX {
-        after.heads = [low(n[1]), 0];
-        after.next = [0, low(n[2]), low(n[3]), low(n[4]), 0];
+        after.heads = [low_half(n[1]), 0];
+        after.next = [0, low_half(n[2]), low_half(n[3]), low_half(n[4]), 0];
         return after;
     }
     if name == STATE {

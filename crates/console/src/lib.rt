@@ -9,9 +9,9 @@ ghost use Rattle.session.specs.Stream.{streamEnd, lacksRoom, emptied, afterRead
 use libc::STDIN_FILENO;
 use libc::STDOUT_FILENO;
 use session::Progress;
-use stream_code::stream::end_input;
-use stream_code::stream::open_stream;
-use stream_code::stream::take_byte;
+use session_stream_code::stream::end_input;
+use session_stream_code::stream::open_stream;
+use session_stream_code::stream::take_byte;
 
 // Where the session stands, whether the input may have more, and whether every write so far succeeded.
 pub struct Status {

@@ -60,7 +60,7 @@ fn change(image: &mut [u8], place: usize, byte: u8, second: usize, other: u8) {
 }
 
 // Recovery of a changed image, with two heads and an index that held other numbers.
-fn changed(image: &mut [u8], place: usize, byte: u8, second: usize, other: u8) {
+fn recover_changed(image: &mut [u8], place: usize, byte: u8, second: usize, other: u8) {
     change(image, place, byte, second, other);
     let mut heads = [9u32, 9];
     let mut next = [9u32, 9, 9, 9];
@@ -79,7 +79,7 @@ fn label(place: usize, byte: u8, second: usize, other: u8) {
 fn with(place: usize, byte: u8, second: usize, other: u8) {
     label(place, byte, second, other);
     let mut a = image();
-    changed(&mut a, place, byte, second, other);
+    recover_changed(&mut a, place, byte, second, other);
 }
 
 fn short_image() {

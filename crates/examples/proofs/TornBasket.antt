@@ -31,7 +31,7 @@ use Rattle.table.specs.Shared.{clashes, sharersFault}
 use Rattle.table.specs.Takeable.{validVersion, highestValid, isRemove, older, mayTake, mayTakeAfter, takeableIf}
 use Rattle.index.specs.Index.{setNext, setStart, setLast, link, noState}
 use Rattle.index.specs.Chained.{firstOf, lastOf, after, nextIn, chained}
-use Rattle.index.specs.Change.{takeFirst, linkNew, append, keyFault, isFound, insertAt, replaceAt, removeAt}
+use Rattle.index.specs.Change.{insertsOf, takeFirst, linkNew, append, keyFault, isFound, insertAt, replaceAt, removeAt}
 use Rattle.index.specs.Walk.{walk, search, chainFault}
 use Rattle.index.specs.Allocation.{withTaken, atEnd, allocationWalk, allocateFrom, endsFault, linkFault, fewFault, reuseFault, roomFault}
 use Rattle.index.specs.Basket.{takeSlot, takeAll, takenSlots, slotBefore, beforeIn, linkBy, linkItem, linkAll, basketIndex}
@@ -41,7 +41,7 @@ use Rattle.allocation.specs.Allocation.{allocationByRule, allocationChosen, all
 use Rattle.recovery.specs.Recover.{slotsFault, recoverFault, chainsOf, placeOf, recoveredIndex, recovered, recoverResult, settledFault, slotsNamed, recoverSlot}
 use Rattle.recovery.specs.Invalidation.{voidSlots, invalidationsOf, storesIn}
 use Rattle.calls.specs.Format.{formatted}
-use Rattle.calls.specs.Change.{changed, writeLentFault, writeLaterFault, writeFault, writeDone, writeUnless, writeResult, storeFault, insertsOf, writeFaultBy, writeResultBy}
+use Rattle.calls.specs.Change.{changed, writeLentFault, writeLaterFault, writeFault, writeDone, writeUnless, writeResult, storeFault, writeFaultBy, writeResultBy}
 use Rattle.calls.specs.Result.{unchanged}
 use Rattle.calls.specs.BasketItems.{highIn, itemKey, itemAt, itemValue, changeAt, changesFrom, changesOf}
 use Rattle.calls.specs.BasketRefusals.{keyCountFault, among, anyTwice, listsFault, givenFault, firstFault, valueFault, actionFault, basketLentFault, keysFault, insertsBy, removesBy, sumOver, basketFault, basketFaultBy}
@@ -53,9 +53,9 @@ use Rattle.plainmap.specs.Baskets.{TypedItem, basketCallResultBy}
 use Rattle.plainmap.specs.Claims.{Typed, write-typed, get-typed, slotsMap}
 use Rattle.interface.specs.Event.{RestartFits, done-fits, struck-fits, FitsBy, stepBy, imageCut}
 use Rattle.interface.proofs.SetLaws.{layout-1, call-laws}
-use Rattle.cutrule.specs.Request.{a-basket, TypedRequest, requestEffects}
-use Rattle.cutrule.specs.Rule.{HistoryCorrect}
-use Rattle.cutrule.proofs.CutRule.{cut-rule}
+use Rattle.cut_rule.specs.Request.{a-basket, TypedRequest, requestEffects}
+use Rattle.cut_rule.specs.Rule.{HistoryCorrect}
+use Rattle.cut_rule.proofs.CutRule.{cut-rule}
 use Rattle.examples.specs.Trial.{small, oneHead, recovering}
 use Rattle.examples.specs.TornBasket.{answerTo, answersTo, item, eightyBytes, basketBytes, basketGiven, threeItems, twoItems, fourSlots, tearing, invalidationCut, twoCuts, emptyFour, afterTearing, tornHistory, tornAnswers, tornImage, voidCount}
 use Rattle.examples.proofs.Trial.{small-bytes}

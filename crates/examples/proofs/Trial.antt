@@ -30,14 +30,14 @@ use Rattle.table.specs.Takeable.{validVersion, highestValid, isRemove, older, m
 use Rattle.index.specs.declared.Mode.{Mode}
 use Rattle.index.specs.Index.{setNext, setStart, setLast, link, noState}
 use Rattle.index.specs.Chained.{firstOf, lastOf, after, nextIn, chained}
-use Rattle.index.specs.Change.{takeFirst, linkNew, append, keyFault, isFound, insertAt, replaceAt, removeAt}
+use Rattle.index.specs.Change.{insertsOf, takeFirst, linkNew, append, keyFault, isFound, insertAt, replaceAt, removeAt}
 use Rattle.index.specs.Walk.{walk, search, chainFault}
 use Rattle.index.specs.Allocation.{withTaken, atEnd, allocationWalk, allocateFrom, endsFault, linkFault, fewFault, reuseFault, roomFault}
 use Rattle.allocation.specs.Allocation.{allocationByRule, allocationBy}
 use Rattle.recovery.specs.Recover.{slotsFault, recoverFault, chainsOf, placeOf, recoveredIndex, recovered, recoverResult, settledFault, slotsNamed, recoverSlot}
 use Rattle.recovery.specs.Invalidation.{voidSlots, invalidationsOf, storesIn}
 use Rattle.calls.specs.Format.{formatted}
-use Rattle.calls.specs.Change.{changed, writeLentFault, writeLaterFault, writeFault, writeDone, writeUnless, writeResult, removeLaterFault, removeFault, removeDone, removeUnless, removeResult, storeFault, insertsOf, removeFaultBy, removeResultBy, writeFaultBy, writeResultBy}
+use Rattle.calls.specs.Change.{changed, writeLentFault, writeLaterFault, writeFault, writeDone, writeUnless, writeResult, removeLaterFault, removeFault, removeDone, removeUnless, removeResult, storeFault, removeFaultBy, removeResultBy, writeFaultBy, writeResultBy}
 use Rattle.calls.specs.Result.{unchanged}
 use Rattle.calls.specs.Get.{lengthFault, getLaterFault, getFault, getDone, getResult}
 use Rattle.calls.specs.Locate.{locateFault, locateDone, locateAnswer}
@@ -45,9 +45,9 @@ use Rattle.plainmap.specs.World.{write, callResult, worldAfter, afterRound, aft
 use Rattle.plainmap.specs.Claims.{Typed, write-typed, remove-typed, get-typed, slotsMap}
 use Rattle.interface.specs.Event.{RestartFits, done-fits, struck-fits, FitsBy, stepBy, imageCut}
 use Rattle.interface.proofs.SetLaws.{layout-1, layout-2, call-laws}
-use Rattle.cutrule.specs.Request.{TypedRequest}
-use Rattle.cutrule.specs.Rule.{HistoryCorrect}
-use Rattle.cutrule.proofs.CutRule.{cut-rule}
+use Rattle.cut_rule.specs.Request.{TypedRequest}
+use Rattle.cut_rule.specs.Rule.{HistoryCorrect}
+use Rattle.cut_rule.proofs.CutRule.{cut-rule}
 use Rattle.examples.specs.Trial.{answers, outputs, small, oneHead, twoSlots, recovering, cutAt, fresh, sessionWith, session, secondSession, asRequests, expected, expectedOutputs}
 
 -- THE SESSION answers as document 01 says, with the outputs of its gets, in both layouts; recovery accepts its formatted image, which has two slots

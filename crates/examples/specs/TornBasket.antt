@@ -10,8 +10,8 @@ use Rattle.prelude.specs.Answer.{Answer, gives, absent, refused}
 use Rattle.recovery.specs.Recover.{recoverResult}
 use Rattle.recovery.specs.Invalidation.{storesIn}
 use Rattle.index.specs.declared.Action.{Action}
-use Rattle.index.specs.declared.Action.the-variants.{Insert, Replace}
-use Rattle.index.specs.declared.Mode.the-variants.{Insert as InsertMode}
+use Rattle.index.specs.declared.Action.the-variants.{Write}
+use Rattle.index.specs.declared.Mode.the-variants.{Insert, Replace}
 use Rattle.calls.specs.Format.{formatted}
 use Rattle.calls.specs.BasketItems.{changesOf}
 use Rattle.calls.specs.declared.BasketItem.{BasketItem}
@@ -19,7 +19,7 @@ use Rattle.plainmap.specs.World.{World, write, get, callResultBy, Round, afterR
 use Rattle.plainmap.specs.Baskets.{Basket, basketCallResultBy}
 use Rattle.interface.specs.Event.{Cut, Event, done, struck, imageCut, requestOf}
 use Rattle.book.specs.Steps.{BookAnswer, taken, already, declined, bookedBy}
-use Rattle.cutrule.specs.Request.{Request, a-call, a-basket, a-step, requestEffects, worldAfterRequest}
+use Rattle.cut_rule.specs.Request.{Request, a-call, a-basket, a-step, requestEffects, worldAfterRequest}
 use Rattle.examples.specs.Trial.{small, oneHead, recovering}
 
 -- the book's answer as an answer of the set
@@ -58,11 +58,11 @@ basketGiven count items = record { changes = changesOf 1 count items basketBytes
 
 -- keys 7, 8 and 9 are inserted
 unfoldable pub threeItems : List BasketItem
-threeItems = item Insert 7 ∷ item Insert 8 ∷ item Insert 9 ∷ replicate 5 (item Insert 0)
+threeItems = item (Write Insert) 7 ∷ item (Write Insert) 8 ∷ item (Write Insert) 9 ∷ replicate 5 (item (Write Insert) 0)
 
 -- key 8 is replaced, and key 7 inserted
 unfoldable pub twoItems : List BasketItem
-twoItems = item Replace 8 ∷ item Insert 7 ∷ replicate 6 (item Insert 0)
+twoItems = item (Write Replace) 8 ∷ item (Write Insert) 7 ∷ replicate 6 (item (Write Insert) 0)
 
 -- ---- the history
 
@@ -91,7 +91,7 @@ emptyFour = restarted 1 (formatted 1 640) (recovering fourSlots)
 -- call for any index; keys 7 and 9 are asked for
 unfoldable pub afterTearing : List (Event Request)
 afterTearing =
-    done (a-call false (get 7 (replicate 8 0))) ∷ done (a-call true (write InsertMode 8 (small 5))) ∷ done (a-basket false (basketGiven 2 twoItems))
+    done (a-call false (get 7 (replicate 8 0))) ∷ done (a-call true (write Insert 8 (small 5))) ∷ done (a-basket false (basketGiven 2 twoItems))
     ∷ done (a-call false (get 7 (replicate 8 0))) ∷ done (a-call false (get 9 (replicate 8 0))) ∷ []
 
 -- all of it after the basket of three keys is torn, a call for the owner

@@ -9,7 +9,7 @@ use Rattle.layout.specs.Record.{keyWith}
 use Rattle.calls.specs.Format.{formatted}
 use Rattle.index.specs.declared.Mode.the-variants.{Insert, Replace}
 use Rattle.plainmap.specs.World.{World, Call, write, remove, get, callResult, Restart, restarted}
-use Rattle.cutrule.specs.Request.{Request, a-call}
+use Rattle.cut_rule.specs.Request.{Request, a-call}
 use Rattle.interface.specs.Event.{Cut, Event, done, struck, requestOf, step}
 
 -- what each call of a list answers

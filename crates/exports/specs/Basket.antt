@@ -6,7 +6,7 @@ use lib.Dec.{eqb, ltb}
 use lib.ListN.{getD}
 use Rattle.prelude.specs.Answer.{Answer, gives, absent, refused, refusalIn}
 use Rattle.prelude.specs.Range.{anyOf}
-use Rattle.interface.specs.Set.{State, Action, Inserting, Replacing, Removing, BasketItem, BasketBuffers, Index, indexOf}
+use Rattle.interface.specs.Set.{State, Action, Write, Remove, Insert, Replace, BasketItem, BasketBuffers, Index, indexOf}
 
 -- ---- what is asked
 
@@ -15,7 +15,7 @@ unfoldable pub isKind : (kind : ℕ) → Bool
 isKind kind = cond (eqb kind 1) true (cond (eqb kind 2) true (eqb kind 3))
 
 unfoldable pub actionOf : (kind : ℕ) → Action
-actionOf kind = cond (eqb kind 1) Inserting (cond (eqb kind 2) Replacing Removing)
+actionOf kind = cond (eqb kind 1) (Write Insert) (cond (eqb kind 2) (Write Replace) Remove)
 
 unfoldable pub unknownKind : (kinds : List ℕ) → (count : ℕ) → Bool
 unknownKind kinds count = anyOf (λ i. not (isKind (getD kinds i 0))) 0 count
@@ -44,7 +44,8 @@ givenItems kinds lows highs lengths =
 
 -- ---- what is returned and left
 
--- what a basket returns, 0 or a refusal's number, and the lent answer, state, lists and index after it
+-- what a basket returns, 0 or a refusal's number, and the lent answer, lists and index, its state
+-- included, after it
 pub record BasketCall : Type 0 where
   pub returns : ℕ
   pub answer : List ℕ

@@ -43,8 +43,8 @@ formatCall r answer = record { returns = refusalIn (r .answer); answer = answere
 
 -- ---- recover
 
--- what a call of recover returns, 0 or a refusal's number and slot, and the lent state, invalidating stores and index
--- after it
+-- what a call of recover returns, 0 or a refusal's number and slot, and the lent invalidating stores and index, its
+-- state included, after it
 pub record RecoverCall : Type 0 where
   pub returns : ℕ
   pub invalidations : Invalidations
@@ -72,8 +72,8 @@ recoverCall r s invalidations =
 
 -- ---- insert, replace and remove
 
--- what a call that writes returns, 0 or a refusal's number with the slots compared, and the lent answer, state, stores
--- and index after it
+-- what a call that writes returns, 0 or a refusal's number with the slots compared, and the lent answer, stores and
+-- index, its state included, after it
 pub record ChangeCall : Type 0 where
   pub returns : ℕ
   pub answer : List ℕ

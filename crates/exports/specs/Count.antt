@@ -6,7 +6,7 @@ use Rattle.prelude.specs.Answer.{givenOr}
 use Rattle.interface.specs.Set.{CountResult, Lists}
 use Rattle.exports.specs.Call.{returnedWith}
 
--- 0 or a refusal's number and slot, and the lent counts and index after the call
+-- 0 or a refusal's number and slot, and the lent counts, heads and next after the call
 pub record CountCall : Type 0 where
   pub returns : ℕ
   pub counts : List ℕ

@@ -11,6 +11,7 @@ use orderset::Action;
 use orderset::BasketAnswer;
 use orderset::BasketItem;
 use orderset::BasketOutcome;
+use orderset::Mode;
 
 // Is it one of the three kinds?
 fn is_kind(kind: u32) -> bool
@@ -30,10 +31,10 @@ fn action_of(kind: u32) -> Action
     ensures { λ r. ⌜ r ≡ actionOf kind ⌝ }
 {
     if kind == 1 {
-        return Action::Insert;
+        return Action::Write(Mode::Insert);
     }
     if kind == 2 {
-        return Action::Replace;
+        return Action::Write(Mode::Replace);
     }
     Action::Remove
 }
@@ -107,7 +108,7 @@ pub fn given_items(
 }
 
 // A slot's number as one of 64 bits.
-fn wide(slot: u32) -> u64
+fn slot_as_word(slot: u32) -> u64
     ensures { λ r. ⌜ r ≡ slot ⌝ }
 {
     slot as u64
@@ -119,14 +120,14 @@ fn answer_of(version: u64, slots: [u32; 8]) -> [u64; 9]
 {
     [
         version,
-        wide(slots[0]),
-        wide(slots[1]),
-        wide(slots[2]),
-        wide(slots[3]),
-        wide(slots[4]),
-        wide(slots[5]),
-        wide(slots[6]),
-        wide(slots[7]),
+        slot_as_word(slots[0]),
+        slot_as_word(slots[1]),
+        slot_as_word(slots[2]),
+        slot_as_word(slots[3]),
+        slot_as_word(slots[4]),
+        slot_as_word(slots[5]),
+        slot_as_word(slots[6]),
+        slot_as_word(slots[7]),
     ]
 }
 

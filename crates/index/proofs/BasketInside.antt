@@ -13,7 +13,8 @@ use Rattle.index.specs.Change.{append, linkNew, insertAt, replaceAt, rem
 use Rattle.index.specs.Allocation.{Taken, Allocation, taken, tooFew, badLink, withTaken, atEnd, allocationWalk, allocateFrom}
 use Rattle.index.specs.Basket.{slotBefore, Item, linkBy, linkItem}
 use Rattle.index.specs.declared.Action.{Action}
-use Rattle.index.specs.declared.Action.the-variants.{Insert, Replace, Remove}
+use Rattle.index.specs.declared.Action.the-variants.{Write, Remove}
+use Rattle.index.specs.declared.Mode.the-variants.{Insert, Replace}
 use Rattle.index.proofs.Links.{link-last, set-last}
 
 -- ---- the slots taken
@@ -79,8 +80,8 @@ choose-high n false x y a c = c
 
 link-by-last : (n : ℕ) (i : Index) (a : Action) (h old s : ℕ) → i .state .last ≤ n → old ≤ n → s ≤ n → linkBy n i a h old s .state .last ≤ n
 unfolding linkBy insertAt replaceAt removeAt append linkNew setLast
-link-by-last n i Insert h old s l o k = rw (link-last, set-last) l
-link-by-last n i Replace h old s l o k = omega arith
+link-by-last n i (Write Insert) h old s l o k = rw (link-last, set-last) l
+link-by-last n i (Write Replace) h old s l o k = omega arith
 link-by-last n i Remove h old s l o k = omega arith
 
 pub link-item-last : (n : ℕ) (i : Index) (k : Item) → i .state .last ≤ n → k .old ≤ n → k .slot ≤ n → linkItem n i k .state .last ≤ n

@@ -7,7 +7,8 @@ use Rattle.index.specs.Index.{Index, setLast}
 use Rattle.index.specs.Allocation.{Taken}
 use Rattle.index.specs.Basket.{takeSlot, takeAll, Item, linkBy, linkItem, linkAll, basketIndex}
 use Rattle.index.specs.declared.Action.{Action}
-use Rattle.index.specs.declared.Action.the-variants.{Insert, Replace, Remove}
+use Rattle.index.specs.declared.Action.the-variants.{Write, Remove}
+use Rattle.index.specs.declared.Mode.the-variants.{Insert, Replace}
 use Rattle.index.proofs.Links.{link-size, link-heads}
 use Rattle.index.proofs.CallWrites.{insert-at-next, insert-at-heads, replace-at-next, replace-at-heads, remove-at-next, remove-at-heads}
 
@@ -31,14 +32,14 @@ take-all-heads i (t ∷ ts) = take-all-heads (takeSlot i t) ts ∙ take-slot-hea
 
 link-by-next : (n : ℕ) (i : Index) (a : Action) (h old s : ℕ) → length (linkBy n i a h old s .next) ≡ length (i .next)
 unfolding linkBy
-link-by-next n i Insert h old s = insert-at-next _ _ _ _
-link-by-next n i Replace h old s = replace-at-next _ _ _ _ _
+link-by-next n i (Write Insert) h old s = insert-at-next _ _ _ _
+link-by-next n i (Write Replace) h old s = replace-at-next _ _ _ _ _
 link-by-next n i Remove h old s = remove-at-next _ _ _ _ _
 
 link-by-heads : (n : ℕ) (i : Index) (a : Action) (h old s : ℕ) → length (linkBy n i a h old s .heads) ≡ length (i .heads)
 unfolding linkBy
-link-by-heads n i Insert h old s = insert-at-heads _ _ _ _
-link-by-heads n i Replace h old s = replace-at-heads _ _ _ _ _
+link-by-heads n i (Write Insert) h old s = insert-at-heads _ _ _ _
+link-by-heads n i (Write Replace) h old s = replace-at-heads _ _ _ _ _
 link-by-heads n i Remove h old s = remove-at-heads _ _ _ _ _
 
 pub link-item-next : (n : ℕ) (i : Index) (k : Item) → length (linkItem n i k .next) ≡ length (i .next)

@@ -16,7 +16,9 @@ use Rattle.index.specs.inner.Parts.{linkHeads, linkNext, appendNext, app
 use Rattle.index.specs.inner.Basket.{takensFrom, leftState}
 use Rattle.index.specs.declared.State.{State}
 use Rattle.index.specs.declared.Action.{Action}
-use Rattle.index.specs.declared.Action.the-variants.{Insert, Replace, Remove}
+use Rattle.index.specs.declared.Mode.{Mode}
+use Rattle.index.specs.declared.Action.the-variants.{Write, Remove}
+use Rattle.index.specs.declared.Mode.the-variants.{Insert, Replace}
 use Rattle.index.proofs.Writes.{index-link, index-append}
 use Rattle.index.proofs.BasketInside.{before-high}
 
@@ -141,7 +143,7 @@ before-within next n target first r e size = omega (arith, e, before-high next n
 module _ (n : ℕ) (heads next : List ℕ) (s : State) (h slot p : ℕ) (heads′ next₁ : List ℕ) where
   pub insert-linked : p ≡ slotBefore next n n 0 0 (getD heads h 0) → heads′ ≡ linkHeads heads h p slot
       → next₁ ≡ linkNext (set next slot 0) p slot
-      → indexOf heads′ next₁ s ≡ linkBy n (indexOf heads next s) Insert h 0 slot
+      → indexOf heads′ next₁ s ≡ linkBy n (indexOf heads next s) (Write Insert) h 0 slot
   unfolding linkBy beforeIn insertAt linkNew setNext
   insert-linked ep eh en =
       sym
@@ -151,7 +153,7 @@ module _ (n : ℕ) (heads next : List ℕ) (s : State) (h slot p : ℕ) (heads�
   module _ (old : ℕ) (ep : p ≡ slotBefore next n n old 0 (getD heads h 0)) (next₂ : List ℕ) (back : State) (eb : back ≡ appendState s old)
       (e₂ : next₂ ≡ appendNext next₁ s old) where
     pub replace-linked : heads′ ≡ linkHeads heads h p slot → next₁ ≡ linkNext (set next slot (getD next old 0)) p slot
-        → indexOf heads′ next₂ back ≡ linkBy n (indexOf heads next s) Replace h old slot
+        → indexOf heads′ next₂ back ≡ linkBy n (indexOf heads next s) (Write Replace) h old slot
     unfolding linkBy beforeIn replaceAt linkNew setNext appendState
     replace-linked eh e₁ =
         sym
@@ -176,12 +178,12 @@ module _ (n : ℕ) (heads next : List ℕ) (s : State) (h old slot : ℕ) (heads
   abbrev linked : Action → ℕ → Type 0
   linked by o = indexOf heads′ next′ r ≡ linkBy n (indexOf heads next s) by h o slot
 
-  pub inserted : {a : Action} → a ≡ Insert → linked Insert 0 → linked a old
+  pub inserted : {a : Action} {mode : Mode} → a ≡ Write mode → mode ≡ Insert → linked (Write Insert) 0 → linked a old
   unfolding linkBy
-  inserted e p = rw e p
+  inserted e d p = rw (e, d) p
 
-  pub replaced : {a : Action} → a ≡ Replace → linked Replace old → linked a old
-  replaced e p = rw e p
+  pub replaced : {a : Action} {mode : Mode} → a ≡ Write mode → mode ≡ Replace → linked (Write Replace) old → linked a old
+  replaced e d p = rw (e, d) p
 
   pub removed : {a : Action} → a ≡ Remove → linked Remove old → linked a old
   removed e p = rw e p

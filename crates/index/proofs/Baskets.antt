@@ -18,7 +18,8 @@ use Rattle.index.specs.Index.{Chain, reuse, head, Index}
 use Rattle.index.specs.Linked.{Owner, free, of, Entry, WellFormed, placed, ChainsPartition}
 use Rattle.index.specs.Basket.{takeAll, takenSlots, Item, linkBy, linkItem, linkAll, basketIndex}
 use Rattle.index.specs.declared.Action.{Action}
-use Rattle.index.specs.declared.Action.the-variants.{Insert, Replace, Remove}
+use Rattle.index.specs.declared.Action.the-variants.{Write, Remove}
+use Rattle.index.specs.declared.Mode.the-variants.{Insert, Replace}
 use Rattle.index.proofs.defs.Linked.{give, withChain}
 use Rattle.index.proofs.defs.TakenIn.{takesIn}
 use Rattle.index.proofs.defs.Items.{freed, itemSlots, oldsBy, oldsOf, appendsBy, appendsOf, goesTo, movedOne, movedBy, OldStands, Ready, Linkable}
@@ -141,13 +142,13 @@ module _
   nobody : freed (placed n place) (s ∷ rest) s ≡ free
   nobody = freed-in (placed n place) (s ∷ rest) s (inl refl)
 
-  insert-step : h < length (i .heads) → old ≡ 0 → Between n (movedOne (item Insert) place) rest (linkBy n i Insert h old s) (chains reuse ++ [])
+  insert-step : h < length (i .heads) → old ≡ 0 → Between n (movedOne (item (Write Insert)) place) rest (linkBy n i (Write Insert) h old s) (chains reuse ++ [])
   unfolding goesTo
   insert-step a e =
       record {
         chains = withChain chains (head h) (chains (head h) ++ s ∷ []);
         formed =
-            formed-alike (linkBy n i Insert h old s) _ _ _ _ (owners-new n (item Insert) place rest ls alone e) refl
+            formed-alike (linkBy n i (Write Insert) h old s) _ _ _ _ (owners-new n (item (Write Insert)) place rest ls alone e) refl
             (formed-insert-by i _ chains n h s g z entry nobody old a);
         reuse-is = with-other chains (head h) (chains (head h) ++ s ∷ []) reuse (reuse-apart h) ∙ sym (append-nil (chains reuse));
       }
@@ -167,18 +168,18 @@ module _
     reuse-then new zs =
         with-other (withChain chains reuse (chains reuse ++ new)) (head h) zs reuse (reuse-apart h) ∙ with-same chains reuse (chains reuse ++ new)
 
-    replace-step : Between n (movedOne (item Replace) place) rest (linkBy n i Replace h old s) (chains reuse ++ old ∷ [])
+    replace-step : Between n (movedOne (item (Write Replace)) place) rest (linkBy n i (Write Replace) h old s) (chains reuse ++ old ∷ [])
     unfolding goesTo
     replace-step = go stood
       where
-        go : Seen (λ y. y) old (chains (head h)) → Between n (movedOne (item Replace) place) rest (linkBy n i Replace h old s) (chains reuse ++ old ∷ [])
+        go : Seen (λ y. y) old (chains (head h)) → Between n (movedOne (item (Write Replace)) place) rest (linkBy n i (Write Replace) h old s) (chains reuse ++ old ∷ [])
         go (miss none) = absurd (none old (g .disjoint .owned .has (head h) old owned-old) refl)
         go (hit xs x ys d e none) =
             record {
               chains = withChain (withChain chains reuse (chains reuse ++ old ∷ [])) (head h) (xs ++ s ∷ ys);
               formed =
-                  formed-alike (linkBy n i Replace h old s) _ _ _ _
-                  (owners-old n (item Replace) place rest ls alone lo (untaken s (inl refl)) (λ m. untaken old (inr m) refl)) refl
+                  formed-alike (linkBy n i (Write Replace) h old s) _ _ _ _
+                  (owners-old n (item (Write Replace)) place rest ls alone lo (untaken s (inl refl)) (λ m. untaken old (inr m) refl)) refl
                   (formed-replace-by i _ chains n h s g z entry nobody xs old ys (d ∙ ap (λ (y : ℕ). xs ++ y ∷ ys) e) none);
               reuse-is = reuse-then (old ∷ []) (xs ++ s ∷ ys);
             }
@@ -204,8 +205,8 @@ step-by : (n : ℕ) (a : Action) (h old s : ℕ) (place : ℕ → Chain) (rest :
     → (In s rest → ⊥) → ((x : ℕ) → In x (s ∷ rest) → Slot n x × (place x ≡ reuse))
     → Between n (movedOne (record { action = a; key-head = h; old = old; slot = s }) place) rest (linkBy n i a h old s) (chains reuse ++ appendsBy a old s)
 unfolding appendsBy
-step-by n Insert h old s place rest i chains g z l o alone taken = insert-step n h old s place rest i chains g z (taken s (inl refl) .0) alone l o
-step-by n Replace h old s place rest i chains g z l o alone taken =
+step-by n (Write Insert) h old s place rest i chains g z l o alone taken = insert-step n h old s place rest i chains g z (taken s (inl refl) .0) alone l o
+step-by n (Write Replace) h old s place rest i chains g z l o alone taken =
     replace-step n h old s place rest i chains g z (taken s (inl refl) .0) alone (o .0) (o .1) (λ x m. taken x m .1)
 step-by n Remove h old s place rest i chains g z l o alone taken =
     remove-step n h old s place rest i chains g z (taken s (inl refl) .0) alone (o .0) (o .1) (λ x m. taken x m .1)
@@ -216,20 +217,20 @@ step-by n Remove h old s place rest i chains g z l o alone taken =
 olds-apart : (n : ℕ) (place : ℕ → Chain) (a : Action) (h old : ℕ) (l : List ℕ) → OldStands n place a h old → Once (oldsBy a old ++ l)
     → (y : ℕ) → In y l → 0 < y → y ≡ old → ⊥
 unfolding oldsBy
-olds-apart n place Insert h old l e o y m k d = omega arith
-olds-apart n place Replace h old l e o y m k d = o .0 (rw d at m)
+olds-apart n place (Write Insert) h old l e o y m k d = omega arith
+olds-apart n place (Write Replace) h old l e o y m k d = o .0 (rw d at m)
 olds-apart n place Remove h old l e o y m k d = o .0 (rw d at m)
 
 olds-rest : (a : Action) (old : ℕ) (l : List ℕ) → Once (oldsBy a old ++ l) → Once l
 unfolding oldsBy
-olds-rest Insert old l o = o
-olds-rest Replace old l o = o .1
+olds-rest (Write Insert) old l o = o
+olds-rest (Write Replace) old l o = o .1
 olds-rest Remove old l o = o .1
 
 -- an old slot is no slot taken from reuse
 old-untaken : (n : ℕ) (place : ℕ → Chain) (a : Action) (h old x : ℕ) → OldStands n place a h old → 0 < x → place x ≡ reuse → x ≡ old → ⊥
-old-untaken n place Insert h old x e k p d = omega arith
-old-untaken n place Replace h old x e k p d = reuse-apart h (sym p ∙ ap place d ∙ e .1)
+old-untaken n place (Write Insert) h old x e k p d = omega arith
+old-untaken n place (Write Replace) h old x e k p d = reuse-apart h (sym p ∙ ap place d ∙ e .1)
 old-untaken n place Remove h old x e k p d = reuse-apart h (sym p ∙ ap place d ∙ e .1)
 
 -- after a key's change the other keys' old slots stand where they stood
@@ -243,8 +244,8 @@ module _ (n b : ℕ) (place : ℕ → Chain) (k : Item) (p : place (k .slot) ≡
   stands-on : (a : Action) (h old : ℕ) → ((y : ℕ) → In y (oldsBy a old) → 0 < y → y ≡ k .old → ⊥)
       → OldStands n place a h old → OldStands n (movedOne k place) a h old
   unfolding oldsBy
-  stands-on Insert h old ne e = e
-  stands-on Replace h old ne e = still h old (ne old (inl refl)) e
+  stands-on (Write Insert) h old ne e = e
+  stands-on (Write Replace) h old ne e = still h old (ne old (inl refl)) e
   stands-on Remove h old ne e = still h old (ne old (inl refl)) e
 
   ready-on : (ks : List Item) → ((y : ℕ) → In y (oldsOf ks) → 0 < y → y ≡ k .old → ⊥) → All (Ready n b place) ks

@@ -11,7 +11,8 @@ use Rattle.prelude.proofs.Lists.{in-left}
 use Rattle.index.specs.Index.{Chain, reuse, head, Index, start, ahead}
 use Rattle.index.specs.Linked.{Run, endOf, Owner, free, of, Entry, Disjoint, WellFormed}
 use Rattle.index.specs.Basket.{slotBefore, beforeIn, linkBy}
-use Rattle.index.specs.declared.Action.the-variants.{Insert, Replace, Remove}
+use Rattle.index.specs.declared.Action.the-variants.{Write, Remove}
+use Rattle.index.specs.declared.Mode.the-variants.{Insert, Replace}
 use Rattle.index.proofs.defs.Linked.{give, withChain}
 use Rattle.index.proofs.Paths.{run-alike}
 use Rattle.index.proofs.Links.{ahead-next}
@@ -74,12 +75,12 @@ module _
     (i : Index) (owner : ℕ → Owner) (chains : Chain → List ℕ) (n h s : ℕ) (g : WellFormed i owner chains) (z : length (i .next) ≡ n + 1)
     (t : Entry i s) (f : owner s ≡ free) where
   pub formed-insert-by : (old : ℕ) → h < length (i .heads)
-      → WellFormed (linkBy n i Insert h old s) (give owner s (of (head h))) (withChain chains (head h) (chains (head h) ++ s ∷ []))
+      → WellFormed (linkBy n i (Write Insert) h old s) (give owner s (of (head h))) (withChain chains (head h) (chains (head h) ++ s ∷ []))
   unfolding linkBy
   formed-insert-by old a = formed-insert-at _ _ _ h _ s g t f a (before-end i owner chains n h (g .disjoint) z)
 
   module _ (xs : List ℕ) (old : ℕ) (ys : List ℕ) (d : chains (head h) ≡ xs ++ old ∷ ys) (ne : (x : ℕ) → In x xs → x ≡ old → ⊥) where
-    pub formed-replace-by : WellFormed (linkBy n i Replace h old s) (give (give owner s (of (head h))) old (of reuse))
+    pub formed-replace-by : WellFormed (linkBy n i (Write Replace) h old s) (give (give owner s (of (head h))) old (of reuse))
         (withChain (withChain chains reuse (chains reuse ++ old ∷ [])) (head h) (xs ++ s ∷ ys))
     unfolding linkBy
     formed-replace-by = formed-replace-at _ _ _ h _ s g t f xs old ys d (before-slot i owner chains n h (g .disjoint) z xs old ys d ne)

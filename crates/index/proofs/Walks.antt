@@ -1,4 +1,4 @@
--- Following a chain: one law for each way out of a turn of `find`, and what a search finds lies inside the index. Assumes nothing.
+-- Following a chain: one law for each way out of a turn of `find_key`, and what a search finds lies inside the index. Assumes nothing.
 use mathlib.Core.Path.{_≡_, refl, sym, ap, ap₂, _∙_, subst}
 use mathlib.Core.Bool.{Bool, true, false, cond}
 use mathlib.Core.List.{List}

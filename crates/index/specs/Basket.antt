@@ -9,7 +9,8 @@ use Rattle.index.specs.Index.{Index, reuse, setLast, link}
 use Rattle.index.specs.Change.{insertAt, replaceAt, removeAt}
 use Rattle.index.specs.Allocation.{Taken}
 use Rattle.index.specs.declared.Action.{Action}
-use Rattle.index.specs.declared.Action.the-variants.{Insert, Replace, Remove}
+use Rattle.index.specs.declared.Action.the-variants.{Write, Remove}
+use Rattle.index.specs.declared.Mode.the-variants.{Insert, Replace}
 
 -- ---- "takes all its slots"
 
@@ -55,8 +56,8 @@ pub record Item : Type 0 where
 
 -- its change of the index; the slot before it is looked for by slot number, in the index that the keys before it left
 unfoldable pub linkBy : (n : ℕ) → Index → Action → (h old s : ℕ) → Index
-linkBy n i Insert h old s = insertAt i h (beforeIn i n h 0) s
-linkBy n i Replace h old s = replaceAt i h (beforeIn i n h old) old s
+linkBy n i (Write Insert) h old s = insertAt i h (beforeIn i n h 0) s
+linkBy n i (Write Replace) h old s = replaceAt i h (beforeIn i n h old) old s
 linkBy n i Remove h old s = removeAt i h (beforeIn i n h old) old s
 
 unfoldable pub linkItem : (n : ℕ) → Index → Item → Index

@@ -44,6 +44,11 @@ unfoldable pub keyFault : Mode → (held : Bool) → ℕ
 keyFault Insert held = refuseIf held 20 0
 keyFault Replace held = refuseIf (not held) 21 0
 
+-- how many keys a write inserts
+unfoldable pub insertsOf : Mode → ℕ
+insertsOf Insert = 1
+insertsOf Replace = 0
+
 -- is the key there, by what following its chain found?
 unfoldable pub isFound : Found → Bool
 isFound (At slot prev compared) = true

@@ -1,11 +1,13 @@
--- The index as lists of numbers. Document 01, "The index". For any numbers, an index of the image or not.
+-- The index as lists of numbers. Document 01, "The index". The numbers may be any: the index need not be the image's
+-- own.
 use mathlib.Core.List.{List}
 use Prim.Native.Nat.{ℕ, zero, suc, _%_, _^_}
 use lib.ListN.{getD, set}
 use Rattle.index.specs.declared.State.{State}
 
 -- "Heads: B numbers of 32 bits .. Next: N + 1 numbers of 32 bits", and the "state beside them", which "holds the reuse
--- chain's first and last slot, the live count and the next version"; it also names the newest slot
+-- chain's first and last slot, the live count and the next version"; it also names the newest slot, one of
+-- the highest valid version
 pub record Index : Type 0 where
   pub heads : List ℕ
   pub next : List ℕ

@@ -1,4 +1,5 @@
--- What a well-formed index is: the slots of each chain, whose each slot is, and how a reader sees a chain.
+-- What a well-formed index is: the slots of each chain, which chain each slot stands in, and how a reader sees
+-- a chain.
 use mathlib.Core.Path.{_≡_}
 use mathlib.Core.Bool.{cond}
 use mathlib.Core.List.{List, [], _∷_}

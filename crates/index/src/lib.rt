@@ -41,7 +41,6 @@ pub enum Lookup {
 
 // What a basket asks for one of its keys.
 pub enum Action {
-    Insert,
-    Replace,
+    Write(Mode),
     Remove,
 }

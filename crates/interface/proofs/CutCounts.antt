@@ -27,12 +27,12 @@ use Rattle.stores.specs.Written.{run, lineStores, recordStores}
 use Rattle.stores.specs.Play.{wordNumbers, values, playing, halfCounts}
 use Rattle.stores.proofs.AllStand.{stand-lines, lines-stand}
 use Rattle.stores.proofs.Table.{record-carries, record-off}
-use Rattle.cutcount.specs.Maps.{sameValue, sameMap}
+use Rattle.cut_counts.specs.Maps.{sameValue, sameMap}
 use Rattle.recovery.specs.Recover.{recoverFault}
-use Rattle.cutcount.specs.CutCount.{acceptanceFault, haveOneMap, cutImage, pairTest, countPairs, earlierCount, laterCount, cutCountResult}
-use Rattle.cutcount.proofs.Maps.{decides-equal, same-value, value-same}
-use Rattle.cutcount.proofs.Indexes.{index-fine, accepted-clear}
-use Rattle.cutcount.proofs.Pairs.{cut-length, copies-fine, counts-given}
+use Rattle.cut_counts.specs.CutCount.{acceptanceFault, haveOneMap, cutImage, pairTest, countPairs, earlierCount, laterCount, cutCountResult}
+use Rattle.cut_counts.proofs.Maps.{decides-equal, same-value, value-same}
+use Rattle.cut_counts.proofs.Indexes.{index-fine, accepted-clear}
+use Rattle.cut_counts.proofs.Pairs.{cut-length, copies-fine, counts-given}
 use Rattle.plainmap.specs.World.{World, Call, write, remove, get, locate, callResult, readsOnly, afterRounds}
 use Rattle.plainmap.specs.Plain.{PlainMap, updates, updated, plainNext, plainStep, plainAnswer}
 use Rattle.plainmap.specs.Claims.{Typed, slotsMap, expectedRefusal, CallCorrect}

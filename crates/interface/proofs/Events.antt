@@ -132,10 +132,10 @@ module _ (l : ℕ) (lay : Layout l) (w : World) (m : PlainMap) (g : Refines l w 
 
   pub basket-answers : (b : Basket) → TypedBasket l b → BasketCorrect l w m b
   basket-answers b s =
-      subst (λ (x : PlainMap). BasketCorrect l w x b) (fun-ext (g .map)) (basket-right l lay w (g .chains) (g .accepted) (g .sound) (g .none-void) b s)
+      subst (λ (x : PlainMap). BasketCorrect l w x b) (fun-ext (g .map)) (basket-right l lay w (g .chains) (g .accepted) (g .consistent) (g .none-void) b s)
 
   pub basket-steps : (b : Basket) → TypedBasket l b → Stepped l w (basketUpdates (b .changes)) (basketCallResult l w b)
-  basket-steps b s = basket-stepped l lay w (g .chains) (g .accepted) (g .sound) (g .none-void) b s
+  basket-steps b s = basket-stepped l lay w (g .chains) (g .accepted) (g .consistent) (g .none-void) b s
 
   basket-denied : (b : Basket) → TypedBasket l b → isRefusal (basketCallResult l w b .answer) ≡ refuses (expectedBasketRefusal l w m b)
   basket-denied b s = basket-refuses l w m b (basket-answers b s)

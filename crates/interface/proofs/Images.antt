@@ -66,11 +66,11 @@ accepted-gives l lay image m a h =
       keys = keysTo (tableOf l image) (slotsIn image) (slotsIn image);
       held = map-keys (tableOf l image) (slotsIn image) m h;
       count = live-keys (tableOf l image) (slotsIn image) m h;
-      opens = λ heads next s.
+      plays-invalidations = λ heads next s.
           list-played image (storesIn (recoverResult l image heads next .invalidations))
           (subst (StoresInside (length image)) (sym (handed-out l lay image a heads next s)) (invalidating-stores-inside l lay image a));
-      opens-some = round-plays l lay image a;
-      few-opened = few-handed l lay image a;
+      plays-some-invalidations = round-plays l lay image a;
+      few-invalidations = few-handed l lay image a;
       again = λ heads next heads′ next′ s p q.
           same-recovery l image heads next heads′ next′ p q (accepted-recovers l image (length heads) (length next) a s);
     }

@@ -26,8 +26,8 @@ use Rattle.table.specs.Complete.{settled, tableOf}
 use Rattle.table.specs.Shared.{sharersFault}
 use Rattle.stores.specs.Invalidation.{invalidatingStores}
 use Rattle.stores.specs.Play.{halvesFault, playFault, playResult, listFault, playListResult}
-use Rattle.counting.specs.Count.{countSays, countResult}
-use Rattle.cutcount.specs.CutCount.{acceptanceFault, argumentsFault, cutCountFault, CutCountResult, cutCountResult}
+use Rattle.slot_counts.specs.Count.{countSays, countResult}
+use Rattle.cut_counts.specs.CutCount.{acceptanceFault, argumentsFault, cutCountFault, CutCountResult, cutCountResult}
 use Rattle.recovery.specs.Invalidation.{voidSlots, invalidationsOf}
 use Rattle.layout.specs.Fault.{markFault, wordFault, faultOf, recordFault}
 use Rattle.layout.specs.Record.{limit}
@@ -38,7 +38,7 @@ use Rattle.index.specs.Walk.{search, chainFault}
 use Rattle.index.specs.Change.{keyFault, isFound}
 use Rattle.index.specs.Allocation.{Allocation, taken, tooFew, badLink, endsFault, linkFault, fewFault, reuseFault, roomFault}
 use Rattle.index.specs.declared.Action.{Action}
-use Rattle.index.specs.declared.Action.the-variants.{Insert as Inserting, Replace as Replacing, Remove as Removing}
+use Rattle.index.specs.declared.Action.the-variants.{Write, Remove}
 use Rattle.index.specs.declared.Mode.{Mode}
 use Rattle.index.specs.declared.Mode.the-variants.{Insert, Replace}
 use Rattle.index.specs.declared.State.{State}
@@ -394,15 +394,14 @@ given-due changes at words =
 
 value-due : (l : ℕ) (a : Action) (size : ℕ) → ZeroOrOneOf basketRefusals (valueFault l a size)
 unfolding valueFault
-value-due l Inserting size = refuseIf-due basketRefusals _ 10 0 (one-of 10 basketRefusals refl) (none-due basketRefusals)
-value-due l Replacing size = refuseIf-due basketRefusals _ 10 0 (one-of 10 basketRefusals refl) (none-due basketRefusals)
-value-due l Removing size = none-due basketRefusals
+value-due l (Write mode) size = refuseIf-due basketRefusals _ 10 0 (one-of 10 basketRefusals refl) (none-due basketRefusals)
+value-due l Remove size = none-due basketRefusals
 
 action-due : (a : Action) (held : Bool) → ZeroOrOneOf basketRefusals (actionFault a held)
-unfolding actionFault
-action-due Inserting held = refuseIf-due basketRefusals _ 20 0 (one-of 20 basketRefusals refl) (none-due basketRefusals)
-action-due Replacing held = refuseIf-due basketRefusals _ 21 0 (one-of 21 basketRefusals refl) (none-due basketRefusals)
-action-due Removing held = refuseIf-due basketRefusals _ 21 0 (one-of 21 basketRefusals refl) (none-due basketRefusals)
+unfolding actionFault keyFault
+action-due (Write Insert) held = refuseIf-due basketRefusals _ 20 0 (one-of 20 basketRefusals refl) (none-due basketRefusals)
+action-due (Write Replace) held = refuseIf-due basketRefusals _ 21 0 (one-of 21 basketRefusals refl) (none-due basketRefusals)
+action-due Remove held = refuseIf-due basketRefusals _ 21 0 (one-of 21 basketRefusals refl) (none-due basketRefusals)
 
 module _ (l : ℕ) (image : List ℕ) (i : Index) (changes : List KeyChange) (at words : ℕ) where
   basket-due : ZeroOrOneOf basketRefusals (basketFault l image i changes at words)

@@ -14,8 +14,8 @@ use Rattle.index.specs.declared.Mode.{Mode}
 use Rattle.index.specs.declared.Found.{Found}
 use Rattle.recovery.specs.Invalidation.{invalidationsOf}
 use Rattle.recovery.specs.Recover.{recoverFault, recoverSlot, refusedResult, recoverResult}
-use Rattle.counting.specs.Count.{CountResult, countSays, countResult}
-use Rattle.cutcount.specs.CutCount.{acceptanceFault, cutCountFault, cutCountResult}
+use Rattle.slot_counts.specs.Count.{CountResult, countSays, countResult}
+use Rattle.cut_counts.specs.CutCount.{acceptanceFault, cutCountFault, cutCountResult}
 use Rattle.calls.specs.Compared.{comparedAfter, keyCompared}
 use Rattle.allocation.specs.Allocation.{allocationChosenBy, allocationBy}
 use Rattle.calls.specs.Change.{writeLentFault, writeFault, writeUnless, writeResult, writeCompared, removeFault, removeUnless, removeResult, removeFaultBy, removeResultBy, writeFaultBy, writeResultBy}

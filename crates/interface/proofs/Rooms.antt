@@ -60,6 +60,6 @@ module _ (l : ℕ) (lay : Layout l) where
             restarted-room l lay image a r (fits .rounds) (fits .size) room;
         keeps-room = event-room;
         keeps-basket-room = basket-room;
-        takeable = λ w m g room. room-takeable l w (g .chains) (g .sound) (g .none-void) room;
+        takeable = λ w m g room. room-takeable l w (g .chains) (g .consistent) (g .none-void) room;
         room-right = agrees-room l lay;
       }

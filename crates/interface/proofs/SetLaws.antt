@@ -65,8 +65,8 @@ module _ (l : ℕ) (lay : Layout l) where
     the-lengths =
         record {
           image-size = accepted-long l (w .image) (g .accepted) .size;
-          index = g .sound .size;
-          next-size = index-sized (slotsIn (w .image)) (length (w .index .heads)) (length (w .index .next)) (g .sound .size) .2;
+          index = g .consistent .size;
+          next-size = index-sized (slotsIn (w .image)) (length (w .index .heads)) (length (w .index .next)) (g .consistent .size) .2;
         }
 
     module _ (call : Call) (typed : Typed l call) where
@@ -185,8 +185,8 @@ module _ (l : ℕ) (lay : Layout l) where
         plays-event = event-plays;
         accepts = λ w m g. g .accepted;
         keeps-slots = event-slots l lay;
-        call-by-rule = λ w m g. call-by-rule l lay w (g .chains) (g .accepted) (g .sound) (g .none-void);
-        basket-by-rule = λ w m g. basket-by-rule l lay w (g .chains) (g .accepted) (g .sound) (g .none-void);
+        call-by-rule = λ w m g. call-by-rule l lay w (g .chains) (g .accepted) (g .consistent) (g .none-void);
+        basket-by-rule = λ w m g. basket-by-rule l lay w (g .chains) (g .accepted) (g .consistent) (g .none-void);
         either-call = either-called l lay;
         either-basket = either-basket-called l lay;
         answers-basket = basket-answers l lay;

@@ -132,9 +132,9 @@ module _ (l : ℕ) (lay : Layout l) (w : World) (m : PlainMap) (g : Refines l w 
   pub stored-one : (call : Call) → Typed l call → OneStored l w (callResult l w call .stores)
   unfolding callResult readsOnly
   stored-one (write mode key value) (write-typed k b) =
-      ran-one (write mode key value) key 1 value _ _ refl (write-runs l lay w (g .chains) (g .accepted) (g .sound) (g .none-void) mode key value k b)
+      ran-one (write mode key value) key 1 value _ _ refl (write-runs l lay w (g .chains) (g .accepted) (g .consistent) (g .none-void) mode key value k b)
   stored-one (remove key) (remove-typed k) =
-      ran-one (remove key) key 2 [] _ _ refl (remove-runs l lay w (g .chains) (g .accepted) (g .sound) (g .none-void) key k)
+      ran-one (remove key) key 2 [] _ _ refl (remove-runs l lay w (g .chains) (g .accepted) (g .consistent) (g .none-void) key k)
   stored-one (get key out) s = none-stored refl
   stored-one (locate key) s = none-stored refl
 
@@ -154,8 +154,8 @@ module _ (l : ℕ) (lay : Layout l) (w : World) (m : PlainMap) (g : Refines l w 
       → callResult l w call .stores ≡ [] → ⊥
   unfolding callResult
   some-stores (write mode key value) (write-typed k b) write-writes =
-      ran-stores (write mode key value) key 1 value _ _ refl (write-runs l lay w (g .chains) (g .accepted) (g .sound) (g .none-void) mode key value k b)
-  some-stores (remove key) (remove-typed k) remove-writes = ran-stores (remove key) key 2 [] _ _ refl (remove-runs l lay w (g .chains) (g .accepted) (g .sound) (g .none-void) key k)
+      ran-stores (write mode key value) key 1 value _ _ refl (write-runs l lay w (g .chains) (g .accepted) (g .consistent) (g .none-void) mode key value k b)
+  some-stores (remove key) (remove-typed k) remove-writes = ran-stores (remove key) key 2 [] _ _ refl (remove-runs l lay w (g .chains) (g .accepted) (g .consistent) (g .none-void) key k)
 
 -- a call that answers a refusal is one that the rules refuse
 pub refusal-still : (l : ℕ) (w : World) (m : PlainMap) (call : Call) → CallCorrect l w m call → (number : ℕ) → callResult l w call .answer ≡ refused number

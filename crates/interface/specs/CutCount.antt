@@ -8,8 +8,8 @@ use Prim.Native.Nat.{ℕ}
 use lib.ListN.{length}
 use Rattle.prelude.specs.Answer.{gives}
 use Rattle.stores.specs.Play.{wordNumbers, values}
-use Rattle.cutcount.specs.Maps.{sameValue}
-use Rattle.cutcount.specs.CutCount.{cutCountResult}
+use Rattle.cut_counts.specs.Maps.{sameValue}
+use Rattle.cut_counts.specs.CutCount.{cutCountResult}
 use Rattle.plainmap.specs.World.{World, Call, write, remove, get, locate, callResult}
 use Rattle.plainmap.specs.Plain.{PlainMap}
 use Rattle.plainmap.specs.Claims.{Typed}

@@ -14,7 +14,7 @@ use Rattle.plainmap.specs.Claims.{Typed, expectedRefusal}
 use Rattle.plainmap.specs.Baskets.{Basket, basketCallResult, basketUpdates, expectedBasketRefusal, TypedChange}
 pub use Rattle.plainmap.specs.Accepted.{RoundFits, RestartFits}
 
--- a cut: line n holds its first `counts n` stores, and what comes after it
+-- a cut: of each line n the first `counts n` stores stand; and the restart after it
 pub record Cut : Type 0 where
   pub counts : ℕ → ℕ
   pub restart : Restart
@@ -57,7 +57,8 @@ module _ {A : Type 0} where
 unfoldable pub plainEvent : (stand : Bool) → List Update → (isRefused : Bool) → PlainMap → PlainMap
 plainEvent stand us isRefused m = cond stand (plainStep us isRefused m) m
 
--- an event in an image of n slots: its request's fields are numbers of their size, and its cut fits
+-- an event in an image of n slots: its request's fields are numbers of their size, and each recovery after its
+-- cut is lent an index of the right size
 pub data FitsBy {A : Type 0} (TypedRequest : A → Type 0) (n : ℕ) : Event A → Type 0 where
   done-fits : {request : A} → TypedRequest request → FitsBy TypedRequest n (done request)
   struck-fits : {request : A} {cut : Cut} → TypedRequest request → RestartFits n (cut .restart) → FitsBy TypedRequest n (struck request cut)

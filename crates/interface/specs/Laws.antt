@@ -66,8 +66,8 @@ pub record CallLaws (l : ℕ) : Type 0 where
   -- a call and recovery leave as many heads as they were lent
   pub call-heads : (w : World) (call : Call) → length (callResult l w call .index .heads) ≡ length (w .index .heads)
   pub recovery-heads : (image heads next : List ℕ) → length (recoveredWorld l image heads next .index .heads) ≡ length heads
-  -- an image that recovery does not refuse is an accepted one; and an accepted one it refuses with no index of the right
-  -- size, which every index has with which it refuses nothing
+  -- an image that recovery does not refuse is an accepted one; and an accepted one it refuses with no index of the
+  -- right size, which every index has with which it refuses nothing
   pub accepted : (image : List ℕ) (heads next : ℕ) → recoverFault l image heads next ≡ 0 → Accepted l image
   pub accepts-with : (image : List ℕ) (heads next : ℕ) → Accepted l image → indexFault (slotsIn image) heads next ≡ 0
       → recoverFault l image heads next ≡ 0

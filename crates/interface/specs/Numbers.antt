@@ -12,8 +12,8 @@ use Rattle.index.specs.declared.Mode.{Mode}
 use Rattle.index.specs.declared.Mode.the-variants.{Insert, Replace}
 use Rattle.index.specs.Index.{Index}
 use Rattle.recovery.specs.Recover.{recoverResult}
-use Rattle.counting.specs.Count.{countResult}
-use Rattle.cutcount.specs.CutCount.{cutCountResult}
+use Rattle.slot_counts.specs.Count.{countResult}
+use Rattle.cut_counts.specs.CutCount.{cutCountResult}
 use Rattle.calls.specs.Format.{formatResult}
 use Rattle.calls.specs.Change.{writeResult, removeResult}
 use Rattle.calls.specs.Basket.{basketResult}

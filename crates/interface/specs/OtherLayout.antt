@@ -8,8 +8,8 @@ use Rattle.prelude.specs.Answer.{refused}
 use Rattle.stores.specs.Store.{Store}
 use Rattle.recovery.specs.Invalidation.{invalidationsOf}
 use Rattle.recovery.specs.Recover.{refusedResult, recoverResult}
-use Rattle.counting.specs.Count.{countResult}
-use Rattle.cutcount.specs.CutCount.{cutCountResult}
+use Rattle.slot_counts.specs.Count.{countResult}
+use Rattle.cut_counts.specs.CutCount.{cutCountResult}
 use Rattle.calls.specs.Basket.{basketResult}
 use Rattle.calls.specs.BasketItems.{KeyChange}
 use Rattle.calls.specs.BasketRefusals.{givenFault}

@@ -32,18 +32,18 @@ pub record Recovers (l : ℕ) (image : List ℕ) (m : PlainMap) : Type 0 where
   pub held : Keys m keys
   pub count : (ks : List ℕ) → Keys m ks → liveCount (tableOf l image) (slotsIn image) ≡ length ks
   -- play takes its invalidating stores, of which there are at most eight
-  pub opens : (heads next : List ℕ) → RightSize image heads next
+  pub plays-invalidations : (heads next : List ℕ) → RightSize image heads next
       → ListPlayLeaves image (storesIn (recoverResult l image heads next .invalidations)) (invalidatedWorld l image heads next .image)
   -- and those that stand of them after a cut
-  pub opens-some : (round : Round) → RoundFits (slotsIn image) round
+  pub plays-some-invalidations : (round : Round) → RoundFits (slotsIn image) round
       → ListPlayLeaves image (standing (round .counts) (storesIn (recoverResult l image (round .lent .heads) (round .lent .next) .invalidations)))
       (afterRound l image round)
-  pub few-opened : (heads next : List ℕ) → RightSize image heads next → length (storesIn (recoverResult l image heads next .invalidations)) ≤ 8
+  pub few-invalidations : (heads next : List ℕ) → RightSize image heads next → length (storesIn (recoverResult l image heads next .invalidations)) ≤ 8
   pub again :
       (heads next heads′ next′ : List ℕ) → RightSize image heads next → length heads ≡ length heads′ → length next ≡ length next′
       → recoverResult l image heads next ≡ recoverResult l image heads′ next′
 
--- "If power fails there, recovery runs again": it gives m of every image that any number of recoveries leave, each with a
--- cut among its invalidating stores. Document 02, A.7: "a cut among them is covered"
+-- "If power fails there, recovery runs again": it gives m of every image that any number of recoveries leave, each with
+-- a cut among its invalidating stores. Document 02, A.7: "a cut among them is covered"
 abbrev pub RecoversAlways : (l : ℕ) → (image : List ℕ) → PlainMap → Type 0
 RecoversAlways l image m = (rounds : List Round) → All (RoundFits (slotsIn image)) rounds → Recovers l (afterRounds l image rounds) m

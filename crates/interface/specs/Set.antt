@@ -27,14 +27,14 @@ pub use Rattle.recovery.specs.Recover.{recoverFault, recoverResult}
 unfoldable pub use Rattle.recovery.specs.Recover.{recoverEnd}
 pub use Rattle.recovery.specs.declared.Invalidations.{Invalidations}
 unfoldable pub use Rattle.recovery.specs.Invalidation.{storesIn}
-pub use Rattle.counting.specs.declared.SlotCounts.{SlotCounts}
-pub use Rattle.counting.specs.declared.CountAnswer.{CountAnswer}
-pub use Rattle.counting.specs.declared.CountAnswer.the-variants.{Counted, Refused as NotCounted}
-pub use Rattle.counting.specs.Count.{CountResult}
-unfoldable pub use Rattle.counting.specs.Count.{countValues, countEnd, countSays, countResult}
-pub use Rattle.cutcount.specs.declared.CutCounts.{CutCounts}
-pub use Rattle.cutcount.specs.CutCount.{earlierCount, laterCount, cutCountFault, CutCountResult, cutCountEnd}
-unfoldable pub use Rattle.cutcount.specs.CutCount.{cutCountSays, cutCountResult}
+pub use Rattle.slot_counts.specs.declared.SlotCounts.{SlotCounts}
+pub use Rattle.slot_counts.specs.declared.CountAnswer.{CountAnswer}
+pub use Rattle.slot_counts.specs.declared.CountAnswer.the-variants.{Counted, Refused as NotCounted}
+pub use Rattle.slot_counts.specs.Count.{CountResult}
+unfoldable pub use Rattle.slot_counts.specs.Count.{countValues, countEnd, countSays, countResult}
+pub use Rattle.cut_counts.specs.declared.CutCounts.{CutCounts}
+pub use Rattle.cut_counts.specs.CutCount.{earlierCount, laterCount, cutCountFault, CutCountResult, cutCountEnd}
+unfoldable pub use Rattle.cut_counts.specs.CutCount.{cutCountSays, cutCountResult}
 pub use Rattle.calls.specs.Format.{FormatResult}
 pub use Rattle.calls.specs.Format.{formatted, formatEnd}
 unfoldable pub use Rattle.calls.specs.Format.{formatSays, layoutFault, formatFault, formatResult}
@@ -69,7 +69,7 @@ pub use Rattle.plainmap.specs.Claims.{Typed, write-typed, remove-typed, get-typ
 pub use Rattle.plainmap.specs.Room.{SomeTakeable, InsertsNew, RoomCorrect}
 -- baskets
 pub use Rattle.index.specs.declared.Action.{Action}
-pub use Rattle.index.specs.declared.Action.the-variants.{Insert as Inserting, Replace as Replacing, Remove as Removing}
+pub use Rattle.index.specs.declared.Action.the-variants.{Write, Remove}
 pub use Rattle.calls.specs.declared.BasketItem.{BasketItem}
 pub use Rattle.calls.specs.declared.BasketAnswer.{BasketAnswer}
 pub use Rattle.calls.specs.Basket.{basketResult, basketResultBy}

@@ -1,5 +1,5 @@
-// The interface of the set: what a layer above may know of it. Its types, handed on; in specs the definitions, the events
-// and the laws.
+// The interface of the set: what a layer above may know of it. Its types, handed on; in specs the definitions, the
+// events and the laws.
 pub use calls::Change;
 pub use calls::Formatted;
 pub use calls::GetAnswer;

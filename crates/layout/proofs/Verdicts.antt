@@ -36,7 +36,7 @@ module _ (mark stamp : ℕ) (w : Bool) (e : w ≡ whole mark stamp) where
     pair-whole t r u v p q =
         ap₂ eqb p q ∙ sym (pick-true (whole mark stamp) _ _ (sym e ∙ t) ∙ pick-true (whole mb sb) _ _ (sym f ∙ r))
 
--- judge: p says whether the lines are a pair, and v is the version of line A
+-- verdict_of: p says whether the lines are a pair, and v is the version of line A
 module _ (ma sa mb sb : ℕ) (p : Bool) (e : p ≡ paired ma sa mb sb) where
   module _ (v : ℕ) (f : v ≡ versionOf sa) where
     pub judged-empty : p ≡ true → v ≡ 0 → Empty ≡ verdictOf ma sa mb sb

@@ -1,4 +1,4 @@
--- The content of a slot: all that the rules of document 01 read of it.
+-- The content of a slot: what the map and the chains need of it.
 use mathlib.Core.Bool.{cond}
 use mathlib.Core.List.{List}
 use Prim.Native.Nat.{ℕ, _+_}
@@ -17,7 +17,8 @@ pub data Content : Type 0 where
   putRecord : (version key : ℕ) → (value : List ℕ) → Content
   removeRecord : (version key : ℕ) → Content
 
--- the record that these fields make: "kind 1 put, 2 remove"
+-- the record that these fields make: "kind 1 put, 2 remove". Any other kind counts as a put here, and recovery refuses
+-- it with 22
 unfoldable pub contentOfRecord : (kind version key : ℕ) → List ℕ → Content
 contentOfRecord kind version key value = cond (eqb kind 2) (removeRecord version key) (putRecord version key value)
 
@@ -50,11 +51,11 @@ highestWholeIn (removeRecord version key) = version
 abbrev pub Table : Type 0
 Table = ℕ → Content
 
--- the number in the kind word of slot s
+-- the number in the kind word of slot s: how many records share its version, 0 for one. Document 02, A.7
 abbrev pub sizeFieldIn : (l : ℕ) → (ℕ → ℕ) → ℕ → ℕ
 sizeFieldIn l m s = sizeField (lineA m s (l + 1))
 
--- what the slots of an image hold that is given by its bytes, void records as the others
+-- what the slots of an image hold, by its bytes; void records (table/specs/Complete) are as any other here
 abbrev pub contentsOf : (l : ℕ) → (image : List ℕ) → Table
 contentsOf l image = content l (word image)
 

@@ -1,3 +1,3 @@
-// Lines, slots, the header and the fields of a record, read from the words of an image.
+// The header of an image, and the words of a value.
 pub mod header;
 pub mod value;

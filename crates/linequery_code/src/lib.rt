@@ -4,11 +4,11 @@ ghost use mathlib.Core.Path.{_≡_};
 ghost use mathlib.Core.Bool.{cond};
 ghost use Rattle.layout.specs.Line.{whole};
 ghost use Rattle.linequery.specs.Query.{sliceFault, nextFault, queryEnd, wholeQuery, versionQuery, firstQuery, lastQuery};
-use line_code::line::first_word;
-use line_code::line::is_whole;
-use line_code::line::last_word;
-use line_code::line::version_fault;
-use line_code::line::version_of;
+use layout_line_code::line::first_word;
+use layout_line_code::line::is_whole;
+use layout_line_code::line::last_word;
+use layout_line_code::line::version_fault;
+use layout_line_code::line::version_of;
 use words_code::read_word;
 use words_code::write_word;
 

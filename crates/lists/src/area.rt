@@ -4,9 +4,9 @@ use crate::both::Numbers;
 use crate::both::Side;
 use crate::both::empty;
 use crate::both::show_equal;
-use lent_list_code::lent::LogListed;
-use lent_list_code::lent::append_lent;
-use lent_list_code::lent::recover_lent;
+use lists_code::lent::LogListed;
+use lists_code::lent::append_lent;
+use lists_code::lent::recover_lent;
 use log::LogOutcome;
 use log_code::append;
 use log_code::recover_log;
@@ -25,7 +25,7 @@ pub fn area(both: Both, cells: u64) -> Both {
 }
 
 // What a call answered is printed; the count of stores.
-fn told(handed: LogOutcome) -> usize {
+fn show_log_form(handed: LogOutcome) -> usize {
     match handed {
         LogOutcome::Stored { number, count } => {
             show::text(b" ok");
@@ -54,7 +54,7 @@ fn append_numbers(side: Side, size: usize, numbers: Numbers, message: &[u8]) -> 
     let t = numbers_of(48, &at);
     let v = values_of(48, &value);
     let handed = append(&bytes[..a], message, &mut at[..t], &mut value[..v]);
-    let count = told(handed);
+    let count = show_log_form(handed);
     Counted {
         numbers: Numbers { at, value },
         count,
@@ -75,7 +75,7 @@ fn recover_numbers(side: Side, size: usize, numbers: Numbers) -> Counted {
     let t = numbers_of(48, &at);
     let v = values_of(48, &value);
     let handed = recover_log(&bytes[..a], &mut at[..t], &mut value[..v]);
-    let count = told(handed);
+    let count = show_log_form(handed);
     Counted {
         numbers: Numbers { at, value },
         count,
@@ -91,7 +91,7 @@ fn recover_listed(side: Side, size: usize, stores: [Store; 48]) -> LogListed {
 // The second answer, and in how many first entries the lists are equal.
 fn answered(both: Both, counted: Counted, listed: LogListed) -> Both {
     let answer = listed.answer;
-    told(answer);
+    show_log_form(answer);
     let numbers = counted.numbers;
     let stores = listed.list;
     show_equal(numbers, stores);
@@ -102,7 +102,7 @@ fn answered(both: Both, counted: Counted, listed: LogListed) -> Both {
     after
 }
 
-pub fn appended(both: Both, n: [u64; 5]) -> Both {
+pub fn append_both(both: Both, n: [u64; 5]) -> Both {
     let first = both.first;
     let second = both.second;
     let numbers = both.numbers;
@@ -115,7 +115,7 @@ pub fn appended(both: Both, n: [u64; 5]) -> Both {
     answered(both, counted, listed)
 }
 
-pub fn recovered(both: Both) -> Both {
+pub fn recover_both(both: Both) -> Both {
     let first = both.first;
     let second = both.second;
     let numbers = both.numbers;

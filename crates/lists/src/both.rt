@@ -2,6 +2,7 @@
 // with number slices, the second by those with a list of stores.
 use orderset::Action;
 use orderset::BasketItem;
+use orderset::Mode;
 use orderset::State;
 use orderset::Store;
 
@@ -39,9 +40,9 @@ pub struct Both {
     pub basket: Named,
 }
 
-pub fn no_items() -> Named {
+pub fn empty_basket() -> Named {
     let item = BasketItem {
-        action: Action::Insert,
+        action: Action::Write(Mode::Insert),
         low: 0,
         high: 0,
         length: 0,
@@ -71,7 +72,7 @@ pub fn empty() -> Side {
 }
 
 // Nothing is lent, no item is named, and every entry of the lists is 9.
-pub fn start() -> Both {
+pub fn start_lists() -> Both {
     let store = Store { word: 9, value: 9 };
     Both {
         size: 0,
@@ -84,7 +85,7 @@ pub fn start() -> Both {
         },
         stores: [store; 48],
         count: 0,
-        basket: no_items(),
+        basket: empty_basket(),
     }
 }
 

@@ -8,12 +8,12 @@ mod both;
 mod names;
 mod set;
 
-use area::appended;
+use area::append_both;
 use area::area;
-use area::recovered;
+use area::recover_both;
 use both::Both;
 use both::show_entry;
-use both::start;
+use both::start_lists;
 use names::APPEND;
 use names::AREA;
 use names::BASKET;
@@ -26,47 +26,48 @@ use names::RECOVER;
 use names::REMOVE;
 use names::REPLACE;
 use orderset::Action;
-use set::formatted;
+use orderset::Mode;
+use set::add_item_to_both;
+use set::format_both;
 use set::kept;
-use set::made;
-use set::named;
-use set::played;
-use show::lines::numbers;
+use set::play_both;
+use set::run_both_baskets;
+use show::lines::parse_numbers;
 use show::lines::until;
 use words_code::padded_word;
 
 // A line that names an item of a basket; another changes nothing.
-fn prepare(both: Both, name: u64, n: [u64; 5]) -> Both {
+fn prepare_both(both: Both, name: u64, n: [u64; 5]) -> Both {
     if name == INSERT {
-        return named(both, Action::Insert, n);
+        return add_item_to_both(both, Action::Write(Mode::Insert), n);
     }
     if name == REPLACE {
-        return named(both, Action::Replace, n);
+        return add_item_to_both(both, Action::Write(Mode::Replace), n);
     }
     if name == REMOVE {
-        return named(both, Action::Remove, n);
+        return add_item_to_both(both, Action::Remove, n);
     }
     both
 }
 
-fn carry_out(both: Both, name: u64, n: [u64; 5]) -> Both {
+fn run_list_call(both: Both, name: u64, n: [u64; 5]) -> Both {
     if name == FORMAT {
-        return formatted(both, n);
+        return format_both(both, n);
     }
     if name == AREA {
         return area(both, n[1]);
     }
     if name == BASKET {
-        return made(both);
+        return run_both_baskets(both);
     }
     if name == APPEND {
-        return appended(both, n);
+        return append_both(both, n);
     }
     if name == RECOVER {
-        return recovered(both);
+        return recover_both(both);
     }
     if name == PLAY {
-        return played(both);
+        return play_both(both);
     }
     if name == KEEP {
         return kept(both, n[1] as usize);
@@ -75,24 +76,24 @@ fn carry_out(both: Both, name: u64, n: [u64; 5]) -> Both {
         show_entry(both, n[1] as usize);
         return both;
     }
-    prepare(both, name, n)
+    prepare_both(both, name, n)
 }
 
-fn serve(both: Both, line: &[u8]) -> Both {
+fn run_list_line(both: Both, line: &[u8]) -> Both {
     show::text(line);
     let end = until(line, 0, 97);
     let name = padded_word(&line[..end], 0);
-    let after = carry_out(both, name, numbers(line));
+    let after = run_list_call(both, name, parse_numbers(line));
     show::text(b"\n");
     after
 }
 
-fn serve_all(input: &[u8]) {
-    let mut both = start();
+fn run_lists(input: &[u8]) {
+    let mut both = start_lists();
     let mut at = 0;
     while at < input.len() {
         let end = until(input, at, 11);
-        both = serve(both, &input[at..end]);
+        both = run_list_line(both, &input[at..end]);
         at = end + 1;
     }
 }
@@ -100,5 +101,5 @@ fn serve_all(input: &[u8]) {
 fn main() {
     let mut input = [0u8; 4096];
     let n = io::read_full(libc::STDIN_FILENO, &mut input);
-    serve_all(&input[..n]);
+    run_lists(&input[..n]);
 }

@@ -4,19 +4,18 @@ use crate::both::Named;
 use crate::both::Numbers;
 use crate::both::Side;
 use crate::both::empty;
+use crate::both::empty_basket;
 use crate::both::first_other_byte;
-use crate::both::no_items;
 use crate::both::show_equal;
-use lent_list_code::lent::BasketListed;
-use lent_list_code::lent::basket_lent;
-use lent_list_code::lent::basket_lent2;
-use lent_list_code::lent::play_lent;
+use lists_code::lent::BasketListed;
+use lists_code::lent::basket_lent;
+use lists_code::lent::basket_lent2;
+use lists_code::lent::play_stores_lent;
 use orderset::Action;
 use orderset::BasketAnswer;
 use orderset::BasketItem;
 use orderset::BasketOutcome;
 use orderset::RecoverAnswer;
-use orderset::Recovered;
 use orderset::State;
 use orderset::Store;
 use orderset::basket;
@@ -33,14 +32,6 @@ fn recovered_in(layout: u64, image: &[u8], heads: &mut [u32], next: &mut [u32]) 
         return recover2(image, heads, next);
     }
     recover(image, heads, next)
-}
-
-// The state that recovery leaves, or the one given.
-fn state_after(r: Recovered, s: State) -> State {
-    match r {
-        Recovered::Rebuilt(rebuilt) => rebuilt,
-        Recovered::Refused { number: _, slot: _ } => s,
-    }
 }
 
 // A formatted image of this size.
@@ -63,7 +54,7 @@ fn indexed(side: Side, size: usize, layout: u64) -> Side {
     let answer = recovered_in(layout, &bytes[..i], &mut heads[..h], &mut next[..k]);
     let r = answer.recovered;
     show::recovered(r);
-    let state = state_after(r, s);
+    let state = show::state_after(r, s);
     Side {
         bytes,
         heads,
@@ -72,7 +63,7 @@ fn indexed(side: Side, size: usize, layout: u64) -> Side {
     }
 }
 
-pub fn formatted(both: Both, n: [u64; 5]) -> Both {
+pub fn format_both(both: Both, n: [u64; 5]) -> Both {
     let slots = (n[1] % 17) as usize;
     let size = 128 * (slots + 1);
     let bytes = fresh(size, n[2]);
@@ -84,12 +75,12 @@ pub fn formatted(both: Both, n: [u64; 5]) -> Both {
     after.second = image;
     after.size = size;
     after.layout = n[2];
-    after.basket = no_items();
+    after.basket = empty_basket();
     after.count = 0;
     after
 }
 
-fn with_item(named: Named, action: Action, n: [u64; 5]) -> Named {
+fn with_item_and_byte(named: Named, action: Action, n: [u64; 5]) -> Named {
     let mut items = named.items;
     let i = named.count;
     if 8 < i {
@@ -110,15 +101,15 @@ fn with_item(named: Named, action: Action, n: [u64; 5]) -> Named {
     }
 }
 
-pub fn named(both: Both, action: Action, n: [u64; 5]) -> Both {
+pub fn add_item_to_both(both: Both, action: Action, n: [u64; 5]) -> Both {
     let mut after = both;
     let basket = both.basket;
-    after.basket = with_item(basket, action, n);
+    after.basket = with_item_and_byte(basket, action, n);
     after
 }
 
 // The answer is printed; how many stores were handed out.
-fn told(r: BasketAnswer, count: usize) -> usize {
+fn show_basket_form(r: BasketAnswer, count: usize) -> usize {
     let outcome = r.outcome;
     match outcome {
         BasketOutcome::Stored { version } => {
@@ -136,7 +127,7 @@ fn told(r: BasketAnswer, count: usize) -> usize {
     }
 }
 
-fn basket_in(
+fn basket_by_layout(
     layout: u64,
     image: &[u8],
     heads: &mut [u32],
@@ -193,7 +184,7 @@ fn by_numbers(side: Side, size: usize, layout: u64, named: Named, numbers: Numbe
     let i = io::count((size % 2177) as isize, &bytes);
     let h = numbers_of(2, &heads);
     let k = numbers_of(size / 128, &next);
-    let r = basket_in(
+    let r = basket_by_layout(
         layout,
         &bytes[..i],
         &mut heads[..h],
@@ -205,7 +196,7 @@ fn by_numbers(side: Side, size: usize, layout: u64, named: Named, numbers: Numbe
         &mut at[..t],
         &mut value[..v],
     );
-    let count = told(r, named.count);
+    let count = show_basket_form(r, named.count);
     let state = r.state;
     ByNumbers {
         side: Side {
@@ -248,7 +239,7 @@ fn by_list(side: Side, size: usize, layout: u64, named: Named, stores: [Store; 4
         stores,
     );
     let r = listed.answer;
-    told(r, named.count);
+    show_basket_form(r, named.count);
     let state = r.state;
     let list = listed.list;
     ByList {
@@ -276,7 +267,7 @@ fn show_side(side: Side) {
 }
 
 // Both answers, in how many first entries the lists are equal, and the two states and indexes.
-pub fn made(both: Both) -> Both {
+pub fn run_both_baskets(both: Both) -> Both {
     let first = both.first;
     let second = both.second;
     let numbers = both.numbers;
@@ -297,7 +288,7 @@ pub fn made(both: Both) -> Both {
     after.numbers = at;
     after.stores = list;
     after.count = one.count;
-    after.basket = no_items();
+    after.basket = empty_basket();
     after
 }
 
@@ -311,7 +302,7 @@ pub fn kept(both: Both, count: usize) -> Both {
 }
 
 // The list with its store before entry `count` in every entry from there on: played, it is as its first `count` stores.
-fn filled(stores: [Store; 48], count: usize) -> [Store; 48] {
+fn fill_with_last(stores: [Store; 48], count: usize) -> [Store; 48] {
     let mut after = stores;
     if count == 0 {
         return after;
@@ -346,14 +337,14 @@ fn play_numbers(side: Side, size: usize, numbers: Numbers, count: usize) -> Side
 fn play_listed(side: Side, size: usize, stores: [Store; 48]) -> Side {
     let mut bytes = side.bytes;
     let i = io::count((size % 2177) as isize, &bytes);
-    show::number(play_lent(&mut bytes[..i], stores) as u64);
+    show::number(play_stores_lent(&mut bytes[..i], stores) as u64);
     let mut after = side;
     after.bytes = bytes;
     after
 }
 
 // Both answers, and in how many first bytes the two are equal.
-pub fn played(both: Both) -> Both {
+pub fn play_both(both: Both) -> Both {
     if both.count == 0 {
         return both;
     }
@@ -362,7 +353,7 @@ pub fn played(both: Both) -> Both {
     let numbers = both.numbers;
     let stores = both.stores;
     let left = play_numbers(first, both.size, numbers, both.count);
-    let right = play_listed(second, both.size, filled(stores, both.count));
+    let right = play_listed(second, both.size, fill_with_last(stores, both.count));
     let a = left.bytes;
     let b = right.bytes;
     show::text(b" equal");

@@ -27,8 +27,8 @@ use Rattle.log.specs.LogOutcome.{shortFault, LogResult, handing, LogList
 use Rattle.log.specs.Append.{messageFault, nextMessage, appendStores, appendFault, appendResult}
 use Rattle.log.specs.Recover.{recoveryStores, logRecoverFault, logRecoverResult, logRecoverListResult}
 use Rattle.log.specs.Read.{readFault, readPart, readEnd, readResult, partResult}
-use Rattle.log.specs.Event.{LogCall, an-append, a-read, a-recovery, logStores, areaDone, areaCut, Messages, logDueFault, FitsCall, append-fits, read-fits, recovery-fits}
-use Rattle.log.specs.Rule.{shownUpTo, shownMessages, lastMessages, PartHolds, Shows, countGiven, HandsOut, CallRight, StandingPlays}
+use Rattle.log.specs.Event.{LogCall, an-append, a-read, a-recovery, logStores, areaDone, areaCut, Messages, expectedLogRefusal, FitsCall, append-fits, read-fits, recovery-fits}
+use Rattle.log.specs.Rule.{shownUpTo, shownMessages, lastMessages, PartHolds, Shows, countGiven, HandsOut, LogCallCorrect, StandingPlays}
 use Rattle.log.specs.Laws.{ShowsSame, ShowsMore}
 use Rattle.log.proofs.Cells.{Window, window, in-window}
 use Rattle.log.proofs.Invalidations.{recovery-few}
@@ -195,8 +195,8 @@ module _ (cells : ℕ) (low : 2 ≤ cells) (area : List ℕ) (log : Messages) (k
   next-in = ap suc top-in
 
   pub append-due : (message at value : List ℕ)
-      → appendFault area message (length at) (length value) ≡ logDueFault area log (an-append message at value)
-  unfolding appendFault logDueFault
+      → appendFault area message (length at) (length value) ≡ expectedLogRefusal area log (an-append message at value)
+  unfolding appendFault expectedLogRefusal
   append-due message at value =
       orElse-later (areaFault area) _ area-fine
       ∙ ap
@@ -205,8 +205,8 @@ module _ (cells : ℕ) (low : 2 ≤ cells) (area : List ℕ) (log : Messages) (k
       (orElse (versionFault n) (shortFault (length (appendStores (cellsIn area) (word area) message)) (length at) (length value))))
       next-in
 
-  pub recover-due : (at value : List ℕ) → logRecoverFault area (length at) (length value) ≡ logDueFault area log (a-recovery at value)
-  unfolding logRecoverFault logDueFault
+  pub recover-due : (at value : List ℕ) → logRecoverFault area (length at) (length value) ≡ expectedLogRefusal area log (a-recovery at value)
+  unfolding logRecoverFault expectedLogRefusal
   recover-due at value = orElse-later (areaFault area) _ area-fine
 
   shown-in : (s : ℕ) → shown (cellsIn area) (word area) s ≡ inWindow (cellsIn area) (length log) s
@@ -214,12 +214,12 @@ module _ (cells : ℕ) (low : 2 ≤ cells) (area : List ℕ) (log : Messages) (k
       ap (λ (k : ℕ). shown k (word area) s) (keep .shows .size) ∙ keep .shows .numbers s
       ∙ ap (λ (k : ℕ). inWindow k (length log) s) (sym (keep .shows .size))
 
-  read-due : (s : ℕ) → readFault area s ≡ logDueFault area log (a-read s)
-  unfolding logDueFault
+  read-due : (s : ℕ) → readFault area s ≡ expectedLogRefusal area log (a-read s)
+  unfolding expectedLogRefusal
   read-due s = read-fault area area-fine s ∙ ap (λ (t : Bool). refuseIf (not t) 31 0) (shown-in s)
 
-  read-part : (s : ℕ) → readPart area s ≡ unlessRefused (logDueFault area log (a-read s)) (getD log (s - 1) []) []
-  unfolding logDueFault unlessRefused refuseIf
+  read-part : (s : ℕ) → readPart area s ≡ unlessRefused (expectedLogRefusal area log (a-read s)) (getD log (s - 1) []) []
+  unfolding expectedLogRefusal unlessRefused refuseIf
   read-part s = go (split (inWindow (cellsIn area) (length log) s))
     where
       go : (inWindow (cellsIn area) (length log) s ≡ true) ⊎ (inWindow (cellsIn area) (length log) s ≡ false)
@@ -232,8 +232,8 @@ module _ (cells : ℕ) (low : 2 ≤ cells) (area : List ℕ) (log : Messages) (k
           ∙ sym (ap (λ (t : Bool). unlessRefused (refuseIf (not t) 31 0) (getD log (s - 1) []) []) e)
 
   -- EACH CALL IS RIGHT
-  pub call-right : (call : LogCall) → FitsCall call → CallRight area log call
-  unfolding CallRight appendResult logRecoverResult readResult logStores
+  pub call-right : (call : LogCall) → FitsCall call → LogCallCorrect area log call
+  unfolding LogCallCorrect appendResult logRecoverResult readResult logStores
   call-right (an-append message at value) (append-fits are-bytes) = (
     hands-due area (an-append message at value) (appendStores (cellsIn area) (word area) message) at value
         (appendFault area message (length at) (length value)) (nextMessage (cellsIn area) (word area)) _ _ (append-due message at value) next-in refl

@@ -21,7 +21,7 @@ use Rattle.stores.proofs.Bytes.{played-length, played-bytes}
 use Rattle.log.specs.Area.{cellsIn, areaFault}
 use Rattle.log.specs.Append.{appendStores, appendFault}
 use Rattle.log.specs.Recover.{recoveryStores, logRecoverFault}
-use Rattle.log.specs.Event.{LogCall, an-append, a-read, a-recovery, CutRecovery, logStores, areaDone, areaCut, areaAgain, areaAfterAll, Messages, logDueFault, isTorn, plainAppend, FitsCall, append-fits, read-fits, recovery-fits}
+use Rattle.log.specs.Event.{LogCall, an-append, a-read, a-recovery, CutRecovery, logStores, areaDone, areaCut, areaAgain, areaAfterAll, Messages, expectedLogRefusal, isTorn, plainAppend, FitsCall, append-fits, read-fits, recovery-fits}
 use Rattle.log.specs.Laws.{Closed, AppendLeaves, whole-there, wholly-absent}
 use Rattle.log.proofs.Shown.{recovery-closed, done-closed}
 use Rattle.log.proofs.Parts.{area-cells}
@@ -99,11 +99,11 @@ module _ (cells : ℕ) (low : 2 ≤ cells) (area : List ℕ) (log : Messages) (k
       unfolding logStores
       refused-stores = refused-keeps ss [] (appendFault area message (length at) (length value)) ne
 
-      refused-plain : (missing : Bool) → plainAppend (refuses (logDueFault area log (an-append message at value))) missing (an-append message at value) log ≡ log
+      refused-plain : (missing : Bool) → plainAppend (refuses (expectedLogRefusal area log (an-append message at value))) missing (an-append message at value) log ≡ log
       unfolding plainAppend refuses
       refused-plain missing =
-          pick-true (not (eqb (logDueFault area log (an-append message at value)) 0)) _ _
-          (ap not (ne-eqb _ 0 (λ (e : logDueFault area log (an-append message at value) ≡ 0). ne (append-due cells low area log keep message at value ∙ e))))
+          pick-true (not (eqb (expectedLogRefusal area log (an-append message at value)) 0)) _ _
+          (ap not (ne-eqb _ 0 (λ (e : expectedLogRefusal area log (an-append message at value) ≡ 0). ne (append-due cells low area log keep message at value ∙ e))))
 
     -- accepted
     module _ (z : appendFault area message (length at) (length value) ≡ 0) where
@@ -115,10 +115,10 @@ module _ (cells : ℕ) (low : 2 ≤ cells) (area : List ℕ) (log : Messages) (k
       taken-stores = taken-leaves ss [] (appendFault area message (length at) (length value)) z
 
       taken-plain : (missing : Bool)
-          → plainAppend (refuses (logDueFault area log (an-append message at value))) missing (an-append message at value) log ≡ cond missing log (log ++ message ∷ [])
+          → plainAppend (refuses (expectedLogRefusal area log (an-append message at value))) missing (an-append message at value) log ≡ cond missing log (log ++ message ∷ [])
       unfolding plainAppend refuses
       taken-plain missing =
-          pick-false (not (eqb (logDueFault area log (an-append message at value)) 0)) _ _
+          pick-false (not (eqb (expectedLogRefusal area log (an-append message at value)) 0)) _ _
           (ap not (eq-eqb _ 0 (sym (append-due cells low area log keep message at value) ∙ z)))
 
       -- any part of its stores
@@ -156,7 +156,7 @@ module _ (cells : ℕ) (low : 2 ≤ cells) (area : List ℕ) (log : Messages) (k
 
     pub append-done-keeps :
         Keeping cells (areaDone area (an-append message at value))
-        (plainAppend (refuses (logDueFault area log (an-append message at value))) false (an-append message at value) log)
+        (plainAppend (refuses (expectedLogRefusal area log (an-append message at value))) false (an-append message at value) log)
     unfolding areaDone played
     append-done-keeps =
         by-cases (ℕ-discrete (appendFault area message (length at) (length value)) 0)
@@ -176,7 +176,7 @@ module _ (cells : ℕ) (low : 2 ≤ cells) (area : List ℕ) (log : Messages) (k
 
     pub append-cut-keeps : (counts : ℕ → ℕ)
         → Keeping cells (areaCut area (an-append message at value) counts)
-        (plainAppend (refuses (logDueFault area log (an-append message at value))) (isTorn counts (logStores area (an-append message at value)) (7 * cellsIn area))
+        (plainAppend (refuses (expectedLogRefusal area log (an-append message at value))) (isTorn counts (logStores area (an-append message at value)) (7 * cellsIn area))
         (an-append message at value) log)
     unfolding areaCut played standing
     append-cut-keeps counts =
@@ -193,7 +193,7 @@ module _ (cells : ℕ) (low : 2 ≤ cells) (area : List ℕ) (log : Messages) (k
   -- ---- every call
 
   pub done-keeps : (call : LogCall) → FitsCall call → Closed (cellsIn area) (word area)
-      → Keeping cells (areaDone area call) (plainAppend (refuses (logDueFault area log call)) false call log)
+      → Keeping cells (areaDone area call) (plainAppend (refuses (expectedLogRefusal area log call)) false call log)
   unfolding plainAppend areaDone logStores played
   done-keeps (an-append message at value) (append-fits b) closed = append-done-keeps message at value b closed
   done-keeps (a-read number) read-fits closed = keep
@@ -207,7 +207,7 @@ module _ (cells : ℕ) (low : 2 ≤ cells) (area : List ℕ) (log : Messages) (k
 
   pub cut-keeps : (call : LogCall) (counts : ℕ → ℕ) → FitsCall call → Closed (cellsIn area) (word area)
       → Keeping cells (areaCut area call counts)
-      (plainAppend (refuses (logDueFault area log call)) (isTorn counts (logStores area call) (7 * cellsIn area)) call log)
+      (plainAppend (refuses (expectedLogRefusal area log call)) (isTorn counts (logStores area call) (7 * cellsIn area)) call log)
   unfolding plainAppend areaCut logStores played standing
   cut-keeps (an-append message at value) counts (append-fits b) closed = append-cut-keeps message at value b closed counts
   cut-keeps (a-read number) counts read-fits closed = keep

@@ -14,7 +14,7 @@ use Rattle.words.specs.Word.{word}
 use Rattle.log.specs.Area.{cellsOf, cellsIn}
 use Rattle.log.specs.Message.{isComplete, highest, inWindow, shown}
 use Rattle.log.specs.Event.{a-recovery, CutRecovery, LogRestart, LogEvent, call-done, call-cut, areaDone, areaAfterAll, areaAfter, Messages, isMissing, messagesAfter, recovery-fits, FitsEvent, done-fits, cut-fits}
-use Rattle.log.specs.Rule.{RestartRight, EventRight, LogHolds, LogRule}
+use Rattle.log.specs.Rule.{RestartCorrect, EventCorrect, LogHolds, LogRule}
 use Rattle.log.specs.Laws.{Closed}
 use Rattle.log.proofs.Cells.{held, highest-by, window}
 use Rattle.log.proofs.Parts.{cells-sized}
@@ -48,7 +48,7 @@ module _ (cells : ℕ) (low : 2 ≤ cells) where
     last-keeps : Keeping cells last log
     last-keeps = again-keeps cells low (restart .again) area log keep
 
-    restart-right : RestartRight cells area log restart
+    restart-right : RestartCorrect cells area log restart
     restart-right = (
       throughout _ _ _ _ (Keeping cells) (λ r. Unit) (λ a l k. k .shows)
           (λ a l k r u. (
@@ -70,8 +70,8 @@ module _ (cells : ℕ) (low : 2 ≤ cells) where
   -- ---- one event
 
   module _ (area : List ℕ) (log : Messages) (good : Good cells area log) where
-    event-right : (event : LogEvent) → FitsEvent cells event → EventRight cells area log event
-    unfolding EventRight isMissing
+    event-right : (event : LogEvent) → FitsEvent cells event → EventCorrect cells area log event
+    unfolding EventCorrect isMissing
     event-right (call-done call) (done-fits f) = call-right cells low area log (good .keep) call f
     event-right (call-cut call counts restart) (cut-fits f p q) = (
       call-right cells low area log (good .keep) call f,

@@ -87,13 +87,13 @@ abbrev pub Messages : Type 0
 Messages = List (List ℕ)
 
 -- the number of a call's refusal by the plain list, 0 for none. What the area decides is the number of stores
-unfoldable pub logDueFault : (area : List ℕ) → Messages → LogCall → ℕ
-logDueFault area log (an-append message at value) =
+unfoldable pub expectedLogRefusal : (area : List ℕ) → Messages → LogCall → ℕ
+expectedLogRefusal area log (an-append message at value) =
     orElse (messageFault (length message))
     (orElse (versionFault (suc (length log)))
     (shortFault (length (appendStores (cellsIn area) (word area) message)) (length at) (length value)))
-logDueFault area log (a-read number) = refuseIf (not (inWindow (cellsIn area) (length log) number)) 31 0
-logDueFault area log (a-recovery at value) =
+expectedLogRefusal area log (a-read number) = refuseIf (not (inWindow (cellsIn area) (length log) number)) 31 0
+expectedLogRefusal area log (a-recovery at value) =
     shortFault (length (recoveryStores (cellsIn area) (word area))) (length at) (length value)
 
 -- one of the first n lines holds fewer than all its stores
@@ -114,7 +114,7 @@ plainAppend isRefused missing (a-recovery at value) log = log
 -- and after an event
 abbrev pub messagesAfter : (area : List ℕ) → Messages → LogEvent → Messages
 messagesAfter area log event =
-    plainAppend (refuses (logDueFault area log (logCallOf event))) (isMissing area event) (logCallOf event) log
+    plainAppend (refuses (expectedLogRefusal area log (logCallOf event))) (isMissing area event) (logCallOf event) log
 
 -- ---- what an event may be
 

@@ -18,7 +18,7 @@ use Rattle.log.specs.LogOutcome.{LogResult, logEnd, LogListResult}
 use Rattle.log.specs.Append.{appendResult, appendListResult}
 use Rattle.log.specs.Recover.{logRecoverResult, logRecoverListResult}
 use Rattle.log.specs.Read.{readPart, readEnd, readResult, partResult}
-use Rattle.log.specs.Event.{LogCall, an-append, a-read, a-recovery, LogRestart, LogEvent, call-done, call-cut, logStores, areaDone, areaCut, areaAgain, areaAfterAll, areaAfter, Messages, logDueFault, messagesAfter, FitsEvent}
+use Rattle.log.specs.Event.{LogCall, an-append, a-read, a-recovery, LogRestart, LogEvent, call-done, call-cut, logStores, areaDone, areaCut, areaAgain, areaAfterAll, areaAfter, Messages, expectedLogRefusal, messagesAfter, FitsEvent}
 
 -- the messages shown of numbers 1 to n, by rising number
 unfoldable pub shownUpTo : (cells : ℕ) → (area : List ℕ) → (n : ℕ) → Messages
@@ -84,16 +84,16 @@ ListAgrees at value call r = (list : List Store) → wordNumbers list ≡ at →
 -- each call answers as the plain machine does: an append gives the next number and a recovery how many messages there
 -- are, both with two lent lists and with one; a read gives the message's bytes, or an empty part; and each is refused
 -- exactly where the rules refuse it
-unfoldable pub CallRight : (area : List ℕ) → Messages → LogCall → Type 0
-CallRight area log (an-append message at value) =
-    HandsOut area (an-append message at value) (logDueFault area log (an-append message at value)) (suc (length log))
+unfoldable pub LogCallCorrect : (area : List ℕ) → Messages → LogCall → Type 0
+LogCallCorrect area log (an-append message at value) =
+    HandsOut area (an-append message at value) (expectedLogRefusal area log (an-append message at value)) (suc (length log))
     (appendResult area message at value)
     × ListAgrees at value (appendListResult area message) (appendResult area message at value)
-CallRight area log (a-read number) =
+LogCallCorrect area log (a-read number) =
     readResult area number ≡
-    readEnd (unlessRefused (logDueFault area log (a-read number)) (getD log (number - 1) []) []) (logDueFault area log (a-read number))
-CallRight area log (a-recovery at value) =
-    HandsOut area (a-recovery at value) (logDueFault area log (a-recovery at value)) (length log) (logRecoverResult area at value)
+    readEnd (unlessRefused (expectedLogRefusal area log (a-read number)) (getD log (number - 1) []) []) (expectedLogRefusal area log (a-read number))
+LogCallCorrect area log (a-recovery at value) =
+    HandsOut area (a-recovery at value) (expectedLogRefusal area log (a-recovery at value)) (length log) (logRecoverResult area at value)
     × ListAgrees at value (logRecoverListResult area) (logRecoverResult area at value)
 
 -- ---- one event
@@ -107,25 +107,25 @@ StandingPlays area call counts =
 
 -- after a cut the list stays as it is: it is shown before each recovery, whatever stands of the stores of those before;
 -- each recovery answers right, and the stores of it that stand are played
-abbrev pub RestartRight : (cells : ℕ) → (area : List ℕ) → Messages → LogRestart → Type 0
-RestartRight cells area log restart =
+abbrev pub RestartCorrect : (cells : ℕ) → (area : List ℕ) → Messages → LogRestart → Type 0
+RestartCorrect cells area log restart =
     Throughout areaAgain (λ a l r. l) (Shows cells)
-    (λ a l r. CallRight a l (a-recovery (r .at) (r .value)) × StandingPlays a (a-recovery (r .at) (r .value)) (r .counts)) area log
+    (λ a l r. LogCallCorrect a l (a-recovery (r .at) (r .value)) × StandingPlays a (a-recovery (r .at) (r .value)) (r .counts)) area log
     (restart .again)
-    × CallRight (areaAfterAll area (restart .again)) log (a-recovery (restart .at) (restart .value))
+    × LogCallCorrect (areaAfterAll area (restart .again)) log (a-recovery (restart .at) (restart .value))
 
 -- the call is right, and so is the restart after it; the stores of the struck call that stand are played
-unfoldable pub EventRight : (cells : ℕ) → (area : List ℕ) → Messages → LogEvent → Type 0
-EventRight cells area log (call-done call) = CallRight area log call
-EventRight cells area log (call-cut call counts restart) =
-    CallRight area log call × RestartRight cells (areaCut area call counts) (messagesAfter area log (call-cut call counts restart)) restart
+unfoldable pub EventCorrect : (cells : ℕ) → (area : List ℕ) → Messages → LogEvent → Type 0
+EventCorrect cells area log (call-done call) = LogCallCorrect area log call
+EventCorrect cells area log (call-cut call counts restart) =
+    LogCallCorrect area log call × RestartCorrect cells (areaCut area call counts) (messagesAfter area log (call-cut call counts restart)) restart
     × StandingPlays area call counts
 
 -- ---- every list of events
 
 -- before each event and after the last the list is shown, and each event is right
 abbrev pub LogHolds : (cells : ℕ) → (area : List ℕ) → Messages → List LogEvent → Type 0
-LogHolds cells = Throughout areaAfter messagesAfter (Shows cells) (EventRight cells)
+LogHolds cells = Throughout areaAfter messagesAfter (Shows cells) (EventCorrect cells)
 
 -- "from an area of zeros"
 abbrev pub LogRule : Type 0

@@ -8,7 +8,7 @@ ghost use Rattle.log.specs.Area.{cellsOf};
 ghost use Rattle.log.specs.Message.{bitsDiffer, messageNumber, highest, shown};
 ghost use Rattle.log.specs.inner.Needs.{CellCount, CellInside};
 use crate::bit::pair_differs;
-use line_code::line::greater;
+use words_code::greater;
 use words_code::read_word;
 
 // The cells of an area of len bytes, or 0 where no area has that length.

@@ -6,8 +6,8 @@ ghost use Rattle.log.specs.Recover.{logRecoverListResult};
 use crate::made::append_made;
 use crate::made::recovery_made;
 use log::LogOutcome;
-use store_list_code::list::put_stores;
 use stores::Store;
+use stores_list_code::list::fill_store_list;
 
 // Appends a message: its number and the count of its stores, which fill the front of the lent list; or the refusal,
 // which changes nothing.
@@ -17,7 +17,7 @@ pub fn append_list(area: &[u8], message: &[u8], list: &mut [Store]) -> LogOutcom
     let made = append_made(area, message, list.len());
     let at = made.at;
     let value = made.value;
-    put_stores(list, &at, &value, made.stored);
+    fill_store_list(list, &at, &value, made.stored);
     made.answer
 }
 
@@ -29,6 +29,6 @@ pub fn recover_list(area: &[u8], list: &mut [Store]) -> LogOutcome
     let made = recovery_made(area, list.len());
     let at = made.at;
     let value = made.value;
-    put_stores(list, &at, &value, made.stored);
+    fill_store_list(list, &at, &value, made.stored);
     made.answer
 }

@@ -22,7 +22,7 @@ use Rattle.stores.proofs.AllStand.{stand-lines, lines-stand}
 use Rattle.log.specs.Area.{cellsIn}
 use Rattle.log.specs.Append.{appendStores, appendFault}
 use Rattle.log.specs.Recover.{recoveryStores, logRecoverFault}
-use Rattle.log.specs.Event.{LogCall, an-append, a-read, a-recovery, logStores, areaDone, areaCut, Messages, logDueFault, isTorn, plainAppend, FitsCall, append-fits, read-fits, recovery-fits}
+use Rattle.log.specs.Event.{LogCall, an-append, a-read, a-recovery, logStores, areaDone, areaCut, Messages, expectedLogRefusal, isTorn, plainAppend, FitsCall, append-fits, read-fits, recovery-fits}
 use Rattle.log.proofs.Inside.{accepted, append-inside-area, recovery-inside-area}
 use Rattle.log.proofs.Claims.{Keeping, cells-fine, call-right}
 use Rattle.log.proofs.Events.{done-keeps, done-closed-after, cut-keeps, cut-recovery-keeps, recovery-done-keeps, restart-closed}
@@ -104,11 +104,11 @@ module _ (cells : ℕ) (low : 2 ≤ cells) where
   -- any part of a call's stores
   part-keeps : (area : List ℕ) (log : Messages) → Good cells area log → (call : LogCall) → FitsCall call → (counts : ℕ → ℕ)
       → Keeping cells (played (standing counts (logStores area call)) area)
-      (cond (allStand counts (logStores area call)) (plainAppend (refuses (logDueFault area log call)) false call log) log)
+      (cond (allStand counts (logStores area call)) (plainAppend (refuses (expectedLogRefusal area log call)) false call log) log)
   unfolding areaCut
   part-keeps area log good call fits counts =
       subst (Keeping cells (played (standing counts (logStores area call)) area))
-      (torn-plain _ (allStand counts (logStores area call)) (refuses (logDueFault area log call)) call log
+      (torn-plain _ (allStand counts (logStores area call)) (refuses (expectedLogRefusal area log call)) call log
       (torn-stands counts (logStores area call) (7 * cellsIn area)
       (lines-below area log (good .keep) (logStores area call) (call-inside area log (good .keep) call fits))))
       (cut-keeps cells low area log (good .keep) call counts fits (closed-in cells low area log good))

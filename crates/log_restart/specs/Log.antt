@@ -5,8 +5,8 @@ use mathlib.Core.List.{List, []}
 use Prim.Native.Nat.{ℕ, _*_, _≤_}
 use lib.ListN.{length, replicate}
 use Rattle.prelude.specs.Answer.{refuses}
-use Rattle.log.specs.Event.{LogCall, a-recovery, logStores, Messages, logDueFault, plainAppend, FitsCall}
-use Rattle.log.specs.Rule.{Shows, CallRight}
+use Rattle.log.specs.Event.{LogCall, a-recovery, logStores, Messages, expectedLogRefusal, plainAppend, FitsCall}
+use Rattle.log.specs.Rule.{Shows, LogCallCorrect}
 use Rattle.restart_machine.specs.Machine.{Library, Duties, Sufficient}
 use Rattle.restart_machine.specs.Rule.{Promise, RestartRule}
 
@@ -35,10 +35,10 @@ logPromise cells =
     record {
       after = λ taken log.
           let call : LogCall = taken .request .call in
-          plainAppend (refuses (logDueFault (taken .image) log call)) false call log;
+          plainAppend (refuses (expectedLogRefusal (taken .image) log call)) false call log;
       Recovers = Shows cells;
-      RecoveryRight = λ area lent log. CallRight area log (a-recovery (lent .at) (lent .value));
-      RequestCorrect = λ area held log asked. CallRight area log (asked .call);
+      RecoveryCorrect = λ area lent log. LogCallCorrect area log (a-recovery (lent .at) (lent .value));
+      RequestCorrect = λ area held log asked. LogCallCorrect area log (asked .call);
     }
 
 -- THE RESTART RULE OF THE LOG: from an area of zeros that is durable, for every program that does its duties

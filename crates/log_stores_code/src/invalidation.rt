@@ -5,7 +5,7 @@ ghost use lib.ListN.{length};
 ghost use Rattle.words.specs.Word.{word};
 ghost use Rattle.log.specs.Recover.{isAbove, invalidations};
 ghost use Rattle.log.specs.inner.Needs.{CellCount, Filled, InvalidationRoom, InvalidationsRoom};
-use line_code::line::first_word;
+use layout_line_code::line::first_word;
 use words_code::read_word;
 
 // Is the marked line of cell c whole and above this number?

@@ -5,7 +5,7 @@ ghost use lib.ListN.{length};
 ghost use Rattle.log.specs.Append.{messageFault};
 ghost use Rattle.log.specs.inner.Needs.{PayloadPlanned, AppendPlanned};
 use crate::filling::short_fault;
-use line_code::line::version_fault;
+use layout_line_code::line::version_fault;
 use log::AppendPlan;
 use log::Payload;
 use log_cell_code::bit::differing_word;

@@ -11,7 +11,7 @@ use words_code::padded_word;
 use words_code::read_word;
 
 // What an append or a recovery answered is printed; the count of stores.
-fn told(handed: LogOutcome) -> usize {
+fn show_log_answer(handed: LogOutcome) -> usize {
     match handed {
         LogOutcome::Stored { number, count } => {
             show::text(b" ok");
@@ -39,7 +39,7 @@ fn message_of(byte: u64, step: u64) -> [u8; 400] {
     message
 }
 
-pub fn appended(log: Log, n: [u64; 5]) -> Log {
+pub fn append_message(log: Log, n: [u64; 5]) -> Log {
     let area = log.area;
     let mut at = log.at;
     let mut value = log.value;
@@ -50,7 +50,7 @@ pub fn appended(log: Log, n: [u64; 5]) -> Log {
     let v = values_of(lent.value, &value);
     let m = io::count((n[1] % 401) as isize, &message);
     let handed = append(&area[..a], &message[..m], &mut at[..t], &mut value[..v]);
-    let count = told(handed);
+    let count = show_log_answer(handed);
     let mut after = log;
     after.at = at;
     after.value = value;
@@ -58,7 +58,7 @@ pub fn appended(log: Log, n: [u64; 5]) -> Log {
     after
 }
 
-pub fn recovered(log: Log) -> Log {
+pub fn recover_area(log: Log) -> Log {
     let area = log.area;
     let mut at = log.at;
     let mut value = log.value;
@@ -67,7 +67,7 @@ pub fn recovered(log: Log) -> Log {
     let t = numbers_of(lent.at, &at);
     let v = values_of(lent.value, &value);
     let handed = recover_log(&area[..a], &mut at[..t], &mut value[..v]);
-    let count = told(handed);
+    let count = show_log_answer(handed);
     let mut after = log;
     after.at = at;
     after.value = value;
@@ -101,7 +101,7 @@ pub fn show_part(log: Log, number: u64) {
     show_ends(part);
 }
 
-pub fn played(log: Log) -> Log {
+pub fn play_log(log: Log) -> Log {
     let mut area = log.area;
     let at = log.at;
     let value = log.value;
@@ -115,7 +115,7 @@ pub fn played(log: Log) -> Log {
     after
 }
 
-pub fn show_stores(log: Log, count: usize) {
+pub fn show_log_stores(log: Log, count: usize) {
     let at = log.at;
     let value = log.value;
     let n = numbers_of(count, &at);
@@ -125,14 +125,14 @@ pub fn show_stores(log: Log, count: usize) {
     show::values(&value[..v]);
 }
 
-fn word_of(area: &[u8; 1344], i: usize) -> u64 {
+fn area_word_or_zero(area: &[u8; 1344], i: usize) -> u64 {
     if i < 168 {
         return read_word(area, i);
     }
     0
 }
 
-pub fn show_word(log: Log, i: usize) {
+pub fn show_area_word(log: Log, i: usize) {
     let area = log.area;
-    show::number(word_of(&area, i));
+    show::number(area_word_or_zero(&area, i));
 }

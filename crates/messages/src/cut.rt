@@ -1,7 +1,7 @@
 // What a cut leaves of the stores handed out last: of each line its first ones.
 ghost use Prim.Native.Nat.{_≤_};
 use crate::lent::Log;
-use show::lines::digit;
+use show::lines::decimal_digit;
 
 // The line of a word in its cell, or its cell.
 fn group(word: u32, by_cell: u64) -> usize {
@@ -29,7 +29,7 @@ fn is_before(at: &[u32; 60], j: usize, i: usize, by_cell: u64) -> u64
 }
 
 // How many stores of the group of store i come before it.
-fn before(at: &[u32; 60], i: usize, by_cell: u64) -> u64 {
+fn before_in_group(at: &[u32; 60], i: usize, by_cell: u64) -> u64 {
     let mut n: u64 = 0;
     let mut j: usize = 0;
     while j < 60 {
@@ -40,18 +40,18 @@ fn before(at: &[u32; 60], i: usize, by_cell: u64) -> u64 {
 }
 
 // Is store i among the first `count` ones, and does it stand?
-fn stands(at: &[u32; 60], i: usize, count: usize, counts: u64, by_cell: u64) -> bool {
+fn stands_in_group(at: &[u32; 60], i: usize, count: usize, counts: u64, by_cell: u64) -> bool {
     if 60 <= i {
         return false;
     }
     if count <= i {
         return false;
     }
-    before(at, i, by_cell) < digit(counts, group(at[i], by_cell))
+    before_in_group(at, i, by_cell) < decimal_digit(counts, group(at[i], by_cell))
 }
 
 // The log with those stores alone that stand.
-pub fn cut_by(log: Log, counts: u64, by_cell: u64) -> Log {
+pub fn cut_log_stores(log: Log, counts: u64, by_cell: u64) -> Log {
     let at = log.at;
     let value = log.value;
     let mut standing = log.at;
@@ -59,7 +59,7 @@ pub fn cut_by(log: Log, counts: u64, by_cell: u64) -> Log {
     let mut n: usize = 0;
     let mut i: usize = 0;
     while i < 60 {
-        if stands(&at, i, log.count, counts, by_cell) {
+        if stands_in_group(&at, i, log.count, counts, by_cell) {
             if n < 60 {
                 standing[n] = at[i];
                 words[n] = value[i];

@@ -19,7 +19,7 @@ pub struct Log {
 }
 
 // The area is zeros, every entry of the lists is 9, and nothing is lent.
-pub fn start() -> Log {
+pub fn start_messages() -> Log {
     Log {
         area: [0; 1344],
         at: [9; 60],
@@ -34,7 +34,7 @@ pub fn start() -> Log {
 }
 
 // The area with so many bytes from this place on set to one.
-fn filled(area: [u8; 1344], place: u64, count: u64, byte: u8) -> [u8; 1344] {
+fn fill_area(area: [u8; 1344], place: u64, count: u64, byte: u8) -> [u8; 1344] {
     let mut after = area;
     let mut i: usize = 0;
     while i < 1344 {
@@ -49,11 +49,11 @@ fn filled(area: [u8; 1344], place: u64, count: u64, byte: u8) -> [u8; 1344] {
 }
 
 // A line that sets a part of the log; another changes nothing.
-pub fn set_up(log: Log, name: u64, n: [u64; 5]) -> Log {
+pub fn set_up_log(log: Log, name: u64, n: [u64; 5]) -> Log {
     let mut after = log;
     if name == FILL {
         let area = log.area;
-        let now = filled(area, n[1], n[2], (n[3] % 256) as u8);
+        let now = fill_area(area, n[1], n[2], (n[3] % 256) as u8);
         after.area = now;
         return after;
     }

@@ -6,16 +6,16 @@ mod cut;
 mod lent;
 mod names;
 
-use actions::appended;
-use actions::played;
-use actions::recovered;
+use actions::append_message;
+use actions::play_log;
+use actions::recover_area;
+use actions::show_area_word;
+use actions::show_log_stores;
 use actions::show_part;
-use actions::show_stores;
-use actions::show_word;
-use cut::cut_by;
+use cut::cut_log_stores;
 use lent::Log;
-use lent::set_up;
-use lent::start;
+use lent::set_up_log;
+use lent::start_messages;
 use names::APPEND;
 use names::CELLS;
 use names::LINES;
@@ -25,64 +25,64 @@ use names::RECOVER;
 use names::STORES;
 use names::WORD;
 use show::lines::is_asked;
-use show::lines::numbers;
+use show::lines::parse_numbers;
 use show::lines::until;
 use words_code::padded_word;
 
-fn carry_out(log: Log, name: u64, n: [u64; 5]) -> Log {
+fn run_message_call(log: Log, name: u64, n: [u64; 5]) -> Log {
     if name == APPEND {
-        return appended(log, n);
+        return append_message(log, n);
     }
     if name == RECOVER {
-        return recovered(log);
+        return recover_area(log);
     }
     if name == PLAY {
-        return played(log);
+        return play_log(log);
     }
     if name == LINES {
-        return played(cut_by(log, n[1], 0));
+        return play_log(cut_log_stores(log, n[1], 0));
     }
     if name == CELLS {
-        return played(cut_by(log, n[1], 1));
+        return play_log(cut_log_stores(log, n[1], 1));
     }
     if name == READ {
         show_part(log, n[1]);
         return log;
     }
     if name == STORES {
-        show_stores(log, n[1] as usize);
+        show_log_stores(log, n[1] as usize);
         return log;
     }
     if name == WORD {
-        show_word(log, n[1] as usize);
+        show_area_word(log, n[1] as usize);
         return log;
     }
     log
 }
 
-fn answer(log: Log, line: &[u8]) -> Log {
+fn dispatch_message_line(log: Log, line: &[u8]) -> Log {
     let end = until(line, 0, 97);
     let name = padded_word(&line[..end], 0);
-    let n = numbers(line);
+    let n = parse_numbers(line);
     if is_asked(line) {
-        return carry_out(log, name, n);
+        return run_message_call(log, name, n);
     }
-    set_up(log, name, n)
+    set_up_log(log, name, n)
 }
 
-fn serve(log: Log, line: &[u8]) -> Log {
+fn run_message_line(log: Log, line: &[u8]) -> Log {
     show::text(line);
-    let after = answer(log, line);
+    let after = dispatch_message_line(log, line);
     show::text(b"\n");
     after
 }
 
-fn serve_all(input: &[u8]) {
-    let mut log = start();
+fn run_messages(input: &[u8]) {
+    let mut log = start_messages();
     let mut at = 0;
     while at < input.len() {
         let end = until(input, at, 11);
-        log = serve(log, &input[at..end]);
+        log = run_message_line(log, &input[at..end]);
         at = end + 1;
     }
 }
@@ -90,5 +90,5 @@ fn serve_all(input: &[u8]) {
 fn main() {
     let mut input = [0u8; 16384];
     let n = io::read_full(libc::STDIN_FILENO, &mut input);
-    serve_all(&input[..n]);
+    run_messages(&input[..n]);
 }

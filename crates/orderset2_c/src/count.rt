@@ -8,7 +8,7 @@ use orderset::count_slots2;
 // How many slots of the image are live, hidden puts, remove records, void, broken and empty. Heads and next are
 // rebuilt, as recover does. Returned is 0, or recovery's refusal + 2^32 × the slot that it names.
 #[no_mangle]
-pub extern "C" fn orderset2_count_slots(
+pub extern "C" fn orderset2_proved_count_slots(
     image: &[u8],
     heads: &mut [u32],
     next: &mut [u32],

@@ -7,7 +7,7 @@ use orderset::get2;
 
 // The value of the key fills the front of out; the answer is its length, or absent, each with the slots compared.
 #[no_mangle]
-pub extern "C" fn orderset2_get(
+pub extern "C" fn orderset2_proved_get(
     image: &[u8],
     heads: &[u32],
     next: &[u32],

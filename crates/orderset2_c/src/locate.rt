@@ -7,7 +7,7 @@ use orderset::locate2;
 
 // The answer is the slot that holds the key and its version, or absent, each with the slots compared.
 #[no_mangle]
-pub extern "C" fn orderset2_locate(
+pub extern "C" fn orderset2_proved_locate(
     image: &[u8],
     heads: &[u32],
     next: &[u32],

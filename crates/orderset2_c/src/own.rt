@@ -9,6 +9,10 @@ ghost use Rattle.exports.specs.Basket.{basketCall, basketCallLeft, givenItems, 
 ghost use Rattle.book.specs.Steps.{acknowledgeResultBy, fillResultBy, newResultBy, withdrawResultBy};
 ghost use Rattle.exports.specs.Book.{bookCall};
 ghost use mathlib.Core.Bool.{true};
+use book_own_code::own_acknowledge2;
+use book_own_code::own_fill2;
+use book_own_code::own_new2;
+use book_own_code::own_withdraw2;
 use exports_answer_code::answer::write_answer;
 use exports_answer_code::answer::write_answer_step;
 use exports_basket_code::basket::given_items;
@@ -19,15 +23,11 @@ use orderset::own_basket2;
 use orderset::own_insert2;
 use orderset::own_remove2;
 use orderset::own_replace2;
-use own_book_code::own_acknowledge2;
-use own_book_code::own_fill2;
-use own_book_code::own_new2;
-use own_book_code::own_withdraw2;
 
 // A key that is not held gets the value; the answer is the slot taken, the version and the slots compared, and the
 // stores are to be made by the caller.
 #[no_mangle]
-pub extern "C" fn orderset2_own_insert(
+pub extern "C" fn orderset2_proved_own_insert(
     image: &[u8],
     heads: &mut [u32],
     next: &mut [u32],
@@ -55,7 +55,7 @@ pub extern "C" fn orderset2_own_insert(
 
 // A key that is held gets the value; the answer is as above.
 #[no_mangle]
-pub extern "C" fn orderset2_own_replace(
+pub extern "C" fn orderset2_proved_own_replace(
     image: &[u8],
     heads: &mut [u32],
     next: &mut [u32],
@@ -84,7 +84,7 @@ pub extern "C" fn orderset2_own_replace(
 // The key is dropped; the answer is the slot taken and the version, or absent, each with the slots compared, and the
 // stores are to be made by the caller.
 #[no_mangle]
-pub extern "C" fn orderset2_own_remove(
+pub extern "C" fn orderset2_proved_own_remove(
     image: &[u8],
     heads: &mut [u32],
     next: &mut [u32],
@@ -110,7 +110,7 @@ pub extern "C" fn orderset2_own_remove(
 
 // is the version and the slots taken, and the stores, sixteen for each key, are to be made by the caller.
 #[no_mangle]
-pub extern "C" fn orderset2_own_basket(
+pub extern "C" fn orderset2_proved_own_basket(
     image: &[u8],
     heads: &mut [u32],
     next: &mut [u32],
@@ -148,7 +148,7 @@ pub extern "C" fn orderset2_own_basket(
 // A new order of this quantity; the answer is the slot taken and the version, and the stores are to be made by the
 // caller.
 #[no_mangle]
-pub extern "C" fn orderset2_own_book_new(
+pub extern "C" fn orderset2_proved_own_book_new(
     image: &[u8],
     heads: &mut [u32],
     next: &mut [u32],
@@ -176,7 +176,7 @@ pub extern "C" fn orderset2_own_book_new(
 // The order is acknowledged; the answer is as above, or, of an order that was acknowledged before, its slot and
 // version.
 #[no_mangle]
-pub extern "C" fn orderset2_own_book_acknowledge(
+pub extern "C" fn orderset2_proved_own_book_acknowledge(
     image: &[u8],
     heads: &mut [u32],
     next: &mut [u32],
@@ -203,7 +203,7 @@ pub extern "C" fn orderset2_own_book_acknowledge(
 // This quantity of the order is filled; the answer is the slot taken and the version, and the stores are to be made by
 // the caller.
 #[no_mangle]
-pub extern "C" fn orderset2_own_book_fill(
+pub extern "C" fn orderset2_proved_own_book_fill(
     image: &[u8],
     heads: &mut [u32],
     next: &mut [u32],
@@ -230,7 +230,7 @@ pub extern "C" fn orderset2_own_book_fill(
 
 // The order is removed, with all that is open; the answer is as above.
 #[no_mangle]
-pub extern "C" fn orderset2_own_book_withdraw(
+pub extern "C" fn orderset2_proved_own_book_withdraw(
     image: &[u8],
     heads: &mut [u32],
     next: &mut [u32],

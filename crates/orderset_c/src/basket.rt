@@ -14,7 +14,7 @@ use orderset::basket;
 // the first bytes of values from byte 80 × i on. The answer is the version and the slots taken, and the stores, sixteen
 // for each key, are to be made by the caller.
 #[no_mangle]
-pub extern "C" fn orderset_basket(
+pub extern "C" fn orderset_proved_basket(
     image: &[u8],
     heads: &mut [u32],
     next: &mut [u32],

@@ -8,7 +8,7 @@ use linequery_code::whole_query;
 
 // The answer is 1 for a whole line and 0 for an open one.
 #[no_mangle]
-pub extern "C" fn orderset_line_whole(line: &[u8], answer: &mut [u8]) -> u32
+pub extern "C" fn orderset_proved_line_whole(line: &[u8], answer: &mut [u8]) -> u32
     ensures result { λ r. ⌜ queryEnd r (now (answer .exit)) ≡ wholeQuery (now (line .entry)) (now (answer .entry)) ⌝ }
 {
     whole_query(line, answer)
@@ -16,7 +16,7 @@ pub extern "C" fn orderset_line_whole(line: &[u8], answer: &mut [u8]) -> u32
 
 // The answer is the version in the line's stamp.
 #[no_mangle]
-pub extern "C" fn orderset_line_version(line: &[u8], answer: &mut [u8]) -> u32
+pub extern "C" fn orderset_proved_line_version(line: &[u8], answer: &mut [u8]) -> u32
     ensures result { λ r. ⌜ queryEnd r (now (answer .exit)) ≡ versionQuery (now (line .entry)) (now (answer .entry)) ⌝ }
 {
     version_query(line, answer)
@@ -24,7 +24,7 @@ pub extern "C" fn orderset_line_version(line: &[u8], answer: &mut [u8]) -> u32
 
 // The answer is the first word that a call of this version stores into the line.
 #[no_mangle]
-pub extern "C" fn orderset_line_first(line: &[u8], version: u64, answer: &mut [u8]) -> u32
+pub extern "C" fn orderset_proved_line_first(line: &[u8], version: u64, answer: &mut [u8]) -> u32
     ensures result { λ r. ⌜ queryEnd r (now (answer .exit)) ≡ firstQuery version (now (line .entry)) (now (answer .entry)) ⌝ }
 {
     first_query(line, version, answer)
@@ -32,7 +32,7 @@ pub extern "C" fn orderset_line_first(line: &[u8], version: u64, answer: &mut [u
 
 // The answer is the last word that it stores.
 #[no_mangle]
-pub extern "C" fn orderset_line_last(line: &[u8], version: u64, answer: &mut [u8]) -> u32
+pub extern "C" fn orderset_proved_line_last(line: &[u8], version: u64, answer: &mut [u8]) -> u32
     ensures result { λ r. ⌜ queryEnd r (now (answer .exit)) ≡ lastQuery version (now (line .entry)) (now (answer .entry)) ⌝ }
 {
     last_query(line, version, answer)

@@ -9,6 +9,10 @@ ghost use Rattle.exports.specs.Basket.{basketCall, basketCallLeft, givenItems, 
 ghost use Rattle.book.specs.Steps.{acknowledgeResultBy, fillResultBy, newResultBy, withdrawResultBy};
 ghost use Rattle.exports.specs.Book.{bookCall};
 ghost use mathlib.Core.Bool.{true};
+use book_own_code::own_acknowledge;
+use book_own_code::own_fill;
+use book_own_code::own_new;
+use book_own_code::own_withdraw;
 use exports_answer_code::answer::write_answer;
 use exports_answer_code::answer::write_answer_step;
 use exports_basket_code::basket::given_items;
@@ -19,15 +23,11 @@ use orderset::own_basket;
 use orderset::own_insert;
 use orderset::own_remove;
 use orderset::own_replace;
-use own_book_code::own_acknowledge;
-use own_book_code::own_fill;
-use own_book_code::own_new;
-use own_book_code::own_withdraw;
 
 // A key that is not held gets the value; the answer is the slot taken, the version and the slots compared, and the
 // stores are to be made by the caller.
 #[no_mangle]
-pub extern "C" fn orderset_own_insert(
+pub extern "C" fn orderset_proved_own_insert(
     image: &[u8],
     heads: &mut [u32],
     next: &mut [u32],
@@ -53,7 +53,7 @@ pub extern "C" fn orderset_own_insert(
 
 // A key that is held gets the value; the answer is as above.
 #[no_mangle]
-pub extern "C" fn orderset_own_replace(
+pub extern "C" fn orderset_proved_own_replace(
     image: &[u8],
     heads: &mut [u32],
     next: &mut [u32],
@@ -80,7 +80,7 @@ pub extern "C" fn orderset_own_replace(
 // The key is dropped; the answer is the slot taken and the version, or absent, each with the slots compared, and the
 // stores are to be made by the caller.
 #[no_mangle]
-pub extern "C" fn orderset_own_remove(
+pub extern "C" fn orderset_proved_own_remove(
     image: &[u8],
     heads: &mut [u32],
     next: &mut [u32],
@@ -105,7 +105,7 @@ pub extern "C" fn orderset_own_remove(
 
 // is the version and the slots taken, and the stores, sixteen for each key, are to be made by the caller.
 #[no_mangle]
-pub extern "C" fn orderset_own_basket(
+pub extern "C" fn orderset_proved_own_basket(
     image: &[u8],
     heads: &mut [u32],
     next: &mut [u32],
@@ -143,7 +143,7 @@ pub extern "C" fn orderset_own_basket(
 // A new order of this quantity; the answer is the slot taken and the version, and the stores are to be made by the
 // caller.
 #[no_mangle]
-pub extern "C" fn orderset_own_book_new(
+pub extern "C" fn orderset_proved_own_book_new(
     image: &[u8],
     heads: &mut [u32],
     next: &mut [u32],
@@ -170,7 +170,7 @@ pub extern "C" fn orderset_own_book_new(
 // The order is acknowledged; the answer is as above, or, of an order that was acknowledged before, its slot and
 // version.
 #[no_mangle]
-pub extern "C" fn orderset_own_book_acknowledge(
+pub extern "C" fn orderset_proved_own_book_acknowledge(
     image: &[u8],
     heads: &mut [u32],
     next: &mut [u32],
@@ -196,7 +196,7 @@ pub extern "C" fn orderset_own_book_acknowledge(
 // This quantity of the order is filled; the answer is the slot taken and the version, and the stores are to be made by
 // the caller.
 #[no_mangle]
-pub extern "C" fn orderset_own_book_fill(
+pub extern "C" fn orderset_proved_own_book_fill(
     image: &[u8],
     heads: &mut [u32],
     next: &mut [u32],
@@ -222,7 +222,7 @@ pub extern "C" fn orderset_own_book_fill(
 
 // The order is removed, with all that is open; the answer is as above.
 #[no_mangle]
-pub extern "C" fn orderset_own_book_withdraw(
+pub extern "C" fn orderset_proved_own_book_withdraw(
     image: &[u8],
     heads: &mut [u32],
     next: &mut [u32],

@@ -6,7 +6,7 @@ use orderset::play_list;
 
 // The first a stores of the first half and the first b of the second are made.
 #[no_mangle]
-pub extern "C" fn orderset_play(
+pub extern "C" fn orderset_proved_play(
     image: &mut [u8],
     at: &[u32; 16],
     value: &[u64; 16],
@@ -20,7 +20,7 @@ pub extern "C" fn orderset_play(
 
 // All stores of a list are made, in order.
 #[no_mangle]
-pub extern "C" fn orderset_play_list(image: &mut [u8], at: &[u32], value: &[u64]) -> u32
+pub extern "C" fn orderset_proved_play_list(image: &mut [u8], at: &[u32], value: &[u64]) -> u32
     ensures result { λ r. ⌜ playEnd r (now (image .exit)) ≡ playListResult (now (image .entry)) (now (at .entry)) (now (value .entry)) ⌝ }
 {
     play_list(image, at, value)

@@ -10,7 +10,7 @@ use orderset::recover;
 // The index of the image is rebuilt; the answer is the state beside it, with the invalidating stores, which are to be
 // made by the caller. Returned is 0, or the refusal + 2^32 × the slot that it names.
 #[no_mangle]
-pub extern "C" fn orderset_recover(
+pub extern "C" fn orderset_proved_recover(
     image: &[u8],
     heads: &mut [u32],
     next: &mut [u32],

@@ -27,7 +27,7 @@ use Rattle.table.proofs.Shared.{fault-agreed, agreed-fault, agreed-apart}
 use Rattle.table.proofs.Settled.{settled-apart}
 use Rattle.table.proofs.Broken.{many-few, few-many}
 use Rattle.table.proofs.LiveCount.{all-room, room-all}
-use Rattle.images.proofs.Right.{BitMarks, RightSlots}
+use Rattle.table.proofs.Right.{BitMarks, RightSlots}
 use Rattle.recovery.specs.Recover.{settledFault, slotsFault, recoverFault}
 use Rattle.recovery.proofs.Clear.{slots-clear}
 use Rattle.plainmap.specs.Accepted.{Accepted}

@@ -22,14 +22,16 @@ use Rattle.index.specs.Index.{Chain, reuse, head, headOf}
 use Rattle.index.specs.Allocation.{Taken}
 use Rattle.index.specs.Basket.{Item, takenSlots}
 use Rattle.index.specs.declared.Action.{Action}
-use Rattle.index.specs.declared.Action.the-variants.{Insert, Replace, Remove}
+use Rattle.index.specs.Change.{keyFault, insertsOf}
+use Rattle.index.specs.declared.Action.the-variants.{Write, Remove}
+use Rattle.index.specs.declared.Mode.the-variants.{Insert, Replace}
 use Rattle.index.specs.declared.Found.{Found}
 use Rattle.index.proofs.defs.Items.{itemSlots, appendsBy, appendsOf, goesTo, movedOne, movedBy}
 use Rattle.calls.specs.Basket.{kindBy, valueBy, recordsFor, oldIn, itemsFor}
 use Rattle.calls.specs.BasketItems.{KeyChange}
 use Rattle.calls.specs.BasketRefusals.{actionFault, insertsBy, removesBy, sumOver}
-use Rattle.images.proofs.defs.Entries.{recordOf}
-use Rattle.images.proofs.Entries.{made-key}
+use Rattle.table.proofs.defs.Entries.{recordOf}
+use Rattle.table.proofs.Entries.{made-key}
 
 -- ---- one key
 
@@ -47,23 +49,21 @@ recordFor c s = record { slot = s; key = c .key; kind = kindBy (c .action); valu
 
 -- is it a put?
 unfoldable pub puts : Action → Bool
-puts Insert = true
-puts Replace = true
+puts (Write mode) = true
 puts Remove = false
 
 pub put-by : (action : Action) (version key : ℕ) (value : List ℕ) → isPut (contentOfRecord (kindBy action) version key value) ≡ puts action
 unfolding kindBy puts contentOfRecord isPut
-put-by Insert version key value = refl
-put-by Replace version key value = refl
+put-by (Write mode) version key value = refl
 put-by Remove version key value = refl
 
-pub insert-free : (held : Bool) → actionFault Insert held ≡ 0 → held ≡ false
-unfolding actionFault refuseIf
+pub insert-free : (held : Bool) → actionFault (Write Insert) held ≡ 0 → held ≡ false
+unfolding actionFault keyFault refuseIf
 insert-free true e = absurd (omega arith)
 insert-free false e = refl
 
-pub replace-held : (held : Bool) → actionFault Replace held ≡ 0 → held ≡ true
-unfolding actionFault refuseIf
+pub replace-held : (held : Bool) → actionFault (Write Replace) held ≡ 0 → held ≡ true
+unfolding actionFault keyFault refuseIf
 replace-held true e = refl
 replace-held false e = absurd (omega arith)
 
@@ -92,29 +92,27 @@ module _ (f : Table) (n : ℕ) (found : ℕ → Found) where
   appends-by : (action : Action) (key s : ℕ) (value : List ℕ) → KeyReady f n found (record { action = action; key = key; value = value })
       → appended (holder f n key) (puts action) s ≡ appendsBy action (oldIn (found key)) s
   unfolding puts appendsBy
-  appends-by Insert key s value r = appended-none (holder f n key) s (r .none-holds (insert-free _ (r .asked)))
-  appends-by Replace key s value r =
+  appends-by (Write Insert) key s value r = appended-none (holder f n key) s (r .none-holds (insert-free _ (r .asked)))
+  appends-by (Write Replace) key s value r =
       appended-put (holder f n key) s (r .holds (replace-held _ (r .asked))) ∙ ap (λ (x : ℕ). x ∷ []) (sym (r .old-is))
   appends-by Remove key s value r =
       appended-remove (holder f n key) s (r .holds (remove-held _ (r .asked))) ∙ ap (λ (x : ℕ). x ∷ s ∷ []) (sym (r .old-is))
 
   goes-by : (action : Action) (h : ℕ) → cond (puts action) (head h) reuse ≡ goesTo action h
   unfolding puts goesTo
-  goes-by Insert h = refl
-  goes-by Replace h = refl
+  goes-by (Write mode) h = refl
   goes-by Remove h = refl
 
   inserts-by : (action : Action) (key : ℕ) (value : List ℕ) → KeyReady f n found (record { action = action; key = key; value = value })
       → oneIf (puts action && not (isHeld (mapOf f n key))) ≡ insertsBy action
-  unfolding puts insertsBy
-  inserts-by Insert key value r = ap (λ (x : Bool). oneIf (not x)) (insert-free _ (r .asked))
-  inserts-by Replace key value r = ap (λ (x : Bool). oneIf (not x)) (replace-held _ (r .asked))
+  unfolding puts insertsBy insertsOf
+  inserts-by (Write Insert) key value r = ap (λ (x : Bool). oneIf (not x)) (insert-free _ (r .asked))
+  inserts-by (Write Replace) key value r = ap (λ (x : Bool). oneIf (not x)) (replace-held _ (r .asked))
   inserts-by Remove key value r = refl
 
   removes-by : (action : Action) → oneIf (not (puts action)) ≡ removesBy action
   unfolding puts removesBy
-  removes-by Insert = refl
-  removes-by Replace = refl
+  removes-by (Write mode) = refl
   removes-by Remove = refl
 
   pub removed-held : (c : KeyChange) → KeyReady f n found c → puts (c .action) ≡ false → isHeld (mapOf f n (c .key)) ≡ true
@@ -122,8 +120,8 @@ module _ (f : Table) (n : ℕ) (found : ℕ → Found) where
   removed-held c r e = go (c .action) (r .asked) e
     where
       go : (a : Action) → actionFault a (isHeld (mapOf f n (c .key))) ≡ 0 → puts a ≡ false → isHeld (mapOf f n (c .key)) ≡ true
-      go Insert z q = absurd (let k : _≡_ {A = ℕ} 0 1 = ap (λ (x : Bool). cond x 0 1) q in omega arith)
-      go Replace z q = replace-held _ z
+      go (Write Insert) z q = absurd (let k : _≡_ {A = ℕ} 0 1 = ap (λ (x : Bool). cond x 0 1) q in omega arith)
+      go (Write Replace) z q = replace-held _ z
       go Remove z q = remove-held _ z
 
   -- ---- all keys: new has the record of each key in the slot taken for it

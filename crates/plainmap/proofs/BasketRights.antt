@@ -35,7 +35,8 @@ use Rattle.index.specs.Walk.{search}
 use Rattle.index.specs.Change.{isFound}
 use Rattle.index.specs.Allocation.{Taken, Allocation}
 use Rattle.index.specs.declared.Action.{Action}
-use Rattle.index.specs.declared.Action.the-variants.{Insert, Replace, Remove}
+use Rattle.index.specs.declared.Action.the-variants.{Write, Remove}
+use Rattle.index.specs.declared.Mode.the-variants.{Insert, Replace}
 use Rattle.index.specs.declared.Found.{Found}
 use Rattle.index.proofs.defs.Items.{oldsBy, oldsOf}
 use Rattle.allocation.specs.Allocation.{allocationByRule, allocationChosenBy, allocationBy}
@@ -44,7 +45,7 @@ use Rattle.calls.specs.Result.{unchanged, CallResult}
 use Rattle.calls.specs.BasketItems.{KeyChange}
 use Rattle.calls.specs.BasketRefusals.{anyTwice, keyCountFault, givenFault, firstFault, valueFault, actionFault, basketLentFault, keysFault, insertsBy, removesBy, sumOver, basketFault, basketFaultBy}
 use Rattle.calls.specs.Basket.{kindBy, valueBy, recordsFor, oldIn, itemsFor, indexAfter, basketMade, basketDone, basketUnless, basketResult, basketByRule, basketResultBy}
-use Rattle.images.proofs.defs.Entries.{recordOf}
+use Rattle.table.proofs.defs.Entries.{recordOf}
 use Rattle.plainmap.specs.World.{World}
 use Rattle.plainmap.specs.Plain.{PlainMap, Update, giving, dropping, updated, plainNext, plainStep}
 use Rattle.plainmap.specs.Accepted.{Accepted}
@@ -74,8 +75,7 @@ module _ (version : ℕ) (new : Table) where
       → cond (eqb k (keyIn (contentOfRecord (kindBy a) version key (valueBy a value)))) (valueIn (contentOfRecord (kindBy a) version key (valueBy a value))) (m k) ≡
       updated (keyUpdate a key value) m k
   unfolding kindBy valueBy contentOfRecord keyIn valueIn updated keyUpdate
-  update-one Insert key value m k = refl
-  update-one Replace key value m k = refl
+  update-one (Write mode) key value m k = refl
   update-one Remove key value m k = refl
 
   in-turn : (cs : List KeyChange) (us : List Taken) → length us ≡ length cs
@@ -129,8 +129,8 @@ module _ (l : ℕ) (lay : Layout l) (w : World) (chains : Chain → List ℕ) (a
 
   removed-olds : (a : Action) (old : ℕ) → removesBy a ≤ length (oldsBy a old)
   unfolding removesBy oldsBy
-  removed-olds Insert old = omega arith
-  removed-olds Replace old = omega arith
+  removed-olds (Write Insert) old = omega arith
+  removed-olds (Write Replace) old = omega arith
   removed-olds Remove old = omega arith
 
   removes-olds : (cs : List KeyChange) → sumOver removesBy cs ≤ length (oldsOf (itemsFor found (length (w .index .heads)) cs (dummies cs)))

@@ -43,7 +43,8 @@ use Rattle.index.specs.Change.{isFound}
 use Rattle.index.specs.Allocation.{Taken, taken, fewFault}
 use Rattle.index.specs.Basket.{takenSlots, basketIndex}
 use Rattle.index.specs.declared.Action.{Action}
-use Rattle.index.specs.declared.Action.the-variants.{Insert, Replace, Remove}
+use Rattle.index.specs.declared.Action.the-variants.{Write, Remove}
+use Rattle.index.specs.declared.Mode.the-variants.{Insert, Replace}
 use Rattle.index.specs.declared.Found.{Found}
 use Rattle.index.specs.declared.Found.the-variants.{At, Missing}
 use Rattle.index.proofs.defs.TakenIn.{takesIn}
@@ -56,8 +57,8 @@ use Rattle.allocation.proofs.Choices.{choice-own}
 use Rattle.calls.specs.Basket.{kindBy, valueBy, recordsFor, oldIn, itemsFor}
 use Rattle.calls.specs.BasketItems.{KeyChange}
 use Rattle.calls.specs.BasketRefusals.{keyCountFault, among, anyTwice, givenFault, firstFault, valueFault, actionFault, basketLentFault, keysFault, insertsBy, removesBy, sumOver, basketFault, basketFaultBy}
-use Rattle.images.proofs.defs.Entries.{recordOf, recordAt}
-use Rattle.images.proofs.Entries.{slots-length, EntryAt, entry-at, made-record, made-key}
+use Rattle.table.proofs.defs.Entries.{recordOf, recordAt}
+use Rattle.table.proofs.Entries.{slots-length, EntryAt, entry-at, made-record, made-key}
 use Rattle.plainmap.specs.World.{World}
 use Rattle.plainmap.specs.Accepted.{Accepted}
 use Rattle.plainmap.specs.Consistency.{IndexConsistent}
@@ -223,17 +224,16 @@ number-fits m q = go (eqb m 1)
 fields-by : (l : ℕ) → Layout l → (number : ℕ) → number < 256 → (a : Action) (key : ℕ) (value : List ℕ) → key < (2 ^ 64) ^ l → AreBytes value
     → valueFault l a (length value) ≡ 0 → Fields l key (kindBy a) number (valueBy a value)
 unfolding kindBy valueBy valueFault
-fields-by l lay number h Insert key value k b z =
+fields-by l lay number h (Write Insert) key value k b z =
     record { layout = lay; key-fits = k; kind-fits = omega arith; number-fits = h; size = ltb-false (limit l) (length value) (refuseIf-zero _ 10 0 z (omega arith) .0); bytes = b }
-fields-by l lay number h Replace key value k b z =
+fields-by l lay number h (Write Replace) key value k b z =
     record { layout = lay; key-fits = k; kind-fits = omega arith; number-fits = h; size = ltb-false (limit l) (length value) (refuseIf-zero _ 10 0 z (omega arith) .0); bytes = b }
 fields-by l lay number h Remove key value k b z =
     record { layout = lay; key-fits = k; kind-fits = omega arith; number-fits = h; size = omega arith; bytes = λ i. omega arith }
 
 lawful-by : (number : ℕ) → LawfulNumber number → (a : Action) (value : List ℕ) → Lawful (kindBy a) number (valueBy a value)
 unfolding kindBy valueBy
-lawful-by number n Insert value = a-put refl n
-lawful-by number n Replace value = a-put refl n
+lawful-by number n (Write mode) value = a-put refl n
 lawful-by number n Remove value = a-remove refl refl n
 
 -- three things that hold of all keys
@@ -329,8 +329,8 @@ module _ (l : ℕ) (lay : Layout l) (w : World) (chains : Chain → List ℕ) (a
 
   stands-by : (a : Action) (key : ℕ) → actionFault a (isHeld (mapOf f n key)) ≡ 0 → KeyReady f n found (record { action = a; key = key; value = [] })
       → OldStands n place a (headOf key b) (oldIn (found key))
-  stands-by Insert key z r = r .old-is ∙ r .none-holds (insert-free _ z)
-  stands-by Replace key z r = rw (r .old-is) (let o = old-place key (r .holds (replace-held _ z)) in (o .0, o .1))
+  stands-by (Write Insert) key z r = r .old-is ∙ r .none-holds (insert-free _ z)
+  stands-by (Write Replace) key z r = rw (r .old-is) (let o = old-place key (r .holds (replace-held _ z)) in (o .0, o .1))
   stands-by Remove key z r = rw (r .old-is) (let o = old-place key (r .holds (remove-held _ z)) in (o .0, o .1))
 
   item-ready : (c : KeyChange) (s : ℕ) → KeyReady f n found c → Ready n b place (record { action = c .action; key-head = headOf (c .key) b; old = oldIn (found (c .key)); slot = s })
@@ -355,16 +355,16 @@ module _ (l : ℕ) (lay : Layout l) (w : World) (chains : Chain → List ℕ) (a
   pub held-old : (a : Action) (key : ℕ) → KeyReady f n found (record { action = a; key = key; value = [] }) → (x : ℕ) → In x (oldsBy a (oldIn (found key)))
       → (0 < holder f n key) × (x ≡ holder f n key)
   unfolding oldsBy
-  held-old Insert key r x i = absurd i
-  held-old Replace key r x (inl e) = (r .holds (replace-held _ (r .asked)), e ∙ r .old-is)
-  held-old Replace key r x (inr z) = absurd z
+  held-old (Write Insert) key r x i = absurd i
+  held-old (Write Replace) key r x (inl e) = (r .holds (replace-held _ (r .asked)), e ∙ r .old-is)
+  held-old (Write Replace) key r x (inr z) = absurd z
   held-old Remove key r x (inl e) = (r .holds (remove-held _ (r .asked)), e ∙ r .old-is)
   held-old Remove key r x (inr z) = absurd z
 
   once-old : (a : Action) (old : ℕ) → Once (oldsBy a old)
   unfolding oldsBy
-  once-old Insert old = tt
-  once-old Replace old = ((λ z. z), tt)
+  once-old (Write Insert) old = tt
+  once-old (Write Replace) old = ((λ z. z), tt)
   once-old Remove old = ((λ z. z), tt)
 
   bare : (c : KeyChange) → KeyReady f n found c → KeyReady f n found (record { action = c .action; key = c .key; value = [] })

@@ -16,7 +16,7 @@ use Rattle.table.specs.Complete.{tableOf, NoneVoid}
 use Rattle.table.proofs.Complete.{settled-same}
 use Rattle.table.proofs.Formatted.{format-none-void}
 use Rattle.stores.proofs.AllStand.{many-stand}
-use Rattle.images.proofs.Invalidations.{openedImage}
+use Rattle.table.proofs.Invalidations.{openedImage}
 use Rattle.prelude.proofs.defs.Answer.{isRefusal}
 use lib.ListN.{length}
 use Rattle.table.specs.Table.{rankForKey, valueAt, mapOf, isHeld}
@@ -92,22 +92,22 @@ alike l w m g = fun-ext (g .map)
 
 pub agrees-right : (l : ℕ) → Layout l → (w : World) (m : PlainMap) → Refines l w m → (call : Call) → Typed l call → CallCorrect l w m call
 agrees-right l lay w m g call s =
-    subst (λ (x : PlainMap). CallCorrect l w x call) (alike l w m g) (call-right l lay w (g .chains) (g .accepted) (g .sound) (g .none-void) call s)
+    subst (λ (x : PlainMap). CallCorrect l w x call) (alike l w m g) (call-right l lay w (g .chains) (g .accepted) (g .consistent) (g .none-void) call s)
 
 pub agrees-reads : (l : ℕ) (w : World) (m : PlainMap) → Refines l w m → Reads l w m
-agrees-reads l w m g = subst (λ (x : PlainMap). Reads l w x) (alike l w m g) (sound-reads l w (g .chains) (g .accepted) (g .sound))
+agrees-reads l w m g = subst (λ (x : PlainMap). Reads l w x) (alike l w m g) (sound-reads l w (g .chains) (g .accepted) (g .consistent))
 
 pub agrees-by : (l : ℕ) (w : World) (m : PlainMap) → Accepted l (w .image)
     → NoneVoid (contentsOf l (w .image)) (sizeFieldsOf l (w .image)) (slotsIn (w .image)) → SomeSound l w
     → ((k : ℕ) → slotsMap l (w .image) k ≡ m k) → Refines l w m
-agrees-by l w m a void (some-sound chains s) h = record { accepted = a; none-void = void; chains = chains; sound = s; map = h }
+agrees-by l w m a void (some-sound chains s) h = record { accepted = a; none-void = void; chains = chains; consistent = s; map = h }
 
 -- m may be given another way
 pub agrees-with : (l : ℕ) (w : World) (m m′ : PlainMap) → Refines l w m → ((k : ℕ) → m k ≡ m′ k) → Refines l w m′
-agrees-with l w m m′ g h = record { accepted = g .accepted; none-void = g .none-void; chains = g .chains; sound = g .sound; map = λ k. g .map k ∙ h k }
+agrees-with l w m m′ g h = record { accepted = g .accepted; none-void = g .none-void; chains = g .chains; consistent = g .consistent; map = λ k. g .map k ∙ h k }
 
 pub agrees-stepped : (l : ℕ) → Layout l → (w : World) (m : PlainMap) → Refines l w m → (call : Call) → Typed l call → Stepped l w (updates call) (callResult l w call)
-agrees-stepped l lay w m g call s = call-stepped l lay w (g .chains) (g .accepted) (g .sound) (g .none-void) call s
+agrees-stepped l lay w m g call s = call-stepped l lay w (g .chains) (g .accepted) (g .consistent) (g .none-void) call s
 
 -- what a call, single or a basket, leaves with its stores played: `denied` tells whether the rules refuse it
 pub agrees-after : (l : ℕ) (w : World) (m : PlainMap) → Refines l w m → (us : List Update) (r : CallResult) (denied : Bool) → isRefusal (r .answer) ≡ denied

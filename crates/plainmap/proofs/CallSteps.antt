@@ -27,8 +27,8 @@ use Rattle.plainmap.specs.Consistency.{IndexConsistent}
 use Rattle.layout.specs.Record.{Layout}
 use Rattle.plainmap.specs.Claims.{Typed, write-typed, remove-typed, slotsMap}
 use Rattle.plainmap.specs.Accepted.{Accepted}
-use Rattle.images.proofs.defs.Entries.{recordAt}
-use Rattle.images.proofs.Entries.{made-key}
+use Rattle.table.proofs.defs.Entries.{recordAt}
+use Rattle.table.proofs.Entries.{made-key}
 use Rattle.plainmap.proofs.Wrote.{SomeSound, some-sound, nextOf, WroteRecords}
 use Rattle.plainmap.proofs.Outcomes.{worldWith, oneRecord, record-own, Ran, ran-refused, ran-absent, ran-wrote, write-runs, remove-runs}
 

@@ -18,9 +18,8 @@ use Rattle.layout.specs.Record.{Layout, limit}
 use Rattle.layout.specs.Line.{versionFault}
 use Rattle.table.specs.Complete.{tableOf}
 use Rattle.table.specs.Table.{isHeld, liveCount}
-use Rattle.index.specs.Change.{keyFault}
+use Rattle.index.specs.Change.{insertsOf, keyFault}
 use Rattle.index.specs.declared.Mode.the-variants.{Insert, Replace}
-use Rattle.calls.specs.Change.{insertsOf}
 use Rattle.calls.specs.Format.{formatted}
 use Rattle.calls.proofs.Formats.{formatted-length}
 use Rattle.plainmap.specs.World.{World, Call, write, remove, get, locate, callResult, finished, Restart, restarted}
@@ -129,7 +128,7 @@ module _ (l : ℕ) (lay : Layout l) where
   pub agrees-room : (w : World) (m : PlainMap) → Refines l w m → HasRoom l (w .image) → (call : Call)
       → RoomCorrect l w (InsertsNew l m call) (expectedRefusal l w m call)
   agrees-room w m g room call =
-      call-room l w m (room-takeable l w (g .chains) (g .sound) (g .none-void) room) (accepted-room l (w .image) (g .accepted)) call
+      call-room l w m (room-takeable l w (g .chains) (g .consistent) (g .none-void) room) (accepted-room l (w .image) (g .accepted)) call
 
   -- EVERY LIST OF CALLS from an accepted image
   pub accepted-rule : (image : List ℕ) (start : Restart) → Accepted l image → RestartFits (slotsIn image) start

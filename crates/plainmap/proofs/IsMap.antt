@@ -26,10 +26,10 @@ is-map l lay =
       keeps = agrees-next l lay;
       list-plays = agrees-list l lay;
       takes = λ w m g some.
-          slot-taken l lay w (g .chains) (g .accepted) (g .sound) (g .none-void)
-          (taking-few l w (g .chains) (g .accepted) (g .sound) (g .none-void) 1 ∙ refuseIf-false _ 28 0 (le-ltb _ 1 some));
-      call-by-rule = λ w m g. call-by-rule l lay w (g .chains) (g .accepted) (g .sound) (g .none-void);
-      basket-by-rule = λ w m g. basket-by-rule l lay w (g .chains) (g .accepted) (g .sound) (g .none-void);
+          slot-taken l lay w (g .chains) (g .accepted) (g .consistent) (g .none-void)
+          (taking-few l w (g .chains) (g .accepted) (g .consistent) (g .none-void) 1 ∙ refuseIf-false _ 28 0 (le-ltb _ 1 some));
+      call-by-rule = λ w m g. call-by-rule l lay w (g .chains) (g .accepted) (g .consistent) (g .none-void);
+      basket-by-rule = λ w m g. basket-by-rule l lay w (g .chains) (g .accepted) (g .consistent) (g .none-void);
       either-call = either-called l lay;
       either-basket = either-basket-called l lay;
       reads = recovered-reads l;

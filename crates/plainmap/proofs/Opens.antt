@@ -25,8 +25,8 @@ use Rattle.recovery.proofs.Clear.{slots-clear}
 use Rattle.recovery.proofs.Void.{few-void}
 use Rattle.recovery.proofs.InvalidatingStores.{stores-back, invalidations-length}
 use Rattle.recovery.proofs.Lent.{recovery-taken}
-use Rattle.images.proofs.Invalidations.{voids, voids-once, void-slot, openedImage, all-opened, opened-at, opened-full}
-use Rattle.images.proofs.Right.{right-opened}
+use Rattle.table.proofs.Invalidations.{voids, voids-once, void-slot, openedImage, all-opened, opened-at, opened-full}
+use Rattle.table.proofs.Right.{right-opened}
 use Rattle.plainmap.specs.World.{World, Round, afterRound, afterRounds}
 use Rattle.plainmap.specs.Accepted.{Accepted, RightSize}
 use Rattle.plainmap.specs.Consistency.{IndexConsistent}

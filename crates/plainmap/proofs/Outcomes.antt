@@ -43,7 +43,7 @@ use Rattle.table.proofs.Held.{holder-held}
 use Rattle.table.proofs.Write.{above-next}
 use Rattle.index.specs.Index.{Index, Chain, reuse, head, headOf, indexOf, withCounts}
 use Rattle.index.specs.Walk.{search, chainFault}
-use Rattle.index.specs.Change.{takeFirst, keyFault, isFound}
+use Rattle.index.specs.Change.{insertsOf, takeFirst, keyFault, isFound}
 use Rattle.index.specs.inner.Parts.{insertNew, replaceHeld, removeHeld}
 use Rattle.index.specs.Allocation.{Allocation, taken, fewFault, reuseFault, roomFault}
 use Rattle.index.specs.declared.Mode.{Mode}
@@ -54,10 +54,10 @@ use Rattle.index.proofs.Sits.{sits-first}
 use Rattle.index.proofs.defs.TakenIn.{takenIn}
 use Rattle.index.proofs.Allocations.{sits-taking, few-exact, taken-first}
 use Rattle.allocation.specs.Allocation.{allocationByRule, allocationBy}
-use Rattle.calls.specs.Change.{storeFault, changed, insertsOf, writeLentFault, writeLaterFault, writeFault, writeDone, writeUnless, writeResult, removeLaterFault, removeFault, removeDone, removeUnless, removeResult, removeFaultBy, removeResultBy, writeFaultBy, writeResultBy}
+use Rattle.calls.specs.Change.{storeFault, changed, writeLentFault, writeLaterFault, writeFault, writeDone, writeUnless, writeResult, removeLaterFault, removeFault, removeDone, removeUnless, removeResult, removeFaultBy, removeResultBy, writeFaultBy, writeResultBy}
 use Rattle.calls.specs.Result.{CallResult, unchanged}
-use Rattle.images.proofs.defs.Entries.{recordAt}
-use Rattle.images.proofs.Entries.{made-record, made-key}
+use Rattle.table.proofs.defs.Entries.{recordAt}
+use Rattle.table.proofs.Entries.{made-record, made-key}
 use Rattle.plainmap.specs.World.{World}
 use Rattle.plainmap.specs.Accepted.{Accepted}
 use Rattle.plainmap.specs.Consistency.{Starts, starts, IndexConsistent}

@@ -98,8 +98,8 @@ module _ (l : ℕ) (lay : Layout l) (w : World) (m : PlainMap) (g : Refines l w 
   -- THE CALLS FOR THE OWNER ARE THE CALLS
   pub either-called : (own : Bool) (call : Call) → callResultBy own l w call ≡ callResult l w call
   unfolding callResultBy callResult
-  either-called true (write mode key value) = (own-write l lay w (g .chains) (g .accepted) (g .sound) (g .none-void) mode key value)
-  either-called true (remove key) = (own-remove l lay w (g .chains) (g .accepted) (g .sound) (g .none-void) key)
+  either-called true (write mode key value) = (own-write l lay w (g .chains) (g .accepted) (g .consistent) (g .none-void) mode key value)
+  either-called true (remove key) = (own-remove l lay w (g .chains) (g .accepted) (g .consistent) (g .none-void) key)
   either-called false (write mode key value) = refl
   either-called false (remove key) = refl
   either-called own (get key out) = refl
@@ -109,4 +109,4 @@ module _ (l : ℕ) (lay : Layout l) (w : World) (m : PlainMap) (g : Refines l w 
   unfolding basketCallResultBy basketCallResult
   either-basket-called false b = refl
   either-basket-called true b =
-      own-basket l lay w (g .chains) (g .accepted) (g .sound) (g .none-void) (b .changes) (b .at) (b .words)
+      own-basket l lay w (g .chains) (g .accepted) (g .consistent) (g .none-void) (b .changes) (b .at) (b .words)

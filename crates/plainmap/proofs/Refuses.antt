@@ -26,7 +26,7 @@ use Rattle.table.proofs.Held.{Held, held, unheld, held-or, some-none}
 use Rattle.index.specs.Index.{Index, Chain, reuse, indexOf}
 use Rattle.index.specs.Linked.{ChainsPartition}
 use Rattle.index.specs.Walk.{search, chainFault}
-use Rattle.index.specs.Change.{keyFault, isFound}
+use Rattle.index.specs.Change.{insertsOf, keyFault, isFound}
 use Rattle.index.specs.Allocation.{Allocation, endsFault, linkFault, fewFault, reuseFault, roomFault}
 use Rattle.index.proofs.defs.TakenIn.{takenIn}
 use Rattle.index.proofs.Allocations.{sits-taking, few-exact, links-fine}
@@ -36,7 +36,7 @@ use Rattle.layout.specs.Line.{versionFault}
 use Rattle.index.specs.declared.State.{State}
 use Rattle.index.specs.declared.Found.{Found}
 use Rattle.index.proofs.Sits.{sits-first, sits-last}
-use Rattle.calls.specs.Change.{storeFault, insertsOf, writeLaterFault, writeFault, removeLaterFault, removeFault, removeFaultBy}
+use Rattle.calls.specs.Change.{storeFault, writeLaterFault, writeFault, removeLaterFault, removeFault, removeFaultBy}
 use Rattle.calls.specs.Get.{lengthFault, getLaterFault, getFault}
 use Rattle.calls.proofs.Lookups.{write-after}
 use Rattle.plainmap.specs.World.{World, write, remove, get}

@@ -28,7 +28,7 @@ use Rattle.table.proofs.TakeableCount.{takeable-count}
 use Rattle.index.specs.Index.{Index, Chain, reuse}
 use Rattle.calls.specs.Format.{formatted}
 use Rattle.calls.proofs.Formats.{formatted-length, formatted-content}
-use Rattle.images.proofs.defs.Entries.{recordAt}
+use Rattle.table.proofs.defs.Entries.{recordAt}
 use Rattle.plainmap.specs.World.{World, worldAfter, invalidatedWorld, Round, afterRound, afterRounds, Restart, restarted}
 use Rattle.calls.specs.Result.{CallResult}
 use Rattle.plainmap.specs.Plain.{Update}

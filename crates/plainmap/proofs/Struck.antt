@@ -29,9 +29,9 @@ use Rattle.table.proofs.Changes.{changes-same}
 use Rattle.table.proofs.Finished.{finished-or, finished-map, finished-none-void}
 use Rattle.table.proofs.Unfinished.{unfinished-map}
 use Rattle.index.specs.Index.{Index}
-use Rattle.images.proofs.defs.Entries.{recordAt}
-use Rattle.images.proofs.Cuts.{cut-struck, stand-finished, finished-stand}
-use Rattle.images.proofs.Right.{RightSlots, right-cut}
+use Rattle.table.proofs.defs.Entries.{recordAt}
+use Rattle.table.proofs.Cuts.{cut-struck, stand-finished, finished-stand}
+use Rattle.table.proofs.Right.{RightSlots, right-cut}
 use Rattle.plainmap.specs.World.{World}
 use Rattle.plainmap.specs.Accepted.{Accepted}
 use Rattle.plainmap.specs.Claims.{slotsMap}

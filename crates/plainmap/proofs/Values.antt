@@ -23,7 +23,7 @@ use Rattle.layout.specs.Size.{slotsIn}
 use Rattle.plainmap.specs.Plain.{sizeOf}
 use Rattle.plainmap.specs.Accepted.{Accepted}
 use Rattle.plainmap.specs.Claims.{slotsMap}
-use Rattle.images.proofs.Right.{RightSlots, valid-fault}
+use Rattle.table.proofs.Right.{RightSlots, valid-fault}
 use Rattle.plainmap.proofs.AcceptedImages.{accepted-right}
 
 -- slot s keeps the value v

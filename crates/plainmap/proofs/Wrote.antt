@@ -15,7 +15,7 @@ use Rattle.table.proofs.defs.Basket.{Basket, HeldRemoved, putsIn, heldIn}
 use Rattle.table.proofs.defs.Struck.{Struck, Finished}
 use Rattle.table.proofs.defs.ReuseAfter.{BrokenTaken}
 use Rattle.index.specs.Index.{Index, Chain, withCounts}
-use Rattle.images.proofs.defs.Entries.{recordAt}
+use Rattle.table.proofs.defs.Entries.{recordAt}
 use Rattle.plainmap.specs.World.{World}
 use Rattle.plainmap.specs.Consistency.{IndexConsistent}
 

@@ -14,7 +14,8 @@ use Rattle.table.specs.Complete.{tableOf}
 use Rattle.index.specs.Allocation.{Allocation, taken, tooFew, badLink}
 use Rattle.index.specs.Basket.{takenSlots}
 use Rattle.index.specs.declared.Action.{Action}
-use Rattle.index.specs.declared.Action.the-variants.{Insert, Replace, Remove}
+use Rattle.index.specs.declared.Action.the-variants.{Write, Remove}
+use Rattle.index.specs.declared.Mode.the-variants.{Insert, Replace}
 use Rattle.allocation.specs.Allocation.{allocationByRule}
 use Rattle.calls.specs.declared.BasketItem.{BasketItem}
 use Rattle.calls.specs.Basket.{basketResult, basketResultBy, basketByRule}
@@ -45,8 +46,7 @@ basketCallResultByRule l w b = basketByRule l (w .image) (w .index) (b .changes)
 
 -- what it makes of the plain map where it is not refused: each of its keys in turn
 unfoldable pub keyUpdate : Action → (key : ℕ) → (value : List ℕ) → Update
-keyUpdate Insert key value = giving key value
-keyUpdate Replace key value = giving key value
+keyUpdate (Write mode) key value = giving key value
 keyUpdate Remove key value = dropping key
 
 unfoldable pub basketUpdates : List KeyChange → List Update

@@ -49,5 +49,5 @@ pub record Refines (l : ℕ) (w : World) (m : PlainMap) : Type 0 where
   -- recovery's invalidating stores "are played and fenced before any other call"
   pub none-void : NoneVoid (contentsOf l (w .image)) (sizeFieldsOf l (w .image)) (slotsIn (w .image))
   pub chains : Chain → List ℕ
-  pub sound : IndexConsistent l w chains
+  pub consistent : IndexConsistent l w chains
   pub map : (k : ℕ) → slotsMap l (w .image) k ≡ m k

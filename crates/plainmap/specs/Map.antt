@@ -62,8 +62,8 @@ pub record IsMap (l : ℕ) : Type 0 where
   -- a call that takes a slot takes the one that the taking rule names: the first that may be taken
   pub takes : (w : World) (m : PlainMap) (agrees : Refines l w m) → (0 < takeableCount (tableOf l (w .image)) (slotsIn (w .image)))
       → takenOf (contentsOf l (w .image)) (slotsIn (w .image)) 1 (agrees .chains reuse) ≡ w .index .state .first ∷ []
-  -- the whole call, and the whole basket, is that of the taking rule: slots, stores and index. Document 02, A.7: "with an index
-  -- not the image's own, only refusals are fixed, of single calls too"
+  -- the whole call, and the whole basket, is that of the taking rule: slots, stores and index. Document 02, A.7: "with
+  -- an index not the image's own, only refusals are fixed, of single calls too"
   pub call-by-rule : (w : World) (m : PlainMap) → Refines l w m → (call : Call) → callResult l w call ≡ callResultByRule l w call
   pub basket-by-rule : (w : World) (m : PlainMap) → Refines l w m → (b : Basket) → basketCallResult l w b ≡ basketCallResultByRule l w b
   -- the calls for the owner of an index, which are no calls of document 01, are the calls for any index: answer,

@@ -10,8 +10,7 @@ use Rattle.prelude.specs.Answer.{Answer, gives, absent}
 use Rattle.layout.specs.Record.{limit}
 use Rattle.table.specs.Table.{isHeld}
 use Rattle.layout.specs.Line.{versionFault}
-use Rattle.index.specs.Change.{keyFault}
-use Rattle.calls.specs.Change.{insertsOf}
+use Rattle.index.specs.Change.{insertsOf, keyFault}
 use Rattle.plainmap.specs.World.{Call, write, remove, get, locate}
 
 -- "Its state is a set of keys with a value each, perhaps of 0 bytes"

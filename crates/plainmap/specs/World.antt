@@ -23,7 +23,8 @@ pub record World : Type 0 where
 
 -- ---- calls
 
--- an insert or a replace, by its mode, and the others. "Its value or output is its own"
+-- an insert or a replace, by its mode; a remove; a get; and a locate, which tells where a key is held. "Its value or
+-- output is its own"
 pub data Call : Type 0 where
   write : Mode → (key : ℕ) → (value : List ℕ) → Call
   remove : (key : ℕ) → Call
@@ -56,7 +57,7 @@ callResultBy own l w (remove key) = removeResultBy own l (w .image) (w .index) k
 callResultBy own l w (get key out) = callResult l w (get key out)
 callResultBy own l w (locate key) = callResult l w (locate key)
 
--- and by the taking rule; a get and a locate take no slot
+-- and by the taking rule of document 02, A.7; a get and a locate take no slot
 unfoldable pub callResultByRule : (l : ℕ) → World → Call → CallResult
 callResultByRule l w (write mode key value) = writeByRule l (w .image) (w .index) mode key value
 callResultByRule l w (remove key) = removeByRule l (w .image) (w .index) key
@@ -85,7 +86,7 @@ finished l w call = record { image = played (callResult l w call .stores) (w .im
 
 -- ---- recovery
 
--- an image "with the index and state it leaves": by the result of recovery
+-- what recovery with this result leaves of an image: the image "with the index and state it leaves"
 unfoldable pub worldAfter : (image : List ℕ) → Recovery → World
 worldAfter image r = record { image = image; index = r .index }
 
@@ -93,9 +94,10 @@ worldAfter image r = record { image = image; index = r .index }
 unfoldable pub recoveredWorld : (l : ℕ) → (image heads next : List ℕ) → World
 recoveredWorld l image heads next = worldAfter image (recoverResult l image heads next)
 
--- ---- recovery's invalidating stores. Document 02, A.7: "these are played and fenced before any other call, and a cut among them is covered"
+-- ---- recovery's invalidating stores
 
--- a recovery with heads and next lent to it, and a cut among its invalidating stores: line n holds its first `counts n`
+-- document 02, A.7: "these are played and fenced before any other call, and a cut among them is covered": a recovery
+-- with heads and next lent to it, and a cut among its invalidating stores: line n holds its first `counts n`
 pub record Round : Type 0 where
   pub lent : Lists
   pub counts : ℕ → ℕ

@@ -11,10 +11,10 @@ use console::Status;
 use console::after_byte;
 use console::flush;
 use libc::STDIN_FILENO;
+use session_stream_code::stream::open_stream;
 use show::progress::counted;
 use show::progress::seconds;
 use std::num::wrapping_add_u64;
-use stream_code::stream::open_stream;
 use trace_code::stream::trace_byte;
 use trace_code::stream::trace_end;
 
@@ -31,7 +31,7 @@ struct Run {
 }
 
 // Where another second has begun, a line on standard error says how many lines were read and calls tried.
-fn show_progress(lines: u64, calls: u64, second: i64) -> Tried {
+fn show_calls_tried(lines: u64, calls: u64, second: i64) -> Tried {
     let now = seconds();
     if now != second {
         counted(lines, b" lines, ");
@@ -51,13 +51,13 @@ fn count_byte(t: Tried, byte: u8, stored: bool) -> Tried {
     }
     let lines = wrapping_add_u64(t.lines, 1);
     if stored {
-        return show_progress(lines, wrapping_add_u64(t.calls, 1), t.second);
+        return show_calls_tried(lines, wrapping_add_u64(t.calls, 1), t.second);
     }
-    show_progress(lines, t.calls, t.second)
+    show_calls_tried(lines, t.calls, t.second)
 }
 
 // Before the first byte.
-fn start() -> Run {
+fn start_trace() -> Run {
     let status = Status {
         progress: open_stream(),
         reading: true,
@@ -73,7 +73,7 @@ fn start() -> Run {
 
 // The bytes of one read, up to a write that fails, and the output of all of them is written; where there are no bytes,
 // the input has ended.
-fn take_bytes(
+fn trace_bytes(
     t: Run,
     input: &[u8],
     image: &mut [u8],
@@ -123,12 +123,12 @@ fn main() {
     let mut later = [0u8; 65536];
     let mut heads = [0u32; 1];
     let mut next = [0u32; 512];
-    let mut r = start();
+    let mut r = start_trace();
     let mut reads = u64::MAX;
     while reads > 0 && r.status.reading && r.status.written {
         let got = libc::read(STDIN_FILENO, &mut input);
         let n = io::count(got, &input);
-        r = take_bytes(
+        r = trace_bytes(
             r,
             &input[..n],
             &mut image,

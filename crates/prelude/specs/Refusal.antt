@@ -1,4 +1,4 @@
--- Refusals in the order written. A refusal is its number of document 01, and 0 is none.
+-- Refusals in the order written. A refusal is its number of document 01 or 02, and 0 is none.
 use mathlib.Core.Bool.{Bool, true, false}
 use Prim.Native.Nat.{ℕ, zero, suc}
 

@@ -70,7 +70,7 @@ top-small l image s b =
       line-small (lineB (word image) s 0) (lineB (word image) s 7) (word-range image (8 * (2 * s + 1) + 7) b),
     )
 
--- ---- judge
+-- ---- judge_slots
 
 module _ (l : ℕ) (image : List ℕ) (n b : ℕ) (ranks lows highs places₁ order₁ by-key₁ ranks₂ places₂ order by-key places : List ℕ) (all : Scan)
     (shared : Bool) (limit live-count broken : ℕ) (opened : Invalidations) (bytes : AreBytes image) (size : length places₁ ≡ n + 1)
@@ -203,7 +203,7 @@ module _ (l : ℕ) (image : List ℕ) (n b : ℕ) (ranks lows highs places₁ or
         invalidations-are = λ z. opened-is (none-shared (sym (e ∙ fault-is) ∙ z));
       }
 
--- ---- what the functions that judge calls ask for
+-- ---- what the functions that judge_slots calls ask for
 
 module _ (ranks lows highs order by-key : List ℕ) (n : ℕ) (o : InOrder ranks lows highs n order by-key) where
   ranked : AllSlots n order

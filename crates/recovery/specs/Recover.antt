@@ -28,7 +28,8 @@ use Rattle.recovery.specs.declared.Invalidations.{Invalidations}
 use Rattle.recovery.specs.declared.Recovered.{Recovered}
 use Rattle.recovery.specs.declared.Recovered.the-variants.{Rebuilt, Refused}
 
--- what recovery leaves: its answer, the slot that a refusal names (0 for none), the invalidating stores, and the index
+-- what recovery leaves: its answer, the slot that a refusal names (0 for none), the invalidating stores (one for each
+-- void record), and the index
 pub record Recovery : Type 0 where
   pub answer : Answer
   pub slot : ℕ
@@ -101,7 +102,7 @@ recoveredIndex f n b = chained n b (chainsOf f n b) (placeOf f n b) (liveCount f
 unfoldable pub recovered : Table → (n b : ℕ) → (stores : List Store) → Recovery
 recovered f n b stores = rebuiltResult (invalidationsOf stores) (recoveredIndex f n b)
 
--- a refused recovery leaves the index as it was lent, and has no stores
+-- what recovery answers and leaves; a refused one leaves heads and next as they were lent, and has no stores
 unfoldable pub recoverResult : (l : ℕ) → (image heads next : List ℕ) → Recovery
 recoverResult l image heads next =
     unlessRefused (recoverFault l image (length heads) (length next))

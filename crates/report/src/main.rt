@@ -3,17 +3,17 @@
 ghost use mathlib.Core.Path.{_≡_};
 ghost use Prim.Native.Nat.{_+_, _≤_};
 ghost use lib.ListN.{length};
-ghost use Rattle.reporting.specs.declared.FrontAnswer.the-variants.{Reported};
-ghost use Rattle.reporting.specs.inner.Images.{Buffers, IsReported};
+ghost use Rattle.report_text.specs.declared.FrontAnswer.the-variants.{Reported};
+ghost use Rattle.report_text.specs.inner.Images.{Buffers, IsReported};
 use libc::STDIN_FILENO;
 use libc::STDOUT_FILENO;
-use reporting::Block;
-use reporting::FrontAnswer;
-use reporting::FrontReport;
-use reporting::ReportProgress;
-use reporting_code::report_front;
-use reporting_code::report_last;
-use reporting_code::start;
+use report_text::Block;
+use report_text::FrontAnswer;
+use report_text::FrontReport;
+use report_text::ReportProgress;
+use report_text_code::report_front;
+use report_text_code::report_last;
+use report_text_code::start_report;
 use show::progress::counted;
 use show::progress::seconds;
 
@@ -56,7 +56,7 @@ fn reported(answer: FrontAnswer, progress: ReportProgress) -> FrontReport
 }
 
 // Where another second has begun, a line on standard error says how many images were read.
-fn show_progress(second: i64, left: u32) -> i64 {
+fn show_images_read(second: i64, left: u32) -> i64 {
     let now = seconds();
     if now != second {
         if left <= 1000000 {
@@ -67,7 +67,7 @@ fn show_progress(second: i64, left: u32) -> i64 {
 }
 
 // One read, and the report on the whole images that are there then.
-fn step(s: Status, input: &mut [u8], out: &mut [u8]) -> Status
+fn read_and_report(s: Status, input: &mut [u8], out: &mut [u8]) -> Status
     requires { ⌜ Buffers (s .progress) (s .have) (now input) (now out) ⌝ }
     ensures kept { λ r. ⌜ Buffers (r .progress) (r .have) (now (input .exit)) (now (out .exit)) ⌝ }
 {
@@ -84,12 +84,12 @@ fn step(s: Status, input: &mut [u8], out: &mut [u8]) -> Status
         have: front.carried,
         going: n != 0 && written && !front.ended,
         written,
-        second: show_progress(s.second, progress.left),
+        second: show_images_read(s.second, progress.left),
     }
 }
 
 // The end: what is left of the input, and the totals.
-fn finish(s: Status, input: &[u8], out: &mut [u8])
+fn finish_report(s: Status, input: &[u8], out: &mut [u8])
     requires { ⌜ s .have ≤ length (now input) ⌝ }
 {
     let p = s.progress;
@@ -102,7 +102,7 @@ fn main() {
     let mut input = [0u8; 98304];
     let mut out = [0u8; 33280];
     let mut s = Status {
-        progress: start(),
+        progress: start_report(),
         have: 0,
         going: true,
         written: true,
@@ -110,10 +110,10 @@ fn main() {
     };
     let mut reads = u64::MAX;
     while reads > 0 && s.going {
-        s = step(s, &mut input, &mut out);
+        s = read_and_report(s, &mut input, &mut out);
         reads -= 1;
     }
     if s.written {
-        finish(s, &input, &mut out);
+        finish_report(s, &input, &mut out);
     }
 }

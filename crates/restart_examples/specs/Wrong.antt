@@ -12,7 +12,7 @@ use Rattle.words.specs.Word.{word}
 use Rattle.stores.specs.Store.{played}
 use Rattle.stores.specs.Written.{recordStores}
 use Rattle.interface.specs.Set.{formatted, Mode, Insert, Replace, Call, write, get, callResult, Typed, slotsMap, indexFault, Index}
-use Rattle.cutrule.specs.Request.{a-call}
+use Rattle.cut_rule.specs.Request.{a-call}
 use Rattle.restart_machine.specs.Machine.{Memory, Duties, Program, off, busy, idle, Move, start, ask, next-step, kill, cut, Machine, movedBy, atRest}
 use Rattle.restart_machine.specs.Rule.{plainOf}
 use Rattle.restart_machine.specs.EachLine.{storeLines, allLines, eachLine}

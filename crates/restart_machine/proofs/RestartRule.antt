@@ -259,7 +259,7 @@ module _ {Lent Held Request M : Type 0} (promise : Promise Lent Held Request M) 
     -- ---- what it says
 
     at-recovery-good : {o : Option (TakenRequest Held Request)} (mem : Memory) (m : M) (lent : Lent) → GoodAt mem m (busy [] ([], false) (recovering lent)) o
-        → (mem .pending ≡ []) × promise .RecoveryRight (seen mem) lent (fate promise true o m true)
+        → (mem .pending ≡ []) × promise .RecoveryCorrect (seen mem) lent (fate promise true o m true)
     at-recovery-good {o} mem m lent (is-ready e r) = (e, laws .recovery-right (seen mem) (fate promise true o m true) r lent)
 
     at-request-good : {o : Option (TakenRequest Held Request)} (mem : Memory) (m : M) (held : Held) → GoodAt mem m (idle held) o
@@ -341,7 +341,7 @@ module _ {Lent Held Request M : Type 0} (promise : Promise Lent Held Request M) 
           at-recovery = λ lent e.
               let r = at-recovery-good (s .memory) m lent (at _ e) in (
                 r .0,
-                subst (promise .RecoveryRight (seen (s .memory)) lent)
+                subst (promise .RecoveryCorrect (seen (s .memory)) lent)
                     (fate-seen promise first true (s .history .requests) (s .history .undecided) (s .history .decided)) (r .1),
               );
           at-request = λ held e. at-request-good (s .memory) m held (at _ e);

@@ -15,7 +15,7 @@ pub record Promise (Lent Held Request M : Type 0) : Type 1 where
   -- recovery of an image gives what the plain machine holds
   pub Recovers : (image : List ℕ) → M → Type 0
   -- the answer of a recovery is right, and that of a request
-  pub RecoveryRight : (image : List ℕ) → Lent → M → Type 0
+  pub RecoveryCorrect : (image : List ℕ) → Lent → M → Type 0
   pub RequestCorrect : (image : List ℕ) → Held → M → Request → Type 0
 
 module _ {Lent Held Request M : Type 0} (promise : Promise Lent Held Request M) where
@@ -36,7 +36,7 @@ module _ {Lent Held Request M : Type 0} (promise : Promise Lent Held Request M) 
     pub if-killed : promise .Recovers (seen (s .memory)) (plainOf m (decide (unanswered (allMade (s .program))) (s .history) .decided))
     -- at a recovery all that is seen is durable, and recovery's answer is right
     pub at-recovery : (lent : Lent) → s .program ≡ busy [] ([], false) (recovering lent)
-        → (s .memory .pending ≡ []) × promise .RecoveryRight (seen (s .memory)) lent (plainOf m (decide (unanswered true) (s .history) .decided))
+        → (s .memory .pending ≡ []) × promise .RecoveryCorrect (seen (s .memory)) lent (plainOf m (decide (unanswered true) (s .history) .decided))
     -- while the program waits nothing is pending and no request is undecided; the next request's answer is right, by
     -- the plain machine at its place
     pub at-request : (held : Held) → s .program ≡ idle held

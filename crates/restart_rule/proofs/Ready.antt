@@ -11,9 +11,9 @@ use Rattle.interface.specs.Set.{played, standing, allStand, recoverFault, World
 use Rattle.interface.specs.Event.{done, struck, Cut, Effects, stepBy, imageCut, isWhole, plainEvent, RoundFits, RestartFits, done-fits, struck-fits, Fits}
 use Rattle.interface.specs.Recovers.{Recovers, RecoversAlways}
 use Rattle.interface.specs.Laws.{CallLaws, SetLaws}
-use Rattle.cutrule.specs.Request.{Request, a-call, a-basket, a-step, requestEffects, requestFault, requestUpdates, RequestCorrect, TypedRequest}
-use Rattle.cutrule.specs.Rule.{PlaysCorrect}
-use Rattle.cutrule.proofs.CutRule.{keeps-of, all-right}
+use Rattle.cut_rule.specs.Request.{Request, a-call, a-basket, a-step, requestEffects, requestFault, requestUpdates, RequestCorrect, TypedRequest}
+use Rattle.cut_rule.specs.Rule.{PlaysCorrect}
+use Rattle.cut_rule.proofs.CutRule.{keeps-of, all-right}
 use Rattle.restart_machine.proofs.defs.Laws.{Inside}
 use Rattle.restart_machine.proofs.Inside.{played-inside}
 
@@ -100,7 +100,7 @@ module _ (l : ℕ) (Inv : World → PlainMap → Type 0) (laws : SetLaws l Inv) 
 
       pub invalidations-inside : Inside (length image) (storesIn (recoverResult l image heads index .invalidations))
       invalidations-inside =
-          played-inside image _ _ (ready .now .opens heads index (subst (λ (k : ℕ). indexFault k (length heads) (length index) ≡ 0) (sym (ready .slots)) fits))
+          played-inside image _ _ (ready .now .plays-invalidations heads index (subst (λ (k : ℕ). indexFault k (length heads) (length index) ≡ 0) (sym (ready .slots)) fits))
 
     -- ---- an image with some of a request's stores
 

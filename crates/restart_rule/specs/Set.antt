@@ -7,8 +7,8 @@ use lib.ListN.{length}
 use Rattle.prelude.specs.Answer.{refuses, refusalIn}
 use Rattle.interface.specs.Set.{Accepted, Layout, Index, Lists, plainStep, World, PlainMap, recoverResult, storesIn, slotsIn, slotsMap, indexFault}
 use Rattle.interface.specs.Recovers.{Recovers}
-use Rattle.cutrule.specs.AllocationRule.{RequestByRule}
-use Rattle.cutrule.specs.Request.{Request, requestEffects, requestFault, requestUpdates, RequestCorrect, TypedRequest}
+use Rattle.cut_rule.specs.AllocationRule.{RequestByRule}
+use Rattle.cut_rule.specs.Request.{Request, requestEffects, requestFault, requestUpdates, RequestCorrect, TypedRequest}
 use Rattle.restart_machine.specs.Machine.{Library, Duties, Sufficient}
 use Rattle.restart_machine.specs.Rule.{Promise, RestartRule}
 
@@ -49,7 +49,7 @@ setPromise l n =
           let request : Request = taken .request .request in
           plainStep (requestUpdates m request) (refuses (requestFault l (worldWith (taken .image) (taken .held)) m request)) m;
       Recovers = Recovers l;
-      RecoveryRight = λ image lent m. refusalIn (recoverResult l image (lent .lists .heads) (lent .lists .next) .answer) ≡ 0;
+      RecoveryCorrect = λ image lent m. refusalIn (recoverResult l image (lent .lists .heads) (lent .lists .next) .answer) ≡ 0;
       RequestCorrect = λ image held m asked.
           RequestCorrect l (worldWith image held) m (asked .request) × RequestByRule l (worldWith image held) m (asked .request);
     }

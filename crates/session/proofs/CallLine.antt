@@ -12,7 +12,7 @@ use Rattle.session.specs.Stream.{stepAfter}
 use Rattle.text.specs.declared.Line.{Line}
 use Rattle.session.specs.declared.Waiting.{Waiting}
 use Rattle.session.specs.Lines.{worldOf, callIn, eventIn, waitsOn}
-use Rattle.session.specs.Rule.{faultAt, plainPrints, mapByLine, mapAfter, FewWait, none-waits, LineRight, call-line}
+use Rattle.session.specs.Rule.{faultAt, plainPrints, mapByLine, mapAfter, FewWait, none-waits, LineCorrect, call-line}
 use Rattle.session.proofs.defs.Keeps.{SetKeeps, Keeps}
 use Rattle.session.proofs.Sizes.{OneHead, one-head}
 use Rattle.session.proofs.Events.{event-heads, event-fits}
@@ -57,7 +57,7 @@ module _ (Inv : World → PlainMap → Type 0) (laws : SetLaws 1 Inv) (r : StepR
       → mapByLine w (r .session .waiting) m line ≡ map
       → Carried n (r .session .waiting) w call
       (lineStep line (r .session) (take (128 * (n + 1)) (r .image)) (take 1 (r .heads)) (take (n + 1) (r .next)))
-      → LineRight r m line × Keeps Inv (stepAfter r line) (mapAfter r m line)
+      → LineCorrect r m line × Keeps Inv (stepAfter r line) (mapAfter r m line)
   call-goes line z same e f c =
       let l = line-leaves r m line n same z Inv (plainPrints w m call) (step 1 w event) _ map
       (record { answer = c .answer ∙ right-prints w m call right; session = c .session; world = c .world }) sizes

@@ -12,7 +12,7 @@ use Rattle.session.specs.Stream.{stepAfter}
 use Rattle.text.specs.declared.Line.the-variants.{Cut}
 use Rattle.session.specs.declared.Waiting.the-variants.{Counts}
 use Rattle.session.specs.Lines.{worldOf}
-use Rattle.session.specs.Rule.{faultAt, mapByLine, mapAfter, FewWait, few-wait, LineRight, cut-line}
+use Rattle.session.specs.Rule.{faultAt, mapByLine, mapAfter, FewWait, few-wait, LineCorrect, cut-line}
 use Rattle.session.proofs.defs.Keeps.{SetKeeps, Keeps}
 use Rattle.session.proofs.Sizes.{OneHead}
 use Rattle.session.proofs.Fronts.{image-front, heads-front, next-front, line-leaves}
@@ -35,7 +35,7 @@ module _ (Inv : World → PlainMap → Type 0) (r : StepResult) (m : PlainMap) (
   unfolding worldOf
   same-sizes = record { image-size = image-front r n (k .size); heads-size = heads-front r n (k .size); next-size = next-front r n (k .size) }
 
-  pub cut-goes : (a b : ℕ) → faultAt r (Cut a b) ≡ 0 → LineRight r m (Cut a b) × Keeps Inv (stepAfter r (Cut a b)) (mapAfter r m (Cut a b))
+  pub cut-goes : (a b : ℕ) → faultAt r (Cut a b) ≡ 0 → LineCorrect r m (Cut a b) × Keeps Inv (stepAfter r (Cut a b)) (mapAfter r m (Cut a b))
   unfolding slotsFor mapByLine lineStep waitingFor worldOf
   cut-goes a b z =
       let l = line-leaves r m (Cut a b) n refl z Inv (cut a b) (worldOf r) (Counts a b) m (record { answer = refl; session = refl; world = refl })

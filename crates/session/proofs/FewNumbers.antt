@@ -64,7 +64,7 @@ got-few out (gives values) = tt
 got-few out absent = tt
 got-few out (refused number) = tt
 
--- a call on an image and an index of its set's size, by the face of the set
+-- a call on an image and an index of its set's size, by the interface of the set
 call-few : (s : Session) (image heads next : List ℕ) (call : Call)
     → Few (callResult 1 (record { image = image; index = indexOf heads next (s .state) }) call .answer)
 call-few s image heads next call = few-by _ (call-laws 1 layout-1 .few-values _ call)

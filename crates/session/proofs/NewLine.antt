@@ -13,7 +13,7 @@ use Rattle.session.specs.Stream.{stepAfter}
 use Rattle.text.specs.declared.Line.the-variants.{New}
 use Rattle.session.specs.declared.Waiting.the-variants.{Nothing}
 use Rattle.session.proofs.Steps.{FitsLent, room}
-use Rattle.session.specs.Rule.{faultAt, mapByLine, mapAfter, none-waits, newWorld, LineRight, new-line}
+use Rattle.session.specs.Rule.{faultAt, mapByLine, mapAfter, none-waits, newWorld, LineCorrect, new-line}
 use Rattle.session.proofs.defs.Keeps.{Keeps}
 use Rattle.session.proofs.Sizes.{OneHead, one-head}
 use Rattle.session.proofs.Recovered.{goesOn, new-step, new-keeps}
@@ -64,7 +64,7 @@ module _ (Inv : World → PlainMap → Type 0) (laws : SetLaws 1 Inv) (r : StepR
       ∙ ap (goesOn (ok (n ∷ [])) n) as-new))
       (record { answer = refl; session = refl; world = refl })
 
-  pub new-goes : LineRight r m (New n) × Keeps Inv (stepAfter r (New n)) (mapAfter r m (New n))
+  pub new-goes : LineCorrect r m (New n) × Keeps Inv (stepAfter r (New n)) (mapAfter r m (New n))
   unfolding slotsFor mapByLine lineStep
   new-goes =
       let l = line-leaves r m (New n) n refl z Inv (ok (n ∷ [])) (newWorld r n) Nothing (λ k. none) made (subst (OneHead n) as-new fresh-sizes) none-waits

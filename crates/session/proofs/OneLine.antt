@@ -17,7 +17,7 @@ use Rattle.text.specs.declared.Line.the-variants.{New, Write, Remove, Get, Cut,
 use Rattle.session.specs.declared.Session.{Session}
 use Rattle.session.proofs.Steps.{roomy}
 use Rattle.session.specs.Lines.{worldOf, modeFor, callIn}
-use Rattle.session.specs.Rule.{faultAt, mapByCall, mapByLine, mapAfter, LineRight, refused-line, SizedLine, sized-write, sized-remove}
+use Rattle.session.specs.Rule.{faultAt, mapByCall, mapByLine, mapAfter, LineCorrect, refused-line, SizedLine, sized-write, sized-remove}
 use Rattle.session.proofs.defs.Keeps.{SetKeeps, Keeps, none-yet, kept}
 use Rattle.session.proofs.CallEvents.{word-bytes, write-carried, remove-carried, get-carried}
 use Rattle.session.proofs.NewLine.{new-goes}
@@ -26,7 +26,7 @@ use Rattle.session.proofs.CallLine.{call-goes}
 
 -- a line answers right, and the plain map stays the set's
 abbrev pub Goes : (Inv : World → PlainMap → Type 0) → StepResult → PlainMap → Line → Type 0
-Goes Inv r m line = LineRight r m line × Keeps Inv (stepAfter r line) (mapAfter r m line)
+Goes Inv r m line = LineCorrect r m line × Keeps Inv (stepAfter r line) (mapAfter r m line)
 
 -- ---- a refused line
 

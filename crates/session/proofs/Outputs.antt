@@ -20,8 +20,8 @@ use Rattle.session.proofs.Streams.{output-of-lines}
 use Rattle.session.proofs.StreamResults.{output-of-reads}
 use Rattle.session.proofs.FewNumbers.{step-few}
 use Rattle.session.specs.Lines.{worldOf, callIn}
-use Rattle.session.specs.Rule.{SizedLine, SessionHolds, faultAt, plainPrints, mapAfter, LineRight, refused-line, new-line, cut-line, call-line}
-use Rattle.session.specs.Printed.{callPrints, linePrints, duePrints, dueOutput}
+use Rattle.session.specs.Rule.{SizedLine, SessionHolds, faultAt, plainPrints, mapAfter, LineCorrect, refused-line, new-line, cut-line, call-line}
+use Rattle.session.specs.Printed.{callPrints, linePrints, expectedPrint, expectedOutput}
 use Rattle.session.proofs.SessionRule.{session-rule}
 use Rattle.prelude.specs.Members.{All, none-left, one-more}
 use Rattle.session.proofs.Numbers.{sized-line}
@@ -41,12 +41,12 @@ call-prints w m (Cut a b) call e = absurd (none-some call e)
 call-prints w m Bad call e = absurd (none-some call e)
 
 module _ (r : StepResult) (m : PlainMap) where
-  prints-taken : (line : Line) → faultAt r line ≡ 0 → linePrints (worldOf r) m line ≡ duePrints r m line
-  unfolding duePrints
+  prints-taken : (line : Line) → faultAt r line ≡ 0 → linePrints (worldOf r) m line ≡ expectedPrint r m line
+  unfolding expectedPrint
   prints-taken line z = sym (taken-leaves _ _ (faultAt r line) z)
 
-  right-due : (line : Line) → LineRight r m line → stepAfter r line .answer ≡ duePrints r m line
-  unfolding duePrints linePrints
+  right-due : (line : Line) → LineCorrect r m line → stepAfter r line .answer ≡ expectedPrint r m line
+  unfolding expectedPrint linePrints
   right-due line (refused-line ne e) = ap (λ (x : StepResult). x .answer) e ∙ sym (refused-keeps _ _ (faultAt r line) ne)
   right-due (New n) (new-line z l) = l .answer ∙ prints-taken (New n) z
   right-due (Cut a b) (cut-line z l) = l .answer ∙ prints-taken (Cut a b) z
@@ -64,8 +64,8 @@ all-sized [] = none-left
 all-sized (line ∷ lines) = one-more (sized-line line) (all-sized lines)
 
 output-due : (r : StepResult) (m : PlainMap) (lines : List (List ℕ)) → SessionHolds r m (linesRead lines)
-    → outputOf stepResult r lines ≡ dueOutput r m lines
-unfolding outputOf dueOutput stepAfter
+    → outputOf stepResult r lines ≡ expectedOutput r m lines
+unfolding outputOf expectedOutput stepAfter
 output-due r m [] h = refl
 output-due r m (line ∷ lines) h =
     ap₂ (λ (p : Printed) (rest : List ℕ). text p ++ rest) (right-due r m (lineOf line) (h .1))
@@ -78,7 +78,7 @@ module _ (p : Printed) (image heads next : List ℕ) (m : PlainMap) where
 
   -- THE OUTPUT of any input, byte by byte, is what the plain map gives
   pub input-output : (bytes : List ℕ)
-      → byteOutput stepResult (leaves p noSet image heads next) Start false bytes ≡ dueOutput (leaves p noSet image heads next) m (linesOf bytes)
+      → byteOutput stepResult (leaves p noSet image heads next) Start false bytes ≡ expectedOutput (leaves p noSet image heads next) m (linesOf bytes)
   input-output bytes =
       output-of-lines stepResult beforeLines bytes
       ∙ output-due beforeLines m (linesOf bytes) (session-rule p image heads next m (linesRead (linesOf bytes)) (all-sized (linesOf bytes)))
@@ -86,5 +86,5 @@ module _ (p : Printed) (image heads next : List ℕ) (m : PlainMap) where
   -- THE OUTPUT of any input by what the contracts of take_byte and end_input promise, written where the lent output is full and at the end of every read
   pub results-output : (output : List ℕ) → 64 ≤ length output → (reads : List (List ℕ))
       → readsWritten stepResult (streamEnd atStart image heads next output) reads ≡
-      dueOutput (leaves p noSet image heads next) m (linesOf (joinedReads reads))
+      expectedOutput (leaves p noSet image heads next) m (linesOf (joinedReads reads))
   results-output output room reads = output-of-reads stepResult step-few p image heads next output reads room ∙ input-output (joinedReads reads)

@@ -37,7 +37,7 @@ recover-step p n image heads next m gives-map size =
     (λ (x : List ℕ).
     recoveredAs p n x (recoverResult 1 image heads next .index .heads) (recoverResult 1 image heads next .index .next) (recoverResult 1 image heads next .index .state)
     (recoverResult 1 image heads next .answer))
-    (ap (λ (x : Played). x .bytes) (gives-map .opens heads next size))
+    (ap (λ (x : Played). x .bytes) (gives-map .plays-invalidations heads next size))
     ∙ ap
     (λ (answer : Answer).
     recoveredAs p n (invalidatedWorld 1 image heads next .image) (recoverResult 1 image heads next .index .heads) (recoverResult 1 image heads next .index .next)

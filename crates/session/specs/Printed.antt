@@ -28,11 +28,11 @@ linePrints w m (Get key) = callPrints w m (callIn m (Get key))
 linePrints w m Bad = callPrints w m (callIn m Bad)
 
 -- "A refusal prints `no` and its number"
-unfoldable pub duePrints : StepResult → PlainMap → Line → Printed
-duePrints r m line = unlessRefused (faultAt r line) (linePrints (worldOf r) m line) (no (faultAt r line))
+unfoldable pub expectedPrint : StepResult → PlainMap → Line → Printed
+expectedPrint r m line = unlessRefused (faultAt r line) (linePrints (worldOf r) m line) (no (faultAt r line))
 
 -- the output that is due for these lines, after a step that left r and beside the plain map m
-unfoldable pub dueOutput : StepResult → PlainMap → List (List ℕ) → List ℕ
-dueOutput r m [] = []
-dueOutput r m (line ∷ lines) =
-    text (duePrints r m (lineOf line)) ++ dueOutput (stepAfter r (lineOf line)) (mapAfter r m (lineOf line)) lines
+unfoldable pub expectedOutput : StepResult → PlainMap → List (List ℕ) → List ℕ
+expectedOutput r m [] = []
+expectedOutput r m (line ∷ lines) =
+    text (expectedPrint r m (lineOf line)) ++ expectedOutput (stepAfter r (lineOf line)) (mapAfter r m (lineOf line)) lines

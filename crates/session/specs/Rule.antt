@@ -92,18 +92,18 @@ worldAfterCall r call = step 1 (worldOf r) (eventIn (worldOf r) (r .session .wai
 
 -- a refused line changes nothing, n formats and recovers, c waits, and a call is an event of the cut rule, whose answer
 -- is right by the plain map m
-pub data LineRight (r : StepResult) (m : PlainMap) : Line → Type 0 where
+pub data LineCorrect (r : StepResult) (m : PlainMap) : Line → Type 0 where
   refused-line : {line : Line} → (faultAt r line ≡ 0 → ⊥)
-      → stepAfter r line ≡ leaves (no (faultAt r line)) (r .session) (r .image) (r .heads) (r .next) → LineRight r m line
+      → stepAfter r line ≡ leaves (no (faultAt r line)) (r .session) (r .image) (r .heads) (r .next) → LineCorrect r m line
   new-line : {n : ℕ} → faultAt r (New n) ≡ 0
-      → Leaves r (New n) (ok (n ∷ [])) (sessionOf n (newWorld r n) Nothing) (newWorld r n) → LineRight r m (New n)
+      → Leaves r (New n) (ok (n ∷ [])) (sessionOf n (newWorld r n) Nothing) (newWorld r n) → LineCorrect r m (New n)
   cut-line : {a b : ℕ} → faultAt r (Cut a b) ≡ 0
-      → Leaves r (Cut a b) (cut a b) (sessionOf (r .session .n) (worldOf r) (Counts a b)) (worldOf r) → LineRight r m (Cut a b)
+      → Leaves r (Cut a b) (cut a b) (sessionOf (r .session .n) (worldOf r) (Counts a b)) (worldOf r) → LineCorrect r m (Cut a b)
   call-line : {line : Line} {call : Call} → faultAt r line ≡ 0 → callIn m line ≡ some call
       → Leaves r line (plainPrints (worldOf r) m call)
       (sessionOf (r .session .n) (worldAfterCall r call) (waitsOn (r .session .waiting) (callResult 1 (worldOf r) call .stores)))
       (worldAfterCall r call)
-      → CallCorrect 1 (worldOf r) m call → callResult 1 (worldOf r) call ≡ callResultByRule 1 (worldOf r) call → LineRight r m line
+      → CallCorrect 1 (worldOf r) m call → callResult 1 (worldOf r) call ≡ callResultByRule 1 (worldOf r) call → LineCorrect r m line
 
 -- ---- every list of lines
 
@@ -118,7 +118,7 @@ pub data SizedLine : Line → Type 0 where
 
 -- before each line and after the last the set is the plain map's, and each line answers right
 abbrev pub SessionHolds : StepResult → PlainMap → List Line → Type 0
-SessionHolds = Throughout stepAfter mapAfter Between LineRight
+SessionHolds = Throughout stepAfter mapAfter Between LineCorrect
 
 -- from the start, with no set and whatever the lent image and index hold, every list of lines answers right; the plain
 -- map may be any, as the first accepted n makes it empty

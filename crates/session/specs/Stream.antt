@@ -112,7 +112,9 @@ module _ (step : Line → Session → (image heads next : List ℕ) → StepResu
   endResult s image heads next output =
       cond (s .begun) (answerResult s image heads next output) (streamEnd s image heads next output)
 
-  -- ---- what a program writes that takes its input in reads: after each byte where the lent output is full, and at the end of every read
+  -- ---- what a program writes that takes its input in reads
+
+  -- it writes after each byte where the lent output is full, and at the end of every read
 
   -- after one more byte
   abbrev pub afterByte : StreamResult → (byte : ℕ) → StreamResult

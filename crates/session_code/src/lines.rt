@@ -6,7 +6,7 @@ ghost use Rattle.interface.specs.Set.{zipped, storesIn, buffersAfter, changeEnd
 ghost use Rattle.text.specs.inner.Output.{replySays};
 ghost use Rattle.session.specs.inner.Step.{stepEnd};
 ghost use Rattle.session.specs.Step.{playedAll, recoverStep, makeStep, storedWith, changeStep, wordChange, writeStep, gotBy, wordFound};
-use crate::start::start;
+use crate::start::empty_session;
 use orderset::Change;
 use orderset::Formatted;
 use orderset::Got;
@@ -44,7 +44,13 @@ fn open_slots(image: &mut [u8], invalidations: Invalidations)
 }
 
 // Recovery and its invalidating stores, after which the session goes on with this answer.
-fn recovered(reply: Reply, n: u64, image: &mut [u8], heads: &mut [u32], next: &mut [u32]) -> Stepped
+fn recover_session(
+    reply: Reply,
+    n: u64,
+    image: &mut [u8],
+    heads: &mut [u32],
+    next: &mut [u32],
+) -> Stepped
     ensures { λ r. ⌜ stepEnd r (now (image .exit)) (now (heads .exit)) (now (next .exit))
         ≡ recoverStep (replySays reply) n (now (image .entry)) (now (heads .entry)) (now (next .entry)) ⌝ }
 {
@@ -63,7 +69,7 @@ fn recovered(reply: Reply, n: u64, image: &mut [u8], heads: &mut [u32], next: &m
         },
         Recovered::Refused { number, slot: _ } => Stepped {
             reply: Reply::Refused(number),
-            session: start(),
+            session: empty_session(),
         },
     }
 }
@@ -81,7 +87,13 @@ pub fn make(
 {
     let formatted = format(image, 1);
     match formatted {
-        Formatted::Slots(slots) => recovered(Reply::Made(slots as u64), n, image, heads, next),
+        Formatted::Slots(slots) => recover_session(
+            Reply::Made(slots as u64),
+            n,
+            image,
+            heads,
+            next,
+        ),
         Formatted::Refused(number) => Stepped {
             reply: Reply::Refused(number),
             session,
@@ -91,7 +103,7 @@ pub fn make(
 
 // The stores of an accepted call are played: all of them, or those that the waiting cut leaves, after which recovery
 // runs.
-fn carry_out(
+fn play_or_cut(
     slot: u32,
     version: u64,
     change: Change,
@@ -123,7 +135,7 @@ fn carry_out(
         }
         Waiting::Counts { a, b } => {
             play(image, stores, a, b);
-            recovered(
+            recover_session(
                 Reply::Stored { slot, version },
                 session.n,
                 image,
@@ -149,7 +161,7 @@ pub fn carry_change(
     let outcome = change.outcome;
     match outcome {
         Outcome::Stored { slot, version } => {
-            carry_out(slot, version, change, stores, session, image, heads, next)
+            play_or_cut(slot, version, change, stores, session, image, heads, next)
         }
         Outcome::Absent => Stepped {
             reply: Reply::Absent,

@@ -6,7 +6,7 @@ use session::Session;
 use session::Waiting;
 
 // A session before an accepted n.
-pub fn start() -> Session
+pub fn empty_session() -> Session
     ensures result { λ r. ⌜ r ≡ noSet ⌝ }
 {
     Session {

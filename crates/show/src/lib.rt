@@ -73,6 +73,14 @@ pub fn recovered(r: Recovered) {
     }
 }
 
+// The state that recovery leaves, or the one given.
+pub fn state_after(r: Recovered, s: State) -> State {
+    match r {
+        Recovered::Rebuilt(rebuilt) => rebuilt,
+        Recovered::Refused { number: _, slot: _ } => s,
+    }
+}
+
 // Store i, if it is one of the first so many.
 fn store(at: &[u32], value: &[u64], count: u32, i: usize) {
     if count as usize <= i {

@@ -53,7 +53,7 @@ fn fed(r: Reading, byte: u8) -> Reading {
 }
 
 // The numbers of a line; the first is number 1.
-pub fn numbers(line: &[u8]) -> [u64; 5] {
+pub fn parse_numbers(line: &[u8]) -> [u64; 5] {
     let mut r = Reading {
         place: 0,
         value: [0; 5],
@@ -67,7 +67,7 @@ pub fn numbers(line: &[u8]) -> [u64; 5] {
 }
 
 // Digit i of a number, from the last; 0 past the nineteenth.
-pub fn digit(n: u64, i: usize) -> u64 {
+pub fn decimal_digit(n: u64, i: usize) -> u64 {
     let mut rest = n;
     let mut k: usize = 0;
     while k < 19 {
@@ -87,4 +87,9 @@ pub fn is_asked(line: &[u8]) -> bool {
         return false;
     }
     line[n - 1] == 58
+}
+
+// The low 32 bits of a number.
+pub fn low_half(n: u64) -> u32 {
+    (n % 4294967296) as u32
 }

@@ -1,3 +1,4 @@
-// The 16 stores of a record, the making of stores, and what play refuses.
+// Stores made on lent bytes: what play refuses, the making of stores, and the public calls play and play_list.
+pub mod fault;
 pub mod make;
 pub mod play;

@@ -1,106 +1,35 @@
-// What play refuses.
+// Play: stores are made on the lent bytes.
 ghost use mathlib.Core.Path.{_≡_};
-ghost use mathlib.Core.Bool.{not};
-ghost use Prim.Native.Nat.{_+_, _*_, _≤_, _<_, _^_};
-ghost use lib.Dec.{eqb, ltb};
-ghost use lib.ListN.{length, getD};
-ghost use Rattle.prelude.specs.Range.{anyOf};
-ghost use Rattle.stores.specs.Play.{halfFault, halvesFault, playFault, listFault};
-use layout_code::header::slot_count;
+ghost use Rattle.stores.specs.Play.{playEnd, playResult, playListResult};
+use crate::fault::list_fault;
+use crate::fault::play_fault;
+use crate::make::make_stores;
+use stores::Stores;
 
-// A word number as an index.
-fn wide(w: u32) -> usize
-    ensures { λ r. ⌜ (r ≡ w) × (r < 2 ^ 32) ⌝ }
+// The first a stores of the first half and the first b of the second are made: 0, or refusal 1, 14 or 15, which changes
+// no byte.
+pub fn play(image: &mut [u8], stores: Stores, a: usize, b: usize) -> u32
+    ensures result { λ r. ⌜ playEnd r (now (image .exit)) ≡ playResult (now (image .entry)) (stores .at) (stores .value) a b ⌝ }
 {
-    w as usize
-}
-
-// Is one of the eight word numbers from k on out of order?
-fn out_of_order(at: &[u32; 16], k: usize, first: usize) -> bool
-    requires { ⌜ (k ≤ 8) × (first < 2 ^ 32) ⌝ }
-    ensures { λ r. ⌜ r ≡ anyOf (λ i. not (eqb (getD (now (at .entry)) (k + i) 0) (first + i))) 0 8 ⌝ }
-{
-    let mut i = 0;
-    while i < 8 {
-        if wide(at[k + i]) != first + i {
-            return true;
-        }
-        i += 1;
+    let at = stores.at;
+    let value = stores.value;
+    let fault = play_fault(image.len(), &at, a, b);
+    if fault != 0 {
+        return fault;
     }
-    false
-}
-
-// Are the eight stores from k on not those of a line inside len bytes?
-fn half_fault(len: usize, at: &[u32; 16], k: usize) -> bool
-    requires { ⌜ k ≤ 8 ⌝ }
-    ensures { λ r. ⌜ r ≡ halfFault len (now (at .entry)) k ⌝ }
-{
-    let first = wide(at[k]);
-    if first % 8 != 0 {
-        return true;
-    }
-    if len < 8 * first + 64 {
-        return true;
-    }
-    out_of_order(at, k, first)
-}
-
-// 15 by the two halves, else 0.
-fn halves_fault(len: usize, at: &[u32; 16]) -> u32
-    ensures { λ r. ⌜ r ≡ halvesFault len (now (at .entry)) ⌝ }
-{
-    if half_fault(len, at, 0) {
-        return 15;
-    }
-    if half_fault(len, at, 8) {
-        return 15;
-    }
-    if at[0] == at[8] {
-        return 15;
-    }
+    make_stores(image, &at, &value, 0, a);
+    make_stores(image, &at, &value, 8, b);
     0
 }
 
-// 1, 14 or 15 by what play is given, else 0.
-pub fn play_fault(len: usize, at: &[u32; 16], a: usize, b: usize) -> u32
-    ensures result { λ r. ⌜ r ≡ playFault len (now (at .entry)) a b ⌝ }
+// All stores of a list are made, in order: 0, or refusal 15, which changes no byte.
+pub fn play_list(image: &mut [u8], at: &[u32], value: &[u64]) -> u32
+    ensures result { λ r. ⌜ playEnd r (now (image .exit)) ≡ playListResult (now (image .entry)) (now (at .entry)) (now (value .entry)) ⌝ }
 {
-    if slot_count(len) == 0 {
-        return 1;
+    let fault = list_fault(image.len(), at, value.len());
+    if fault != 0 {
+        return fault;
     }
-    if 8 < a {
-        return 14;
-    }
-    if 8 < b {
-        return 14;
-    }
-    halves_fault(len, at)
-}
-
-// Is one of the words outside len bytes?
-fn any_outside(len: usize, at: &[u32]) -> bool
-    ensures { λ r. ⌜ r ≡ anyOf (λ i. ltb len (8 * getD (now (at .entry)) i 0 + 8)) 0 (length (now (at .entry))) ⌝ }
-{
-    let mut i = 0;
-    while i < at.len() {
-        let w = at[i] as usize;
-        if len < 8 * w + 8 {
-            return true;
-        }
-        i += 1;
-    }
-    false
-}
-
-// 15 by a list of stores, else 0.
-pub fn list_fault(len: usize, at: &[u32], values: usize) -> u32
-    ensures result { λ r. ⌜ r ≡ listFault len (now (at .entry)) values ⌝ }
-{
-    if at.len() != values {
-        return 15;
-    }
-    if any_outside(len, at) {
-        return 15;
-    }
+    make_stores(image, at, value, 0, at.len());
     0
 }

@@ -38,3 +38,7 @@ pub mod Formatted
 pub mod Accepted
 pub mod Settled
 pub mod TakeableAfter
+pub mod Cuts
+pub mod Entries
+pub mod Invalidations
+pub mod Right

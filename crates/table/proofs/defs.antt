@@ -8,3 +8,4 @@ pub mod Struck
 pub mod ReuseAfter
 pub mod Owners
 pub mod Room
+pub mod Entries

@@ -62,14 +62,18 @@ tableOf l image = settled (contentsOf l image) (sizeFieldsOf l image) (slotsIn i
 abbrev pub NoneVoid : Table → SizeFields → (n : ℕ) → Type 0
 NoneVoid f num n = (t : ℕ) → Slot n t → isVoid f num n t ≡ false
 
--- THE SAME WORD FOR WORD: version v is complete; the next valid version below v, 0 if there is none; "The highest
--- version among valid slots is judged .. and the next version down is judged in turn", from v on, at most `turns` times
+-- ---- the same word for word; table/proofs/Judged `judged-highest` says that it gives `highestComplete`
+
+-- version v is complete
 unfoldable pub completeAt : Table → SizeFields → (n v : ℕ) → Bool
 completeAt f num n v = anyOf (λ s. hasVersion f v s && complete f num n s) 1 n
 
+-- the next valid version below v, 0 if there is none
 unfoldable pub nextDown : Table → (n v : ℕ) → ℕ
 nextDown f n v = greatest (λ s. cond (isRecord (f s) && ltb (highestWholeIn (f s)) v) (highestWholeIn (f s)) 0) n
 
+-- "The highest version among valid slots is judged .. and the next version down is judged in turn": from v on, at most
+-- `turns` times
 unfoldable pub judged : Table → SizeFields → (n turns v : ℕ) → ℕ
 judged f num n zero v = 0
 judged f num n (suc turns) v = cond (eqb v 0) 0 (cond (completeAt f num n v) v (judged f num n turns (nextDown f n v)))

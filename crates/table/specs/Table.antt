@@ -8,7 +8,7 @@ use lib.Dec.{eqb, ltb}
 use Rattle.prelude.specs.Range.{greatest, topmost, count}
 use Rattle.layout.specs.Content.{Content, broken, empty, putRecord, removeRecord, highestWholeIn, Table}
 
--- does the slot's record count: is the slot valid?
+-- is the slot valid?
 unfoldable pub isRecord : Content → Bool
 isRecord (broken top) = false
 isRecord empty = false
@@ -93,7 +93,7 @@ brokenCount f n = count (λ s. isBroken (f s)) n
 unfoldable pub brokenLimit : ℕ
 brokenLimit = 8
 
--- 25, of the settled table
+-- 25: more than eight slots are broken. Recovery asks it of the settled table, in which void slots are broken
 unfoldable pub manyBroken : Table → (n : ℕ) → Bool
 manyBroken f n = ltb brokenLimit (brokenCount f n)
 

@@ -35,8 +35,8 @@ isRemove (removeRecord version key) = true
 unfoldable pub older : Table → (s t : ℕ) → Bool
 older f s t = isRecord (f t) && (eqb (keyIn (f t)) (keyIn (f s)) && ltb (highestWholeIn (f t)) (highestWholeIn (f s)))
 
--- may a slot that holds c be taken, where no version below `top` is the highest valid one? `remains` tells whether an
--- older valid record of its key does
+-- may a slot that holds c be taken? A broken or an empty one may; a record only below version `top`, and a remove
+-- record only where no older valid record of its key remains
 unfoldable pub takeableIf : (top : ℕ) → (remains : Bool) → Content → Bool
 takeableIf top remains c = cond (isRecord c) (ltb (highestWholeIn c) top && not (isRemove c && remains)) true
 

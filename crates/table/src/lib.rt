@@ -1,1 +1,2 @@
-// The table of an image: one content for each slot. Definitions and laws.
+// The table of an image: one content for each slot, and what stores make of it, all of them or what a cut leaves.
+// Definitions and laws.

@@ -8,7 +8,7 @@ use text::Line;
 use text::Parse;
 
 // The number n followed by a digit.
-fn appended(n: u64, digit: u64) -> Digits
+fn append_digit(n: u64, digit: u64) -> Digits
     requires { ⌜ digit < 10 ⌝ }
     ensures { λ r. ⌜ r ≡ appendedTo n digit ⌝ }
 {
@@ -25,13 +25,13 @@ fn add_digit(digits: Digits, digit: u64) -> Digits
 {
     match digits {
         Digits::NoDigit => Digits::Value(digit),
-        Digits::Value(n) => appended(n, digit),
+        Digits::Value(n) => append_digit(n, digit),
         Digits::NotNumber => Digits::NotNumber,
     }
 }
 
 // One more byte of a number.
-fn add_byte(digits: Digits, byte: u8) -> Digits
+fn add_number_byte(digits: Digits, byte: u8) -> Digits
     ensures { λ r. ⌜ r ≡ addByte digits byte ⌝ }
 {
     if byte < 48 {
@@ -87,7 +87,7 @@ fn after_other(parse: Parse, byte: u8) -> Parse
         Parse::Letter(_) => Parse::NotLine,
         Parse::First { letter, digits } => Parse::First {
             letter,
-            digits: add_byte(digits, byte),
+            digits: add_number_byte(digits, byte),
         },
         Parse::Second {
             letter,
@@ -96,7 +96,7 @@ fn after_other(parse: Parse, byte: u8) -> Parse
         } => Parse::Second {
             letter,
             first,
-            digits: add_byte(digits, byte),
+            digits: add_number_byte(digits, byte),
         },
         Parse::NotLine => Parse::NotLine,
     }

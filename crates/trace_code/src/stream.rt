@@ -4,7 +4,7 @@ ghost use lib.ListN.{length};
 ghost use Rattle.session.specs.Stream.{streamEnd, answerResult, byteResult, endResult};
 ghost use Rattle.trace.specs.Step.{traceResult};
 use session::Progress;
-use stream_code::stream::add_byte;
+use session_stream_code::stream::add_byte;
 use text::Parse;
 use text_code::input::finish;
 use text_code::output::render;

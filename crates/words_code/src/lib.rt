@@ -1,6 +1,6 @@
 // Words of 8 bytes, low byte first, in a lent slice of bytes.
 ghost use mathlib.Core.Path.{_≡_};
-ghost use Prim.Native.Nat.{_+_, _-_, _*_, _≤_, min};
+ghost use Prim.Native.Nat.{_+_, _-_, _*_, _≤_, max, min};
 ghost use lib.ListN.{length, getD};
 ghost use Rattle.words.specs.Word.{joined, word, setBytes, setWord};
 
@@ -9,6 +9,16 @@ pub fn lesser(a: usize, b: usize) -> usize
     ensures result { λ r. ⌜ r ≡ min a b ⌝ }
 {
     if b < a {
+        return b;
+    }
+    a
+}
+
+// The greater of two numbers.
+pub fn greater(a: u64, b: u64) -> u64
+    ensures result { λ r. ⌜ r ≡ max a b ⌝ }
+{
+    if a < b {
         return b;
     }
     a

@@ -19,7 +19,8 @@ use Rattle.index.specs.Basket.{Item}
 use Rattle.index.specs.inner.Basket.{takensFrom}
 use Rattle.index.specs.declared.State.{State}
 use Rattle.index.specs.declared.Action.{Action}
-use Rattle.index.specs.declared.Action.the-variants.{Insert, Replace, Remove}
+use Rattle.index.specs.declared.Action.the-variants.{Write, Remove}
+use Rattle.index.specs.declared.Mode.the-variants.{Insert, Replace}
 use Rattle.index.specs.declared.Found.{Found}
 use Rattle.allocation.specs.Allocation.{allocationBy, allocationChosenBy}
 use Rattle.allocation.specs.declared.Choice.{Choice}
@@ -43,8 +44,7 @@ itemKeyAt l items i = itemKey l (itemAt items i)
 
 -- how many bytes the value in its record has: a remove's has none
 unfoldable pub sizeBy : Action → (size : ℕ) → ℕ
-sizeBy Insert size = size
-sizeBy Replace size = size
+sizeBy (Write mode) size = size
 sizeBy Remove size = 0
 
 abbrev pub sizeAt : List BasketItem → ℕ → ℕ

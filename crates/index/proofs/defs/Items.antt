@@ -10,7 +10,8 @@ use Rattle.index.specs.Index.{Chain, reuse, head}
 use Rattle.index.specs.Linked.{Owner, free}
 use Rattle.index.specs.Basket.{Item}
 use Rattle.index.specs.declared.Action.{Action}
-use Rattle.index.specs.declared.Action.the-variants.{Insert, Replace, Remove}
+use Rattle.index.specs.declared.Action.the-variants.{Write, Remove}
+use Rattle.index.specs.declared.Mode.the-variants.{Insert, Replace}
 
 -- the owners with these slots given up
 unfoldable pub freed : (owner : ℕ → Owner) → List ℕ → ℕ → Owner
@@ -23,8 +24,8 @@ itemSlots (k ∷ ks) = k .slot ∷ itemSlots ks
 
 -- the slots of the old records, of the keys that have one
 unfoldable pub oldsBy : Action → (old : ℕ) → List ℕ
-oldsBy Insert old = []
-oldsBy Replace old = old ∷ []
+oldsBy (Write Insert) old = []
+oldsBy (Write Replace) old = old ∷ []
 oldsBy Remove old = old ∷ []
 
 unfoldable pub oldsOf : List Item → List ℕ
@@ -33,8 +34,8 @@ oldsOf (k ∷ ks) = oldsBy (k .action) (k .old) ++ oldsOf ks
 
 -- what the keys append to the reuse chain: "the old slot", and for a remove "then the slot just taken"
 unfoldable pub appendsBy : Action → (old s : ℕ) → List ℕ
-appendsBy Insert old s = []
-appendsBy Replace old s = old ∷ []
+appendsBy (Write Insert) old s = []
+appendsBy (Write Replace) old s = old ∷ []
 appendsBy Remove old s = old ∷ s ∷ []
 
 unfoldable pub appendsOf : List Item → List ℕ
@@ -43,8 +44,7 @@ appendsOf (k ∷ ks) = appendsBy (k .action) (k .old) (k .slot) ++ appendsOf ks
 
 -- the chain that the slot taken for a key of head h joins
 unfoldable pub goesTo : Action → (h : ℕ) → Chain
-goesTo Insert h = head h
-goesTo Replace h = head h
+goesTo (Write mode) h = head h
 goesTo Remove h = reuse
 
 -- the places after a key's change, and after all
@@ -57,8 +57,8 @@ movedBy (k ∷ ks) place x = movedBy ks (movedOne k place) x
 
 -- the old record of a key stands in the chain of the key's head
 abbrev pub OldStands : (n : ℕ) → (place : ℕ → Chain) → Action → (h old : ℕ) → Type 0
-OldStands n place Insert h old = old ≡ 0
-OldStands n place Replace h old = Slot n old × (place old ≡ head h)
+OldStands n place (Write Insert) h old = old ≡ 0
+OldStands n place (Write Replace) h old = Slot n old × (place old ≡ head h)
 OldStands n place Remove h old = Slot n old × (place old ≡ head h)
 
 pub record Ready (n b : ℕ) (place : ℕ → Chain) (k : Item) : Type 0 where

@@ -4,7 +4,7 @@ use mathlib.Core.Path.{_≡_, sym, _∙_}
 use native.Mathlib.Omega.{arith}
 use lib.ListN.{length, length-replicate}
 use borrow.Author.Needs.{needs}
-use Rattle.reporting.specs.inner.Images.{Buffers}
+use Rattle.report_text.specs.inner.Images.{Buffers}
 use Rattle.report.proofs.main.Statement.{statement}
 use Rattle.report.proofs.main.Tie as tie
 
@@ -19,35 +19,35 @@ loop-holds c = (
   length-replicate {A = ℕ} 98304 0,
   length-replicate {A = ℕ} 33280 0,
   record {
-    held = c .before .start .ensures .1;
+    held = c .before .start-report .ensures .1;
     inside = omega arith;
     room = omega (arith, length-replicate {A = ℕ} 98304 0, length-replicate {A = ℕ} 33280 0);
   },
 )
 
-slice-aggregate-step : tie.Need-slice-aggregate-step Inv-loop μ-loop
-slice-aggregate-step c = sym (c .before .before .before .loop .inv .0)
+slice-aggregate-read-and-report : tie.Need-slice-aggregate-read-and-report Inv-loop μ-loop
+slice-aggregate-read-and-report c = sym (c .before .before .before .loop .inv .0)
 
-slice-aggregate-step-2 : tie.Need-slice-aggregate-step-2 Inv-loop μ-loop
-slice-aggregate-step-2 c = sym (c .before .before .before .before .loop .inv .1)
+slice-aggregate-read-and-report-2 : tie.Need-slice-aggregate-read-and-report-2 Inv-loop μ-loop
+slice-aggregate-read-and-report-2 c = sym (c .before .before .before .before .loop .inv .1)
 
-step-requires : tie.Need-step-requires Inv-loop μ-loop
-step-requires c κs = c .before .before .before .before .loop .inv .2
+read-and-report-requires : tie.Need-read-and-report-requires Inv-loop μ-loop
+read-and-report-requires c κs = c .before .before .before .before .loop .inv .2
 
 loop-again : tie.Need-loop-again Inv-loop μ-loop
 loop-again c =
     let entry = c .before .before .before .before .before .before .before .loop .inv in
-    let step = c .before .before .step in
+    let step = c .before .before .read-and-report in
     (step .kept .1 .0 ∙ entry .0, step .kept .1 .1 .0 ∙ entry .1, step .ensures)
 
-slice-aggregate-finish : tie.Need-slice-aggregate-finish Inv-loop μ-loop
-slice-aggregate-finish c = sym (c .before .before .before .loop .inv .0)
+slice-aggregate-finish-report : tie.Need-slice-aggregate-finish-report Inv-loop μ-loop
+slice-aggregate-finish-report c = sym (c .before .before .before .loop .inv .0)
 
-slice-aggregate-finish-2 : tie.Need-slice-aggregate-finish-2 Inv-loop μ-loop
-slice-aggregate-finish-2 c = sym (c .before .before .before .before .loop .inv .1)
+slice-aggregate-finish-report-2 : tie.Need-slice-aggregate-finish-report-2 Inv-loop μ-loop
+slice-aggregate-finish-report-2 c = sym (c .before .before .before .before .loop .inv .1)
 
-finish-requires : tie.Need-finish-requires Inv-loop μ-loop
-finish-requires c κs = c .before .before .before .before .loop .inv .2 .inside
+finish-report-requires : tie.Need-finish-report-requires Inv-loop μ-loop
+finish-report-requires c κs = c .before .before .before .before .loop .inv .2 .inside
 
 pub main-spec : {M : Type 1} → statement M
 main-spec =
@@ -57,12 +57,12 @@ main-spec =
     μ-loop
     (λ c κs. search needs) (λ c κs. search needs)
     loop-holds
-    slice-aggregate-step
-    slice-aggregate-step-2
-    step-requires
+    slice-aggregate-read-and-report
+    slice-aggregate-read-and-report-2
+    read-and-report-requires
     (λ c. search needs) (λ c. search needs)
     loop-again
-    slice-aggregate-finish
-    slice-aggregate-finish-2
-    finish-requires
+    slice-aggregate-finish-report
+    slice-aggregate-finish-report-2
+    finish-report-requires
     (λ c. search needs) (λ c. search needs))

@@ -1,7 +1,7 @@
 -- `report::reported` meets its contract. Assumes nothing.
 use mathlib.Core.Path.{subst}
 use borrow.Author.Needs.{needs}
-use Rattle.reporting.specs.inner.Images.{IsReported}
+use Rattle.report_text.specs.inner.Images.{IsReported}
 use Rattle.report.proofs.reported.Statement.{statement}
 use Rattle.report.proofs.reported.Tie as tie
 

@@ -18,7 +18,7 @@ pub record Laws {Lent Held Request M : Type 0} (library : Library Lent Held Requ
   -- ---- an image that is ready
 
   pub recovers : (image : List ℕ) (m : M) → Ready image m → promise .Recovers image m
-  pub recovery-right : (image : List ℕ) (m : M) → Ready image m → (lent : Lent) → promise .RecoveryRight image lent m
+  pub recovery-right : (image : List ℕ) (m : M) → Ready image m → (lent : Lent) → promise .RecoveryCorrect image lent m
   pub recovery-inside : (image : List ℕ) (m : M) → Ready image m → (lent : Lent)
       → Inside (length image) (library .recovery image lent .stores)
   -- so it is with any part of recovery's stores, and with all of them it is in use

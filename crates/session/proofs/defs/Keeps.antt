@@ -1,4 +1,4 @@
--- What a session keeps between lines: the invariant of a set, for which nothing but the laws of the face is known.
+-- What a session keeps between lines: the invariant of a set, for which nothing but the laws of the interface is known.
 use mathlib.Core.Path.{_≡_}
 use lib.ListN.{length}
 use Rattle.interface.specs.Set.{World, PlainMap}

@@ -15,11 +15,11 @@ returns-2 c =
       none-older =
           unmarked _ (word (c .before .before .before .before .before .before .args .image .now)) (c .before .before .before .before .before .before .pre .0 .layout) (λ i. word-range _ i (λ j. c .before .before .before .before .before .shared-slice-known .given j .fits)) _ _ _ _ _ (c .before .before .before .before .before .before .pre .2) (c .before .before .slot-low .ensures)
           (c .if2 .taken);
-      none-above = not-above _ _ _ _ (c .before .before .before .before .is-above .ensures) (c .before .before .before .if1 .left);
+      none-above = not-above _ _ _ _ (c .before .before .before .before .is-version-above .ensures) (c .before .before .before .if1 .left);
     }
 
 returns-3 : tie.Need-returns-3
-returns-3 c = λ e. record { none-older = sym (c .is-older-left-in .ensures) ∙ e; none-above = not-above _ _ _ _ (c .before .before .before .before .before .is-above .ensures) (c .before .before .before .before .if1 .left) }
+returns-3 c = λ e. record { none-older = sym (c .is-older-left-in .ensures) ∙ e; none-above = not-above _ _ _ _ (c .before .before .before .before .before .is-version-above .ensures) (c .before .before .before .before .if1 .left) }
 
 pub is-left-spec : {M : Type 1} → statement M
 is-left-spec =

@@ -5,7 +5,7 @@ use Rattle.book_code.proofs.steps.acknowledge2.Statement.{statement}
 use Rattle.book_code.proofs.steps.acknowledge2.Tie as tie
 
 returns : tie.Need-returns
-returns c = acknowledge-result _ _ _ _ _ _ _ _ (c .before .before .before .before .carry-out .ensures) (c .before .before .before .before .before .before .before .before .before .acknowledge-plan .ensures)
+returns c = acknowledge-result _ _ _ _ _ _ _ _ (c .before .before .before .before .carry-out-plan .ensures) (c .before .before .before .before .before .before .before .before .before .acknowledge-plan .ensures)
 
 pub acknowledge2-spec : {M : Type 1} → statement M
 acknowledge2-spec =

@@ -5,7 +5,7 @@ use Rattle.book_code.proofs.steps.fill2.Statement.{statement}
 use Rattle.book_code.proofs.steps.fill2.Tie as tie
 
 returns : tie.Need-returns
-returns c = fill-result _ _ _ _ _ _ _ _ (c .before .before .before .before .carry-out .ensures) _ (c .before .before .before .before .before .before .before .before .before .fill-plan .ensures)
+returns c = fill-result _ _ _ _ _ _ _ _ (c .before .before .before .before .carry-out-plan .ensures) _ (c .before .before .before .before .before .before .before .before .before .fill-plan .ensures)
 
 pub fill2-spec : {M : Type 1} → statement M
 fill2-spec =

@@ -5,7 +5,7 @@ use Rattle.book_code.proofs.steps.withdraw2.Statement.{statement}
 use Rattle.book_code.proofs.steps.withdraw2.Tie as tie
 
 returns : tie.Need-returns
-returns c = withdraw-result _ _ _ _ _ _ _ _ (c .before .before .before .before .carry-out .ensures) (c .before .before .before .before .before .before .before .before .before .withdraw-plan .ensures)
+returns c = withdraw-result _ _ _ _ _ _ _ _ (c .before .before .before .before .carry-out-plan .ensures) (c .before .before .before .before .before .before .before .before .before .withdraw-plan .ensures)
 
 pub withdraw2-spec : {M : Type 1} → statement M
 withdraw2-spec =

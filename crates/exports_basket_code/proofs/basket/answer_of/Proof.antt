@@ -9,7 +9,7 @@ use Rattle.exports_basket_code.proofs.basket.answer_of.Tie as tie
 
 returns : tie.Need-returns
 returns c =
-    rw (c .before .before .before .before .before .before .before .wide .ensures, c .before .before .before .before .before .before .wide2 .ensures, c .before .before .before .before .before .wide3 .ensures, c .before .before .before .before .wide4 .ensures, c .before .before .before .wide5 .ensures, c .before .before .wide6 .ensures, c .before .wide7 .ensures, c .wide8 .ensures)
+    rw (c .before .before .before .before .before .before .before .slot-as-word .ensures, c .before .before .before .before .before .before .slot-as-word2 .ensures, c .before .before .before .before .before .slot-as-word3 .ensures, c .before .before .before .before .slot-as-word4 .ensures, c .before .before .before .slot-as-word5 .ensures, c .before .before .slot-as-word6 .ensures, c .before .slot-as-word7 .ensures, c .slot-as-word8 .ensures)
     (ap (λ (xs : List ℕ). c .before .before .before .before .before .before .before .before .args .version ∷ xs) (eight-listed (c .before .before .before .before .before .before .before .before .args .t2) (search (needs, c .before .before .before .before .before .before .before .before .good .1 .0))))
 
 pub answer-of-spec : {M : Type 1} → statement M

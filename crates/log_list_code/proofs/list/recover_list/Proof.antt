@@ -1,4 +1,4 @@
--- `log_list_code::list::recover_list` meets its contract: a walk of its MIR, by hand. Of `recovery_made` and `put_stores` it knows only that each meets its contract.
+-- `log_list_code::list::recover_list` meets its contract: a walk of its MIR, by hand. Of `recovery_made` and `fill_store_list` it knows only that each meets its contract.
 use mathlib.Core.Path.{_≡_, refl, ap, subst}
 use mathlib.Core.Option.{Option, none, some as present}
 use Prim.Native.Nat.{ℕ}
@@ -58,10 +58,10 @@ use Rattle.log.proofs.LogOutcome.Laws as B′
 use Rattle.log.proofs.RecoveryMade as D
 use Rattle.log.proofs.RecoveryMade.Laws as D′
 use Rattle.log.proofs.Lists.{in-list}
-use Rattle.store_list_code.proofs.Puts.{Put, Arrays, puts}
-use Rattle.store_list_code.proofs.list.put_stores.Symbol as put-def
-use Rattle.store_list_code.proofs.list.put_stores.Symbol.{name as #put-stores}
-use Rattle.store_list_code.proofs.list.put_stores.Met as put-thm
+use Rattle.stores_list_code.proofs.Puts.{Put, Arrays, puts}
+use Rattle.stores_list_code.proofs.list.fill_store_list.Symbol as put-def
+use Rattle.stores_list_code.proofs.list.fill_store_list.Symbol.{name as #fill-store-list}
+use Rattle.stores_list_code.proofs.list.fill_store_list.Met as put-thm
 use Rattle.log_list_code.proofs.made.recovery_made as made
 use Rattle.log_list_code.proofs.made.recovery_made.Symbol as made-def
 use Rattle.log_list_code.proofs.made.recovery_made.Symbol.{name as #made}
@@ -185,7 +185,7 @@ module _ {M : Type 1} (𝓤 : URA M) (H : Heap 𝓤) (A : Atoms 𝓤) (W : Given
         nothing ! $ move ! (1 ∷ 0 ∷ []) $ fjoin ! $ nothing ! $ fjoin ! $
         owned ! B.the-row (Is B.the-row) (EL.makes B.the-type B′.the-plain 𝓤 H A) (m .answer) _ is-answer $ move ! (1 ∷ 0 ∷ []) $ done !
 
-    module _ (C : Calls 𝓤 H) (Λ : Loops 𝓤 H) (fm : FmC 𝓤 H (W .laws) C) (known-put : Triple 𝓤 (C #put-stores) (Put 𝓤 H A mem run)) (bs : Blocks body.locals) where
+    module _ (C : Calls 𝓤 H) (Λ : Loops 𝓤 H) (fm : FmC 𝓤 H (W .laws) C) (known-put : Triple 𝓤 (C #fill-store-list) (Put 𝓤 H A mem run)) (bs : Blocks body.locals) where
       -- what the locals hold after `recovery_made`
       abbrev held : List (Option Val)
       held = none ∷ present s₀ ∷ present s ∷ present mv ∷ none ∷ none ∷ present (vint w64 (length list)) ∷ []
@@ -213,7 +213,7 @@ module _ {M : Type 1} (𝓤 : URA M) (H : Heap 𝓤) (A : Atoms 𝓤) (W : Given
           forget ! 0 refl $ forget ! 2 refl $ forget ! 4 refl $ forget ! 6 refl $ forget ! 8 refl $ forget ! 10 refl $ forget ! 12 refl $ forget ! 14 refl $ forget ! 16 refl $ forget ! 18 refl $ forget ! 20 refl $ forget ! 22 refl $ forget ! 24 refl $ forget ! 26 refl $
           freed ! body.locals bs [] $ by ! (exits zs e ez))
 
-  module _ (C : Calls 𝓤 H) (Λ : Loops 𝓤 H) (fm : FmC 𝓤 H (W .laws) C) (known-made : Triple 𝓤 (C #made) (Made 𝓤 H A mem run)) (known-put : Triple 𝓤 (C #put-stores) (Put 𝓤 H A mem run)) where
+  module _ (C : Calls 𝓤 H) (Λ : Loops 𝓤 H) (fm : FmC 𝓤 H (W .laws) C) (known-made : Triple 𝓤 (C #made) (Made 𝓤 H A mem run)) (known-put : Triple 𝓤 (C #fill-store-list) (Put 𝓤 H A mem run)) where
     walk : ent 𝓤 (onEntry 𝓤 H A f.signature (κ₀, (κ, tt)) (q₀, (q, tt)) a vals) (WpFn 𝓤 H C Λ code.function (s₀ ∷ s ∷ []) Post)
     walk =
         qed W (Tokens ∷ Owned ∷ []) ∵ enter ! C Λ code.function (s₀ ∷ s ∷ []) _ $ allocates ! body.locals (λ bs. params1 ! $
@@ -231,7 +231,7 @@ module _ {M : Type 1} (𝓤 : URA M) (H : Heap 𝓤) (A : Atoms 𝓤) (W : Given
         rewrite ! 8 (λ (v : Val). ‵ (fat fullShare D′.mir (block body.locals bs 3) 0 v)) (ap only (LL.tells D.the-type D′.the-laws m _ told)) refl $ behind ! 2 $
         rest m (subst (Is D.the-row m) (LL.tells D.the-type D′.the-laws m _ told) told) made-it C Λ fm known-put bs))))))
 
-module _ {M : Type 1} (𝓤 : URA M) (H : Heap 𝓤) (A : Atoms 𝓤) (W : Given 𝓤 H A) (mem : Memory → SProp 𝓤) (run : Routine → Fun 𝓤) (𝓣 : Tables 𝓤 H) (known-made : Triple 𝓤 (𝓣 .C #made) (Made 𝓤 H A mem run)) (known-put : Triple 𝓤 (𝓣 .C #put-stores) (Put 𝓤 H A mem run)) where
+module _ {M : Type 1} (𝓤 : URA M) (H : Heap 𝓤) (A : Atoms 𝓤) (W : Given 𝓤 H A) (mem : Memory → SProp 𝓤) (run : Routine → Fun 𝓤) (𝓣 : Tables 𝓤 H) (known-made : Triple 𝓤 (𝓣 .C #made) (Made 𝓤 H A mem run)) (known-put : Triple 𝓤 (𝓣 .C #fill-store-list) (Put 𝓤 H A mem run)) where
   walks : Walks 𝓤 H A f.ended stayed (WpFn 𝓤 H (𝓣 .C) (𝓣 .Λ) code.function) (f.clauses 𝓤 H A mem run)
   walks = walked 𝓤 H A f.ended stayed (f.clauses 𝓤 H A mem run) (WpFn 𝓤 H (𝓣 .C) (𝓣 .Λ) code.function)
       (λ κs. (slice-vals, (slice-vals, tt)))
@@ -254,4 +254,4 @@ recover-list-spec 𝓤 H 𝓜 𝓖 𝓡 =
     (tables 𝓤 H 𝓜 𝓡 code.env .C) (tables 𝓤 H 𝓜 𝓡 code.env .Λ) #list code.function (code.unfolded 𝓤 H 𝓜 𝓡)
     (meets 𝓤 H (𝓖 .A) (givenOf 𝓤 H 𝓜 𝓖) (𝓜 .mem) (𝓡 .run) (tablesOf 𝓤 H 𝓜 (tables 𝓤 H 𝓜 𝓡 code.env))
     (cited 𝓤 H (Made 𝓤 H (𝓖 .A) (𝓜 .mem) (𝓡 .run)) 𝓜 𝓡 code.env #made made-def.routine code.calls-log-list-code·made·recovery-made (made-thm.met 𝓤 H 𝓜 𝓖 𝓡))
-    (cited 𝓤 H (Put 𝓤 H (𝓖 .A) (𝓜 .mem) (𝓡 .run)) 𝓜 𝓡 code.env #put-stores put-def.routine code.calls-store-list-code·list·put-stores (put-thm.met 𝓤 H 𝓜 𝓖 𝓡)))
+    (cited 𝓤 H (Put 𝓤 H (𝓖 .A) (𝓜 .mem) (𝓡 .run)) 𝓜 𝓡 code.env #fill-store-list put-def.routine code.calls-stores-list-code·list·fill-store-list (put-thm.met 𝓤 H 𝓜 𝓖 𝓡)))

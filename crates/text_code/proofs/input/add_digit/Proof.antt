@@ -11,5 +11,5 @@ add-digit-spec =
     (tie.spec
     (λ c. search needs) (λ c. search needs) (λ c κs. search needs) (λ c. search needs)
     (λ c. cc)
-    (λ c. rw (c .before .before .digits .given .1) (c .appended .ensures))
+    (λ c. rw (c .before .before .digits .given .1) (c .append-digit .ensures))
     (λ c. cc))

@@ -14,6 +14,6 @@ after-other-spec =
     (λ c κs. search needs) (λ c. search needs)
     (λ c. rw (c .enum-told .given .1) refl)
     (λ c. rw (c .enum-told2 .given .1) refl)
-    (λ c. rw (c .before .before .parse .given .1, c .add-byte .ensures) refl)
-    (λ c. rw (c .before .before .parse2 .given .1, c .add-byte2 .ensures) refl)
+    (λ c. rw (c .before .before .parse .given .1, c .add-number-byte .ensures) refl)
+    (λ c. rw (c .before .before .parse2 .given .1, c .add-number-byte2 .ensures) refl)
     (λ c. rw (c .enum-told3 .given .1) refl))

@@ -1,0 +1,13 @@
+-- `book_own_code::own::own_fill2` meets its contract. Assumes nothing.
+use borrow.Author.Needs.{needs}
+use Rattle.book.proofs.Courses.{fill-result}
+use Rattle.book_own_code.proofs.own.own_fill2.Statement.{statement}
+use Rattle.book_own_code.proofs.own.own_fill2.Tie as tie
+
+returns : tie.Need-returns
+returns c = fill-result _ _ _ _ _ _ _ _ (c .before .before .before .before .carry-out-plan .ensures) _ (c .before .before .before .before .before .before .before .before .before .fill-plan .ensures)
+
+pub own-fill2-spec : {M : Type 1} → statement M
+own-fill2-spec =
+    tie.close
+    (tie.spec (λ c κs. search needs) (λ c κs. search needs) (λ c. search needs) (λ c. search needs) returns)

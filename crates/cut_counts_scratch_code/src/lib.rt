@@ -1,0 +1,3 @@
+// The cuts counted with the lists that three indexes take.
+mod indexes;
+pub mod scratch;

@@ -1,0 +1,1 @@
+// The cut rule: one theorem over the interface of the set and the order book.

@@ -1,2 +1,0 @@
-// The cuts counted with the lists that three indexes take.
-pub mod scratch;

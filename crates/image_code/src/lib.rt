@@ -1,2 +1,0 @@
-// The public calls that make stores: play and play_list.
-pub mod play;

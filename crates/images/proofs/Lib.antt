@@ -1,5 +1,0 @@
-pub mod defs
-pub mod Entries
-pub mod Cuts
-pub mod Invalidations
-pub mod Right

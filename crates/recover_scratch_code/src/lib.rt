@@ -1,2 +1,0 @@
-// Recovery with the scratch lists of each size.
-pub mod scratch;

@@ -1,0 +1,3 @@
+// Recovery with the scratch lists of each size.
+mod fronts;
+pub mod scratch;
