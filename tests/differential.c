@@ -253,10 +253,10 @@ static void take_over(struct set *s) {
 static uint32_t archive_line(enum which which, const uint8_t *line, size_t length, uint64_t version, uint8_t *answer,
                              size_t room) {
     switch (which) {
-    case LINE_WHOLE: return orderset_line_whole(line, length, answer, room);
-    case LINE_VERSION: return orderset_line_version(line, length, answer, room);
-    case LINE_FIRST: return orderset_line_first(line, length, version, answer, room);
-    default: return orderset_line_last(line, length, version, answer, room);
+    case LINE_WHOLE: return orderset_proved_line_whole(line, length, answer, room);
+    case LINE_VERSION: return orderset_proved_line_version(line, length, answer, room);
+    case LINE_FIRST: return orderset_proved_line_first(line, length, version, answer, room);
+    default: return orderset_proved_line_last(line, length, version, answer, room);
     }
 }
 
@@ -315,7 +315,7 @@ static int try_format(struct set *s, uint64_t layout) {
     fill(answer, sizeof answer);
     memcpy(expected, answer, sizeof answer);
     begin(s, FORMAT, 0, (size_t)layout, 0, 0);
-    uint32_t code = orderset_format(s->image, s->length, layout, answer);
+    uint32_t code = orderset_proved_format(s->image, s->length, layout, answer);
     int refusal = m_format(s->model_image, s->length, layout);
     if (!refusal) {
         expected[0] = 1;
@@ -759,7 +759,7 @@ static unsigned try_get(struct set *s, m_key key, uint8_t *out, size_t room) {
 
 static int try_play(struct set *s, size_t a, size_t b) {
     begin(s, PLAY, 0, 0, a, b);
-    uint32_t code = orderset_play(s->image, s->length, s->at, s->value, a, b);
+    uint32_t code = orderset_proved_play(s->image, s->length, s->at, s->value, a, b);
     int refusal = m_play(s->model_image, s->length, s->at, s->value, a, b);
     same_code(code, refusal, DONE);
     compare(s);
@@ -776,7 +776,7 @@ static void open_voids(struct set *s, unsigned which) {
             value[count++] = s->open_value[i];
         }
     begin(s, PLAY_LIST, 0, 0, count, all);
-    uint32_t code = orderset_play_list(s->image, s->length, at, count, value, count);
+    uint32_t code = orderset_proved_play_list(s->image, s->length, at, count, value, count);
     same_code(code, m_play_list(s->model_image, s->length, at, count, value, count), DONE);
     same_number("the invalidating stores' play", code, 0);
     compare(s);
@@ -785,7 +785,7 @@ static void open_voids(struct set *s, unsigned which) {
 
 static void try_play_list(struct set *s, const uint32_t *at, size_t places, const uint64_t *value, size_t values) {
     begin(s, PLAY_LIST, 0, 0, places, values);
-    uint32_t code = orderset_play_list(s->image, s->length, at, places, value, values);
+    uint32_t code = orderset_proved_play_list(s->image, s->length, at, places, value, values);
     same_code(code, m_play_list(s->model_image, s->length, at, places, value, values), DONE);
     compare(s);
 }

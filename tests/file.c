@@ -255,7 +255,7 @@ static void check_counts(const struct plain *p) {
     struct contents c = contents_of_file();
     struct orderset_file *set = open_set(INSPECT);
     const struct orderset_statistics s = statistics_of(set);
-    expect((p->layout == 1 ? orderset_count_slots : orderset2_count_slots)(
+    expect((p->layout == 1 ? orderset_proved_count_slots : orderset2_proved_count_slots)(
                c.bytes, c.size, heads, 1, next, ORDERSET_NEXT_LENGTH(p->slots), counts) == 0,
            "the slots are counted");
     holds(memcmp(counts, s.count, sizeof counts) == 0, "the statistics count the slots");

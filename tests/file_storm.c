@@ -289,7 +289,7 @@ static void make_set(void) {
     uint64_t answer[ORDERSET_FORMAT_ANSWER];
     make_plain(&now, (uint32_t)(2 + below(below(2) ? 12 : 40)), 1 + (uint32_t)below(2));
     length = ORDERSET_IMAGE_BYTES(now.slots);
-    if (orderset_format(visible, length, now.layout, answer))
+    if (orderset_proved_format(visible, length, now.layout, answer))
         lost("format");
 }
 

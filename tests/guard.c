@@ -95,7 +95,7 @@ static size_t heads_length, next_length;
 static void call_format(void) {
     static const int writable[] = {IMAGE, ANSWER, NONE};
     begin(FORMAT, writable);
-    end(orderset_format(w(IMAGE), piece[IMAGE].length, below(4) ? 1 + below(2) : below(5), w(ANSWER)), writable);
+    end(orderset_proved_format(w(IMAGE), piece[IMAGE].length, below(4) ? 1 + below(2) : below(5), w(ANSWER)), writable);
 }
 
 /* The stores that recovery hands out open line A of a slot each, by rising slot; those past them are zero. */
@@ -121,7 +121,7 @@ static void call_recover(void) {
         return;
     openings_are_sound();
     opened += *(uint32_t *)w(COUNT);
-    if (below(8) && orderset_play_list(w(IMAGE), piece[IMAGE].length, r(OPEN_AT), *(uint32_t *)w(COUNT), r(OPEN_VALUE),
+    if (below(8) && orderset_proved_play_list(w(IMAGE), piece[IMAGE].length, r(OPEN_AT), *(uint32_t *)w(COUNT), r(OPEN_VALUE),
                                        *(uint32_t *)w(COUNT))) {
         show("the invalidating stores are not played");
         exit(1);
@@ -147,7 +147,7 @@ static void call_count(void) {
 static void call_play(size_t a, size_t b) {
     static const int writable[] = {IMAGE, NONE};
     begin(PLAY, writable);
-    end(orderset_play(w(IMAGE), piece[IMAGE].length, r(AT), r(VALUE), a, b), writable);
+    end(orderset_proved_play(w(IMAGE), piece[IMAGE].length, r(AT), r(VALUE), a, b), writable);
 }
 
 static uint64_t change(m_key key, uint64_t quantity) {
@@ -239,7 +239,7 @@ static void call_basket(uint64_t keys) {
         return;
     same(&piece[AT], piece[AT].at + 4 * stores, piece[AT].at + piece[AT].length, "past the stores");
     same(&piece[VALUE], piece[VALUE].at + 8 * stores, piece[VALUE].at + piece[VALUE].length, "past the stores");
-    if (below(4) && orderset_play_list(w(IMAGE), piece[IMAGE].length, r(AT), stores, r(VALUE), stores)) {
+    if (below(4) && orderset_proved_play_list(w(IMAGE), piece[IMAGE].length, r(AT), stores, r(VALUE), stores)) {
         show("the stores of a basket are not played");
         exit(1);
     }
@@ -274,17 +274,17 @@ static void call_play_list(void) {
     for (size_t i = 0; i < places; i++)
         ((uint32_t *)w(AT))[i] = below(40) ? (uint32_t)below(words + (words == 0)) : (uint32_t)(words + below(3));
     begin(PLAY_LIST, writable);
-    end(orderset_play_list(w(IMAGE), piece[IMAGE].length, r(AT), places, r(VALUE), values), writable);
+    end(orderset_proved_play_list(w(IMAGE), piece[IMAGE].length, r(AT), places, r(VALUE), values), writable);
 }
 
 /* A line is lent as bytes, and its answer as bytes too. */
 static uint32_t ask(uint64_t version) {
     const size_t length = piece[BYTES].length, room = piece[ANSWER].length;
     switch (call) {
-    case LINE_WHOLE: return orderset_line_whole(r(BYTES), length, w(ANSWER), room);
-    case LINE_VERSION: return orderset_line_version(r(BYTES), length, w(ANSWER), room);
-    case LINE_FIRST: return orderset_line_first(r(BYTES), length, version, w(ANSWER), room);
-    default: return orderset_line_last(r(BYTES), length, version, w(ANSWER), room);
+    case LINE_WHOLE: return orderset_proved_line_whole(r(BYTES), length, w(ANSWER), room);
+    case LINE_VERSION: return orderset_proved_line_version(r(BYTES), length, w(ANSWER), room);
+    case LINE_FIRST: return orderset_proved_line_first(r(BYTES), length, version, w(ANSWER), room);
+    default: return orderset_proved_line_last(r(BYTES), length, version, w(ANSWER), room);
     }
 }
 

@@ -28,12 +28,12 @@ uint64_t version[1], value[ORDERSET_STORES], answer[ORDERSET_CHANGE_ANSWER], fou
 uint8_t out[ORDERSET_VALUE_MAX];
 const enum orderset_flush best = orderset_best_flush();
 bool own = false; // by the calls for the owner of the index
-#define BY(name) (own ? orderset_own_##name : orderset_##name)
-#define BY2(name) (own ? orderset2_own_##name : orderset2_##name)
+#define BY(name) (own ? orderset_proved_own_##name : orderset_proved_##name)
+#define BY2(name) (own ? orderset2_proved_own_##name : orderset2_proved_##name)
 
 // The stores that recovery hands out are made durable before any other call.
 bool recover(uint32_t voids) {
-    return orderset_recover(image, sizeof image, heads.data(), heads.size(), next.data(), next.size(), state, version,
+    return orderset_proved_recover(image, sizeof image, heads.data(), heads.size(), next.data(), next.size(), state, version,
                             count, open_at, open_value)
                == ORDERSET_OK
            && count[0] == voids
@@ -46,7 +46,7 @@ bool newest_is(uint64_t slot) {
 }
 
 bool formats(uint64_t layout) {
-    return orderset_format(image, sizeof image, layout, found) == ORDERSET_OK && found[ORDERSET_SLOTS] == slots;
+    return orderset_proved_format(image, sizeof image, layout, found) == ORDERSET_OK && found[ORDERSET_SLOTS] == slots;
 }
 
 bool start() {
@@ -55,7 +55,7 @@ bool start() {
 }
 
 // With heads and next of its own: those of the set in use go on with its state.
-bool counts_by(decltype(&orderset_count_slots) count_slots, const uint64_t (&due)[ORDERSET_COUNTS]) {
+bool counts_by(decltype(&orderset_proved_count_slots) count_slots, const uint64_t (&due)[ORDERSET_COUNTS]) {
     uint64_t told[ORDERSET_COUNTS];
     auto own_heads = heads;
     auto own_next = next;
@@ -65,7 +65,7 @@ bool counts_by(decltype(&orderset_count_slots) count_slots, const uint64_t (&due
 }
 
 bool counts(uint64_t live, uint64_t hidden, uint64_t removes, uint64_t voids, uint64_t broken, uint64_t empty) {
-    return counts_by(orderset_count_slots, {live, hidden, removes, voids, broken, empty});
+    return counts_by(orderset_proved_count_slots, {live, hidden, removes, voids, broken, empty});
 }
 
 // Key 20 was to be inserted by a basket of two, of which one record stands, in slot 1: nothing of it is held.
@@ -99,7 +99,7 @@ uint64_t drop(uint64_t key) {
 }
 
 bool finds(uint64_t key, const char *text) {
-    if (orderset_get(image, sizeof image, heads.data(), heads.size(), next.data(), next.size(), key, out, sizeof out,
+    if (orderset_proved_get(image, sizeof image, heads.data(), heads.size(), next.data(), next.size(), key, out, sizeof out,
                      found)
         != ORDERSET_OK)
         return false;
@@ -117,9 +117,9 @@ bool lines_foretell() {
     const uint8_t *line = image + ORDERSET_SLOT_BYTES * answer[ORDERSET_SLOT];
     uint8_t told[ORDERSET_LINE_ANSWER];
     for (unsigned i = 0; i < ORDERSET_STORES; i += ORDERSET_LINE_STORES, line += ORDERSET_LINE_BYTES)
-        if (orderset_line_first(line, ORDERSET_LINE_BYTES, answer[ORDERSET_VERSION], told, sizeof told) != ORDERSET_OK
+        if (orderset_proved_line_first(line, ORDERSET_LINE_BYTES, answer[ORDERSET_VERSION], told, sizeof told) != ORDERSET_OK
             || std::memcmp(told, value + i, sizeof told)
-            || orderset_line_last(line, ORDERSET_LINE_BYTES, answer[ORDERSET_VERSION], told, sizeof told) != ORDERSET_OK
+            || orderset_proved_line_last(line, ORDERSET_LINE_BYTES, answer[ORDERSET_VERSION], told, sizeof told) != ORDERSET_OK
             || std::memcmp(told, value + i + ORDERSET_LINE_STORES - 1, sizeof told))
             return false;
     return true;
@@ -131,12 +131,12 @@ bool lines_tell() {
     const uint64_t one = 1, last = UINT64_C(1) << 63;
     uint8_t told[ORDERSET_LINE_ANSWER];
     for (unsigned i = 0; i < 2; i++, line += ORDERSET_LINE_BYTES)
-        if (orderset_line_whole(line, ORDERSET_LINE_BYTES, told, sizeof told) != ORDERSET_OK
+        if (orderset_proved_line_whole(line, ORDERSET_LINE_BYTES, told, sizeof told) != ORDERSET_OK
             || std::memcmp(told, &one, sizeof told)
-            || orderset_line_version(line, ORDERSET_LINE_BYTES, told, sizeof told) != ORDERSET_OK
+            || orderset_proved_line_version(line, ORDERSET_LINE_BYTES, told, sizeof told) != ORDERSET_OK
             || std::memcmp(told, &answer[ORDERSET_VERSION], sizeof told)
-            || orderset_line_last(line, ORDERSET_LINE_BYTES, last, told, sizeof told) != ORDERSET_NO_VERSION
-            || orderset_line_first(line, ORDERSET_LINE_BYTES - 1, last, told, sizeof told) != ORDERSET_NO_LINE_LENGTH)
+            || orderset_proved_line_last(line, ORDERSET_LINE_BYTES, last, told, sizeof told) != ORDERSET_NO_VERSION
+            || orderset_proved_line_first(line, ORDERSET_LINE_BYTES - 1, last, told, sizeof told) != ORDERSET_NO_LINE_LENGTH)
             return false;
     return true;
 }
@@ -220,7 +220,7 @@ bool keeps_book(uint64_t key) {
            && BY(book_withdraw)(image, sizeof image, heads.data(), heads.size(), next.data(), next.size(), state,
                                 version, key, at, value, answer)
                   == ORDERSET_NO_ORDER
-           && orderset_locate(image, sizeof image, heads.data(), heads.size(), next.data(), next.size(), key, answer)
+           && orderset_proved_locate(image, sizeof image, heads.data(), heads.size(), next.data(), next.size(), key, answer)
                   == ORDERSET_OK
            && answer[0] == ORDERSET_ABSENT;
 }
@@ -228,7 +228,7 @@ bool keeps_book(uint64_t key) {
 // ---- layout 2: keys 2^64 * high + 7
 
 uint64_t recover2() {
-    return orderset2_recover(image, sizeof image, heads.data(), heads.size(), next.data(), next.size(), state, version,
+    return orderset2_proved_recover(image, sizeof image, heads.data(), heads.size(), next.data(), next.size(), state, version,
                              count, open_at, open_value);
 }
 
@@ -238,7 +238,7 @@ uint64_t insert2(uint64_t high, const char *text, size_t length) {
 }
 
 bool finds2(uint64_t high, const char *text, uint64_t compared) {
-    if (orderset2_get(image, sizeof image, heads.data(), heads.size(), next.data(), next.size(), 7, high, out,
+    if (orderset2_proved_get(image, sizeof image, heads.data(), heads.size(), next.data(), next.size(), 7, high, out,
                       ORDERSET2_VALUE_MAX, found)
             != ORDERSET_OK
         || found[ORDERSET_GET_COMPARED] != compared)
@@ -262,9 +262,9 @@ bool drops_both() {
 
 bool keeps_second_layout() {
     const std::vector<char> text(ORDERSET2_VALUE_MAX + 1, 'x');
-    return orderset_format(image, sizeof image, 3, found) == ORDERSET_NO_LAYOUT && formats(ORDERSET_LAYOUT)
+    return orderset_proved_format(image, sizeof image, 3, found) == ORDERSET_NO_LAYOUT && formats(ORDERSET_LAYOUT)
            && recover2() == ORDERSET_NO_HEADER && formats(ORDERSET2_LAYOUT) && recover2() == ORDERSET_OK
-           && orderset_recover(image, sizeof image, heads.data(), heads.size(), next.data(), next.size(), state, version,
+           && orderset_proved_recover(image, sizeof image, heads.data(), heads.size(), next.data(), next.size(), state, version,
                                count, open_at, open_value)
                   == ORDERSET_NO_HEADER
            && refused(insert(7, "x", 1), ORDERSET_NO_HEADER, 0)
@@ -272,8 +272,8 @@ bool keeps_second_layout() {
            && made_durable(insert2(1, "buy", 3)) && made_durable(insert2(2, "sell", 4))
            && refused(insert2(2, "x", 1), ORDERSET_INSERT_HELD, 2) && finds2(1, "buy", 1) && finds2(2, "sell", 2)
            && finds2(3, nullptr, 2) && recover2() == ORDERSET_OK && finds2(1, "buy", 1) && finds2(2, "sell", 2)
-           && counts_by(orderset2_count_slots, {2, 0, 0, 0, 0, 2}) && drops_both() && finds2(1, nullptr, 0)
-           && counts_by(orderset2_count_slots, {0, 2, 2, 0, 0, 0})
+           && counts_by(orderset2_proved_count_slots, {2, 0, 0, 0, 0, 2}) && drops_both() && finds2(1, nullptr, 0)
+           && counts_by(orderset2_proved_count_slots, {0, 2, 2, 0, 0, 0})
            && made_durable(BY2(book_new)(image, sizeof image, heads.data(), heads.size(), next.data(), next.size(),
                                          state, version, 7, 9, 100, at, value, answer))
            && made_durable(BY2(book_withdraw)(image, sizeof image, heads.data(), heads.size(), next.data(), next.size(),

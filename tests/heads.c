@@ -33,22 +33,22 @@ static uint64_t held[MAX_N];
 static uint32_t count; /* of held keys */
 
 static void play(uint64_t returned) {
-    expect(returned == 0 && orderset_play(image, length, at, value, 8, 8) == ORDERSET_OK, "a call of an own index");
+    expect(returned == 0 && orderset_proved_play(image, length, at, value, 8, 8) == ORDERSET_OK, "a call of an own index");
 }
 
 static void insert(uint64_t key) {
-    play(orderset_insert(image, length, heads, OWN_HEADS, next, n + 1, state, version, key, bytes, below(81), at, value,
+    play(orderset_proved_insert(image, length, heads, OWN_HEADS, next, n + 1, state, version, key, bytes, below(81), at, value,
                          answer));
     held[count++] = key;
 }
 
 static void replace(uint32_t i) {
-    play(orderset_replace(image, length, heads, OWN_HEADS, next, n + 1, state, version, held[i], bytes, below(81), at,
+    play(orderset_proved_replace(image, length, heads, OWN_HEADS, next, n + 1, state, version, held[i], bytes, below(81), at,
                           value, answer));
 }
 
 static void drop(uint32_t i) {
-    play(orderset_remove(image, length, heads, OWN_HEADS, next, n + 1, state, version, held[i], at, value, answer));
+    play(orderset_proved_remove(image, length, heads, OWN_HEADS, next, n + 1, state, version, held[i], at, value, answer));
     held[i] = held[--count];
 }
 
@@ -64,8 +64,8 @@ static void make_image(uint64_t step) {
     length = ORDERSET_IMAGE_BYTES(n);
     count = 0;
     fill(bytes, sizeof bytes);
-    expect(orderset_format(image, length, ORDERSET_LAYOUT, answer) == ORDERSET_OK, "format");
-    expect(orderset_recover(image, length, heads, OWN_HEADS, next, n + 1, state, version, voids, open_at, open_value)
+    expect(orderset_proved_format(image, length, ORDERSET_LAYOUT, answer) == ORDERSET_OK, "format");
+    expect(orderset_proved_recover(image, length, heads, OWN_HEADS, next, n + 1, state, version, voids, open_at, open_value)
                    == ORDERSET_OK
                && voids[0] == 0,
            "recover");

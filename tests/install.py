@@ -11,7 +11,7 @@ import subprocess
 import sys
 import tempfile
 
-ARCHIVES = [f"target/staticlib/lib{name}.a" for name in ("orderset_c", "orderset2_c", "log_c")]
+ARCHIVES = [f"target/staticlib/lib{name}.a" for name in ("orderset_c", "orderset2_c", "orderset_log_c")]
 PREFIX = "/opt/orderset"
 count = 0
 

@@ -16,13 +16,13 @@
 #if LAYOUT == 1
 typedef uint64_t m_key;
 enum { VALUE_MAX = ORDERSET_VALUE_MAX };
-#define SET(call) orderset_##call
+#define SET(call) orderset_proved_##call
 #define KEY(k) (k)
 #define BASKET_KEYS(lows, highs) (lows)
 #else
 typedef unsigned __int128 m_key;
 enum { VALUE_MAX = ORDERSET2_VALUE_MAX };
-#define SET(call) orderset2_##call
+#define SET(call) orderset2_proved_##call
 #define KEY(k) (uint64_t)(k), (uint64_t)((k) >> 64)
 #define BASKET_KEYS(lows, highs) (lows), (highs)
 #endif

@@ -113,14 +113,14 @@ static struct m_lists model_lists(size_t places, size_t values) {
 
 static uint32_t append(const uint8_t *message, size_t size, size_t places, size_t values) {
     begin(APPEND, size, places, values, 0);
-    uint32_t code = orderset_raw_log_append(area, length, message, size, at, places, value, values, answer);
+    uint32_t code = orderset_proved_log_append(area, length, message, size, at, places, value, values, answer);
     struct m_handed m = m_append(kept, length, message, size, model_lists(places, values));
     return end(code, m.refusal, m.number, m.count);
 }
 
 static uint32_t recover(size_t places, size_t values) {
     begin(RECOVER, 0, places, values, 0);
-    uint32_t code = orderset_raw_log_recover(area, length, at, places, value, values, answer);
+    uint32_t code = orderset_proved_log_recover(area, length, at, places, value, values, answer);
     struct m_handed m = m_log_recover(kept, length, model_lists(places, values));
     opening += m.refusal == 0 && m.count > 0;
     return end(code, m.refusal, m.number, m.count);
@@ -128,7 +128,7 @@ static uint32_t recover(size_t places, size_t values) {
 
 static uint32_t read_message(uint64_t number) {
     begin(READ, 0, 0, 0, number);
-    uint32_t code = orderset_raw_log_read(area, length, number, answer);
+    uint32_t code = orderset_proved_log_read(area, length, number, answer);
     struct m_part m = m_read(kept, length, number);
     return end(code, m.refusal, m.offset, m.length);
 }

@@ -68,7 +68,7 @@ static void handed_out(void) {
 static uint32_t call_append(void) {
     begin_call("append", handing);
     return end(APPEND,
-               orderset_raw_log_append(r(AREA), piece[AREA].length, r(MESSAGE), piece[MESSAGE].length, w(AT),
+               orderset_proved_log_append(r(AREA), piece[AREA].length, r(MESSAGE), piece[MESSAGE].length, w(AT),
                                        piece[AT].length / NUMBER, w(VALUE), piece[VALUE].length / WORD, w(ANSWER)),
                handing);
 }
@@ -76,7 +76,7 @@ static uint32_t call_append(void) {
 static uint32_t call_recover(void) {
     begin_call("recover", handing);
     return end(RECOVER,
-               orderset_raw_log_recover(r(AREA), piece[AREA].length, w(AT), piece[AT].length / NUMBER, w(VALUE),
+               orderset_proved_log_recover(r(AREA), piece[AREA].length, w(AT), piece[AT].length / NUMBER, w(VALUE),
                                         piece[VALUE].length / WORD, w(ANSWER)),
                handing);
 }
@@ -84,7 +84,7 @@ static uint32_t call_recover(void) {
 static void call_read(uint64_t number) {
     static const int writable[] = {ANSWER, NONE};
     begin_call("read", writable);
-    if (end(READ, orderset_raw_log_read(r(AREA), piece[AREA].length, number, w(ANSWER)), writable))
+    if (end(READ, orderset_proved_log_read(r(AREA), piece[AREA].length, number, w(ANSWER)), writable))
         return;
     uint64_t offset = answered(ORDERSET_LOG_OFFSET), bytes = answered(ORDERSET_LOG_LENGTH);
     if (bytes < 1 || bytes > ORDERSET_LOG_MESSAGE_MAX || offset > piece[AREA].length - bytes)

@@ -18,12 +18,12 @@ uint64_t answer[ORDERSET_LOG_ANSWER];
 const enum orderset_flush best = orderset_best_flush();
 
 uint32_t append(const char *text, size_t length) {
-    return orderset_raw_log_append(area, sizeof area, reinterpret_cast<const uint8_t *>(text), length, at.data(),
+    return orderset_proved_log_append(area, sizeof area, reinterpret_cast<const uint8_t *>(text), length, at.data(),
                                    at.size(), value.data(), value.size(), answer);
 }
 
 bool recovers(uint64_t number, uint64_t count) {
-    return orderset_raw_log_recover(area, sizeof area, at.data(), at.size(), value.data(), value.size(), answer)
+    return orderset_proved_log_recover(area, sizeof area, at.data(), at.size(), value.data(), value.size(), answer)
                == ORDERSET_LOG_OK
            && answer[ORDERSET_LOG_NUMBER] == number && answer[ORDERSET_LOG_COUNT] == count;
 }
@@ -38,13 +38,13 @@ bool appends(const char *text, uint64_t number) {
 }
 
 bool reads(uint64_t number, const char *text) {
-    return orderset_raw_log_read(area, sizeof area, number, answer) == ORDERSET_LOG_OK
+    return orderset_proved_log_read(area, sizeof area, number, answer) == ORDERSET_LOG_OK
            && answer[ORDERSET_LOG_LENGTH] == std::strlen(text)
            && !std::memcmp(area + answer[ORDERSET_LOG_OFFSET], text, answer[ORDERSET_LOG_LENGTH]);
 }
 
 bool not_shown(uint64_t number) {
-    return orderset_raw_log_read(area, sizeof area, number, answer) == ORDERSET_LOG_NOT_SHOWN;
+    return orderset_proved_log_read(area, sizeof area, number, answer) == ORDERSET_LOG_NOT_SHOWN;
 }
 
 bool starts() {
@@ -57,10 +57,10 @@ bool refused_stores_nothing() {
     const std::vector<char> text(ORDERSET_LOG_MESSAGE_MAX + 1, 'x');
     return append(text.data(), 0) == ORDERSET_LOG_BAD_MESSAGE
            && append(text.data(), text.size()) == ORDERSET_LOG_BAD_MESSAGE
-           && orderset_raw_log_append(area, sizeof area - 1, before.data(), 1, at.data(), at.size(), value.data(),
+           && orderset_proved_log_append(area, sizeof area - 1, before.data(), 1, at.data(), at.size(), value.data(),
                                       value.size(), answer)
                   == ORDERSET_LOG_NO_AREA
-           && orderset_raw_log_append(area, sizeof area, before.data(), 1, at.data(), 7, value.data(), value.size(),
+           && orderset_proved_log_append(area, sizeof area, before.data(), 1, at.data(), 7, value.data(), value.size(),
                                       answer)
                   == ORDERSET_LOG_LIST_TOO_SHORT
            && !std::memcmp(area, before.data(), sizeof area);
@@ -76,7 +76,7 @@ bool keeps_the_last() {
 // The marked line of message 6 is there, its payload is not: it is opened, and the number is given again.
 bool survives_a_cut() {
     return append("withdraw 8", 10) == ORDERSET_LOG_OK
-           && orderset_play_list(area, sizeof area, at.data(), ORDERSET_LINE_STORES, value.data(), ORDERSET_LINE_STORES)
+           && orderset_proved_play_list(area, sizeof area, at.data(), ORDERSET_LINE_STORES, value.data(), ORDERSET_LINE_STORES)
                   == ORDERSET_OK
            && not_shown(6) && recovers(5, 1) && made_durable() && recovers(5, 0) && reads(5, "new 8 5")
            && reads(3, "fill 7 40") && appends("show 8", 6) && reads(6, "show 8");

@@ -67,7 +67,7 @@ static int after_kill;
 
 static void must_read(uint64_t number) {
     const struct message *m = &plain[number % MAX_CELLS];
-    uint32_t code = orderset_raw_log_read(visible, length, number, answer);
+    uint32_t code = orderset_proved_log_read(visible, length, number, answer);
     if (code)
         lost("message %" PRIu64 ": answered, and read says no %" PRIu32, number, code);
     if (answer[ORDERSET_LOG_LENGTH] != m->size || memcmp(visible + answer[ORDERSET_LOG_OFFSET], m->bytes, m->size))
@@ -76,7 +76,7 @@ static void must_read(uint64_t number) {
 }
 
 static void must_not_read(uint64_t number) {
-    uint32_t code = orderset_raw_log_read(visible, length, number, answer);
+    uint32_t code = orderset_proved_log_read(visible, length, number, answer);
     if (code != ORDERSET_LOG_NOT_SHOWN)
         lost("message %" PRIu64 ": not to be read, and read says %" PRIu32, number, code);
 }
@@ -111,7 +111,7 @@ static void start(void) {
     if ((after_kill || below(2)) && orderset_persist_image(visible, length, flush))
         lost("persist_image");
     point();
-    uint32_t code = orderset_raw_log_recover(visible, length, at, cells, value, cells, answer);
+    uint32_t code = orderset_proved_log_recover(visible, length, at, cells, value, cells, answer);
     if (code)
         lost("recovery refuses: %" PRIu32, code);
     const uint64_t highest = answer[ORDERSET_LOG_NUMBER], count = answer[ORDERSET_LOG_COUNT];
@@ -141,11 +141,11 @@ static const uint8_t *any_bytes(size_t size) {
 static void refused_append(void) {
     static const uint8_t longer[MOST + 1] = {1};
     uint32_t list = (uint32_t)below(8);
-    if (orderset_raw_log_append(visible, length, longer, 0, at, MAX_CELLS, value, MAX_CELLS, answer)
+    if (orderset_proved_log_append(visible, length, longer, 0, at, MAX_CELLS, value, MAX_CELLS, answer)
             != ORDERSET_LOG_BAD_MESSAGE
-        || orderset_raw_log_append(visible, length, longer, MOST + 1, at, MAX_CELLS, value, MAX_CELLS, answer)
+        || orderset_proved_log_append(visible, length, longer, MOST + 1, at, MAX_CELLS, value, MAX_CELLS, answer)
                != ORDERSET_LOG_BAD_MESSAGE
-        || orderset_raw_log_append(visible, length, longer, 1, at, list, value, MAX_CELLS, answer)
+        || orderset_proved_log_append(visible, length, longer, 1, at, list, value, MAX_CELLS, answer)
                != ORDERSET_LOG_LIST_TOO_SHORT)
         lost("an append that is to be refused");
 }
@@ -154,7 +154,7 @@ static void append_one(void) {
     struct message *m = &append.message;
     m->size = below(3) ? 1 + below(MOST) : 1 + below(64);
     memcpy(m->bytes, any_bytes(m->size), m->size);
-    uint32_t code = orderset_raw_log_append(visible, length, m->bytes, m->size, at, MAX_CELLS, value, MAX_CELLS,
+    uint32_t code = orderset_proved_log_append(visible, length, m->bytes, m->size, at, MAX_CELLS, value, MAX_CELLS,
                                             answer);
     if (code || answer[ORDERSET_LOG_NUMBER] != messages + 1)
         lost("an append answers %" PRIu32 " or another number", code);
@@ -174,7 +174,7 @@ static void append_one(void) {
 
 /* In a sound log there is nothing to open. */
 static void recover_again(void) {
-    if (orderset_raw_log_recover(visible, length, at, 0, value, 0, answer) || answer[ORDERSET_LOG_NUMBER] != messages)
+    if (orderset_proved_log_recover(visible, length, at, 0, value, 0, answer) || answer[ORDERSET_LOG_NUMBER] != messages)
         lost("a recovery in a run");
 }
 

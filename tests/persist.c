@@ -216,13 +216,13 @@ enum kind { INSERT, REPLACE, REMOVE };
 static uint64_t call(enum kind kind, uint64_t key, const uint8_t *bytes, size_t size) {
     switch (kind) {
     case INSERT:
-        return orderset_insert(image, LENGTH, heads, HEADS, next, N + 1, state, version, key, bytes, size, at, value,
+        return orderset_proved_insert(image, LENGTH, heads, HEADS, next, N + 1, state, version, key, bytes, size, at, value,
                                answer);
     case REPLACE:
-        return orderset_replace(image, LENGTH, heads, HEADS, next, N + 1, state, version, key, bytes, size, at, value,
+        return orderset_proved_replace(image, LENGTH, heads, HEADS, next, N + 1, state, version, key, bytes, size, at, value,
                                 answer);
     default:
-        return orderset_remove(image, LENGTH, heads, HEADS, next, N + 1, state, version, key, at, value, answer);
+        return orderset_proved_remove(image, LENGTH, heads, HEADS, next, N + 1, state, version, key, at, value, answer);
     }
 }
 
@@ -233,7 +233,7 @@ static void change(enum kind kind, uint64_t key, size_t size, enum orderset_flus
     uint64_t code = call(kind, key, bytes, size);
     int accepted = code == ORDERSET_OK && answer[0] == ORDERSET_GIVEN;
     if (accepted) {
-        expect(orderset_play(played, LENGTH, at, value, 8, 8) == ORDERSET_OK, "play takes the stores");
+        expect(orderset_proved_play(played, LENGTH, at, value, 8, 8) == ORDERSET_OK, "play takes the stores");
         persist(flush, watching);
     }
     expect(memcmp(image, played, LENGTH) == 0, "the image is as play leaves it");
@@ -247,21 +247,21 @@ static enum kind any_kind(uint64_t key) {
         return REMOVE;
     if (below(8) == 0)
         return below(2) ? INSERT : REPLACE;
-    expect(orderset_locate(image, LENGTH, heads, HEADS, next, N + 1, key, answer) == ORDERSET_OK, "locate");
+    expect(orderset_proved_locate(image, LENGTH, heads, HEADS, next, N + 1, key, answer) == ORDERSET_OK, "locate");
     return answer[0] == ORDERSET_ABSENT ? INSERT : REPLACE;
 }
 
 static void get(uint64_t key) {
     uint8_t out[ORDERSET_VALUE_MAX];
-    uint64_t code = orderset_get(image, LENGTH, heads, HEADS, next, N + 1, key, out, sizeof out, answer);
+    uint64_t code = orderset_proved_get(image, LENGTH, heads, HEADS, next, N + 1, key, out, sizeof out, answer);
     expect(code == ORDERSET_OK && events == 0, "get of an own index is not refused and flushes nothing");
     unstored++;
 }
 
 static void make(uint8_t *bytes) {
     uint32_t count[1];
-    expect(orderset_format(bytes, LENGTH, ORDERSET_LAYOUT, answer) == ORDERSET_OK, "format");
-    expect(orderset_recover(bytes, LENGTH, heads, HEADS, next, N + 1, state, version, count, list_at, list_value)
+    expect(orderset_proved_format(bytes, LENGTH, ORDERSET_LAYOUT, answer) == ORDERSET_OK, "format");
+    expect(orderset_proved_recover(bytes, LENGTH, heads, HEADS, next, N + 1, state, version, count, list_at, list_value)
                    == ORDERSET_OK
                && count[0] == 0,
            "recover");
@@ -343,7 +343,7 @@ static unsigned persist_list(size_t count, enum orderset_flush flush, int watchi
     unsigned i = 0, flushed = 0;
     int each = 1;
     memcpy(played, image, LENGTH);
-    expect(orderset_play_list(played, LENGTH, list_at, count, list_value, count) == ORDERSET_OK, "play takes a list");
+    expect(orderset_proved_play_list(played, LENGTH, list_at, count, list_value, count) == ORDERSET_OK, "play takes a list");
     events = 0;
     if (watching)
         watch(image);
@@ -376,11 +376,11 @@ static void open_voids(uint32_t voids, enum orderset_flush flush, int watching) 
         words[2] = 1 + (8 << 16);
         words[7] = words[15] = 2 * 5;
     }
-    expect(orderset_recover(image, LENGTH, heads, HEADS, next, N + 1, state, version, count, list_at, list_value) == 0
+    expect(orderset_proved_recover(image, LENGTH, heads, HEADS, next, N + 1, state, version, count, list_at, list_value) == 0
                && count[0] == voids,
            "recovery hands out a store for each void slot");
     expect(persist_list(count[0], flush, watching) == voids, "each line that is opened is flushed once");
-    expect(orderset_recover(image, LENGTH, heads, HEADS, next, N + 1, state, version, count, list_at, list_value) == 0
+    expect(orderset_proved_recover(image, LENGTH, heads, HEADS, next, N + 1, state, version, count, list_at, list_value) == 0
                && count[0] == 0,
            "then no slot is void");
 }
@@ -395,10 +395,10 @@ static void basket(enum orderset_flush flush, int watching) {
     for (size_t i = 0; i < count; i++) {
         keys[i] = (first + i) % (N / 2);
         lengths[i] = below(ORDERSET_VALUE_MAX + 1);
-        expect(orderset_locate(image, LENGTH, heads, HEADS, next, N + 1, keys[i], answer) == ORDERSET_OK, "locate");
+        expect(orderset_proved_locate(image, LENGTH, heads, HEADS, next, N + 1, keys[i], answer) == ORDERSET_OK, "locate");
         kinds[i] = answer[0] == ORDERSET_ABSENT ? ORDERSET_INSERT : ORDERSET_REPLACE + (uint32_t)below(2);
     }
-    expect(orderset_basket(image, LENGTH, heads, HEADS, next, N + 1, state, version, count, kinds, keys, lengths, values,
+    expect(orderset_proved_basket(image, LENGTH, heads, HEADS, next, N + 1, state, version, count, kinds, keys, lengths, values,
                            list_at, LIST, list_value, LIST, given)
                == ORDERSET_OK,
            "a basket is taken");
@@ -419,7 +419,7 @@ static void append(enum orderset_flush flush, int watching) {
     uint8_t message[ORDERSET_LOG_MESSAGE_MAX];
     uint64_t handed[ORDERSET_LOG_ANSWER];
     fill(message, sizeof message);
-    expect(orderset_raw_log_append(image, ORDERSET_LOG_BYTES(CELLS), message, 1 + below(sizeof message), list_at, LIST,
+    expect(orderset_proved_log_append(image, ORDERSET_LOG_BYTES(CELLS), message, 1 + below(sizeof message), list_at, LIST,
                                    list_value, LIST, handed)
                == ORDERSET_LOG_OK,
            "append");
@@ -436,7 +436,7 @@ static void recover_log(enum orderset_flush flush) {
         memset(image + cell * ORDERSET_LOG_CELL_BYTES, 0, 64);
         memcpy(image + cell * ORDERSET_LOG_CELL_BYTES + 56, &stamp, sizeof stamp);
     }
-    expect(orderset_raw_log_recover(image, ORDERSET_LOG_BYTES(CELLS), list_at, LIST, list_value, LIST, handed)
+    expect(orderset_proved_log_recover(image, ORDERSET_LOG_BYTES(CELLS), list_at, LIST, list_value, LIST, handed)
                    == ORDERSET_LOG_OK
                && handed[ORDERSET_LOG_COUNT] == (CELLS + 1) / 2,
            "recovery opens the lines");
@@ -517,11 +517,11 @@ static void insert_in_file(uint8_t *mapped, int file, uint64_t key) {
     uint8_t bytes[ORDERSET_VALUE_MAX], held[LENGTH];
     fill(bytes, sizeof bytes);
     memcpy(played, mapped, LENGTH);
-    expect(orderset_insert(mapped, LENGTH, heads, HEADS, next, N + 1, state, version, key, bytes, below(81), at, value,
+    expect(orderset_proved_insert(mapped, LENGTH, heads, HEADS, next, N + 1, state, version, key, bytes, below(81), at, value,
                            answer)
                == ORDERSET_OK,
            "insert");
-    expect(orderset_play(played, LENGTH, at, value, 8, 8) == ORDERSET_OK, "play takes the stores");
+    expect(orderset_proved_play(played, LENGTH, at, value, 8, 8) == ORDERSET_OK, "play takes the stores");
     events = 0;
     expect(orderset_persist_file(mapped, LENGTH, at, value) == 0, "persist_file takes the stores of a call");
     expect(events == 1 && is(0, SYNC, page_of(mapped, at[0])) && event[0].value == PAGE,
@@ -544,7 +544,7 @@ static void list_in_file(uint8_t *mapped, int file) {
     uint8_t held[LENGTH];
     size_t count = any_list(), pages = 0;
     memcpy(played, mapped, LENGTH);
-    expect(orderset_play_list(played, LENGTH, list_at, count, list_value, count) == ORDERSET_OK, "play takes a list");
+    expect(orderset_proved_play_list(played, LENGTH, list_at, count, list_value, count) == ORDERSET_OK, "play takes a list");
     events = 0;
     expect(orderset_persist_list_file(mapped, LENGTH, list_at, list_value, count) == 0, "persist_list_file");
     for (size_t i = 0; i < count; i++)

@@ -7,7 +7,7 @@ export LC_ALL=C
 cd "$(dirname "$0")/.."
 archive=target/staticlib/liborderset_c.a
 archive2=target/staticlib/liborderset2_c.a
-log_archive=target/staticlib/liblog_c.a
+log_archive=target/staticlib/liborderset_log_c.a
 report=target/bin/report
 plug=target/bin/plug
 tree=target/planted/tree
@@ -58,7 +58,7 @@ fault header 'a store is left out' $header '/orderset_store\(line \+ 1,/d' 'NOT 
 fault header 'a held key is inserted' tests/header.cc 's/BY\(replace\)\(/BY(insert)(/' 'NOT SO'
 fault header 'a key that is not held is replaced' tests/header.cc 's/BY\(insert\)\(/BY(replace)(/' 'NOT SO'
 fault header 'an owner that holds a key inserts it' tests/header.cc \
-    's/return BY\(replace\)\(/return (own ? orderset_own_insert : orderset_replace)(/' 'NOT SO'
+    's/return BY\(replace\)\(/return (own ? orderset_proved_own_insert : orderset_proved_replace)(/' 'NOT SO'
 fault header 'recovery is to name the lower slot of a basket' tests/header.cc 's/std::max\(/std::min(/' 'NOT SO'
 fault header 'the count of a refusal is not looked for' tests/header.cc \
     's/ORDERSET_REFUSED_COMPARED\(code\) == compared/(code >> 32) == 0/' 'NOT SO'
@@ -293,7 +293,7 @@ fault guard 'a state of three numbers' tests/guard.c 's/place\(STATE, 4 \* ORDER
 fault guard 'a refused recovery changes the count' tests/guard.c \
     's/if \(end\(SET\(recover\)\(/if ((++*(uint8_t *)w(COUNT), end)(SET(recover)(/' 'NOT SO: count changed, by a refused'
 fault guard 'a call writes what it may only read' tests/guard.c \
-    's/orderset_play\(w\(IMAGE\)/orderset_play((uint8_t *)r(IMAGE)/' 'NOT SO: signal 11: image is .* lent for reading'
+    's/orderset_proved_play\(w\(IMAGE\)/orderset_proved_play((uint8_t *)r(IMAGE)/' 'NOT SO: signal 11: image is .* lent for reading'
 fault guard 'a refused call changes the state' tests/guard.c \
     's/if \(end\(SET\(recover\)\(/if ((++*(uint8_t *)w(STATE), end)(SET(recover)(/' 'NOT SO: state changed, by a refused'
 fault guard 'a refused insert changes the version' tests/guard.c \
@@ -672,7 +672,7 @@ fault differential2 'a hidden put is counted as live' tests/model.c 's/live\[s\]
     'DIFFERENCE in the counts'
 fault guard2 'five counts' tests/guard.c 's/place\(COUNTS, 8 \* ORDERSET_COUNTS\)/place(COUNTS, 40)/' \
     'NOT SO: (signal 11: counts is touched|counts changed, after what was lent)'
-fault report2 'the gateway counts by the calls of layout 1' $gateway 's/orderset2_count_slots : /orderset_count_slots : /' \
+fault report2 'the gateway counts by the calls of layout 1' $gateway 's/orderset2_proved_count_slots : /orderset_proved_count_slots : /' \
     "NOT SO: the gateway says '[0-9]+ live"
 fault report2 'the program is to count the slots of layout 2' tests/report.c '/if \(LAYOUT != ORDERSET_LAYOUT\)/,+1d' \
     'NOT SO: of [0-9]+ bytes it prints what is due'
@@ -686,7 +686,7 @@ fault differential '32 is tested before 1' tests/model.c \
 fault header 'the high words of a basket are left out' tests/header.cc \
     's/(highs\[ORDERSET_BASKET_MAX\]) = \{2, 1\}/\1 = {0, 0}/' 'NOT SO'
 fault header 'in layout 2 hidden puts are to be counted as live' tests/header.cc \
-    's/(orderset2_count_slots, \{)0, 2, 2, 0, 0, 0/\12, 0, 2, 0, 0, 0/' 'NOT SO'
+    's/(orderset2_proved_count_slots, \{)0, 2, 2, 0, 0, 0/\12, 0, 2, 0, 0, 0/' 'NOT SO'
 fault storm2 'a key is inserted by its low word alone' tests/storm.c \
     's/return SET_BY\(own, insert\)\((.*)KEY\(key\)/return SET_BY(own, insert)(\1KEY((m_key)low_word(key))/' 'LOST'
 
@@ -766,7 +766,7 @@ fault log_guard 'an answer one word shorter' $guard \
     'NOT SO: (signal 11: answer is touched|answer changed, after what was lent)'
 for call in append recover read; do
     fault log_guard "a refused $call changes the answer" $guard \
-        "s/orderset_raw_log_$call\(r\(AREA\)/(++*(uint8_t *)w(ANSWER), orderset_raw_log_$call)(r(AREA)/" \
+        "s/orderset_proved_log_$call\(r\(AREA\)/(++*(uint8_t *)w(ANSWER), orderset_proved_log_$call)(r(AREA)/" \
         'NOT SO: answer changed, by a refused'
 done
 fault log_guard 'what may only be read is written' $guard 's/m_set_word\(w\(AREA\)/m_set_word((uint8_t *)r(AREA)/' \
@@ -953,14 +953,14 @@ fault tools 'a complete basket is void' $check 's/, end\) < said\(/, end) <= sai
 fault tools 'what to do is not said of damage' $check 's/other_file : keep_it/other_file : ""/' \
     'NOT SO: check of a file with no 5 says what to do'
 
-redefine='"objcopy", *(w for n in ("append", "recover", "read") for w in ("--redefine-sym", f"orderset_raw_log_{n}=log_{n}"))'
+redefine='"objcopy", *(w for n in ("append", "recover", "read") for w in ("--redefine-sym", f"orderset_proved_log_{n}=log_{n}"))'
 fault install 'an inner name is global' src/orderset_file.c 's/^static uint32_t lock\(/uint32_t lock(/' \
     'NOT SO: every global name of liborderset.a begins with orderset'
 fault install 'an inner name with the prefix is global' src/orderset_file.c \
     '1s/^/int orderset_inner(void);\nint orderset_inner(void) { return 0; }\n/' \
     'NOT SO: the shared library gives the names of the headers'
 fault install 'a name of the log has no prefix' Makefile \
-    's/ save end \| ar -M$/& \&\& objcopy --redefine-sym orderset_raw_log_append=log_append $@/' \
+    's/ save end \| ar -M$/& \&\& objcopy --redefine-sym orderset_proved_log_append=log_append $@/' \
     'NOT SO: every global name of liborderset.a begins with orderset'
 fault install "a program's own functions take the place of the log's" tests/install.py \
     "s/^    place, work = folder \+ PREFIX, f\"\{folder\}\/own\"\$/&\n    run($redefine, f\"{place}\/lib\/liborderset.a\")/" \
@@ -1162,7 +1162,7 @@ fault file_storm 'one store of an append is not made' $handle \
     's/persist\(\&log->area, log->at, log->value, log->answer\[ORDERSET_LOG_COUNT\]\)/persist(\&log->area, log->at, log->value, log->answer[1] - 1)/' \
     'LOST (message|an append|an open)'
 fault file_storm 'a replace of layout 2 drops the high word' $handle \
-    's/orderset2_##name\(lent, \(key\).low, \(key\).high,/orderset2_##name(lent, (key).low, (key).high \& 3,/' 'LOST'
+    's/orderset2_proved_##name\(lent, \(key\).low, \(key\).high,/orderset2_proved_##name(lent, (key).low, (key).high \& 3,/' 'LOST'
 
 fault file_kills 'a new file is not synced' $handle \
     '/^static uint32_t format\(/,/^}/s/ \|\| fsync\(file\)//' \

@@ -260,7 +260,7 @@ static void end_any(const char *call, size_t keys, uint64_t compared, size_t tak
 
 static void play(uint64_t returned, size_t stores) {
     expect(returned == 0, "a call of an own index is not refused: %" PRIu64, returned & UINT32_MAX);
-    expect(orderset_play_list(region[IMAGE].open, ORDERSET_IMAGE_BYTES(n), at, stores, value, stores) == ORDERSET_OK, "play");
+    expect(orderset_proved_play_list(region[IMAGE].open, ORDERSET_IMAGE_BYTES(n), at, stores, value, stores) == ORDERSET_OK, "play");
 }
 
 static void insert(void) {
@@ -489,7 +489,7 @@ static void make(uint32_t slots, size_t heads) {
     n = slots;
     b = heads;
     count = 0;
-    expect(orderset_format(region[IMAGE].open, ORDERSET_IMAGE_BYTES(n), LAYOUT, made) == 0, "format");
+    expect(orderset_proved_format(region[IMAGE].open, ORDERSET_IMAGE_BYTES(n), LAYOUT, made) == 0, "format");
     recover();
 }
 

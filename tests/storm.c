@@ -382,7 +382,7 @@ static void make(void) {
     for (uint32_t i = 0; i < keys; i++)
         key_of[i] = any_key_of(i, below(2) ? i : chance() / MAX_KEYS * MAX_KEYS + i);
     memset(map, 0, sizeof map);
-    if (orderset_format(visible, length, LAYOUT, answer))
+    if (orderset_proved_format(visible, length, LAYOUT, answer))
         lost("format");
     all_durable();
     histories++;

@@ -32,15 +32,15 @@ static void make_set(void) {
     expect(there >= 0 && ftruncate(there, LENGTH) == 0, "a file %s", file);
     image = mmap(NULL, LENGTH, PROT_READ | PROT_WRITE, MAP_SHARED, there, 0);
     close(there);
-    expect(image != MAP_FAILED && orderset_format(image, LENGTH, ORDERSET_LAYOUT, slots) == 0
-               && orderset_recover(image, LENGTH, heads, 1, next, SLOTS + 1, state, version, count, open_at, open_value)
+    expect(image != MAP_FAILED && orderset_proved_format(image, LENGTH, ORDERSET_LAYOUT, slots) == 0
+               && orderset_proved_recover(image, LENGTH, heads, 1, next, SLOTS + 1, state, version, count, open_at, open_value)
                       == 0
                && count[0] == 0,
            "a set of two slots");
 }
 
 static void play(size_t a, size_t b) {
-    expect(orderset_play(image, LENGTH, at, value, a, b) == 0, "the stores are made");
+    expect(orderset_proved_play(image, LENGTH, at, value, a, b) == 0, "the stores are made");
 }
 
 /* What stands in line A of the slot, in the sender's words. */
@@ -59,7 +59,7 @@ static uint64_t one_call(struct child *child, uint64_t slot, uint64_t wanted) {
     uint8_t bytes[ORDERSET_VALUE_MAX];
     const size_t size = below(ORDERSET_VALUE_MAX + 1);
     fill(bytes, sizeof bytes);
-    uint64_t code = (version[0] == 1 ? orderset_insert : orderset_replace)(
+    uint64_t code = (version[0] == 1 ? orderset_proved_insert : orderset_proved_replace)(
         image, LENGTH, heads, 1, next, SLOTS + 1, state, version, 7, bytes, size, at, value, answer);
     expect(code == 0, "key 7 is written");
     const int watched = answer[ORDERSET_SLOT] == slot;
