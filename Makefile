@@ -1,5 +1,5 @@
 # The C side: the archive's tests, the example and the measurements. The proofs are checked by .ci/run.
-#   make archive   the libraries, proved and built: target/staticlib/liborderset_c.a, liborderset2_c.a and liblog_c.a (rt)
+#   make archive   the libraries, proved and built: target/staticlib/liborderset_c.a, liborderset2_c.a and liborderset_log_c.a (rt)
 #   make test      the tests of docs/TESTS.md: the archives, the headers, the gateway, the handle, the bindings and the tools
 #                                                                        (gcc g++ python3 pkg-config cargo groff)
 #   make planted   that each test fails where a fault is planted                     (gcc g++ python3 pkg-config cargo)
@@ -17,7 +17,7 @@ OUT := target/c
 ARCHIVE := target/staticlib/liborderset_c.a
 ARCHIVE2 := target/staticlib/liborderset2_c.a
 PLUG := target/bin/plug
-LOG_ARCHIVE := target/staticlib/liblog_c.a
+LOG_ARCHIVE := target/staticlib/liborderset_log_c.a
 REPORT := target/bin/report
 # CC, CXX, CFLAGS, CXXFLAGS and LDFLAGS are the caller's, from the environment or the command line
 ifeq ($(origin CC),default)
@@ -45,7 +45,7 @@ $(ARCHIVE2): $(CRATES)
 	$(RT) staticlib orderset2_c
 
 $(LOG_ARCHIVE): $(CRATES)
-	$(RT) staticlib log_c
+	$(RT) staticlib orderset_log_c
 
 $(REPORT): $(CRATES)
 	$(RT) check report

@@ -34,7 +34,7 @@ static void must(int done, const char *what) {
 static void recover(void) {
     uint32_t voids[1], open_at[ORDERSET_INVALIDATIONS];
     uint64_t open_value[ORDERSET_INVALIDATIONS];
-    must(orderset_recover(image, length, heads, heads_length, next, next_length, state, version, voids, open_at, open_value) == 0 && voids[0] == 0,
+    must(orderset_proved_recover(image, length, heads, heads_length, next, next_length, state, version, voids, open_at, open_value) == 0 && voids[0] == 0,
          "recover");
 }
 
@@ -43,11 +43,11 @@ static void recover(void) {
 static inline void single(uint32_t kind, uint64_t key) {
     uint64_t failed;
     if (kind == ORDERSET_INSERT)
-        failed = orderset_insert(image, length, heads, heads_length, next, next_length, state, version, key, values, SIZE, at, value, answer);
+        failed = orderset_proved_insert(image, length, heads, heads_length, next, next_length, state, version, key, values, SIZE, at, value, answer);
     else if (kind == ORDERSET_REPLACE)
-        failed = orderset_replace(image, length, heads, heads_length, next, next_length, state, version, key, values, SIZE, at, value, answer);
+        failed = orderset_proved_replace(image, length, heads, heads_length, next, next_length, state, version, key, values, SIZE, at, value, answer);
     else
-        failed = orderset_remove(image, length, heads, heads_length, next, next_length, state, version, key, at, value, answer);
+        failed = orderset_proved_remove(image, length, heads, heads_length, next, next_length, state, version, key, at, value, answer);
     must(!failed && !orderset_persist(image, length, at, value, flush), "a single call");
 }
 
@@ -58,7 +58,7 @@ MEASURED void count_singles(const uint32_t kinds[EIGHT], const uint64_t keys[EIG
 
 MEASURED void count_basket(const uint32_t kinds[EIGHT], const uint64_t keys[EIGHT]) {
     static const size_t lengths[EIGHT] = {SIZE, SIZE, SIZE, SIZE, SIZE, SIZE, SIZE, SIZE};
-    must(!orderset_basket(image, length, heads, heads_length, next, next_length, state, version, EIGHT, kinds, keys, lengths, values, at,
+    must(!orderset_proved_basket(image, length, heads, heads_length, next, next_length, state, version, EIGHT, kinds, keys, lengths, values, at,
                           ORDERSET_BASKET_STORES(EIGHT), value, ORDERSET_BASKET_STORES(EIGHT), answer)
              && !orderset_persist_list(image, length, at, value, ORDERSET_BASKET_STORES(EIGHT), flush),
          "a basket");
@@ -106,7 +106,7 @@ static void begin(uint32_t slots, uint32_t b, uint32_t many) {
     heads_length = b;
     next_length = n + 1;
     live = 0;
-    must(orderset_format(image, length, ORDERSET_LAYOUT, answer) == 0, "format");
+    must(orderset_proved_format(image, length, ORDERSET_LAYOUT, answer) == 0, "format");
     recover();
     for (uint32_t i = 0; i < many; i++) {
         held[live] = bench_chance(&fresh);

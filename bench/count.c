@@ -42,20 +42,20 @@ MEASURED int count_hand_remove(uint64_t key) {
 }
 
 MEASURED int count_set_get(uint64_t key) {
-    return orderset_get(image, length, heads, heads_length, next, next_length, key, out, sizeof out, answer) || answer[0] == ORDERSET_ABSENT;
+    return orderset_proved_get(image, length, heads, heads_length, next, next_length, key, out, sizeof out, answer) || answer[0] == ORDERSET_ABSENT;
 }
 MEASURED int count_set_recover(void) {
-    return orderset_recover(image, length, heads, heads_length, next, next_length, state, version, voids, open_at, open_value) != 0;
+    return orderset_proved_recover(image, length, heads, heads_length, next, next_length, state, version, voids, open_at, open_value) != 0;
 }
 
 #define COUNT(op) count_set_##op
-#define CALL(name) orderset_##name
+#define CALL(name) orderset_proved_##name
 #include "count_calls.inc"
 MEASURED int count_set_prepare(uint64_t key) { return count_set_inserts(key); }
 #undef COUNT
 #undef CALL
 #define COUNT(op) count_own_##op
-#define CALL(name) orderset_own_##name
+#define CALL(name) orderset_proved_own_##name
 #include "count_calls.inc"
 
 MEASURED int count_persist(void) { return orderset_persist(image, length, at, value, flush); }
@@ -88,8 +88,8 @@ int main(int count, char **word) {
                              .next = calloc(next_length, 4), .next_length = next_length};
     flush = ORDERSET_CLFLUSH; /* the flush that valgrind knows; each flush is one instruction */
     bad |= hand_format(hand.image, length) || hand_recover(&hand);
-    bad |= orderset_format(image, length, ORDERSET_LAYOUT, answer)
-           || orderset_recover(image, length, heads, heads_length, next, next_length, state, version, voids, open_at, open_value);
+    bad |= orderset_proved_format(image, length, ORDERSET_LAYOUT, answer)
+           || orderset_proved_recover(image, length, heads, heads_length, next, next_length, state, version, voids, open_at, open_value);
     uint64_t *key = malloc(sizeof *key * held);
     for (uint32_t i = 0; i < held; i++) {
         key[i] = chance();

@@ -30,7 +30,7 @@ static int e_open(const struct config *c) {
     const size_t length = ORDERSET_IMAGE_BYTES(c->n);
     bench_name(name, sizeof name, 0);
     uint8_t *image = bench_map(name, length);
-    const uint32_t refused = orderset_format(image, length, ORDERSET_LAYOUT, answer);
+    const uint32_t refused = orderset_proved_format(image, length, ORDERSET_LAYOUT, answer);
     bench_unmap(name, image, length);
     return refused || attach();
 }

@@ -46,7 +46,7 @@ static uint64_t answer_change(struct hand_answer a, const struct hand_stores *st
 }
 
 /* (a) knows layout 1 alone: the other numbers are tested here, and layout 2's is set into its header. */
-uint32_t orderset_format(uint8_t *image, size_t length, uint64_t layout, uint64_t answer[ORDERSET_FORMAT_ANSWER]) {
+uint32_t orderset_proved_format(uint8_t *image, size_t length, uint64_t layout, uint64_t answer[ORDERSET_FORMAT_ANSWER]) {
     if (m_slots(length) && layout != 1 && layout != 2)
         return ORDERSET_NO_LAYOUT;
     uint32_t code = hand_format((uint64_t *)image, length);
@@ -58,7 +58,7 @@ uint32_t orderset_format(uint8_t *image, size_t length, uint64_t layout, uint64_
     return code;
 }
 
-uint64_t orderset_recover(const uint8_t *image, size_t length, uint32_t *heads, size_t heads_length, uint32_t *next, size_t next_length,
+uint64_t orderset_proved_recover(const uint8_t *image, size_t length, uint32_t *heads, size_t heads_length, uint32_t *next, size_t next_length,
                           uint32_t state[ORDERSET_STATE], uint64_t version[1], uint32_t count[1], uint32_t at[ORDERSET_INVALIDATIONS],
                           uint64_t value[ORDERSET_INVALIDATIONS]) {
     struct hand_set s = lend(image, length, heads, heads_length, next, next_length);
@@ -72,7 +72,7 @@ uint64_t orderset_recover(const uint8_t *image, size_t length, uint32_t *heads, 
     return 0;
 }
 
-uint64_t orderset_insert(const uint8_t *image, size_t length, uint32_t *heads, size_t heads_length, uint32_t *next, size_t next_length,
+uint64_t orderset_proved_insert(const uint8_t *image, size_t length, uint32_t *heads, size_t heads_length, uint32_t *next, size_t next_length,
                          uint32_t state[ORDERSET_STATE], uint64_t version[1], uint64_t key, const uint8_t *bytes, size_t size, uint32_t at[ORDERSET_STORES],
                          uint64_t value[ORDERSET_STORES], uint64_t answer[ORDERSET_CHANGE_ANSWER]) {
     struct hand_set s = lend(image, length, heads, heads_length, next, next_length);
@@ -83,7 +83,7 @@ uint64_t orderset_insert(const uint8_t *image, size_t length, uint32_t *heads, s
     return answer_change(a, &stores, at, value, answer);
 }
 
-uint64_t orderset_replace(const uint8_t *image, size_t length, uint32_t *heads, size_t heads_length, uint32_t *next, size_t next_length,
+uint64_t orderset_proved_replace(const uint8_t *image, size_t length, uint32_t *heads, size_t heads_length, uint32_t *next, size_t next_length,
                           uint32_t state[ORDERSET_STATE], uint64_t version[1], uint64_t key, const uint8_t *bytes, size_t size, uint32_t at[ORDERSET_STORES],
                           uint64_t value[ORDERSET_STORES], uint64_t answer[ORDERSET_CHANGE_ANSWER]) {
     struct hand_set s = lend(image, length, heads, heads_length, next, next_length);
@@ -94,7 +94,7 @@ uint64_t orderset_replace(const uint8_t *image, size_t length, uint32_t *heads, 
     return answer_change(a, &stores, at, value, answer);
 }
 
-uint64_t orderset_remove(const uint8_t *image, size_t length, uint32_t *heads, size_t heads_length, uint32_t *next, size_t next_length,
+uint64_t orderset_proved_remove(const uint8_t *image, size_t length, uint32_t *heads, size_t heads_length, uint32_t *next, size_t next_length,
                          uint32_t state[ORDERSET_STATE], uint64_t version[1], uint64_t key, uint32_t at[ORDERSET_STORES], uint64_t value[ORDERSET_STORES],
                          uint64_t answer[ORDERSET_CHANGE_ANSWER]) {
     struct hand_set s = lend(image, length, heads, heads_length, next, next_length);
@@ -105,7 +105,7 @@ uint64_t orderset_remove(const uint8_t *image, size_t length, uint32_t *heads, s
     return answer_change(a, &stores, at, value, answer);
 }
 
-uint64_t orderset_get(const uint8_t *image, size_t length, const uint32_t *heads, size_t heads_length, const uint32_t *next, size_t next_length, uint64_t key,
+uint64_t orderset_proved_get(const uint8_t *image, size_t length, const uint32_t *heads, size_t heads_length, const uint32_t *next, size_t next_length, uint64_t key,
                       uint8_t *out, size_t room, uint64_t answer[ORDERSET_ANSWER]) {
     struct hand_set s = lend(image, length, heads, heads_length, next, next_length);
     struct hand_answer a = hand_get(&s, key, out, room);

@@ -45,7 +45,7 @@ static uint32_t largest_prime(uint32_t up_to) {
 static void recover(uint32_t b) {
     uint32_t voids[1], open_at[ORDERSET_INVALIDATIONS];
     uint64_t open_value[ORDERSET_INVALIDATIONS];
-    must(orderset_recover(image, ORDERSET_IMAGE_BYTES(n), heads, b, next, n + 1, state, version, voids, open_at, open_value) == 0 && voids[0] == 0,
+    must(orderset_proved_recover(image, ORDERSET_IMAGE_BYTES(n), heads, b, next, n + 1, state, version, voids, open_at, open_value) == 0 && voids[0] == 0,
          "recover");
 }
 
@@ -53,22 +53,22 @@ static void recover(uint32_t b) {
 static void fill(uint32_t step) {
     const uint32_t b = largest_prime(ORDERSET_HEADS_MAX);
     const size_t length = ORDERSET_IMAGE_BYTES(n);
-    must(orderset_format(image, length, ORDERSET_LAYOUT, answer) == 0, "format");
+    must(orderset_proved_format(image, length, ORDERSET_LAYOUT, answer) == 0, "format");
     recover(b);
     for (uint32_t i = 0; i < n - 1; i++) {
         key[i] = step ? (uint64_t)step * (i + 1) : chance();
-        must(orderset_insert(image, length, heads, b, next, n + 1, state, version, key[i], bytes, sizeof bytes, at, value, answer) == 0, "insert");
-        must(orderset_play(image, length, at, value, 8, 8) == 0, "play");
+        must(orderset_proved_insert(image, length, heads, b, next, n + 1, state, version, key[i], bytes, sizeof bytes, at, value, answer) == 0, "insert");
+        must(orderset_proved_play(image, length, at, value, 8, 8) == 0, "play");
     }
     for (uint32_t i = 0; i < 8 * n; i++) {
         const uint64_t any = key[chance() % (n - 1)];
-        must(orderset_replace(image, length, heads, b, next, n + 1, state, version, any, bytes, sizeof bytes, at, value, answer) == 0, "replace");
-        must(orderset_play(image, length, at, value, 8, 8) == 0, "play");
+        must(orderset_proved_replace(image, length, heads, b, next, n + 1, state, version, any, bytes, sizeof bytes, at, value, answer) == 0, "replace");
+        must(orderset_proved_play(image, length, at, value, 8, 8) == 0, "play");
     }
 }
 
 static uint64_t get(uint64_t any, uint32_t b) {
-    must(orderset_get(image, ORDERSET_IMAGE_BYTES(n), heads, b, next, n + 1, any, out, sizeof out, answer) == 0 && answer[0] == ORDERSET_GIVEN, "get");
+    must(orderset_proved_get(image, ORDERSET_IMAGE_BYTES(n), heads, b, next, n + 1, any, out, sizeof out, answer) == 0 && answer[0] == ORDERSET_GIVEN, "get");
     return answer[ORDERSET_GET_COMPARED];
 }
 

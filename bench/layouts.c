@@ -1,5 +1,5 @@
 /* The time of the calls in layout 1 and in layout 2: recovery and get with N - 1 orders of 24 bytes, and with half as many replace, and a remove and an
- * insert in turn, with orderset_play. Orders in random slots, random keys: of layout 2 both words are random, or only the high one and the low one is one
+ * insert in turn, with orderset_proved_play. Orders in random slots, random keys: of layout 2 both words are random, or only the high one and the low one is one
  * of 1,000. The two layouts are timed in turn. Prints, for each N, the median and the best.
  *     layouts [REPETITIONS] */
 #include <stdio.h>
@@ -50,7 +50,7 @@ static void must(int done, const char *what) {
 static void recover(struct set *s, const struct way *way) {
     uint32_t voids[1], open_at[ORDERSET_INVALIDATIONS];
     uint64_t open_value[ORDERSET_INVALIDATIONS];
-    must((way->layout == ORDERSET_LAYOUT ? orderset_recover : orderset2_recover)(s->image, ORDERSET_IMAGE_BYTES(n), s->heads, b, s->next, n + 1, s->state,
+    must((way->layout == ORDERSET_LAYOUT ? orderset_proved_recover : orderset2_proved_recover)(s->image, ORDERSET_IMAGE_BYTES(n), s->heads, b, s->next, n + 1, s->state,
                                                                                 s->version, voids, open_at, open_value) == 0 && voids[0] == 0,
          "recover");
 }
@@ -60,28 +60,28 @@ static void write_order(struct set *s, const struct way *way, uint32_t i, int is
     uint64_t value[ORDERSET_STORES], answer[ORDERSET_CHANGE_ANSWER], code;
     const size_t length = ORDERSET_IMAGE_BYTES(n);
     if (way->layout == ORDERSET_LAYOUT)
-        code = (is_new ? orderset_insert : orderset_replace)(s->image, length, s->heads, b, s->next, n + 1, s->state, s->version, s->low[i], bytes, sizeof bytes,
+        code = (is_new ? orderset_proved_insert : orderset_proved_replace)(s->image, length, s->heads, b, s->next, n + 1, s->state, s->version, s->low[i], bytes, sizeof bytes,
                                                             at, value, answer);
     else
-        code = (is_new ? orderset2_insert : orderset2_replace)(s->image, length, s->heads, b, s->next, n + 1, s->state, s->version, s->low[i], s->high[i],
+        code = (is_new ? orderset2_proved_insert : orderset2_proved_replace)(s->image, length, s->heads, b, s->next, n + 1, s->state, s->version, s->low[i], s->high[i],
                                                               bytes, sizeof bytes, at, value, answer);
-    must(code == 0 && orderset_play(s->image, length, at, value, 8, 8) == 0, "write");
+    must(code == 0 && orderset_proved_play(s->image, length, at, value, 8, 8) == 0, "write");
 }
 
 static void remove_order(struct set *s, const struct way *way, uint32_t i) {
     uint32_t at[ORDERSET_STORES];
     uint64_t value[ORDERSET_STORES], answer[ORDERSET_CHANGE_ANSWER];
     const size_t length = ORDERSET_IMAGE_BYTES(n);
-    uint64_t code = way->layout == ORDERSET_LAYOUT ? orderset_remove(s->image, length, s->heads, b, s->next, n + 1, s->state, s->version, s->low[i], at, value,
+    uint64_t code = way->layout == ORDERSET_LAYOUT ? orderset_proved_remove(s->image, length, s->heads, b, s->next, n + 1, s->state, s->version, s->low[i], at, value,
                                                                      answer)
-                                                   : orderset2_remove(s->image, length, s->heads, b, s->next, n + 1, s->state, s->version, s->low[i],
+                                                   : orderset2_proved_remove(s->image, length, s->heads, b, s->next, n + 1, s->state, s->version, s->low[i],
                                                                       s->high[i], at, value, answer);
-    must(code == 0 && answer[0] == ORDERSET_GIVEN && orderset_play(s->image, length, at, value, 8, 8) == 0, "remove");
+    must(code == 0 && answer[0] == ORDERSET_GIVEN && orderset_proved_play(s->image, length, at, value, 8, 8) == 0, "remove");
 }
 
 static void fill(struct set *s, const struct way *way) {
     uint64_t answer[ORDERSET_FORMAT_ANSWER];
-    must(orderset_format(s->image, ORDERSET_IMAGE_BYTES(n), way->layout, answer) == 0, "format");
+    must(orderset_proved_format(s->image, ORDERSET_IMAGE_BYTES(n), way->layout, answer) == 0, "format");
     recover(s, way);
     for (uint32_t i = 0; i < live; i++) {
         s->low[i] = way->lows ? chance() % way->lows : chance();
@@ -96,8 +96,8 @@ static void get(struct set *s, const struct way *way, uint32_t i) {
     uint64_t answer[ORDERSET_ANSWER];
     const size_t length = ORDERSET_IMAGE_BYTES(n);
     uint64_t code = way->layout == ORDERSET_LAYOUT
-                        ? orderset_get(s->image, length, s->heads, b, s->next, n + 1, s->low[i], out, sizeof out, answer)
-                        : orderset2_get(s->image, length, s->heads, b, s->next, n + 1, s->low[i], s->high[i], out, sizeof out, answer);
+                        ? orderset_proved_get(s->image, length, s->heads, b, s->next, n + 1, s->low[i], out, sizeof out, answer)
+                        : orderset2_proved_get(s->image, length, s->heads, b, s->next, n + 1, s->low[i], s->high[i], out, sizeof out, answer);
     must(code == 0 && answer[0] == ORDERSET_GIVEN, "get");
 }
 

@@ -111,7 +111,7 @@ static unsigned append(const uint8_t *message, size_t size, unsigned *lines) {
     uint64_t value[ORDERSET_LOG_STORES], answer[ORDERSET_LOG_ANSWER];
     unsigned count = 0;
     for (int turn = 0; turn < 2; turn++) {
-        if (orderset_raw_log_append(area, sizeof area, turn ? (const uint8_t *)"-" : message, turn ? 1 : size, at, ORDERSET_LOG_STORES, value,
+        if (orderset_proved_log_append(area, sizeof area, turn ? (const uint8_t *)"-" : message, turn ? 1 : size, at, ORDERSET_LOG_STORES, value,
                                     ORDERSET_LOG_STORES, answer))
             exit(1);
         for (size_t i = 0; i < answer[ORDERSET_LOG_COUNT]; i++) {

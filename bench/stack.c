@@ -25,22 +25,22 @@ static void *nothing(void *argument) {
 }
 
 static void *recover(void *argument) {
-    returned = orderset_recover(LENT, state, version, count, at, value);
+    returned = orderset_proved_recover(LENT, state, version, count, at, value);
     return argument;
 }
 
 static void *recover2(void *argument) {
-    returned = orderset2_recover(LENT, state, version, count, at, value);
+    returned = orderset2_proved_recover(LENT, state, version, count, at, value);
     return argument;
 }
 
 static void *count_slots(void *argument) {
-    returned = orderset_count_slots(LENT, counts);
+    returned = orderset_proved_count_slots(LENT, counts);
     return argument;
 }
 
 static void *count_slots2(void *argument) {
-    returned = orderset2_count_slots(LENT, counts);
+    returned = orderset2_proved_count_slots(LENT, counts);
     return argument;
 }
 
@@ -71,7 +71,7 @@ int main(void) {
         for (size_t i = 0; i < sizeof sizes / sizeof *sizes; i++) {
             length = ORDERSET_IMAGE_BYTES(sizes[i]);
             image = calloc(1, length);
-            if (!image || orderset_format(image, length, layout, answer))
+            if (!image || orderset_proved_format(image, length, layout, answer))
                 abort();
             printf("%d, %zu, %zu, %zu, %zu\n", (int)layout, sizes[i], used(layout == 1 ? recover : recover2),
                    used(layout == 1 ? count_slots : count_slots2), used(nothing));

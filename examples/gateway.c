@@ -335,7 +335,7 @@ static void on_own_stack(void *(*work)(void *), struct set *s) {
 
 static void *recover_image(void *set) {
     struct set *s = set;
-    s->returned = (s->layout == ORDERSET2_LAYOUT ? orderset2_recover : orderset_recover)(
+    s->returned = (s->layout == ORDERSET2_LAYOUT ? orderset2_proved_recover : orderset_proved_recover)(
         s->image, s->length, s->heads, s->heads_length, s->next, s->next_length, s->state, s->version, s->voids,
         s->open_at, s->open_value);
     return NULL;
@@ -366,7 +366,7 @@ static int persist_list(const struct set *s, const uint32_t *at, const uint64_t 
 static void open_voids(const struct set *s, const char *path, int writing) {
     const uint32_t count = s->voids[0];
     if (!writing) {
-        uint32_t number = orderset_play_list(s->image, s->length, s->open_at, count, s->open_value, count);
+        uint32_t number = orderset_proved_play_list(s->image, s->length, s->open_at, count, s->open_value, count);
         if (number)
             stop(FAILED, "%s: play says no %" PRIu32 ": %s", path, number, words_of(number));
         return;
@@ -425,7 +425,7 @@ static int format_file(int file, size_t length, uint64_t layout) {
     uint8_t *image = mmap(NULL, length, PROT_READ | PROT_WRITE, MAP_SHARED, file, 0);
     if (image == MAP_FAILED)
         return -1;
-    if (orderset_format(image, length, layout, answer)) {
+    if (orderset_proved_format(image, length, layout, answer)) {
         errno = EINVAL;
         return -1;
     }
@@ -525,16 +525,16 @@ static uint32_t step(struct set *s, const struct command *c, uint32_t at[ORDERSE
                      uint64_t value[ORDERSET_STORES], uint64_t answer[ORDERSET_STEP_ANSWER]) {
     switch (c->kind) {
     case NEW:
-        return orderset_own_book_new(s->image, s->length, s->heads, s->heads_length, s->next, s->next_length, s->state,
+        return orderset_proved_own_book_new(s->image, s->length, s->heads, s->heads_length, s->next, s->next_length, s->state,
                                      s->version, c->key.low, c->number, at, value, answer);
     case ACKNOWLEDGE:
-        return orderset_own_book_acknowledge(s->image, s->length, s->heads, s->heads_length, s->next, s->next_length,
+        return orderset_proved_own_book_acknowledge(s->image, s->length, s->heads, s->heads_length, s->next, s->next_length,
                                              s->state, s->version, c->key.low, at, value, answer);
     case FILL:
-        return orderset_own_book_fill(s->image, s->length, s->heads, s->heads_length, s->next, s->next_length, s->state,
+        return orderset_proved_own_book_fill(s->image, s->length, s->heads, s->heads_length, s->next, s->next_length, s->state,
                                       s->version, c->key.low, c->number, at, value, answer);
     default:
-        return orderset_own_book_withdraw(s->image, s->length, s->heads, s->heads_length, s->next, s->next_length,
+        return orderset_proved_own_book_withdraw(s->image, s->length, s->heads, s->heads_length, s->next, s->next_length,
                                           s->state, s->version, c->key.low, at, value, answer);
     }
 }
@@ -544,16 +544,16 @@ static uint32_t step2(struct set *s, const struct command *c, uint32_t at[ORDERS
                       uint64_t value[ORDERSET_STORES], uint64_t answer[ORDERSET_STEP_ANSWER]) {
     switch (c->kind) {
     case NEW:
-        return orderset2_own_book_new(s->image, s->length, s->heads, s->heads_length, s->next, s->next_length, s->state,
+        return orderset2_proved_own_book_new(s->image, s->length, s->heads, s->heads_length, s->next, s->next_length, s->state,
                                       s->version, c->key.low, c->key.high, c->number, at, value, answer);
     case ACKNOWLEDGE:
-        return orderset2_own_book_acknowledge(s->image, s->length, s->heads, s->heads_length, s->next, s->next_length,
+        return orderset2_proved_own_book_acknowledge(s->image, s->length, s->heads, s->heads_length, s->next, s->next_length,
                                               s->state, s->version, c->key.low, c->key.high, at, value, answer);
     case FILL:
-        return orderset2_own_book_fill(s->image, s->length, s->heads, s->heads_length, s->next, s->next_length,
+        return orderset2_proved_own_book_fill(s->image, s->length, s->heads, s->heads_length, s->next, s->next_length,
                                        s->state, s->version, c->key.low, c->key.high, c->number, at, value, answer);
     default:
-        return orderset2_own_book_withdraw(s->image, s->length, s->heads, s->heads_length, s->next, s->next_length,
+        return orderset2_proved_own_book_withdraw(s->image, s->length, s->heads, s->heads_length, s->next, s->next_length,
                                            s->state, s->version, c->key.low, c->key.high, at, value, answer);
     }
 }
@@ -595,9 +595,9 @@ static uint64_t get(const struct set *s, const struct key *key, uint8_t bytes[OR
                     uint64_t answer[ORDERSET_ANSWER]) {
     memset(bytes, 0, ORDERSET_VALUE_MAX);
     if (s->layout == ORDERSET2_LAYOUT)
-        return orderset2_get(s->image, s->length, s->heads, s->heads_length, s->next, s->next_length, key->low,
+        return orderset2_proved_get(s->image, s->length, s->heads, s->heads_length, s->next, s->next_length, key->low,
                              key->high, bytes, ORDERSET_VALUE_MAX, answer);
-    return orderset_get(s->image, s->length, s->heads, s->heads_length, s->next, s->next_length, key->low, bytes,
+    return orderset_proved_get(s->image, s->length, s->heads, s->heads_length, s->next, s->next_length, key->low, bytes,
                         ORDERSET_VALUE_MAX, answer);
 }
 
@@ -686,11 +686,11 @@ static uint32_t basket(struct set *s, const struct command *c) {
         number = item_fault(s, &c->item[i]);
     }
     if (!number && s->layout == ORDERSET2_LAYOUT)
-        number = orderset2_own_basket(s->image, s->length, s->heads, s->heads_length, s->next, s->next_length, s->state,
+        number = orderset2_proved_own_basket(s->image, s->length, s->heads, s->heads_length, s->next, s->next_length, s->state,
                                       s->version, items, kinds, lows, highs, lengths, values, at, ROOM, value, ROOM,
                                       answer);
     else if (!number)
-        number = orderset_own_basket(s->image, s->length, s->heads, s->heads_length, s->next, s->next_length, s->state,
+        number = orderset_proved_own_basket(s->image, s->length, s->heads, s->heads_length, s->next, s->next_length, s->state,
                                      s->version, items, kinds, lows, lengths, values, at, ROOM, value, ROOM, answer);
     if (number)
         return number;
@@ -727,9 +727,9 @@ static uint32_t count_slots(const struct set *s, uint64_t *found) {
             last = s->next[last];
         const struct key key = key_in(s, last);
         uint64_t returned = s->layout == ORDERSET2_LAYOUT
-                                ? orderset2_locate(s->image, s->length, s->heads, s->heads_length, s->next,
+                                ? orderset2_proved_locate(s->image, s->length, s->heads, s->heads_length, s->next,
                                                    s->next_length, key.low, key.high, answer)
-                                : orderset_locate(s->image, s->length, s->heads, s->heads_length, s->next,
+                                : orderset_proved_locate(s->image, s->length, s->heads, s->heads_length, s->next,
                                                   s->next_length, key.low, answer);
         if (returned)
             return ORDERSET_REFUSAL(returned);
@@ -755,7 +755,7 @@ static void print_counts(const struct set *s, const uint64_t *found) {
 
 static void *count_image(void *set) {
     struct set *s = set;
-    s->returned = (s->layout == ORDERSET2_LAYOUT ? orderset2_count_slots : orderset_count_slots)(
+    s->returned = (s->layout == ORDERSET2_LAYOUT ? orderset2_proved_count_slots : orderset_proved_count_slots)(
         s->image, s->length, s->heads, s->heads_length, s->next, s->next_length, s->counts);
     return NULL;
 }

@@ -127,7 +127,7 @@ static void start(int writing) {
     open_area(writing);
     if (writing && (flushes ? orderset_persist_image(area, length, flush) : orderset_persist_image_file(area, length)))
         fail("make durable");
-    uint32_t refusal = orderset_raw_log_recover(area, length, at, ORDERSET_LOG_CELLS_MAX, value,
+    uint32_t refusal = orderset_proved_log_recover(area, length, at, ORDERSET_LOG_CELLS_MAX, value,
                                                 ORDERSET_LOG_CELLS_MAX, answer);
     if (refusal)
         refuse(refusal, "recovery refuses it");
@@ -138,7 +138,7 @@ static void start(int writing) {
 /* ---- what it does */
 
 static void append_line(const char *line, size_t size) {
-    uint32_t refusal = orderset_raw_log_append(area, length, (const uint8_t *)line, size, at, ORDERSET_LOG_CELLS_MAX,
+    uint32_t refusal = orderset_proved_log_append(area, length, (const uint8_t *)line, size, at, ORDERSET_LOG_CELLS_MAX,
                                                value, ORDERSET_LOG_CELLS_MAX, answer);
     if (refusal) {
         printf("no %" PRIu32 "\n", refusal);
@@ -170,7 +170,7 @@ static void list_one(uint64_t number) {
 
 static void list(uint64_t last) {
     for (uint64_t number = last < cells ? 1 : last - cells + 2; number <= last; number++)
-        if (orderset_raw_log_read(area, length, number, answer) == ORDERSET_LOG_OK)
+        if (orderset_proved_log_read(area, length, number, answer) == ORDERSET_LOG_OK)
             list_one(number);
     if (fflush(stdout))
         fail("standard output");

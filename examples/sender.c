@@ -56,10 +56,10 @@ static struct seen look(const uint64_t *line, uint64_t version) {
     const uint8_t *bytes = (const uint8_t *)copy;
     struct seen seen;
     copy_line(copy, line);
-    taken(orderset_line_whole(bytes, sizeof copy, (uint8_t *)&seen.whole, sizeof seen.whole));
-    taken(orderset_line_version(bytes, sizeof copy, (uint8_t *)&seen.version, sizeof seen.version));
-    taken(orderset_line_first(bytes, sizeof copy, version, (uint8_t *)&seen.first, sizeof seen.first));
-    taken(orderset_line_last(bytes, sizeof copy, version, (uint8_t *)&seen.last, sizeof seen.last));
+    taken(orderset_proved_line_whole(bytes, sizeof copy, (uint8_t *)&seen.whole, sizeof seen.whole));
+    taken(orderset_proved_line_version(bytes, sizeof copy, (uint8_t *)&seen.version, sizeof seen.version));
+    taken(orderset_proved_line_first(bytes, sizeof copy, version, (uint8_t *)&seen.first, sizeof seen.first));
+    taken(orderset_proved_line_last(bytes, sizeof copy, version, (uint8_t *)&seen.last, sizeof seen.last));
     return seen;
 }
 

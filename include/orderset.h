@@ -1,7 +1,7 @@
 /* orderset.h: the persistent order set for C and C++ (installed: -lorderset; built: liborderset_c.a; x86-64 Linux).
  *
  * A map from a 64-bit key to a value of 0 to 80 bytes, kept in an image of 128 * (N + 1) bytes, N from 2 to 65,535. The
- * image is all that a restart needs: orderset_recover rebuilds the index from it. Nothing here allocates, keeps a
+ * image is all that a restart needs: orderset_proved_recover rebuilds the index from it. Nothing here allocates, keeps a
  * pointer, or uses a global variable.
  *
  * Layouts: the calls of this header are for images of layout 1 and give 3 on images of layout 2, whose keys have 128
@@ -14,44 +14,44 @@
  *   state    four numbers: the reuse chain's first and last slot, the live count, and the newest slot, one with the
  *            highest version among valid slots (ORDERSET_FIRST, ORDERSET_LAST, ORDERSET_LIVE, ORDERSET_NEWEST)
  *   version  one number: the next version
- * heads, next, state and version are the index. orderset_recover fills them; insert, replace, remove, baskets and the
+ * heads, next, state and version are the index. orderset_proved_recover fills them; insert, replace, remove, baskets and the
  * book's steps keep them up to date. They are never persisted. state[ORDERSET_NEWEST] is a hint to these calls, which
  * makes them faster: whatever stands there, no answer and no store is another. The calls for the owner (below) go by it.
  * Where no slot is valid, recovery leaves some slot's number there.
  *
- * How to write: orderset_insert, orderset_replace, orderset_remove and the book's steps change the index and hand out
+ * How to write: orderset_proved_insert, orderset_proved_replace, orderset_proved_remove and the book's steps change the index and hand out
  * 16 stores, eight for each of two lines, and leave the image as it is. The caller makes all 16, in order within each
- * line, flushes both lines and fences once (orderset_persist), or makes them with orderset_play(..., 8, 8). Only then
- * may the next call follow. If that was not finished, orderset_recover comes next. orderset_basket does the same for up
+ * line, flushes both lines and fences once (orderset_persist), or makes them with orderset_proved_play(..., 8, 8). Only then
+ * may the next call follow. If that was not finished, orderset_proved_recover comes next. orderset_proved_basket does the same for up
  * to eight keys at once, with 16 stores for each of them in a lent list and still one fence (orderset_persist_list).
  *
- * Two families: each call that writes is there twice, as orderset_insert and so on, the calls of document 01, and as
- * orderset_own_insert and so on, the calls for the owner of the index, which are no calls of document 01. Use the owner's
- * calls only where index and state come from an orderset_recover whose stores are made and from accepted calls since,
+ * Two families: each call that writes is there twice, as orderset_proved_insert and so on, the calls of document 01, and as
+ * orderset_proved_own_insert and so on, the calls for the owner of the index, which are no calls of document 01. Use the owner's
+ * calls only where index and state come from an orderset_proved_recover whose stores are made and from accepted calls since,
  * the stores of each made before the next call, and nobody else writes index, state or image: then they answer, hand out
  * and leave exactly what the calls of document 01 do, and never look through the image. Of any other index they are safe
  * and terminate, but their refusals 11 (reuse) and 28 and the slots that they take are their own: use there the
  * calls of document 01, whose refusals hold for any index.
  *
  * Insert or replace: insert is for a key that is not held and replace for one that is, and each refuses the other kind,
- * so that a key that is used again by mistake overwrites nothing. A caller who means either asks orderset_locate first,
+ * so that a key that is used again by mistake overwrites nothing. A caller who means either asks orderset_proved_locate first,
  * or replaces where insert says 20.
  *
  * How to start: recovery takes what it reads as what stands in the memory. After a power cut that is so. After anything
  * else (the process was killed, a call of orderset_persist.h failed, or nobody knows) stores may be seen that are not
- * durable; then orderset_recover comes after the whole image was made durable (orderset_persist_image or, in a file
+ * durable; then orderset_proved_recover comes after the whole image was made durable (orderset_persist_image or, in a file
  * with msync, orderset_persist_image_file), or a later power cut can take an order that was answered. Do so at every
  * start that will write.
  *
  * After recovery: it hands out at most ORDERSET_INVALIDATIONS stores, one for each void record, a record of a basket
  * that a cut left incomplete (below). They are made, their lines are flushed and a fence is passed before any other call:
- * orderset_persist_list(image, image_length, at, value, count[0], flush), or orderset_play_list and a flush of each
- * line. If that was not finished, orderset_recover comes next: it gives the same map and hands out what is left. Where
+ * orderset_persist_list(image, image_length, at, value, count[0], flush), or orderset_proved_play_list and a flush of each
+ * line. If that was not finished, orderset_proved_recover comes next: it gives the same map and hands out what is left. Where
  * count[0] is 0 there is nothing to do. What they are for: a void record is a whole one, and only its missing companions
  * tell that it does not count. A later call with a higher version would hide that, and half of the basket would be there
  * after all; with an open line the record is gone for good.
  *
- * Baskets: orderset_basket inserts, replaces and removes 1 to ORDERSET_BASKET_MAX distinct keys, all or none: after a
+ * Baskets: orderset_proved_basket inserts, replaces and removes 1 to ORDERSET_BASKET_MAX distinct keys, all or none: after a
  * cut that left any number of first stores on each of its up to sixteen lines, recovery gives all of its changes where
  * all stores stand, and else none of them. The records that it writes have one version, and each tells in bits 16 to 23 of
  * its kind word how many they are, from 2 to 8; a record that was written alone, also by a basket of one key, has 0
@@ -85,13 +85,13 @@
  *
  * The order book is a layer above the set: orders in the place of bytes. An order is a value of 24 bytes, three words
  * of 8 bytes, low byte first: its state (ORDERSET_SENT or ORDERSET_ACKNOWLEDGED), the ordered quantity and the filled
- * quantity, and filled is below ordered. Any other value is no order. The steps are orderset_book_new,
- * orderset_book_acknowledge, orderset_book_fill and orderset_book_withdraw; orderset_get reads an order. An order that
+ * quantity, and filled is below ordered. Any other value is no order. The steps are orderset_proved_book_new,
+ * orderset_proved_book_acknowledge, orderset_proved_book_fill and orderset_proved_book_withdraw; orderset_proved_get reads an order. An order that
  * is filled in full or withdrawn is removed. Over any history of steps since an empty set, with no insert, replace,
  * remove or basket among them, all that was ordered is filled, withdrawn or open.
  *
- * A single line can be asked about, as 64 bytes and nothing else of the image: orderset_line_whole,
- * orderset_line_version, orderset_line_first and orderset_line_last. The answers are the set's own rules: a slot is
+ * A single line can be asked about, as 64 bytes and nothing else of the image: orderset_proved_line_whole,
+ * orderset_proved_line_version, orderset_proved_line_first and orderset_proved_line_last. The answers are the set's own rules: a slot is
  * valid where its two lines are whole with one version of at least 1, and the first and the last word are those of the
  * stores that a call hands out for that line.
  *
@@ -101,7 +101,7 @@
  * separate pieces of memory; a basket's kinds, keys, lengths and bytes, which may overlap each other, overlap none of
  * these that it writes.
  *
- * Stack: recovery and count_slots need up to 2.24 MB: give 3 MiB (see orderset_recover). Of the other calls, measured:
+ * Stack: recovery and count_slots need up to 2.24 MB: give 3 MiB (see orderset_proved_recover). Of the other calls, measured:
  * a basket 2.4 KB, any other below 1 KB.
  *
  * Threads: the set has no locks. Gets and locates may run beside each other, each with an output and an answer of its
@@ -148,7 +148,7 @@ extern "C" {
 #define ORDERSET_STORES 16u /* the stores of a call, the first half for line A and the second for line B */
 #define ORDERSET_LINE_STORES 8u
 #define ORDERSET_INVALIDATIONS 8u /* the most stores that recovery hands out */
-#define ORDERSET_COUNTS 6u /* the counts of orderset_count_slots */
+#define ORDERSET_COUNTS 6u /* the counts of orderset_proved_count_slots */
 
 /* a basket: its keys, at the most; the bytes of its values, 80 for each key; and the stores of one of so many keys */
 #define ORDERSET_BASKET_MAX 8u
@@ -201,7 +201,7 @@ extern "C" {
 /* the bytes of an answer about a line: a word, low byte first, as a uint64_t has it on x86-64 */
 #define ORDERSET_LINE_ANSWER 8u
 
-/* What a refused call returned: the number of the refusal, and above it the slots compared, or from orderset_recover
+/* What a refused call returned: the number of the refusal, and above it the slots compared, or from orderset_proved_recover
  * the slot that it names, 0 for none. The last two do not widen what they are given, so that the compiler warns where
  * the result was kept in 32 bits: there they are lost. */
 #define ORDERSET_REFUSAL(returned) ((uint32_t)(returned))
@@ -258,7 +258,7 @@ enum orderset_refusal {
  * tells which. It looks at nothing that is there: all orders in the bytes are gone. Never call it at a start. answer:
  * {ORDERSET_GIVEN, N}. Refusals: 1, 32. A cut during format is not covered: format before the first use, and make the
  * image durable before it gets its name. */
-ORDERSET_CALL uint32_t orderset_format(uint8_t *image, size_t image_length, uint64_t layout,
+ORDERSET_CALL uint32_t orderset_proved_format(uint8_t *image, size_t image_length, uint64_t layout,
                                        uint64_t answer[ORDERSET_FORMAT_ANSWER]);
 
 /* Rebuilds heads, next, state and version from the image, whatever they held. The image is only read; if it may hold
@@ -275,7 +275,7 @@ ORDERSET_CALL uint32_t orderset_format(uint8_t *image, size_t image_length, uint
  * Its scratch is on the stack. Measured: 140 KB for N below 4,096, 664 KB below 16,384, and 2.24 MB from there on. Give
  * the thread 3 MiB, or 1 MiB where N is below 16,384. A Rust thread has 2 MiB unless it is told otherwise, and so has a
  * thread of glibc where the stack is unlimited (ulimit -s): too little for N from 16,384 on. */
-ORDERSET_CALL uint64_t orderset_recover(const uint8_t *image, size_t image_length, uint32_t *heads, size_t heads_length,
+ORDERSET_CALL uint64_t orderset_proved_recover(const uint8_t *image, size_t image_length, uint32_t *heads, size_t heads_length,
                                         uint32_t *next, size_t next_length, uint32_t state[ORDERSET_STATE],
                                         uint64_t version[1], uint32_t count[1], uint32_t at[ORDERSET_INVALIDATIONS],
                                         uint64_t value[ORDERSET_INVALIDATIONS]);
@@ -284,18 +284,18 @@ ORDERSET_CALL uint64_t orderset_recover(const uint8_t *image, size_t image_lengt
  * records, void slots, broken slots, empty slots}; they add up to N. A live slot has the value of a held key, a hidden
  * put one that a later record of its key hides; a remove record is counted whether it hides anything or not. A record
  * that is void is counted as void alone: to know how many a cut left, count before recovery's stores are made. The
- * image is only read. heads and next become those of orderset_recover, while no state is written, and the chains of a
- * set in use go in another order: lend it heads and next of its own, or call orderset_recover before any other call.
- * Returns what orderset_recover returns, with the same stack; of a refused image counts, heads and next stay as they
- * were. Refusals: those of orderset_recover. */
-ORDERSET_CALL uint64_t orderset_count_slots(const uint8_t *image, size_t image_length, uint32_t *heads,
+ * image is only read. heads and next become those of orderset_proved_recover, while no state is written, and the chains of a
+ * set in use go in another order: lend it heads and next of its own, or call orderset_proved_recover before any other call.
+ * Returns what orderset_proved_recover returns, with the same stack; of a refused image counts, heads and next stay as they
+ * were. Refusals: those of orderset_proved_recover. */
+ORDERSET_CALL uint64_t orderset_proved_count_slots(const uint8_t *image, size_t image_length, uint32_t *heads,
                                             size_t heads_length, uint32_t *next, size_t next_length,
                                             uint64_t counts[ORDERSET_COUNTS]);
 
 /* Gives the key, which is not held, the value. answer: {ORDERSET_GIVEN, slot, version, slots compared}; the stores are
  * at[i], a word number counted from the start of the image, and value[i]. Refusals: 1, 2, 3, 4, 10, 11 (chain), and
  * with the slots compared 20, 11 (reuse), 28, 9. */
-ORDERSET_CALL uint64_t orderset_insert(const uint8_t *image, size_t image_length, uint32_t *heads, size_t heads_length,
+ORDERSET_CALL uint64_t orderset_proved_insert(const uint8_t *image, size_t image_length, uint32_t *heads, size_t heads_length,
                                        uint32_t *next, size_t next_length, uint32_t state[ORDERSET_STATE],
                                        uint64_t version[1], uint64_t key, const uint8_t *bytes, size_t bytes_length,
                                        uint32_t at[ORDERSET_STORES], uint64_t value[ORDERSET_STORES],
@@ -303,7 +303,7 @@ ORDERSET_CALL uint64_t orderset_insert(const uint8_t *image, size_t image_length
 
 /* Gives the key, which is held, the value in the place of the one that it has. answer and stores as in insert.
  * Refusals: 1, 2, 3, 4, 10, 11 (chain), and with the slots compared 21, 11 (reuse), 28, 9. */
-ORDERSET_CALL uint64_t orderset_replace(const uint8_t *image, size_t image_length, uint32_t *heads, size_t heads_length,
+ORDERSET_CALL uint64_t orderset_proved_replace(const uint8_t *image, size_t image_length, uint32_t *heads, size_t heads_length,
                                         uint32_t *next, size_t next_length, uint32_t state[ORDERSET_STATE],
                                         uint64_t version[1], uint64_t key, const uint8_t *bytes, size_t bytes_length,
                                         uint32_t at[ORDERSET_STORES], uint64_t value[ORDERSET_STORES],
@@ -312,7 +312,7 @@ ORDERSET_CALL uint64_t orderset_replace(const uint8_t *image, size_t image_lengt
 /* Drops the key. answer and stores as in insert; or {ORDERSET_ABSENT, 0, 0, slots compared} where the key is not held,
  * and then nothing is to be stored: at and value stay as they were. Refusals: 1, 2, 3, 4, 11 (chain), and for a held
  * key, with the slots compared, 11 (reuse, or a live count of zero), 28, 9. */
-ORDERSET_CALL uint64_t orderset_remove(const uint8_t *image, size_t image_length, uint32_t *heads, size_t heads_length,
+ORDERSET_CALL uint64_t orderset_proved_remove(const uint8_t *image, size_t image_length, uint32_t *heads, size_t heads_length,
                                        uint32_t *next, size_t next_length, uint32_t state[ORDERSET_STATE],
                                        uint64_t version[1], uint64_t key, uint32_t at[ORDERSET_STORES],
                                        uint64_t value[ORDERSET_STORES], uint64_t answer[ORDERSET_CHANGE_ANSWER]);
@@ -323,13 +323,13 @@ ORDERSET_CALL uint64_t orderset_remove(const uint8_t *image, size_t image_length
  * answer[ORDERSET_BASKET_SLOTS + i] is the slot of item i, and zeros follow. The stores, ORDERSET_BASKET_STORES(count),
  * are at[i] and value[i], sixteen for each item in order; the entries past them stay as they were. They are made in
  * order within each line, each of the 2 * count lines is flushed and one fence is passed (orderset_persist_list), or
- * orderset_play_list makes them.
+ * orderset_proved_play_list makes them.
  *
  * Refusals: 26 where count is 0 or above 8 or one of the first count kinds is none of the three; 27; 13 where at or
  * value has fewer than ORDERSET_BASKET_STORES(count) entries; 1, 2, 3, 4; 10 of an insert or a replace; 11 (chain); 20
  * of an insert or 21 of a replace or a remove, whichever comes first; 11 (reuse, or a live count below the number of
  * removes), 28, 9. Each is tested for all keys before the next. */
-ORDERSET_CALL uint32_t orderset_basket(const uint8_t *image, size_t image_length, uint32_t *heads, size_t heads_length,
+ORDERSET_CALL uint32_t orderset_proved_basket(const uint8_t *image, size_t image_length, uint32_t *heads, size_t heads_length,
                                        uint32_t *next, size_t next_length, uint32_t state[ORDERSET_STATE],
                                        uint64_t version[1], size_t count, const uint32_t kinds[ORDERSET_BASKET_MAX],
                                        const uint64_t keys[ORDERSET_BASKET_MAX],
@@ -340,19 +340,19 @@ ORDERSET_CALL uint32_t orderset_basket(const uint8_t *image, size_t image_length
 /* Copies the key's value to the front of the output; the bytes after it stay as they were. answer: {ORDERSET_GIVEN,
  * length, slots compared} or {ORDERSET_ABSENT, 0, slots compared}. An output of ORDERSET_VALUE_MAX bytes is always long
  * enough. Refusals: 1, 2, 3, 4, 11 (chain), and for a held key, with the slots compared, 23, 13. */
-ORDERSET_CALL uint64_t orderset_get(const uint8_t *image, size_t image_length, const uint32_t *heads,
+ORDERSET_CALL uint64_t orderset_proved_get(const uint8_t *image, size_t image_length, const uint32_t *heads,
                                     size_t heads_length, const uint32_t *next, size_t next_length, uint64_t key,
                                     uint8_t *output, size_t output_length, uint64_t answer[ORDERSET_ANSWER]);
 
 /* Tells where the key stands. answer: {ORDERSET_GIVEN, slot, version of its line A, slots compared} or
  * {ORDERSET_ABSENT, 0, 0, slots compared}. Refusals: 1, 2, 3, 4, 11 (chain). */
-ORDERSET_CALL uint64_t orderset_locate(const uint8_t *image, size_t image_length, const uint32_t *heads,
+ORDERSET_CALL uint64_t orderset_proved_locate(const uint8_t *image, size_t image_length, const uint32_t *heads,
                                        size_t heads_length, const uint32_t *next, size_t next_length, uint64_t key,
                                        uint64_t answer[ORDERSET_CHANGE_ANSWER]);
 
 /* Gives the key, which is not held, a sent order of the quantity, nothing of it filled. answer: {ORDERSET_GIVEN, slot,
  * version}; stores as in insert. Refusals: 1, 2, 3, 4, 11 (chain), 17, 19, 11 (reuse), 28, 9. */
-ORDERSET_CALL uint32_t orderset_book_new(const uint8_t *image, size_t image_length, uint32_t *heads,
+ORDERSET_CALL uint32_t orderset_proved_book_new(const uint8_t *image, size_t image_length, uint32_t *heads,
                                          size_t heads_length, uint32_t *next, size_t next_length,
                                          uint32_t state[ORDERSET_STATE], uint64_t version[1], uint64_t key,
                                          uint64_t quantity, uint32_t at[ORDERSET_STORES],
@@ -361,7 +361,7 @@ ORDERSET_CALL uint32_t orderset_book_new(const uint8_t *image, size_t image_leng
 /* Makes the key's sent order an acknowledged one. answer and stores as in new. If it is acknowledged already, answer is
  * {ORDERSET_ALREADY, slot, version of its line A} and nothing is to be stored: all but answer stays as it was.
  * Refusals: 1, 2, 3, 4, 11 (chain), 18, and for a sent order 11 (reuse), 28, 9. */
-ORDERSET_CALL uint32_t orderset_book_acknowledge(const uint8_t *image, size_t image_length, uint32_t *heads,
+ORDERSET_CALL uint32_t orderset_proved_book_acknowledge(const uint8_t *image, size_t image_length, uint32_t *heads,
                                                  size_t heads_length, uint32_t *next, size_t next_length,
                                                  uint32_t state[ORDERSET_STATE], uint64_t version[1], uint64_t key,
                                                  uint32_t at[ORDERSET_STORES], uint64_t value[ORDERSET_STORES],
@@ -370,7 +370,7 @@ ORDERSET_CALL uint32_t orderset_book_acknowledge(const uint8_t *image, size_t im
 /* Adds the quantity to what is filled of the key's order, sent or acknowledged, and keeps its state. What is open is
  * ordered less filled; a fill of all of it removes the order. answer and stores as in new. Refusals: 1, 2, 3, 4,
  * 11 (chain), 18, 19, 11 (reuse, or a live count of zero where the order is removed), 28, 9. */
-ORDERSET_CALL uint32_t orderset_book_fill(const uint8_t *image, size_t image_length, uint32_t *heads,
+ORDERSET_CALL uint32_t orderset_proved_book_fill(const uint8_t *image, size_t image_length, uint32_t *heads,
                                           size_t heads_length, uint32_t *next, size_t next_length,
                                           uint32_t state[ORDERSET_STATE], uint64_t version[1], uint64_t key,
                                           uint64_t quantity, uint32_t at[ORDERSET_STORES],
@@ -378,7 +378,7 @@ ORDERSET_CALL uint32_t orderset_book_fill(const uint8_t *image, size_t image_len
 
 /* Withdraws all that is open of the key's order, sent or acknowledged: the order is removed. answer and stores as in
  * new. Refusals: 1, 2, 3, 4, 11 (chain), 18, 11 (reuse, or a live count of zero), 28, 9. */
-ORDERSET_CALL uint32_t orderset_book_withdraw(const uint8_t *image, size_t image_length, uint32_t *heads,
+ORDERSET_CALL uint32_t orderset_proved_book_withdraw(const uint8_t *image, size_t image_length, uint32_t *heads,
                                               size_t heads_length, uint32_t *next, size_t next_length,
                                               uint32_t state[ORDERSET_STATE], uint64_t version[1], uint64_t key,
                                               uint32_t at[ORDERSET_STORES], uint64_t value[ORDERSET_STORES],
@@ -386,25 +386,25 @@ ORDERSET_CALL uint32_t orderset_book_withdraw(const uint8_t *image, size_t image
 
 /* For the owner of the index (above): as the calls without own_, parameters, answers and the order of the refusals too.
  * They are no calls of document 01. */
-ORDERSET_CALL uint64_t orderset_own_insert(const uint8_t *image, size_t image_length, uint32_t *heads,
+ORDERSET_CALL uint64_t orderset_proved_own_insert(const uint8_t *image, size_t image_length, uint32_t *heads,
                                            size_t heads_length, uint32_t *next, size_t next_length,
                                            uint32_t state[ORDERSET_STATE], uint64_t version[1], uint64_t key,
                                            const uint8_t *bytes, size_t bytes_length, uint32_t at[ORDERSET_STORES],
                                            uint64_t value[ORDERSET_STORES], uint64_t answer[ORDERSET_CHANGE_ANSWER]);
 
-ORDERSET_CALL uint64_t orderset_own_replace(const uint8_t *image, size_t image_length, uint32_t *heads,
+ORDERSET_CALL uint64_t orderset_proved_own_replace(const uint8_t *image, size_t image_length, uint32_t *heads,
                                             size_t heads_length, uint32_t *next, size_t next_length,
                                             uint32_t state[ORDERSET_STATE], uint64_t version[1], uint64_t key,
                                             const uint8_t *bytes, size_t bytes_length, uint32_t at[ORDERSET_STORES],
                                             uint64_t value[ORDERSET_STORES], uint64_t answer[ORDERSET_CHANGE_ANSWER]);
 
-ORDERSET_CALL uint64_t orderset_own_remove(const uint8_t *image, size_t image_length, uint32_t *heads,
+ORDERSET_CALL uint64_t orderset_proved_own_remove(const uint8_t *image, size_t image_length, uint32_t *heads,
                                            size_t heads_length, uint32_t *next, size_t next_length,
                                            uint32_t state[ORDERSET_STATE], uint64_t version[1], uint64_t key,
                                            uint32_t at[ORDERSET_STORES], uint64_t value[ORDERSET_STORES],
                                            uint64_t answer[ORDERSET_CHANGE_ANSWER]);
 
-ORDERSET_CALL uint32_t orderset_own_basket(const uint8_t *image, size_t image_length, uint32_t *heads,
+ORDERSET_CALL uint32_t orderset_proved_own_basket(const uint8_t *image, size_t image_length, uint32_t *heads,
                                            size_t heads_length, uint32_t *next, size_t next_length,
                                            uint32_t state[ORDERSET_STATE], uint64_t version[1], size_t count,
                                            const uint32_t kinds[ORDERSET_BASKET_MAX],
@@ -414,25 +414,25 @@ ORDERSET_CALL uint32_t orderset_own_basket(const uint8_t *image, size_t image_le
                                            uint64_t *value, size_t value_length,
                                            uint64_t answer[ORDERSET_BASKET_ANSWER]);
 
-ORDERSET_CALL uint32_t orderset_own_book_new(const uint8_t *image, size_t image_length, uint32_t *heads,
+ORDERSET_CALL uint32_t orderset_proved_own_book_new(const uint8_t *image, size_t image_length, uint32_t *heads,
                                              size_t heads_length, uint32_t *next, size_t next_length,
                                              uint32_t state[ORDERSET_STATE], uint64_t version[1], uint64_t key,
                                              uint64_t quantity, uint32_t at[ORDERSET_STORES],
                                              uint64_t value[ORDERSET_STORES], uint64_t answer[ORDERSET_STEP_ANSWER]);
 
-ORDERSET_CALL uint32_t orderset_own_book_acknowledge(const uint8_t *image, size_t image_length, uint32_t *heads,
+ORDERSET_CALL uint32_t orderset_proved_own_book_acknowledge(const uint8_t *image, size_t image_length, uint32_t *heads,
                                                      size_t heads_length, uint32_t *next, size_t next_length,
                                                      uint32_t state[ORDERSET_STATE], uint64_t version[1], uint64_t key,
                                                      uint32_t at[ORDERSET_STORES], uint64_t value[ORDERSET_STORES],
                                                      uint64_t answer[ORDERSET_STEP_ANSWER]);
 
-ORDERSET_CALL uint32_t orderset_own_book_fill(const uint8_t *image, size_t image_length, uint32_t *heads,
+ORDERSET_CALL uint32_t orderset_proved_own_book_fill(const uint8_t *image, size_t image_length, uint32_t *heads,
                                               size_t heads_length, uint32_t *next, size_t next_length,
                                               uint32_t state[ORDERSET_STATE], uint64_t version[1], uint64_t key,
                                               uint64_t quantity, uint32_t at[ORDERSET_STORES],
                                               uint64_t value[ORDERSET_STORES], uint64_t answer[ORDERSET_STEP_ANSWER]);
 
-ORDERSET_CALL uint32_t orderset_own_book_withdraw(const uint8_t *image, size_t image_length, uint32_t *heads,
+ORDERSET_CALL uint32_t orderset_proved_own_book_withdraw(const uint8_t *image, size_t image_length, uint32_t *heads,
                                                   size_t heads_length, uint32_t *next, size_t next_length,
                                                   uint32_t state[ORDERSET_STATE], uint64_t version[1], uint64_t key,
                                                   uint32_t at[ORDERSET_STORES], uint64_t value[ORDERSET_STORES],
@@ -440,29 +440,29 @@ ORDERSET_CALL uint32_t orderset_own_book_withdraw(const uint8_t *image, size_t i
 
 /* Makes the first a stores of the first half and the first b of the second: with 8 and 8 a whole call, with less what a
  * cut leaves of it. Plain writes: nothing is flushed. Refusals: 1, 14, 15. */
-ORDERSET_CALL uint32_t orderset_play(uint8_t *image, size_t image_length, const uint32_t at[ORDERSET_STORES],
+ORDERSET_CALL uint32_t orderset_proved_play(uint8_t *image, size_t image_length, const uint32_t at[ORDERSET_STORES],
                                      const uint64_t value[ORDERSET_STORES], size_t a, size_t b);
 
 /* Makes all stores of a list, in order, on bytes of any length. Refusals: 15. */
-ORDERSET_CALL uint32_t orderset_play_list(uint8_t *bytes, size_t bytes_length, const uint32_t *at, size_t at_length,
+ORDERSET_CALL uint32_t orderset_proved_play_list(uint8_t *bytes, size_t bytes_length, const uint32_t *at, size_t at_length,
                                           const uint64_t *value, size_t value_length);
 
 /* Is the line whole? The answer is 1, or 0 where it is open. Refusals: 33. */
-ORDERSET_CALL uint32_t orderset_line_whole(const uint8_t *line, size_t line_length, uint8_t *answer,
+ORDERSET_CALL uint32_t orderset_proved_line_whole(const uint8_t *line, size_t line_length, uint8_t *answer,
                                            size_t answer_length);
 
 /* The version in the line's stamp. The stamp is stored last: of a line that is open because a call is writing it, it is
  * the version from before that call. Refusals: 33. */
-ORDERSET_CALL uint32_t orderset_line_version(const uint8_t *line, size_t line_length, uint8_t *answer,
+ORDERSET_CALL uint32_t orderset_proved_line_version(const uint8_t *line, size_t line_length, uint8_t *answer,
                                              size_t answer_length);
 
 /* The first word that a call which writes this version stores into the line: its mark, against the close bit that
  * stands there. Refusals: 33, 9. */
-ORDERSET_CALL uint32_t orderset_line_first(const uint8_t *line, size_t line_length, uint64_t version, uint8_t *answer,
+ORDERSET_CALL uint32_t orderset_proved_line_first(const uint8_t *line, size_t line_length, uint64_t version, uint8_t *answer,
                                            size_t answer_length);
 
 /* The last word that it stores: the stamp, version * 2 + the first word. Refusals: 33, 9. */
-ORDERSET_CALL uint32_t orderset_line_last(const uint8_t *line, size_t line_length, uint64_t version, uint8_t *answer,
+ORDERSET_CALL uint32_t orderset_proved_line_last(const uint8_t *line, size_t line_length, uint64_t version, uint8_t *answer,
                                           size_t answer_length);
 
 #ifdef __cplusplus

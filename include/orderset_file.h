@@ -1,5 +1,5 @@
 /* orderset_file.h: the order set and the message log in files, each behind one handle, for C and C++
- * (installed: -lorderset; built: src/orderset_file.c with liborderset2_c.a, liborderset_c.a, liblog_c.a and -pthread;
+ * (installed: -lorderset; built: src/orderset_file.c with liborderset2_c.a, liborderset_c.a, liborderset_log_c.a and -pthread;
  * x86-64 Linux). A handle does what orderset.h, orderset2.h, orderset_log.h and orderset_persist.h ask of their caller:
  * it locks, maps and recovers the file, keeps the index, and makes the stores of every call durable before the call
  * returns. The index is its own, so that it changes the set by the calls for the owner of an index (orderset.h), which are
@@ -122,7 +122,7 @@ enum orderset_file_flush {
     ORDERSET_FILE_CLWB = 4
 };
 
-/* What a slot holds, in the order of the counts of orderset_count_slots. */
+/* What a slot holds, in the order of the counts of orderset_proved_count_slots. */
 enum orderset_slot_class {
     ORDERSET_SLOT_LIVE = 0,
     ORDERSET_SLOT_HIDDEN = 1,  /* a value that a later record of its key hides */
@@ -203,14 +203,14 @@ const char *orderset_file_text(uint32_t number);
 ORDERSET_FILE_CALL uint32_t orderset_file_create(const char *path, uint32_t slots, uint32_t layout);
 
 /* Opens a file in a mode of enum orderset_file_mode; *set is null where it is not 0. Refusals: BAD_MODE, SYSTEM,
- * NOT_REGULAR, LOCKED and those of orderset_recover: 1, 2 and 3 mean that the file is no set, or was cut short or
+ * NOT_REGULAR, LOCKED and those of orderset_proved_recover: 1, 2 and 3 mean that the file is no set, or was cut short or
  * extended. Where recovery names a slot, INSPECT tells it. B is the largest prime up to N. */
 ORDERSET_FILE_CALL uint32_t orderset_file_open(const char *path, uint32_t mode, struct orderset_file **set);
 
 /* Ends the handle, which may be null. There is nothing to make durable. */
 void orderset_file_close(struct orderset_file *set);
 
-/* As orderset_insert, replace and remove. READ_ONLY, STOPPED, WIDE_KEY, then the refusals there; NOT_DURABLE. A remove
+/* As orderset_proved_insert, replace and remove. READ_ONLY, STOPPED, WIDE_KEY, then the refusals there; NOT_DURABLE. A remove
  * of a key that is not held gives ABSENT. */
 ORDERSET_FILE_CALL uint32_t orderset_file_insert(struct orderset_file *set, struct orderset_key key, const void *value,
                                                  size_t length);
@@ -218,7 +218,7 @@ ORDERSET_FILE_CALL uint32_t orderset_file_replace(struct orderset_file *set, str
                                                   size_t length);
 ORDERSET_FILE_CALL uint32_t orderset_file_remove(struct orderset_file *set, struct orderset_key key);
 
-/* Changes 1 to 8 distinct keys, all or none, with one fence, as orderset_basket does. Refusals as in insert; 26 of the
+/* Changes 1 to 8 distinct keys, all or none, with one fence, as orderset_proved_basket does. Refusals as in insert; 26 of the
  * count comes before WIDE_KEY of any item, and the others after it. */
 ORDERSET_FILE_CALL uint32_t orderset_file_basket(struct orderset_file *set, const struct orderset_item *items,
                                                  size_t count);

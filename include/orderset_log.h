@@ -1,4 +1,4 @@
-/* orderset_log.h: the raw message log for C and C++ (installed: -lorderset; built: liblog_c.a; x86-64 Linux).
+/* orderset_log.h: the raw message log for C and C++ (installed: -lorderset; built: liborderset_log_c.a; x86-64 Linux).
  *
  * A list of messages of 1 to 384 bytes, numbered from 1, of which the last K - 1 can be read. It is kept in an area of
  * K cells of 448 bytes, K from 2 to 1,000. Message s stands in cell s % K, its bytes unbroken: no mark is between them.
@@ -13,13 +13,13 @@
  *   answer   two numbers
  * at and value have their own lengths: ORDERSET_LOG_STORES of each are enough for any append, and K for any recovery.
  *
- * How to write: orderset_raw_log_append and orderset_raw_log_recover leave the area as it is and hand out stores,
+ * How to write: orderset_proved_log_append and orderset_proved_log_recover leave the area as it is and hand out stores,
  * answer[ORDERSET_LOG_COUNT] of them, at the front of at and value; the entries after them keep what they had. The
  * caller makes these stores, in order within each line of 64 bytes, flushes the lines that they are in and fences once
- * (orderset_persist_list in orderset_persist.h); without persistence orderset_play_list (orderset.h) makes them. Only
- * then may the next append, recovery or read follow. If that was not finished, orderset_raw_log_recover comes next, and
+ * (orderset_persist_list in orderset_persist.h); without persistence orderset_proved_play_list (orderset.h) makes them. Only
+ * then may the next append, recovery or read follow. If that was not finished, orderset_proved_log_recover comes next, and
  * so it does at every start: its stores are made and fenced before the next append. If they are not finished,
- * orderset_raw_log_recover comes again.
+ * orderset_proved_log_recover comes again.
  *
  * How to start: as in orderset.h, recovery takes what it reads as what stands in the memory. After anything but a power
  * cut the whole area is made durable first (orderset_persist_image or, in a file with msync,
@@ -91,20 +91,20 @@ enum orderset_log_refusal {
 
 /* Appends a message. answer: {its number, one above the highest complete one; the count of its stores}. The stores of
  * the marked line come first, then those of the payload lines. Refusals: 30, 29, 9, 13. */
-ORDERSET_CALL uint32_t orderset_raw_log_append(const uint8_t *area, size_t area_length, const uint8_t *message,
+ORDERSET_CALL uint32_t orderset_proved_log_append(const uint8_t *area, size_t area_length, const uint8_t *message,
                                                size_t message_length, uint32_t *at, size_t at_length, uint64_t *value,
                                                size_t value_length, uint64_t answer[ORDERSET_LOG_ANSWER]);
 
 /* Recovers the log. answer: {the highest complete number, 0 if there is none; the count of its stores}, at most one a
  * cell. Refusals: 30, 13. */
-ORDERSET_CALL uint32_t orderset_raw_log_recover(const uint8_t *area, size_t area_length, uint32_t *at,
+ORDERSET_CALL uint32_t orderset_proved_log_recover(const uint8_t *area, size_t area_length, uint32_t *at,
                                                 size_t at_length, uint64_t *value, size_t value_length,
                                                 uint64_t answer[ORDERSET_LOG_ANSWER]);
 
 /* Finds the message with this number. answer: {where its bytes begin in the area; how many they are}: the message is
  * area[offset] to area[offset + length - 1]. Nothing is copied. The bytes stay until message number + K is appended:
  * copy them before. Refusals: 30, 31. */
-ORDERSET_CALL uint32_t orderset_raw_log_read(const uint8_t *area, size_t area_length, uint64_t number,
+ORDERSET_CALL uint32_t orderset_proved_log_read(const uint8_t *area, size_t area_length, uint64_t number,
                                              uint64_t answer[ORDERSET_LOG_ANSWER]);
 
 #ifdef __cplusplus

@@ -6,12 +6,12 @@
  *
  *     flush = orderset_best_flush();                                                  once
  *     if (orderset_persist_image(image, length, flush)) ...stop                       every start, before recovery
- *     if (orderset_recover(image, length, ..., count, open_at, open_value)) ...stop
+ *     if (orderset_proved_recover(image, length, ..., count, open_at, open_value)) ...stop
  *     if (orderset_persist_list(image, length, open_at, open_value, count[0], flush)) ...stop
- *     if (orderset_insert(image, length, ..., at, value, answer) == ORDERSET_OK &&
+ *     if (orderset_proved_insert(image, length, ..., at, value, answer) == ORDERSET_OK &&
  *         orderset_persist(image, length, at, value, flush) == 0)
  *         ...answer the client
- *     if (orderset_basket(image, length, ..., items, kinds, keys, ..., answer) == ORDERSET_OK &&
+ *     if (orderset_proved_basket(image, length, ..., items, kinds, keys, ..., answer) == ORDERSET_OK &&
  *         orderset_persist_list(image, length, at, value, ORDERSET_BASKET_STORES(items), flush) == 0)
  *         ...answer the client
  *

@@ -353,7 +353,7 @@ static int write_stores(const struct area *a, const uint32_t *at, const uint64_t
 /* What recovery hands out, before any other call; a reader makes it in its copy. */
 static uint32_t persist_opening(struct area *a, const uint32_t *at, const uint64_t *value, size_t count) {
     if (a->mode != ORDERSET_FILE_WRITE)
-        return orderset_play_list(a->bytes, a->length, at, count, value, count);
+        return orderset_proved_play_list(a->bytes, a->length, at, count, value, count);
     const int failed = a->flush == ORDERSET_FILE_MSYNC ? write_stores(a, at, value, count) != 0
                                                        : persist(a, at, value, count) != 0;
     return failed ? ORDERSET_FILE_SYSTEM : ORDERSET_FILE_OK;
@@ -444,7 +444,7 @@ static uint32_t format(int file, size_t length, uint64_t layout) {
     uint8_t *image = calloc(1, length);
     if (!image)
         return ORDERSET_FILE_SYSTEM;
-    uint32_t number = layout ? orderset_format(image, length, layout, answer) : ORDERSET_FILE_OK;
+    uint32_t number = layout ? orderset_proved_format(image, length, layout, answer) : ORDERSET_FILE_OK;
     if (!number && (extend(file, length) || write_at(file, 0, image, length) || fsync(file)))
         number = ORDERSET_FILE_SYSTEM;
     const int error = errno;
@@ -531,8 +531,8 @@ static uint32_t create(const char *path, size_t length, uint64_t layout) {
 #define INDEX(s) (s)->area.bytes, (s)->area.length, (s)->heads, (s)->heads_length, (s)->next, (s)->next_length
 #define CHANGED(s) INDEX(s), (s)->state, (s)->version
 #define OF_LAYOUT(s, name, lent, key, ...) \
-    ((s)->layout == ORDERSET2_LAYOUT ? orderset2_##name(lent, (key).low, (key).high, __VA_ARGS__) \
-                                     : orderset_##name(lent, (key).low, __VA_ARGS__))
+    ((s)->layout == ORDERSET2_LAYOUT ? orderset2_proved_##name(lent, (key).low, (key).high, __VA_ARGS__) \
+                                     : orderset_proved_##name(lent, (key).low, __VA_ARGS__))
 
 uint32_t orderset_file_create(const char *path, uint32_t slots, uint32_t layout) {
     if (slots < ORDERSET_SLOTS_MIN || slots > ORDERSET_SLOTS_MAX)
@@ -557,8 +557,8 @@ static void *recover(void *argument) {
     struct orderset_file *s = argument;
     uint64_t returned =
         s->layout == ORDERSET2_LAYOUT
-            ? orderset2_recover(CHANGED(s), s->voids, s->open_at, s->open_value)
-            : orderset_recover(CHANGED(s), s->voids, s->open_at, s->open_value);
+            ? orderset2_proved_recover(CHANGED(s), s->voids, s->open_at, s->open_value)
+            : orderset_proved_recover(CHANGED(s), s->voids, s->open_at, s->open_value);
     s->refusal = ORDERSET_REFUSAL(returned);
     s->fault_slot = ORDERSET_FAULT_SLOT(returned);
     return NULL;
@@ -774,10 +774,10 @@ uint32_t orderset_file_basket(struct orderset_file *set, const struct orderset_i
     if (number)
         return number;
     if (set->layout == ORDERSET2_LAYOUT)
-        number = orderset2_own_basket(CHANGED(set), count, b.kinds, b.lows, b.highs, b.lengths, b.values, b.at, LIST,
+        number = orderset2_proved_own_basket(CHANGED(set), count, b.kinds, b.lows, b.highs, b.lengths, b.values, b.at, LIST,
                                       b.value, LIST, b.answer);
     else
-        number = orderset_own_basket(CHANGED(set), count, b.kinds, b.lows, b.lengths, b.values, b.at, LIST, b.value,
+        number = orderset_proved_own_basket(CHANGED(set), count, b.kinds, b.lows, b.lengths, b.values, b.at, LIST, b.value,
                                      LIST, b.answer);
     return number ? number : persist(&set->area, b.at, b.value, ORDERSET_BASKET_STORES(count));
 }
@@ -863,9 +863,9 @@ static size_t value_in(const struct orderset_file *s, uint32_t slot, uint8_t val
 /* The version of a line, by the questions of the set; *whole becomes 0 where the line is not whole. */
 static uint64_t line_version(const uint8_t *line, int *whole) {
     uint64_t answer = 0, version = 0;
-    if (orderset_line_whole(line, ORDERSET_LINE_BYTES, (uint8_t *)&answer, sizeof answer) || !answer)
+    if (orderset_proved_line_whole(line, ORDERSET_LINE_BYTES, (uint8_t *)&answer, sizeof answer) || !answer)
         *whole = 0;
-    if (orderset_line_version(line, ORDERSET_LINE_BYTES, (uint8_t *)&version, sizeof version))
+    if (orderset_proved_line_version(line, ORDERSET_LINE_BYTES, (uint8_t *)&version, sizeof version))
         *whole = 0;
     return version;
 }
@@ -1023,7 +1023,7 @@ static uint32_t look_at_log(const struct area *a, uint64_t *chunk) {
 
 static void *recover_log(void *argument) {
     struct orderset_log_file *l = argument;
-    l->refusal = orderset_raw_log_recover(l->area.bytes, l->area.length, l->at, ORDERSET_LOG_CELLS_MAX, l->value,
+    l->refusal = orderset_proved_log_recover(l->area.bytes, l->area.length, l->at, ORDERSET_LOG_CELLS_MAX, l->value,
                                           ORDERSET_LOG_CELLS_MAX, l->answer);
     return NULL;
 }
@@ -1083,7 +1083,7 @@ uint32_t orderset_log_file_append(struct orderset_log_file *log, const void *mes
     if (number)
         *number = 0;
     if (!refusal)
-        refusal = orderset_raw_log_append(log->area.bytes, log->area.length, bytes, length, log->at,
+        refusal = orderset_proved_log_append(log->area.bytes, log->area.length, bytes, length, log->at,
                                           ORDERSET_LOG_CELLS_MAX, log->value, ORDERSET_LOG_CELLS_MAX, log->answer);
     if (!refusal)
         refusal = persist(&log->area, log->at, log->value, log->answer[ORDERSET_LOG_COUNT]);
@@ -1101,7 +1101,7 @@ uint32_t orderset_log_file_read(struct orderset_log_file *log, uint64_t number, 
     uint32_t refusal = may_read(&log->area);
     *length = 0;
     if (!refusal)
-        refusal = orderset_raw_log_read(log->area.bytes, log->area.length, number, answer);
+        refusal = orderset_proved_log_read(log->area.bytes, log->area.length, number, answer);
     if (refusal)
         return refusal;
     if (answer[ORDERSET_LOG_LENGTH] > room)
