@@ -1,8 +1,7 @@
-/* A basket of eight keys beside eight single calls: ns for the eight, without delay and with one of 800 ns at each wait (bench.h), and the single calls
- * where the taking rule has to look through the image. Values of 24 bytes; the sets are in /dev/shm. A figure is the median over the batches of the mean
- * in a batch. Prints a table.
- *     baskets [BATCHES]            the times
- *     baskets count N HEADS CALLS  the calls alone, each kind in a function of its own, for callgrind to count */
+/* A basket of eight keys beside eight single calls: ns for the eight, without delay and with one of 800 ns at each wait
+ * (bench.h), and the single calls where the taking rule has to look through the image. Values of 24 bytes; the sets are
+ * in /dev/shm. A figure is the median over the batches of the mean in a batch. Prints a table. baskets [BATCHES] the
+ * times baskets count N HEADS CALLS  the calls alone, each kind in a function of its own, for callgrind to count */
 #include <stdio.h>
 #include <stdlib.h>
 #include <string.h>
@@ -16,8 +15,9 @@ enum { EIGHT = ORDERSET_BASKET_MAX, SIZE = 24, MAX_BATCHES = 10000, MAX_N = 6553
 static const char path[] = "/dev/shm/orderset_baskets";
 static uint8_t *image, values[ORDERSET_BASKET_BYTES];
 static size_t length, heads_length, next_length;
-static uint32_t n, heads[ORDERSET_HEADS_MAX], next[MAX_N + 1], state[ORDERSET_STATE], at[ORDERSET_BASKET_STORES(EIGHT)];
-static uint64_t version[1], value[ORDERSET_BASKET_STORES(EIGHT)], answer[ORDERSET_BASKET_ANSWER];
+static uint32_t n, heads[ORDERSET_HEADS_MAX], next[MAX_N + 1], state[ORDERSET_RAW_STATE],
+    at[ORDERSET_BASKET_STORES(EIGHT)];
+static uint64_t version[1], value[ORDERSET_BASKET_STORES(EIGHT)], answer[ORDERSET_PROVED_BASKET_ANSWER];
 static uint64_t *held, fresh, seed = 1;
 static uint32_t live;
 static enum orderset_flush flush;
@@ -34,7 +34,10 @@ static void must(int done, const char *what) {
 static void recover(void) {
     uint32_t voids[1], open_at[ORDERSET_INVALIDATIONS];
     uint64_t open_value[ORDERSET_INVALIDATIONS];
-    must(orderset_proved_recover(image, length, heads, heads_length, next, next_length, state, version, voids, open_at, open_value) == 0 && voids[0] == 0,
+    must(orderset_proved_recover(image, length, heads, heads_length, next, next_length, state, version, voids, open_at,
+                                 open_value)
+                 == 0
+             && voids[0] == 0,
          "recover");
 }
 
@@ -43,11 +46,14 @@ static void recover(void) {
 static inline void single(uint32_t kind, uint64_t key) {
     uint64_t failed;
     if (kind == ORDERSET_INSERT)
-        failed = orderset_proved_insert(image, length, heads, heads_length, next, next_length, state, version, key, values, SIZE, at, value, answer);
+        failed = orderset_proved_insert(image, length, heads, heads_length, next, next_length, state, version, key,
+                                        values, SIZE, at, value, answer);
     else if (kind == ORDERSET_REPLACE)
-        failed = orderset_proved_replace(image, length, heads, heads_length, next, next_length, state, version, key, values, SIZE, at, value, answer);
+        failed = orderset_proved_replace(image, length, heads, heads_length, next, next_length, state, version, key,
+                                         values, SIZE, at, value, answer);
     else
-        failed = orderset_proved_remove(image, length, heads, heads_length, next, next_length, state, version, key, at, value, answer);
+        failed = orderset_proved_remove(image, length, heads, heads_length, next, next_length, state, version, key, at,
+                                        value, answer);
     must(!failed && !orderset_persist(image, length, at, value, flush), "a single call");
 }
 
@@ -58,8 +64,9 @@ MEASURED void count_singles(const uint32_t kinds[EIGHT], const uint64_t keys[EIG
 
 MEASURED void count_basket(const uint32_t kinds[EIGHT], const uint64_t keys[EIGHT]) {
     static const size_t lengths[EIGHT] = {SIZE, SIZE, SIZE, SIZE, SIZE, SIZE, SIZE, SIZE};
-    must(!orderset_proved_basket(image, length, heads, heads_length, next, next_length, state, version, EIGHT, kinds, keys, lengths, values, at,
-                          ORDERSET_BASKET_STORES(EIGHT), value, ORDERSET_BASKET_STORES(EIGHT), answer)
+    must(!orderset_proved_basket(image, length, heads, heads_length, next, next_length, state, version, EIGHT, kinds,
+                                 keys, lengths, values, at, ORDERSET_BASKET_STORES(EIGHT), value,
+                                 ORDERSET_BASKET_STORES(EIGHT), answer)
              && !orderset_persist_list(image, length, at, value, ORDERSET_BASKET_STORES(EIGHT), flush),
          "a basket");
 }
@@ -106,7 +113,7 @@ static void begin(uint32_t slots, uint32_t b, uint32_t many) {
     heads_length = b;
     next_length = n + 1;
     live = 0;
-    must(orderset_proved_format(image, length, ORDERSET_LAYOUT, answer) == 0, "format");
+    must(orderset_proved_format(image, length, ORDERSET_LAYOUT_1, answer) == 0, "format");
     recover();
     for (uint32_t i = 0; i < many; i++) {
         held[live] = bench_chance(&fresh);
@@ -153,7 +160,8 @@ static double eights(enum load load, int as_basket) {
 }
 
 static void rows(uint32_t slots, uint32_t b, uint32_t many, const char *filled) {
-    static const char *const names[] = {[REPLACES] = "8 replaced", [INSERTS] = "8 inserted, 8 removed", [MIXED] = "3 inserted, 3 removed, 2 replaced"};
+    static const char *const names[] = {
+        [REPLACES] = "8 replaced", [INSERTS] = "8 inserted, 8 removed", [MIXED] = "3 inserted, 3 removed, 2 replaced"};
     static const enum load loads[] = {REPLACES, INSERTS, MIXED};
     for (unsigned i = 0; i < 3; i++) {
         begin(slots, b, many);
@@ -163,8 +171,8 @@ static void rows(uint32_t slots, uint32_t b, uint32_t many, const char *filled) 
             singles[wait] = eights(loads[i], 0);
             basket[wait] = eights(loads[i], 1);
         }
-        printf("| %u | %u | %s | %s | %.0f | %.0f (%.2f) | %.0f | %.0f (%.2f) |\n", slots, b, filled, names[loads[i]], singles[0], basket[0],
-               basket[0] / singles[0], singles[1], basket[1], basket[1] / singles[1]);
+        printf("| %u | %u | %s | %s | %.0f | %.0f (%.2f) | %.0f | %.0f (%.2f) |\n", slots, b, filled, names[loads[i]],
+               singles[0], basket[0], basket[0] / singles[0], singles[1], basket[1], basket[1] / singles[1]);
         fflush(stdout);
     }
 }
@@ -234,13 +242,15 @@ int main(int many, char **words) {
     }
     if (many == 2 && atoi(words[1]) > 0 && atoi(words[1]) <= MAX_BATCHES)
         batches = (unsigned)atoi(words[1]);
-    printf("| N | B | live | eight keys | singles, S 0 | basket, S 0 | singles, S 800 | basket, S 800 |\n|---|---|---|---|---|---|---|---|\n");
+    printf("| N | B | live | eight keys | singles, S 0 | basket, S 0 | singles, S 800 | basket, S 800 "
+           "|\n|---|---|---|---|---|---|---|---|\n");
     for (unsigned i = 0; i < 2; i++) {
         const uint32_t slots = i ? MAX_N : 1000;
         rows(slots, ORDERSET_HEADS_MAX, slots / 2, "half");
         rows(slots, ORDERSET_HEADS_MAX, slots - 24, "N - 24");
     }
-    printf("\n| N | B | half live: replace, remove, insert | N - 2 live | N - 1 live | cleared, recovered, refilled |\n|---|---|---|---|---|---|\n");
+    printf("\n| N | B | half live: replace, remove, insert | N - 2 live | N - 1 live | cleared, recovered, refilled "
+           "|\n|---|---|---|---|---|---|\n");
     single_rows(1000, ORDERSET_HEADS_MAX);
     single_rows(MAX_N, ORDERSET_HEADS_MAX);
     bench_unmap(path, image, ORDERSET_IMAGE_BYTES(MAX_N));

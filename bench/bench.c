@@ -1,5 +1,5 @@
-/* The measurements: every engine in one process, repetition by repetition in turn, so that they share the machine's good and bad moments.
- *     bench [REPETITIONS [N]]     comma-separated values on standard output */
+/* The measurements: every engine in one process, repetition by repetition in turn, so that they share the machine's
+ * good and bad moments. bench [REPETITIONS [N]]     comma-separated values on standard output */
 #include "bench.h"
 
 #include <stdio.h>
@@ -13,7 +13,8 @@ static const struct {
     const struct engine *engine;
     unsigned writes, gets; /* batches in one repetition */
 } plan[ENGINES] = {
-    {&engine_hand, 32, 24}, {&engine_set, 32, 24}, {&engine_journal, 32, 24}, {&engine_pmemobj, 16, 24}, {&engine_lmdb, 10, 8}, {&engine_sqlite, 6, 2},
+    {&engine_hand, 32, 24},    {&engine_set, 32, 24}, {&engine_journal, 32, 24},
+    {&engine_pmemobj, 16, 24}, {&engine_lmdb, 10, 8}, {&engine_sqlite, 6, 2},
 };
 
 /* The means of the repetitions, by operation. */
@@ -24,19 +25,22 @@ struct runs {
 };
 
 static void print_runs(const struct config *c, unsigned setting, unsigned e, struct runs *r) {
-    static const char *const op[OPS] = {"insert", "replace", "remove", "get", "recover", "new", "acknowledge", "fill", "withdraw"};
+    static const char *const op[OPS] = {"insert", "replace",     "remove", "get",     "recover",
+                                        "new",    "acknowledge", "fill",   "withdraw"};
     for (int o = 0; o < OPS; o++) {
         struct sum s = r->counted[o];
         if (!r->count[o])
             continue;
         qsort(r->ns[o], r->count[o], sizeof(double), bench_by_size);
-        printf("%s,%.0f,%u,%u,%u,%s,%s,%.1f,%.1f,%.2f,%.2f\n", settings[setting].name, settings[setting].delay, c->n, c->heads, c->size,
-               plan[e].engine->name, op[o], r->ns[o][r->count[o] / 2], r->ns[o][0], s.waits / s.calls, s.flushes / s.calls);
+        printf("%s,%.0f,%u,%u,%u,%s,%s,%.1f,%.1f,%.2f,%.2f\n", settings[setting].name, settings[setting].delay, c->n,
+               c->heads, c->size, plan[e].engine->name, op[o], r->ns[o][r->count[o] / 2], r->ns[o][0],
+               s.waits / s.calls, s.flushes / s.calls);
     }
     fflush(stdout);
 }
 
-/* A repetition's mean over its undisturbed batches; in the last resort, when there were none in all repetitions, over all of them. */
+/* A repetition's mean over its undisturbed batches; in the last resort, when there were none in all repetitions, over
+ * all of them. */
 static void keep(struct runs *runs, const struct result *r, int last) {
     for (int o = 0; o < OPS; o++) {
         const struct sum *s = &r->clean[o];
@@ -50,7 +54,8 @@ static void keep(struct runs *runs, const struct result *r, int last) {
     }
 }
 
-/* All engines in turn, as often as there are repetitions. Recovery does not wait, so it is measured in the first setting alone. */
+/* All engines in turn, as often as there are repetitions. Recovery does not wait, so it is measured in the first
+ * setting alone. */
 static void measure(const struct config *c, unsigned setting, unsigned repetitions, const int *open) {
     static struct runs runs[ENGINES];
     memset(runs, 0, sizeof runs);

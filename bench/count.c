@@ -1,6 +1,5 @@
-/* Instructions: the operations as functions of their own, for callgrind to count; (a), this set and this set's calls for the owner of an index; insert,
- * replace, remove and the book's steps with the persist.
- *     count N HEADS SIZE CALLS */
+/* Instructions: the operations as functions of their own, for callgrind to count; (a), this set and this set's calls
+ * for the owner of an index; insert, replace, remove and the book's steps with the persist. count N HEADS SIZE CALLS */
 #include <stdio.h>
 #include <stdlib.h>
 
@@ -12,13 +11,21 @@
 static struct hand_set hand;
 static struct hand_stores hand_out;
 
-static uint8_t *image, bytes[80], out[80];
-static size_t length, heads_length, next_length, size;
-static uint32_t *heads, *next, state[ORDERSET_STATE], at[ORDERSET_STORES];
-static uint64_t version[1], value[ORDERSET_STORES], answer[ORDERSET_CHANGE_ANSWER];
-static uint32_t voids[1], open_at[ORDERSET_INVALIDATIONS];
-static uint64_t open_value[ORDERSET_INVALIDATIONS];
+static uint8_t bytes[80], out[80];
+static size_t size;
+static struct orderset_raw set;
+static struct orderset_raw_change change;
+static struct orderset_raw_value found;
+static struct orderset_raw_recovery recovered;
 static enum orderset_flush flush;
+
+static inline struct orderset_key key_of(uint64_t key) {
+    return (struct orderset_key){key, 0};
+}
+
+static inline int made_durable(void) {
+    return orderset_persist(set.image, set.image_length, change.at, change.value, flush);
+}
 
 static inline int hand_inserts(uint64_t key) {
     if (hand_insert(&hand, key, bytes, size, &hand_out).code)
@@ -26,15 +33,23 @@ static inline int hand_inserts(uint64_t key) {
     return orderset_persist(hand.image, hand.length, hand_out.at, hand_out.value, flush);
 }
 
-MEASURED int count_hand_prepare(uint64_t key) { return hand_inserts(key); }
-MEASURED int count_hand_insert(uint64_t key) { return hand_inserts(key); }
+MEASURED int count_hand_prepare(uint64_t key) {
+    return hand_inserts(key);
+}
+MEASURED int count_hand_insert(uint64_t key) {
+    return hand_inserts(key);
+}
 MEASURED int count_hand_replace(uint64_t key) {
     if (hand_replace(&hand, key, bytes, size, &hand_out).code)
         return 1;
     return orderset_persist(hand.image, hand.length, hand_out.at, hand_out.value, flush);
 }
-MEASURED int count_hand_get(uint64_t key) { return hand_get(&hand, key, out, sizeof out).code != 0; }
-MEASURED int count_hand_recover(void) { return hand_recover(&hand) != 0; }
+MEASURED int count_hand_get(uint64_t key) {
+    return hand_get(&hand, key, out, sizeof out).code != 0;
+}
+MEASURED int count_hand_recover(void) {
+    return hand_recover(&hand) != 0;
+}
 MEASURED int count_hand_remove(uint64_t key) {
     if (hand_remove(&hand, key, &hand_out).code)
         return 1;
@@ -42,23 +57,27 @@ MEASURED int count_hand_remove(uint64_t key) {
 }
 
 MEASURED int count_set_get(uint64_t key) {
-    return orderset_proved_get(image, length, heads, heads_length, next, next_length, key, out, sizeof out, answer) || answer[0] == ORDERSET_ABSENT;
+    return orderset_raw_get(&set, key_of(key), out, sizeof out, &found) || found.outcome == ORDERSET_RAW_ABSENT;
 }
 MEASURED int count_set_recover(void) {
-    return orderset_proved_recover(image, length, heads, heads_length, next, next_length, state, version, voids, open_at, open_value) != 0;
+    return orderset_raw_recover(&set, &recovered) != 0;
 }
 
 #define COUNT(op) count_set_##op
-#define CALL(name) orderset_proved_##name
+#define CALL(name) orderset_raw_##name
 #include "count_calls.inc"
-MEASURED int count_set_prepare(uint64_t key) { return count_set_inserts(key); }
+MEASURED int count_set_prepare(uint64_t key) {
+    return count_set_inserts(key);
+}
 #undef COUNT
 #undef CALL
 #define COUNT(op) count_own_##op
-#define CALL(name) orderset_proved_own_##name
+#define CALL(name) orderset_raw_own_##name
 #include "count_calls.inc"
 
-MEASURED int count_persist(void) { return orderset_persist(image, length, at, value, flush); }
+MEASURED int count_persist(void) {
+    return made_durable();
+}
 
 static uint64_t seed = 1;
 static uint64_t chance(void) {
@@ -77,19 +96,25 @@ int main(int count, char **word) {
         return 2;
     uint32_t n = (uint32_t)atoi(word[1]), held = n / 2, calls = (uint32_t)atoi(word[4]);
     int bad = 0;
-    heads_length = (size_t)atoi(word[2]);
+    const size_t heads_length = (size_t)atoi(word[2]), length = ORDERSET_IMAGE_BYTES(n),
+                 next_length = ORDERSET_NEXT_LENGTH(n);
     size = (size_t)atoi(word[3]);
-    length = ORDERSET_IMAGE_BYTES(n);
-    next_length = ORDERSET_NEXT_LENGTH(n);
-    image = aligned(length);
-    heads = calloc(heads_length, 4);
-    next = calloc(next_length, 4);
-    hand = (struct hand_set){.image = aligned(length), .length = length, .heads = calloc(heads_length, 4), .heads_length = heads_length,
-                             .next = calloc(next_length, 4), .next_length = next_length};
+    set = (struct orderset_raw){.image = aligned(length),
+                                .image_length = length,
+                                .heads = calloc(heads_length, 4),
+                                .heads_length = heads_length,
+                                .next = calloc(next_length, 4),
+                                .next_length = next_length,
+                                .layout = ORDERSET_LAYOUT_1};
+    hand = (struct hand_set){.image = aligned(length),
+                             .length = length,
+                             .heads = calloc(heads_length, 4),
+                             .heads_length = heads_length,
+                             .next = calloc(next_length, 4),
+                             .next_length = next_length};
     flush = ORDERSET_CLFLUSH; /* the flush that valgrind knows; each flush is one instruction */
     bad |= hand_format(hand.image, length) || hand_recover(&hand);
-    bad |= orderset_proved_format(image, length, ORDERSET_LAYOUT, answer)
-           || orderset_proved_recover(image, length, heads, heads_length, next, next_length, state, version, voids, open_at, open_value);
+    bad |= orderset_raw_format(set.image, length, ORDERSET_LAYOUT_1) || count_set_recover();
     uint64_t *key = malloc(sizeof *key * held);
     for (uint32_t i = 0; i < held; i++) {
         key[i] = chance();
@@ -103,7 +128,8 @@ int main(int count, char **word) {
         bad |= count_hand_insert(key[k]) | count_set_insert(key[k]);
         bad |= count_persist();
         uint64_t order = chance();
-        bad |= count_set_new(order) || count_set_acknowledge(order) || count_set_fill(order) || count_set_withdraw(order);
+        bad |=
+            count_set_new(order) || count_set_acknowledge(order) || count_set_fill(order) || count_set_withdraw(order);
     }
     bad |= count_hand_recover() | count_set_recover();
     for (uint32_t i = 0; i < calls; i++) {
@@ -111,7 +137,8 @@ int main(int count, char **word) {
         bad |= count_own_replace(key[k]) | count_own_remove(key[k]);
         key[k] = chance();
         uint64_t order = chance();
-        bad |= count_own_insert(key[k]) || count_own_new(order) || count_own_acknowledge(order) || count_own_fill(order) || count_own_withdraw(order);
+        bad |= count_own_insert(key[k]) || count_own_new(order) || count_own_acknowledge(order) || count_own_fill(order)
+               || count_own_withdraw(order);
     }
     printf("%d\n", bad);
     return bad;

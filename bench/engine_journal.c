@@ -1,5 +1,5 @@
-/* (b): a journal with two waits. As (a), but a record counts by a commit word that is written after the rest is durable: stores, flush, fence, then the
- * commit word, flush, fence. */
+/* (b): a journal with two waits. As (a), but a record counts by a commit word that is written after the rest is
+ * durable: stores, flush, fence, then the commit word, flush, fence. */
 #include "bench.h"
 
 #define FILE_NAME "/dev/shm/orderset_bench_journal"

@@ -1,5 +1,6 @@
-/* LMDB: one write transaction for each insert, replace and remove, one renewed read transaction for each get; a writable map, which is its faster mode,
- * synced by msync. Of its own it has an insert of a key that is not held; a replace looks the key up with a cursor and writes there. */
+/* LMDB: one write transaction for each insert, replace and remove, one renewed read transaction for each get; a
+ * writable map, which is its faster mode, synced by msync. Of its own it has an insert of a key that is not held; a
+ * replace looks the key up with a cursor and writes there. */
 #include "bench.h"
 
 #include <lmdb.h>
@@ -20,7 +21,8 @@ static void remove_files(void) {
 
 static int attach(void) {
     MDB_txn *txn;
-    if (mdb_env_create(&env) || mdb_env_set_mapsize(env, MAP_BYTES) || mdb_env_open(env, FILE_NAME, MDB_NOSUBDIR | MDB_WRITEMAP, 0600))
+    if (mdb_env_create(&env) || mdb_env_set_mapsize(env, MAP_BYTES)
+        || mdb_env_open(env, FILE_NAME, MDB_NOSUBDIR | MDB_WRITEMAP, 0600))
         return 1;
     if (mdb_txn_begin(env, NULL, 0, &txn) || mdb_dbi_open(txn, NULL, MDB_INTEGERKEY, &dbi) || mdb_txn_commit(txn))
         return 2;

@@ -2,7 +2,7 @@
 #include "bench.h"
 
 #define FILE_NAME "/dev/shm/orderset_bench_own"
-#define CALL(name) orderset_proved_own_##name
+#define CALL(name) orderset_raw_own_##name
 #include "set_engine.inc"
 
 #define ENGINE engine_own

@@ -1,5 +1,5 @@
-/* libpmemobj: a chained hash map in a pool, one transaction for each insert, replace and remove: a new entry is allocated and linked, a held value is
- * overwritten under an undo range, a removed entry is unlinked and freed. */
+/* libpmemobj: a chained hash map in a pool, one transaction for each insert, replace and remove: a new entry is
+ * allocated and linked, a held value is overwritten under an undo range, a removed entry is unlinked and freed. */
 #include "bench.h"
 
 #include <libpmemobj.h>

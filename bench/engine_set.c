@@ -2,7 +2,7 @@
 #include "bench.h"
 
 #define FILE_NAME "/dev/shm/orderset_bench_set"
-#define CALL(name) orderset_proved_##name
+#define CALL(name) orderset_raw_##name
 #include "set_engine.inc"
 
 #define ENGINE engine_set

@@ -1,4 +1,5 @@
-/* SQLite: write-ahead log, synchronous FULL, one statement for each call, prepared once; a replace is an update of one row. */
+/* SQLite: write-ahead log, synchronous FULL, one statement for each call, prepared once; a replace is an update of one
+ * row. */
 #include "bench.h"
 
 #include <sqlite3.h>

@@ -1,5 +1,6 @@
-/* hand.h: (a), the same method written by hand in C: document 01's layout, index, refusals and recovery, with insert, replace, the slots compared, void
- * slots and the slots that may be taken as document 02 has them, for the speed that a C programmer gets. */
+/* hand.h: (a), the same method written by hand in C: document 01's layout, index, refusals and recovery, with insert,
+ * replace, the slots compared, void slots and the slots that may be taken as document 02 has them, for the speed that a
+ * C programmer gets. */
 #ifndef HAND_H
 #define HAND_H
 
@@ -34,13 +35,17 @@ struct hand_answer {
 
 uint32_t hand_format(uint64_t *image, size_t length);
 uint64_t hand_recover(struct hand_set *set); /* 0, or the refusal + 2^32 * the slot that it names */
-struct hand_answer hand_insert(struct hand_set *set, uint64_t key, const uint8_t *bytes, size_t size, struct hand_stores *stores);
-struct hand_answer hand_replace(struct hand_set *set, uint64_t key, const uint8_t *bytes, size_t size, struct hand_stores *stores);
+struct hand_answer hand_insert(struct hand_set *set, uint64_t key, const uint8_t *bytes, size_t size,
+                               struct hand_stores *stores);
+struct hand_answer hand_replace(struct hand_set *set, uint64_t key, const uint8_t *bytes, size_t size,
+                                struct hand_stores *stores);
 struct hand_answer hand_remove(struct hand_set *set, uint64_t key, struct hand_stores *stores);
-/* For the owner of an index, that is, of one from recovery and the accepted calls since: the first slot of reuse is the one to take, or none may be taken, so
- * that no call looks through the image. */
-struct hand_answer hand_own_insert(struct hand_set *set, uint64_t key, const uint8_t *bytes, size_t size, struct hand_stores *stores);
-struct hand_answer hand_own_replace(struct hand_set *set, uint64_t key, const uint8_t *bytes, size_t size, struct hand_stores *stores);
+/* For the owner of an index, that is, of one from recovery and the accepted calls since: the first slot of reuse is the
+ * one to take, or none may be taken, so that no call looks through the image. */
+struct hand_answer hand_own_insert(struct hand_set *set, uint64_t key, const uint8_t *bytes, size_t size,
+                                   struct hand_stores *stores);
+struct hand_answer hand_own_replace(struct hand_set *set, uint64_t key, const uint8_t *bytes, size_t size,
+                                    struct hand_stores *stores);
 struct hand_answer hand_own_remove(struct hand_set *set, uint64_t key, struct hand_stores *stores);
 struct hand_answer hand_get(const struct hand_set *set, uint64_t key, uint8_t *out, size_t room);
 

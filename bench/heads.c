@@ -1,19 +1,19 @@
-/* The slots that a get compares and the time that it takes, by the number of heads B. N slots, N - 1 orders of 24 bytes in random slots; a cell is the
- * average over all held keys, the longest, and the median over the batches of a get's mean time in the batch. Random 64-bit keys; keys that are
- * multiples of B; and these keys again, with the largest prime up to B in the place of B. Prints the table of docs/HEADS.md.
- *     heads [BATCHES] */
+/* The slots that a get compares and the time that it takes, by the number of heads B. N slots, N - 1 orders of 24 bytes
+ * in random slots; a cell is the average over all held keys, the longest, and the median over the batches of a get's
+ * mean time in the batch. Random 64-bit keys; keys that are multiples of B; and these keys again, with the largest
+ * prime up to B in the place of B. Prints the table of docs/HEADS.md. heads [BATCHES] */
 #include <stdio.h>
 #include <stdlib.h>
 #include <string.h>
 #include <time.h>
 
-#include "orderset.h"
+#include "orderset_raw.h"
 
 enum { BATCH = 128, MAX_N = 8192, MAX_BATCHES = 100000 };
 
 static uint8_t image[ORDERSET_IMAGE_BYTES(MAX_N)], bytes[24], out[ORDERSET_VALUE_MAX];
-static uint32_t n, heads[ORDERSET_HEADS_MAX], next[MAX_N + 1], state[ORDERSET_STATE], at[ORDERSET_STORES];
-static uint64_t version[1], value[ORDERSET_STORES], answer[ORDERSET_CHANGE_ANSWER], key[MAX_N];
+static uint32_t n, heads[ORDERSET_HEADS_MAX], next[MAX_N + 1], state[ORDERSET_RAW_STATE], at[ORDERSET_STORES];
+static uint64_t version[1], value[ORDERSET_STORES], answer[ORDERSET_PROVED_CHANGE_ANSWER], key[MAX_N];
 static double took[MAX_BATCHES];
 static unsigned batches = 1001;
 
@@ -45,31 +45,43 @@ static uint32_t largest_prime(uint32_t up_to) {
 static void recover(uint32_t b) {
     uint32_t voids[1], open_at[ORDERSET_INVALIDATIONS];
     uint64_t open_value[ORDERSET_INVALIDATIONS];
-    must(orderset_proved_recover(image, ORDERSET_IMAGE_BYTES(n), heads, b, next, n + 1, state, version, voids, open_at, open_value) == 0 && voids[0] == 0,
+    must(orderset_proved_recover(image, ORDERSET_IMAGE_BYTES(n), heads, b, next, n + 1, state, version, voids, open_at,
+                                 open_value)
+                 == 0
+             && voids[0] == 0,
          "recover");
 }
 
-/* Keys that are multiples of step, or random ones where it is 0, each with an order; replaces leave them in random slots. */
+/* Keys that are multiples of step, or random ones where it is 0, each with an order; replaces leave them in random
+ * slots. */
 static void fill(uint32_t step) {
     const uint32_t b = largest_prime(ORDERSET_HEADS_MAX);
     const size_t length = ORDERSET_IMAGE_BYTES(n);
-    must(orderset_proved_format(image, length, ORDERSET_LAYOUT, answer) == 0, "format");
+    must(orderset_proved_format(image, length, ORDERSET_LAYOUT_1, answer) == 0, "format");
     recover(b);
     for (uint32_t i = 0; i < n - 1; i++) {
         key[i] = step ? (uint64_t)step * (i + 1) : chance();
-        must(orderset_proved_insert(image, length, heads, b, next, n + 1, state, version, key[i], bytes, sizeof bytes, at, value, answer) == 0, "insert");
+        must(orderset_proved_insert(image, length, heads, b, next, n + 1, state, version, key[i], bytes, sizeof bytes,
+                                    at, value, answer)
+                 == 0,
+             "insert");
         must(orderset_proved_play(image, length, at, value, 8, 8) == 0, "play");
     }
     for (uint32_t i = 0; i < 8 * n; i++) {
         const uint64_t any = key[chance() % (n - 1)];
-        must(orderset_proved_replace(image, length, heads, b, next, n + 1, state, version, any, bytes, sizeof bytes, at, value, answer) == 0, "replace");
+        must(orderset_proved_replace(image, length, heads, b, next, n + 1, state, version, any, bytes, sizeof bytes, at,
+                                     value, answer)
+                 == 0,
+             "replace");
         must(orderset_proved_play(image, length, at, value, 8, 8) == 0, "play");
     }
 }
 
 static uint64_t get(uint64_t any, uint32_t b) {
-    must(orderset_proved_get(image, ORDERSET_IMAGE_BYTES(n), heads, b, next, n + 1, any, out, sizeof out, answer) == 0 && answer[0] == ORDERSET_GIVEN, "get");
-    return answer[ORDERSET_GET_COMPARED];
+    must(orderset_proved_get(image, ORDERSET_IMAGE_BYTES(n), heads, b, next, n + 1, any, out, sizeof out, answer) == 0
+             && answer[0] == ORDERSET_RAW_DONE,
+         "get");
+    return answer[ORDERSET_PROVED_GET_COMPARED];
 }
 
 static double nanoseconds(void) {

@@ -3,11 +3,11 @@
  *     worn        every slot was written several times
  *     restarted   the worn set after a restart
  *     next day    45 % of the slots were put and withdrawn, then came a restart; orders come and go, 50 open at a time
- * Every call is timed by itself, the clock's own time taken off. Calls are made in batches, and a batch during which the thread was preempted does not
- * count. An interrupt is no preemption, so that it is seen as a long call. Each turn makes the same calls, with the engines in another order and on the same
- * pages: a call that an interrupt or other work made longer in one turn is told apart by its least time over the turns. Each wait is over before the clock is
- * read (S 0 of bench.h). Values of 24 bytes.
- *     lives [TURNS [N]]     comma-separated values on standard output */
+ * Every call is timed by itself, the clock's own time taken off. Calls are made in batches, and a batch during which
+ * the thread was preempted does not count. An interrupt is no preemption, so that it is seen as a long call. Each turn
+ * makes the same calls, with the engines in another order and on the same pages: a call that an interrupt or other work
+ * made longer in one turn is told apart by its least time over the turns. Each wait is over before the clock is read (S
+ * 0 of bench.h). Values of 24 bytes. lives [TURNS [N]]     comma-separated values on standard output */
 #include "bench.h"
 
 #include <math.h>
@@ -16,25 +16,33 @@
 #include <string.h>
 #include <unistd.h>
 
-#include "orderset.h"
+#include "orderset_raw.h"
 
-extern const struct engine engine_hand, engine_hand_own, engine_set, engine_own, engine_handle, engine_pmemobj, engine_lmdb, engine_sqlite;
+extern const struct engine engine_hand, engine_hand_own, engine_set, engine_own, engine_handle, engine_pmemobj,
+    engine_lmdb, engine_sqlite;
 
 enum { SIZE = 24, OPEN = 50, BATCH = 32, MOST_TURNS = 15, MAX_N = 65535 };
 enum life { FRESH, WORN, RESTARTED, NEXT_DAY, LIVES };
 enum { BASKET = GET + 1, TIMED };
 static const double BATCH_NS = 2e5, LONG_NS = 1e4;
 static const char *const life_name[LIVES] = {"fresh", "worn", "restarted", "next day"};
-static const char *const op_name[TIMED] = {[INSERT] = "insert", [REPLACE] = "replace", [REMOVE] = "remove", [GET] = "get", [BASKET] = "basket"};
+static const char *const op_name[TIMED] = {
+    [INSERT] = "insert", [REPLACE] = "replace", [REMOVE] = "remove", [GET] = "get", [BASKET] = "basket"};
 
 static const struct {
     const struct engine *engine;
     unsigned share; /* of the calls it makes one in so many */
     unsigned turns; /* it takes part in the first ones: two where calls look through the image */
 } plan[] = {
-    {&engine_hand, 1, 2}, {&engine_hand_own, 1, MOST_TURNS}, {&engine_set, 1, 2}, {&engine_own, 1, MOST_TURNS}, {&engine_handle, 1, MOST_TURNS},
+    {&engine_hand, 1, 2},
+    {&engine_hand_own, 1, MOST_TURNS},
+    {&engine_set, 1, 2},
+    {&engine_own, 1, MOST_TURNS},
+    {&engine_handle, 1, MOST_TURNS},
 #ifdef OTHERS
-    {&engine_pmemobj, 8, MOST_TURNS}, {&engine_lmdb, 8, MOST_TURNS}, {&engine_sqlite, 16, 2},
+    {&engine_pmemobj, 8, MOST_TURNS},
+    {&engine_lmdb, 8, MOST_TURNS},
+    {&engine_sqlite, 16, 2},
 #endif
 };
 enum { ENGINES = sizeof plan / sizeof plan[0] };
@@ -49,8 +57,8 @@ static void must(int done, const char *what) {
 /* ---- the times of one kind of call in one life */
 
 struct times {
-    float *each;     /* of all turns, where nothing was preempted */
-    float *least;    /* of each call, over the turns */
+    float *each;                     /* of all turns, where nothing was preempted */
+    float *least;                    /* of each call, over the turns */
     size_t count, room, made, calls; /* made: in this turn; calls: in a turn */
 };
 static struct times times[ENGINES][LIVES][TIMED];
@@ -83,7 +91,8 @@ static int rises(const void *x, const void *y) {
 }
 
 static void print_tail(const float *sorted, size_t count) {
-    printf(",%.0f,%.0f,%.0f,%.0f", sorted[count / 2], sorted[count * 99 / 100], sorted[count * 999 / 1000], sorted[count - 1]);
+    printf(",%.0f,%.0f,%.0f,%.0f", sorted[count / 2], sorted[count * 99 / 100], sorted[count * 999 / 1000],
+           sorted[count - 1]);
 }
 
 static void print_times(const struct config *c, unsigned e, unsigned life, unsigned op) {
@@ -103,8 +112,8 @@ static void print_times(const struct config *c, unsigned e, unsigned life, unsig
             always++;
             sum += t->least[i];
         }
-    printf("%u,%u,%s,%s,%s,%zu,%zu,%zu,%.0f", c->n, c->heads, life_name[life], plan[e].engine->name, op_name[op], t->count, longer, always,
-           always ? sum / (double)always : 0);
+    printf("%u,%u,%s,%s,%s,%zu,%zu,%zu,%.0f", c->n, c->heads, life_name[life], plan[e].engine->name, op_name[op],
+           t->count, longer, always, always ? sum / (double)always : 0);
     print_tail(t->each, t->count);
     print_tail(t->least, t->calls);
     printf("\n");
@@ -365,7 +374,8 @@ int main(int words, char **word) {
     life = -1;
     time_clock();
     fprintf(stderr, "lives: the clock takes %.0f ns, which are taken off each call\n", clock_ns);
-    printf("n,heads,life,engine,op,calls,long,always_long,long_mean,seen_median,seen_p99,seen_p999,seen_worst,median,p99,p999,worst\n");
+    printf("n,heads,life,engine,op,calls,long,always_long,long_mean,seen_median,seen_p99,seen_p999,seen_worst,median,"
+           "p99,p999,worst\n");
     for (unsigned i = 0; i < 2; i++)
         if (!only || only == configs[i].n)
             measure(&configs[i], turns);

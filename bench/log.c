@@ -8,7 +8,7 @@
 #include <stdlib.h>
 #include <string.h>
 
-#include "orderset_log.h"
+#include "orderset_raw.h"
 
 extern const struct log_engine log_set, log_checksum, log_header, log_lmdb, log_lmdb_write;
 
@@ -26,7 +26,8 @@ struct runs {
     struct log_sum counted;
 };
 
-/* A repetition's mean over its undisturbed batches; in the last resort, when there were none in all repetitions, over all of them. */
+/* A repetition's mean over its undisturbed batches; in the last resort, when there were none in all repetitions, over
+ * all of them. */
 static void keep(struct runs *runs, const struct log_result *r, int last) {
     const struct log_sum *s = !r->clean.calls && last && !runs->count ? &r->all : &r->clean;
     if (s->calls)
@@ -40,8 +41,8 @@ static void keep(struct runs *runs, const struct log_result *r, int last) {
 static void print_runs(const struct log_config *c, const struct setting *setting, const char *engine, struct runs *r) {
     const struct log_sum *s = &r->counted;
     qsort(r->ns, r->count, sizeof(double), bench_by_size);
-    printf("%s,%.0f,%zu,%zu,%s,%.1f,%.1f,%.3f,%.3f,%.1f\n", setting->name, setting->delay, c->cells, c->size, engine, r->ns[r->count / 2], r->ns[0],
-           s->waits / s->calls, s->flushes / s->calls, s->bytes / s->calls);
+    printf("%s,%.0f,%zu,%zu,%s,%.1f,%.1f,%.3f,%.3f,%.1f\n", setting->name, setting->delay, c->cells, c->size, engine,
+           r->ns[r->count / 2], r->ns[0], s->waits / s->calls, s->flushes / s->calls, s->bytes / s->calls);
     fflush(stdout);
 }
 
@@ -98,34 +99,40 @@ static void like_message(uint8_t message[MESSAGE], uint64_t *seed) {
     const unsigned time = (unsigned)(bench_chance(seed) % 60000), quantity = (unsigned)(bench_chance(seed) % 10000);
     const unsigned price = 1000 + (unsigned)(bench_chance(seed) % 9000), part = ++number;
     snprintf(text, sizeof text,
-             "8=FIX.4.4|9=0362|35=D|34=%08u|49=BROKER|56=EXCHANGE|52=20240105-10:15:%02u.%03u|11=ORDER-%08u|1=ACCOUNT-0001|55=EXAMPLE|48=XX0000000000|22=4|"
-             "207=XEXA|54=1|38=%06u|40=2|44=%04u.%02u|15=EUR|59=0|60=20240105-10:15:%02u.%03u|21=1|18=G|100=XEXA|453=1|448=TRADER-0001|447=D|452=11|528=P|529=1|"
+             "8=FIX.4.4|9=0362|35=D|34=%08u|49=BROKER|56=EXCHANGE|52=20240105-10:15:%02u.%03u|11=ORDER-%08u|1=ACCOUNT-"
+             "0001|55=EXAMPLE|48=XX0000000000|22=4|"
+             "207=XEXA|54=1|38=%06u|40=2|44=%04u.%02u|15=EUR|59=0|60=20240105-10:15:%02u.%03u|21=1|18=G|100=XEXA|453=1|"
+             "448=TRADER-0001|447=D|452=11|528=P|529=1|"
              "581=1|582=1|660=99|1138=%06u|58=%064u|10=%03u|",
-             part, time / 1000, time % 1000, part, quantity, price / 100, price % 100, time / 1000, time % 1000, quantity, 0, part % 256);
+             part, time / 1000, time % 1000, part, quantity, price / 100, price % 100, time / 1000, time % 1000,
+             quantity, 0, part % 256);
     memcpy(message, text, MESSAGE);
 }
 
-/* Appends to cell 1 of two: the other one gets a message in between, so that the number goes there. Answers the count of stores; lines: where they are. */
+/* Appends to cell 1 of two: the other one gets a message in between, so that the number goes there. Answers the count
+ * of stores; lines: where they are. */
 static unsigned append(const uint8_t *message, size_t size, unsigned *lines) {
     uint32_t at[ORDERSET_LOG_STORES];
-    uint64_t value[ORDERSET_LOG_STORES], answer[ORDERSET_LOG_ANSWER];
+    uint64_t value[ORDERSET_LOG_STORES], answer[ORDERSET_PROVED_LOG_ANSWER];
     unsigned count = 0;
     for (int turn = 0; turn < 2; turn++) {
-        if (orderset_proved_log_append(area, sizeof area, turn ? (const uint8_t *)"-" : message, turn ? 1 : size, at, ORDERSET_LOG_STORES, value,
-                                    ORDERSET_LOG_STORES, answer))
+        if (orderset_proved_log_append(area, sizeof area, turn ? (const uint8_t *)"-" : message, turn ? 1 : size, at,
+                                       ORDERSET_LOG_STORES, value, ORDERSET_LOG_STORES, answer))
             exit(1);
-        for (size_t i = 0; i < answer[ORDERSET_LOG_COUNT]; i++) {
+        for (size_t i = 0; i < answer[ORDERSET_PROVED_LOG_COUNT]; i++) {
             memcpy(area + 8 * (size_t)at[i], &value[i], 8);
             *lines += !turn && (i == 0 || at[i] / 8 != at[i - 1] / 8);
         }
-        count += turn ? 0 : (unsigned)answer[ORDERSET_LOG_COUNT];
+        count += turn ? 0 : (unsigned)answer[ORDERSET_PROVED_LOG_COUNT];
     }
     return count;
 }
 
-/* What is appended over what: messages in the manner of FIX, random bytes over as many, a message of 64 bytes over 384 random ones. */
+/* What is appended over what: messages in the manner of FIX, random bytes over as many, a message of 64 bytes over 384
+ * random ones. */
 enum what { FIRST, LIKE, SAME, RANDOM, OVER_LONG, WHATS };
-static const char *const names[WHATS] = {"first use of a cell", "a like message", "the same message again", "other bytes of that length", "a short one over a long one"};
+static const char *const names[WHATS] = {"first use of a cell", "a like message", "the same message again",
+                                         "other bytes of that length", "a short one over a long one"};
 
 static void count_stores(enum what what, size_t size) {
     enum { TIMES = 1000 };

@@ -3,7 +3,7 @@
 
 #include <string.h>
 
-#include "orderset_log.h"
+#include "orderset_raw.h"
 #include "orderset_persist.h"
 
 #define FILE_NAME "/dev/shm/orderset_bench_log"
@@ -11,11 +11,12 @@
 static uint8_t *area;
 static size_t length;
 static uint32_t at[ORDERSET_LOG_CELLS_MAX];
-static uint64_t value[ORDERSET_LOG_CELLS_MAX], answer[ORDERSET_LOG_ANSWER];
+static uint64_t value[ORDERSET_LOG_CELLS_MAX], answer[ORDERSET_PROVED_LOG_ANSWER];
 static enum orderset_flush flush;
 
 static int recover(void) {
-    return (int)orderset_proved_log_recover(area, length, at, ORDERSET_LOG_CELLS_MAX, value, ORDERSET_LOG_CELLS_MAX, answer);
+    return (int)orderset_proved_log_recover(area, length, at, ORDERSET_LOG_CELLS_MAX, value, ORDERSET_LOG_CELLS_MAX,
+                                            answer);
 }
 
 static int e_open(const struct log_config *c) {
@@ -30,17 +31,19 @@ static void e_close(void) {
 }
 
 static inline int e_append(const uint8_t *message, size_t size) {
-    if (orderset_proved_log_append(area, length, message, size, at, ORDERSET_LOG_STORES, value, ORDERSET_LOG_STORES, answer))
+    if (orderset_proved_log_append(area, length, message, size, at, ORDERSET_LOG_STORES, value, ORDERSET_LOG_STORES,
+                                   answer))
         return 1;
-    bench_bytes += 8 * answer[ORDERSET_LOG_COUNT];
-    return orderset_persist_list(area, length, at, value, answer[ORDERSET_LOG_COUNT], flush);
+    bench_bytes += 8 * answer[ORDERSET_PROVED_LOG_COUNT];
+    return orderset_persist_list(area, length, at, value, answer[ORDERSET_PROVED_LOG_COUNT], flush);
 }
 
 static int e_last(uint8_t message[MESSAGE]) {
-    if (recover() || answer[ORDERSET_LOG_COUNT] || orderset_proved_log_read(area, length, answer[ORDERSET_LOG_NUMBER], answer))
+    if (recover() || answer[ORDERSET_PROVED_LOG_COUNT]
+        || orderset_proved_log_read(area, length, answer[ORDERSET_PROVED_LOG_NUMBER], answer))
         return -1;
-    memcpy(message, area + answer[ORDERSET_LOG_OFFSET], answer[ORDERSET_LOG_LENGTH]);
-    return (int)answer[ORDERSET_LOG_LENGTH];
+    memcpy(message, area + answer[ORDERSET_PROVED_LOG_OFFSET], answer[ORDERSET_PROVED_LOG_LENGTH]);
+    return (int)answer[ORDERSET_PROVED_LOG_LENGTH];
 }
 
 #define ENGINE log_set

@@ -1,4 +1,5 @@
-/* What the drivers of the measurements share: files in /dev/shm, the clock, the waits, and whether the thread was preempted. */
+/* What the drivers of the measurements share: files in /dev/shm, the clock, the waits, and whether the thread was
+ * preempted. */
 #define _GNU_SOURCE
 #include "bench.h"
 

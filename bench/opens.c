@@ -1,6 +1,7 @@
-/* What an open for writing takes, and of it what makes the blocks of the file its own: the bytes written again, the sync after that and, where the file is
- * mapped with MAP_SYNC, a store to each page and the sync after that. Half of the slots are live. Each row is the median over the opens, in microseconds.
- *     opens DIRECTORY [OPENS [1]]     with 1 the file is mapped as if it were on non-volatile memory */
+/* What an open for writing takes, and of it what makes the blocks of the file its own: the bytes written again, the
+ * sync after that and, where the file is mapped with MAP_SYNC, a store to each page and the sync after that. Half of
+ * the slots are live. Each row is the median over the opens, in microseconds. opens DIRECTORY [OPENS [1]]     with 1
+ * the file is mapped as if it were on non-volatile memory */
 #define _GNU_SOURCE
 #include <errno.h>
 #include <stdio.h>
@@ -10,7 +11,7 @@
 #include <time.h>
 #include <unistd.h>
 
-#include "orderset_file.h"
+#include "orderset.h"
 
 enum { MOST = 1001 };
 enum part { WHOLE, READ, WRITTEN, SYNCED, STORED, MSYNCED, PARTS };
@@ -74,7 +75,7 @@ int __wrap_msync(void *bytes, size_t size, int flags) {
 static void must(uint32_t number, const char *what) {
     if (number == 0)
         return;
-    fprintf(stderr, "opens: %s: %s: %s\n", what, orderset_file_text(number), strerror(errno));
+    fprintf(stderr, "opens: %s: %s: %s\n", what, orderset_strerror(number), strerror(errno));
     exit(1);
 }
 
@@ -84,13 +85,13 @@ static int rises(const void *a, const void *b) {
 }
 
 static void measure(const char *path, uint32_t slots, unsigned opens) {
-    struct orderset_file *set;
+    struct orderset *set;
     struct orderset_statistics statistics;
     uint8_t *bytes = calloc(1, ORDERSET_IMAGE_BYTES(slots));
     unlink(path);
-    must(orderset_file_create(path, slots, 1), "create");
-    must(orderset_file_open(path, ORDERSET_FILE_READ, &set), "open");
-    orderset_file_close(set);
+    must(orderset_create(path, slots, 1), "create");
+    must(orderset_open(path, ORDERSET_READ, &set), "open");
+    orderset_close(set);
     FILE *file = fopen(path, "r+b"); /* records as insert writes them, all at once */
     must(!bytes || !file || fread(bytes, 1, ORDERSET_IMAGE_BYTES(slots), file) == 0, "read");
     for (uint64_t i = 1; i <= slots / 2; i++) {
@@ -103,13 +104,13 @@ static void measure(const char *path, uint32_t slots, unsigned opens) {
     for (unsigned i = 0; i < opens; i++) {
         memset(part, 0, sizeof part);
         const double begin = now();
-        must(orderset_file_open(path, ORDERSET_FILE_WRITE, &set), "open");
+        must(orderset_open(path, ORDERSET_WRITE, &set), "open");
         part[WHOLE] = now() - begin;
         for (int j = 0; j < PARTS; j++)
             took[j][i] = part[j];
-        orderset_file_statistics(set, &statistics);
+        orderset_stat(set, &statistics);
         must(statistics.live != slots / 2, "orders");
-        orderset_file_close(set);
+        orderset_close(set);
     }
     printf("| %u | %u |", slots, statistics.flush);
     for (int j = 0; j < PARTS; j++) {

@@ -8,14 +8,15 @@
 #include <string.h>
 #include <sys/mman.h>
 
-#include "orderset.h"
-#include "orderset2.h"
+#include "orderset_raw.h"
+#include "orderset_raw.h"
 
 enum { STACK = 8 << 20, FILL = 0xa5, HEADS = 65536 };
 
 static uint8_t *image;
 static size_t length;
-static uint32_t heads[HEADS], next[ORDERSET_SLOTS_MAX + 1], state[ORDERSET_STATE], count[1], at[ORDERSET_INVALIDATIONS];
+static uint32_t heads[HEADS], next[ORDERSET_SLOTS_MAX + 1], state[ORDERSET_RAW_STATE], count[1],
+    at[ORDERSET_INVALIDATIONS];
 static uint64_t version[1], value[ORDERSET_INVALIDATIONS], counts[ORDERSET_COUNTS], returned;
 
 #define LENT image, length, heads, HEADS, next, length / ORDERSET_SLOT_BYTES
@@ -53,8 +54,8 @@ static size_t used(void *(*work)(void *)) {
         abort();
     memset(stack, FILL, STACK);
     returned = 0;
-    if (pthread_attr_init(&attributes) || pthread_attr_setstack(&attributes, stack, STACK) ||
-        pthread_create(&thread, &attributes, work, NULL) || pthread_join(thread, NULL) || returned)
+    if (pthread_attr_init(&attributes) || pthread_attr_setstack(&attributes, stack, STACK)
+        || pthread_create(&thread, &attributes, work, NULL) || pthread_join(thread, NULL) || returned)
         abort();
     pthread_attr_destroy(&attributes);
     while (free_bytes < STACK && stack[free_bytes] == FILL)
@@ -65,7 +66,7 @@ static size_t used(void *(*work)(void *)) {
 
 int main(void) {
     static const size_t sizes[] = {1000, 4095, 4096, 16383, 16384, 65535};
-    uint64_t answer[ORDERSET_FORMAT_ANSWER];
+    uint64_t answer[ORDERSET_PROVED_FORMAT_ANSWER];
     puts("layout, N, recovery, count_slots, the thread itself (bytes)");
     for (uint64_t layout = 1; layout <= 2; layout++) {
         for (size_t i = 0; i < sizeof sizes / sizeof *sizes; i++) {

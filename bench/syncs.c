@@ -1,5 +1,5 @@
-/* The waits of LMDB and SQLite: a symbol of the program stands before that of a shared library, so that each sync comes by here, is counted and is followed
- * by the added delay. So do the writes, of which the bytes are counted. */
+/* The waits of LMDB and SQLite: a symbol of the program stands before that of a shared library, so that each sync comes
+ * by here, is counted and is followed by the added delay. So do the writes, of which the bytes are counted. */
 #define _GNU_SOURCE
 #include <sys/syscall.h>
 #include <sys/uio.h>

@@ -1,5 +1,5 @@
-/* The waits of libpmem: a symbol of the program stands before that of a shared library, so that each drain comes by here, is counted and is followed by the
- * added delay. */
+/* The waits of libpmem: a symbol of the program stands before that of a shared library, so that each drain comes by
+ * here, is counted and is followed by the added delay. */
 #define _GNU_SOURCE
 #include <dlfcn.h>
 #include <libpmem.h>

@@ -9,7 +9,7 @@
  *
  * Status 1: something was refused or failed. 2: the arguments are not of this form.
  *
- * The answers are those of the archive's functions, which are proved; this program is not. It only reads and takes no
+ * The answers are those of the library's functions, which are proved; this program is not. It only reads and takes no
  * lock, so that a gateway may write to the file meanwhile. What changes and changes back between two looks is not seen,
  * and what is seen is perhaps not durable yet. */
 #define _GNU_SOURCE
@@ -23,7 +23,7 @@
 #include <sys/stat.h>
 #include <unistd.h>
 
-#include "orderset.h"
+#include "orderset_raw.h"
 
 enum { FAILED = 1, USAGE = 2, WORDS = ORDERSET_LINE_BYTES / 8, PAUSE = 200 /* microseconds between two looks */ };
 
@@ -44,23 +44,17 @@ static void copy_line(uint64_t copy[WORDS], const uint64_t *line) {
         copy[i] = __atomic_load_n(line + i, __ATOMIC_ACQUIRE);
 }
 
-static void taken(uint32_t refusal) {
-    if (refusal == ORDERSET_OK)
-        return;
-    fprintf(stderr, "sender: no %" PRIu32 "\n", refusal);
-    exit(FAILED);
-}
-
 static struct seen look(const uint64_t *line, uint64_t version) {
     uint64_t copy[WORDS];
-    const uint8_t *bytes = (const uint8_t *)copy;
-    struct seen seen;
     copy_line(copy, line);
-    taken(orderset_proved_line_whole(bytes, sizeof copy, (uint8_t *)&seen.whole, sizeof seen.whole));
-    taken(orderset_proved_line_version(bytes, sizeof copy, (uint8_t *)&seen.version, sizeof seen.version));
-    taken(orderset_proved_line_first(bytes, sizeof copy, version, (uint8_t *)&seen.first, sizeof seen.first));
-    taken(orderset_proved_line_last(bytes, sizeof copy, version, (uint8_t *)&seen.last, sizeof seen.last));
-    return seen;
+    struct seen seen = {(uint64_t)orderset_raw_line_whole(copy), orderset_raw_line_version(copy), 0, 0};
+    uint32_t refusal = orderset_raw_line_first(copy, version, &seen.first);
+    if (!refusal)
+        refusal = orderset_raw_line_last(copy, version, &seen.last);
+    if (!refusal)
+        return seen;
+    fprintf(stderr, "sender: no %" PRIu32 "\n", refusal);
+    exit(FAILED);
 }
 
 /* Line A of the slot, mapped for reading. */

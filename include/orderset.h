@@ -1,126 +1,68 @@
-/* orderset.h: the persistent order set for C and C++ (installed: -lorderset; built: liborderset_c.a; x86-64 Linux).
+/* orderset.h: the persistent order set and the message log in files, each behind one handle, for C and C++ (-lorderset;
+ * x86-64 Linux). A handle locks, maps and recovers the file, keeps the index, and makes the stores of every call
+ * durable before the call returns. Who brings memory of his own uses orderset_raw.h. The calls below the handle are
+ * proved; this header and its sources are not.
  *
- * A map from a 64-bit key to a value of 0 to 80 bytes, kept in an image of 128 * (N + 1) bytes, N from 2 to 65,535. The
- * image is all that a restart needs: orderset_proved_recover rebuilds the index from it. Nothing here allocates, keeps a
- * pointer, or uses a global variable.
+ *     struct orderset *set;
+ *     uint32_t number = orderset_create("orders.img", 1000, 1);       once: room for 999 open orders, layout 1
+ *     number = orderset_open("orders.img", ORDERSET_WRITE, &set);
+ *     if (number) { fprintf(stderr, "%s\n", orderset_strerror(number)); return 1; }
+ *     number = orderset_book_new(set, (struct orderset_key){7, 0}, 100);
+ *     struct orderset_record order = {0};
+ *     while ((number = orderset_next(set, &order)) == 0) ...order.key.low, order.value, order.length
+ *     orderset_close(set);
  *
- * Layouts: the calls of this header are for images of layout 1 and give 3 on images of layout 2, whose keys have 128
- * bits: orderset2.h. format, play and the questions about a line serve both.
+ * Results: a call that can be refused gives one number of enum orderset_number. 0: it is done, and durable. Below 1000:
+ * a refusal, with its number in the definition of the set or the log; such a call changed nothing. 1000 to 1009: an
+ * answer, and no error. From 1010 on: an error; but for ORDERSET_NOT_DURABLE the call changed no order.
+ * orderset_strerror says each in words. After ORDERSET_ERRNO and ORDERSET_NOT_DURABLE errno tells more.
  *
- * The caller owns everything:
- *   image    ORDERSET_IMAGE_BYTES(N) bytes; 64-byte aligned if its stores are to be persisted (orderset_persist.h)
- *   heads    B numbers, B from 1 to ORDERSET_HEADS_MAX; key k belongs to head k % B
- *   next     N + 1 numbers
- *   state    four numbers: the reuse chain's first and last slot, the live count, and the newest slot, one with the
- *            highest version among valid slots (ORDERSET_FIRST, ORDERSET_LAST, ORDERSET_LIVE, ORDERSET_NEWEST)
- *   version  one number: the next version
- * heads, next, state and version are the index. orderset_proved_recover fills them; insert, replace, remove, baskets and the
- * book's steps keep them up to date. They are never persisted. state[ORDERSET_NEWEST] is a hint to these calls, which
- * makes them faster: whatever stands there, no answer and no store is another. The calls for the owner (below) go by it.
- * Where no slot is valid, recovery leaves some slot's number there.
+ * Layouts: the file tells its own. In layout 1 a key has 64 bits (high is 0) and a value up to 80 bytes; in layout 2 a
+ * key has 128 bits and a value up to 72. The calls are the same; a key that is too wide for layout 1 is refused by
+ * ORDERSET_KEY_TOO_WIDE, in each call that takes a key.
  *
- * How to write: orderset_proved_insert, orderset_proved_replace, orderset_proved_remove and the book's steps change the index and hand out
- * 16 stores, eight for each of two lines, and leave the image as it is. The caller makes all 16, in order within each
- * line, flushes both lines and fences once (orderset_persist), or makes them with orderset_proved_play(..., 8, 8). Only then
- * may the next call follow. If that was not finished, orderset_proved_recover comes next. orderset_proved_basket does the same for up
- * to eight keys at once, with 16 stores for each of them in a lent list and still one fence (orderset_persist_list).
+ * Files: a new file is made whole and durable under another name, PATH.new- and six letters, before it gets its own, so
+ * that a cut or a kill leaves no half of it; a name like that which is left over may be removed. Of a name over 100
+ * bytes the last eleven give way to that ending. An open that will write first looks at the length, the header and the
+ * marks: a file that is something else keeps every byte, and no block is asked for it. Then it asks for all blocks of
+ * the file, writes the same bytes once more, makes the whole of it and its name durable, recovers, and makes durable
+ * what recovery hands out, all before it returns: so nothing that was answered is lost by a power cut, nor by a kill of
+ * the process with the power on and a cut after it. For the name it syncs the directory, as create does: both need the
+ * right to read the directory. A file over the process's limit of a file's length (RLIMIT_FSIZE) is refused by
+ * ORDERSET_ERRNO with EFBIG. On a file system on non-volatile memory (MAP_SYNC) a call is line flushes and one
+ * fence; on any other it is msync, the fallback, as good as the device, which must not tear a 64-byte line. msync is
+ * also used, with MAP_SYNC, where the file shares a block with another (reflink) after it was written, and on xfs where
+ * that cannot be asked (FIEMAP). A copy with shared blocks that is made while the handle is open is not seen. Copy a
+ * file in use with no other program; `cp --reflink=never`, both ways, of one that is closed.
  *
- * Two families: each call that writes is there twice, as orderset_proved_insert and so on, the calls of document 01, and as
- * orderset_proved_own_insert and so on, the calls for the owner of the index, which are no calls of document 01. Use the owner's
- * calls only where index and state come from an orderset_proved_recover whose stores are made and from accepted calls since,
- * the stores of each made before the next call, and nobody else writes index, state or image: then they answer, hand out
- * and leave exactly what the calls of document 01 do, and never look through the image. Of any other index they are safe
- * and terminate, but their refusals 11 (reuse) and 28 and the slots that they take are their own: use there the
- * calls of document 01, whose refusals hold for any index.
+ * Locks: one handle writes at a time, alone, in all processes; another open is refused by ORDERSET_LOCKED. A
+ * handle that only reads copies the file under a shared lock, which ends with the open; it shows the file as it was
+ * then, writes nothing to it, and keeps no writer out for longer than that. After a kill or a failed sync it may show a
+ * call that had no answer and is not durable yet. An open tries for a fifth of a second; where another file gets the
+ * name meanwhile, that one is opened. The lock is flock: a program that does not ask for it is not held off. A file
+ * that is cut short while it is open ends the process (SIGBUS), as does a mapped page that cannot be read, and in a
+ * change a full disk on btrfs, zfs or xfs with shared blocks (reflink); in an open or a create a full disk is
+ * ORDERSET_ERRNO. A file that is removed, or over which another is renamed, while it is open is still written and
+ * answered; all of that is lost at close.
  *
- * Insert or replace: insert is for a key that is not held and replace for one that is, and each refuses the other kind,
- * so that a key that is used again by mistake overwrites nothing. A caller who means either asks orderset_proved_locate first,
- * or replaces where insert says 20.
+ * After a failed sync the call returns ORDERSET_NOT_DURABLE: it is perhaps done and perhaps not. Every later call
+ * is refused by ORDERSET_STOPPED, but for layout, count, room, compared, errno, stat and close. The same holds after a
+ * change whose thread was cancelled in it; such a change returns nothing. Close, open again, and ask whether it was
+ * done. new, insert: the key is held. acknowledge: the state. fill: compare `filled` with what it was before (absent:
+ * filled in full). withdraw, remove: absent. replace: compare the value. append: the last number and its bytes. Never
+ * just repeat a fill or an append.
  *
- * How to start: recovery takes what it reads as what stands in the memory. After a power cut that is so. After anything
- * else (the process was killed, a call of orderset_persist.h failed, or nobody knows) stores may be seen that are not
- * durable; then orderset_proved_recover comes after the whole image was made durable (orderset_persist_image or, in a file
- * with msync, orderset_persist_image_file), or a later power cut can take an order that was answered. Do so at every
- * start that will write.
+ * Threads: one thread at a time for each handle; two handles know nothing of each other. Recovery needs up to 2.24 MB
+ * of stack, in layout 2 up to 2.79 MB, and has 8 MiB in a thread of its own while an open lasts, with all signals
+ * blocked; no call here needs more than 16 KB. A thread may be cancelled (pthread_cancel, deferred): create, open and
+ * close hold the request back until they return, and leave nothing behind; the handle that an open then gives is to be
+ * closed by the caller's cleanup. A change can be left at its msync: the handle is stopped, as after a failed sync,
+ * with errno ECANCELED, and another thread closes it and opens the file again. With line flushes no change can be left,
+ * and no question ever. A process made by fork does not use the handle of its parent, and as long as it lives and calls
+ * no exec it keeps the lock, also after the parent closed the handle or ended.
  *
- * After recovery: it hands out at most ORDERSET_INVALIDATIONS stores, one for each void record, a record of a basket
- * that a cut left incomplete (below). They are made, their lines are flushed and a fence is passed before any other call:
- * orderset_persist_list(image, image_length, at, value, count[0], flush), or orderset_proved_play_list and a flush of each
- * line. If that was not finished, orderset_proved_recover comes next: it gives the same map and hands out what is left. Where
- * count[0] is 0 there is nothing to do. What they are for: a void record is a whole one, and only its missing companions
- * tell that it does not count. A later call with a higher version would hide that, and half of the basket would be there
- * after all; with an open line the record is gone for good.
- *
- * Baskets: orderset_proved_basket inserts, replaces and removes 1 to ORDERSET_BASKET_MAX distinct keys, all or none: after a
- * cut that left any number of first stores on each of its up to sixteen lines, recovery gives all of its changes where
- * all stores stand, and else none of them. The records that it writes have one version, and each tells in bits 16 to 23 of
- * its kind word how many they are, from 2 to 8; a record that was written alone, also by a basket of one key, has 0
- * there. Of valid slots the highest version counts if as many of them have it as its records tell. Otherwise these
- * records are void, and the next version down is judged in turn. A void record holds nothing for its key, and its slot
- * is spare.
- *
- * Which slots a call takes: the first of the reuse chain that may be taken, one for each key. No call takes a slot of
- * the highest version among valid slots, nor a record of a remove while an older valid record of its key is in the
- * image. 28 says that too few slots may be taken, or that new keys would leave no spare slot. In a set that was
- * formatted and then changed by these calls alone, an insert is refused with 28 only where one slot is spare, and a
- * replace or a remove never is; a basket can also be refused with 28 where as many slots are spare as it has keys, or
- * more, since some of them may not be taken. An image from elsewhere that recovery accepts may have no slot to take;
- * there they are refused with 28 too.
- *
- * What a call returns: 0 where it is not refused. A refused call leaves everything that it was lent as it was. Format,
- * play, baskets, the book's steps and the questions about a line return the number of the refusal (enum
- * orderset_refusal).
- * Recover, count_slots, insert, replace, remove, get and locate return 64 bits: that number in the low 32, read by
- * ORDERSET_REFUSAL, and above them the slot that recover and count_slots name (ORDERSET_FAULT_SLOT), or the count of
- * slots that the other calls compared (below). So compare ORDERSET_REFUSAL of the result with a number, and the result
- * itself with 0 alone. In get, locate and remove a key that is not held is no refusal: the call returns 0 and answer[0]
- * is ORDERSET_ABSENT.
- *
- * Slots compared: insert, replace, remove, get and locate report how many slots of the key's chain were compared with
- * the key: the key's place in the chain, from 1, or the length of the chain where the key is not held. With an index
- * from recovery and the calls since, that is never above the number of held keys that have the key's head. It is the
- * last word of the answer (ORDERSET_COMPARED; in get ORDERSET_GET_COMPARED), also of absent. Of a refused call it is
- * the high 32 bits of the result (ORDERSET_REFUSED_COMPARED): 0 where the refusal is 1, 2, 3, 4, 10 or 11 of the chain,
- * since then no search was finished. Baskets and the steps of the book do not report it.
- *
- * The order book is a layer above the set: orders in the place of bytes. An order is a value of 24 bytes, three words
- * of 8 bytes, low byte first: its state (ORDERSET_SENT or ORDERSET_ACKNOWLEDGED), the ordered quantity and the filled
- * quantity, and filled is below ordered. Any other value is no order. The steps are orderset_proved_book_new,
- * orderset_proved_book_acknowledge, orderset_proved_book_fill and orderset_proved_book_withdraw; orderset_proved_get reads an order. An order that
- * is filled in full or withdrawn is removed. Over any history of steps since an empty set, with no insert, replace,
- * remove or basket among them, all that was ordered is filled, withdrawn or open.
- *
- * A single line can be asked about, as 64 bytes and nothing else of the image: orderset_proved_line_whole,
- * orderset_proved_line_version, orderset_proved_line_first and orderset_proved_line_last. The answers are the set's own rules: a slot is
- * valid where its two lines are whole with one version of at least 1, and the first and the last word are those of the
- * stores that a call hands out for that line.
- *
- * Pointers: none may be null, also where a length is 0, and each is aligned for its type. What a function writes
- * through one pointer must not overlap what it is lent through any other; two regions that are only read may overlap.
- * So in every call image, heads, next, state, version, the value or the output, count, counts, at, value and answer are
- * separate pieces of memory; a basket's kinds, keys, lengths and bytes, which may overlap each other, overlap none of
- * these that it writes.
- *
- * Stack: recovery and count_slots need up to 2.24 MB: give 3 MiB (see orderset_proved_recover). Of the other calls, measured:
- * a basket 2.4 KB, any other below 1 KB.
- *
- * Threads: the set has no locks. Gets and locates may run beside each other, each with an output and an answer of its
- * own, and beside nothing else: from the start of an insert, a replace, a remove, a basket, a step of the book, a
- * recovery or a play until its stores are made, flushed and fenced, no other call runs; nor while slots are counted
- * with the set's own heads and next. The questions about a line may run at any time on a copy of the line; a copy that
- * is taken while another thread or process stores is taken from word 7 down to word 0 (see examples/sender.c).
- *
- * Processes: the index is one process's. No second process writes or recovers an image in use; after fork only one of
- * the two goes on, the other calls nothing on it. No call from a signal handler that can interrupt one.
- *
- * How many heads: a call walks along the chain of its key's head, so with B near N chains are short. Keys k * B all
- * have one head, and are one chain: with N = 65,535, B = 65,536 and 60,000 keys k * 65,536 a get took 280 microseconds,
- * and 0.2 with B = 65,521. Take a prime near N for B, unless the keys step by a multiple of it. The slots compared show
- * whether B suits the keys: docs/HEADS.md has what to expect, and what to do where it is more.
- *
- * Versions: the version of a call that stores is above those of all records that stand, and no more is said of it. It
- * is no sequence number: after a cut the version of the struck call can come again, with another call, or be left out.
- */
+ * Pointers: none may be null, but for the bytes of a value or an output of length 0, for close, and where it is
+ * said. */
 #ifndef ORDERSET_H
 #define ORDERSET_H
 
@@ -131,339 +73,333 @@
 extern "C" {
 #endif
 
-/* Said of every call: no pointer may be null, and the result is to be looked at. */
+#define ORDERSET_VERSION_MAJOR 1
+#define ORDERSET_VERSION_MINOR 0
+#define ORDERSET_VERSION_PATCH 0
+#define ORDERSET_VERSION_STRING "1.0.0"
+
 #if defined(__GNUC__)
-#define ORDERSET_CALL __attribute__((nonnull, warn_unused_result))
+#define ORDERSET_CALL __attribute__((warn_unused_result))
 #else
 #define ORDERSET_CALL
 #endif
 
+/* ---- the set: a file of N slots has ORDERSET_IMAGE_BYTES(N) bytes, and room for N - 1 open orders */
 #define ORDERSET_SLOTS_MIN 2u
 #define ORDERSET_SLOTS_MAX 65535u
-#define ORDERSET_HEADS_MAX 65536u
-#define ORDERSET_LAYOUT 1u /* of the calls of this header */
-#define ORDERSET_VALUE_MAX 80u
-#define ORDERSET_LINE_BYTES 64u
+#define ORDERSET_LAYOUT_1 1u
+#define ORDERSET_LAYOUT_2 2u
+#define ORDERSET_VALUE_MAX 80u   /* the bytes of a value, at the most */
+#define ORDERSET_VALUE_MAX_2 72u /* in layout 2 */
 #define ORDERSET_SLOT_BYTES 128u
-#define ORDERSET_STORES 16u /* the stores of a call, the first half for line A and the second for line B */
-#define ORDERSET_LINE_STORES 8u
-#define ORDERSET_INVALIDATIONS 8u /* the most stores that recovery hands out */
-#define ORDERSET_COUNTS 6u /* the counts of orderset_proved_count_slots */
-
-/* a basket: its keys, at the most; the bytes of its values, 80 for each key; and the stores of one of so many keys */
+#define ORDERSET_LINE_BYTES 64u /* a slot is two lines */
+#define ORDERSET_IMAGE_BYTES(n) ((size_t)ORDERSET_SLOT_BYTES * ((size_t)(n) + 1u))
 #define ORDERSET_BASKET_MAX 8u
-#define ORDERSET_BASKET_BYTES 640u
-#define ORDERSET_BASKET_STORES(count) ((size_t)ORDERSET_STORES * (count))
+#define ORDERSET_COUNTS 6u /* classes of slots that are counted: orderset_slot_class without the last */
 
 /* what a basket does with a key */
 #define ORDERSET_INSERT 1u
 #define ORDERSET_REPLACE 2u
 #define ORDERSET_REMOVE 3u
 
-/* the bytes of an image of n slots, and the numbers of its next */
-#define ORDERSET_IMAGE_BYTES(n) ((size_t)ORDERSET_SLOT_BYTES * ((size_t)(n) + 1u))
-#define ORDERSET_NEXT_LENGTH(n) ((size_t)(n) + 1u)
-
-/* places in state */
-#define ORDERSET_FIRST 0
-#define ORDERSET_LAST 1
-#define ORDERSET_LIVE 2
-#define ORDERSET_NEWEST 3
-#define ORDERSET_STATE 4
-
-/* answer[0] of a call that returned 0; the values follow, zeros for ORDERSET_ABSENT, and then, of the calls that report
- * them, the slots compared */
-#define ORDERSET_ABSENT 0u
-#define ORDERSET_GIVEN 1u
-#define ORDERSET_ALREADY 2u /* the order was acknowledged before: there is nothing to store */
-
-/* places in the answer of insert, replace, remove and locate, and its length; a book's step has no ORDERSET_COMPARED */
-#define ORDERSET_SLOT 1
-#define ORDERSET_VERSION 2
-#define ORDERSET_COMPARED 3
-#define ORDERSET_CHANGE_ANSWER 4
-#define ORDERSET_STEP_ANSWER 3
-
-/* the same of get */
-#define ORDERSET_LENGTH 1
-#define ORDERSET_GET_COMPARED 2
-#define ORDERSET_ANSWER 3
-
-/* the same of a basket: the version, and from there on the slots; it has no ORDERSET_GIVEN */
-#define ORDERSET_BASKET_VERSION 0
-#define ORDERSET_BASKET_SLOTS 1
-#define ORDERSET_BASKET_ANSWER 9
-
-/* the same of format */
-#define ORDERSET_SLOTS 1
-#define ORDERSET_FORMAT_ANSWER 2
-
-/* the bytes of an answer about a line: a word, low byte first, as a uint64_t has it on x86-64 */
-#define ORDERSET_LINE_ANSWER 8u
-
-/* What a refused call returned: the number of the refusal, and above it the slots compared, or from orderset_proved_recover
- * the slot that it names, 0 for none. The last two do not widen what they are given, so that the compiler warns where
- * the result was kept in 32 bits: there they are lost. */
-#define ORDERSET_REFUSAL(returned) ((uint32_t)(returned))
-#define ORDERSET_REFUSED_COMPARED(returned) ((uint32_t)((returned) >> 32))
-#define ORDERSET_FAULT_SLOT(returned) ((uint32_t)((returned) >> 32))
-
-/* an order: its bytes, and the states in its first word */
+/* an order: its bytes, and its states */
 #define ORDERSET_ORDER_BYTES 24u
 #define ORDERSET_SENT 1u
 #define ORDERSET_ACKNOWLEDGED 2u
 
-/* The refusals, in the numbers of the definition. They are tested in the order that each function names. */
-enum orderset_refusal {
+/* ---- the log: a file of K cells has ORDERSET_LOG_BYTES(K) bytes, and keeps the last K - 1 messages */
+#define ORDERSET_LOG_CELLS_MIN 2u
+#define ORDERSET_LOG_CELLS_MAX 1000u
+#define ORDERSET_LOG_CELL_BYTES 448u
+#define ORDERSET_LOG_MESSAGE_MAX 384u
+#define ORDERSET_LOG_BYTES(k) ((size_t)ORDERSET_LOG_CELL_BYTES * (size_t)(k))
+
+/* What a call returns. */
+/* clang-format off */
+/* from src/refusals.def */
+enum orderset_number {
     ORDERSET_OK = 0,
-    ORDERSET_NO_IMAGE_LENGTH = 1,   /* the length is not 128 * (N + 1) with N from 2 to 65,535 */
-    ORDERSET_NO_FORMAT = 2,         /* word 0 of the header is zero: not formatted */
-    ORDERSET_NO_HEADER = 3,         /* the header is not the one for this length and the call's layout */
-    ORDERSET_NO_INDEX_LENGTH = 4,   /* heads has 0 or more than 65,536 numbers, or next has not N + 1 */
-    ORDERSET_BAD_MARK = 5,          /* a mark is neither 0 nor 1 */
-    ORDERSET_BAD_BITS = 6,          /* the kind word of a valid slot has bits above bit 23, or its number of records
-                                       (bits 16 to 23) is 1 or over 8 */
-    ORDERSET_SHARED_VERSION = 7,    /* of valid slots with one version the numbers of records differ, there are more
-                                       than that number (0 meaning one), or two have one key */
-    ORDERSET_ALL_LIVE = 8,          /* no slot is spare */
-    ORDERSET_NO_VERSION = 9,        /* the next version is 2^63 or more */
-    ORDERSET_VALUE_TOO_LONG = 10,   /* the value exceeds 80 bytes, in layout 2 72 */
-    ORDERSET_BAD_INDEX = 11,        /* the key's chain or the reuse chain is not one of this image, or the live count is
-                                       below the number of keys that are removed */
-    ORDERSET_OUTPUT_TOO_SHORT = 13, /* the output is shorter than the value; in a basket: a list is shorter than its
-                                       stores */
-    ORDERSET_BAD_COUNT = 14,        /* a count exceeds 8 */
-    ORDERSET_BAD_STORES = 15,       /* the stores are not those of two lines of the image; in play_list: a word is
-                                       outside, or the lengths differ */
-    ORDERSET_KEY_HELD = 17,         /* the key of a new order is held, by an order or by another value */
-    ORDERSET_NO_ORDER = 18,         /* the key is not held, or holds no order */
-    ORDERSET_BAD_QUANTITY = 19,     /* the quantity of a new order is zero; in fill: it is zero or more than is open */
-    ORDERSET_INSERT_HELD = 20,      /* in insert: the key is held */
-    ORDERSET_NOT_HELD = 21,         /* in replace: the key is not held; in a basket also in remove */
-    ORDERSET_BAD_KIND = 22,         /* the kind of a valid slot is neither put nor remove */
-    ORDERSET_BAD_LENGTH = 23,       /* the length of a valid slot is over 80, in layout 2 over 72, or a remove's is
-                                       not 0; in get: over 80, in layout 2 over 72 */
-    ORDERSET_BAD_TAIL = 24,         /* a value byte of a valid slot past its length is not zero */
-    ORDERSET_BROKEN_SLOTS = 25,     /* more than eight slots are broken or void: no power cut leaves that; look at the
-                                       memory, and whether every start made the image durable */
-    ORDERSET_NO_BASKET = 26,        /* the basket has 0 or more than 8 keys, or an item of a kind that there is not */
-    ORDERSET_KEY_TWICE = 27,        /* a key comes twice in the basket */
-    ORDERSET_NO_ROOM = 28,          /* too few slots of the reuse chain may be taken, or with the new keys no slot would
-                                       be spare */
-    ORDERSET_NO_LAYOUT = 32,        /* format is asked for a layout other than 1 or 2 */
-    ORDERSET_NO_LINE_LENGTH = 33    /* a line has not 64 bytes, or the answer about it not 8 */
+    ORDERSET_BAD_IMAGE_LENGTH = 1,          /* the length is not 128 * (N + 1) with N from 2 to 65,535: not a file of
+                                               the set, or cut short or extended */
+    ORDERSET_NOT_FORMATTED = 2,             /* word 0 of the header is zero: not a file of the set, or not
+                                               formatted */
+    ORDERSET_BAD_HEADER = 3,                /* the header is not the one for this length and layout: not a file of
+                                               the set, or cut short or extended */
+    ORDERSET_BAD_INDEX_LENGTH = 4,          /* heads has 0 or more than 65,536 numbers, or next has not N + 1 */
+    ORDERSET_BAD_MARK = 5,                  /* a mark is neither 0 nor 1: the file is damaged */
+    ORDERSET_BAD_KIND_BITS = 6,             /* the kind word of a slot has bits above bit 23, or its number of
+                                               records is 1 or over 8: the file is damaged */
+    ORDERSET_VERSION_SHARED = 7,            /* of slots with one version the numbers of records differ, or there are
+                                               more than that, or two have one key: the file is damaged */
+    ORDERSET_NO_SPARE_SLOT = 8,             /* no slot is spare: the file is damaged */
+    ORDERSET_EXHAUSTED = 9,                 /* the next version, or in a log the next number, is 2^63 or more */
+    ORDERSET_VALUE_TOO_LONG = 10,           /* the value is too long: over 80 bytes, or in layout 2 over 72 */
+    ORDERSET_INDEX_MISMATCH = 11,           /* a chain of the index is not one of this file, or the live count is too
+                                               low */
+    ORDERSET_BUFFER_TOO_SHORT = 13,         /* the output is shorter than the value or the message, or a list shorter
+                                               than its stores */
+    ORDERSET_COUNT_TOO_HIGH = 14,           /* a count exceeds 8 */
+    ORDERSET_BAD_STORES = 15,               /* the stores are not those of two lines of the image, or one is
+                                               outside */
+    ORDERSET_NEW_KEY_EXISTS = 17,           /* the key of a new order is held, by an order or by another value */
+    ORDERSET_NO_ORDER = 18,                 /* the key is not held, or holds no order */
+    ORDERSET_BAD_QUANTITY = 19,             /* the quantity is zero, or more than is open */
+    ORDERSET_KEY_EXISTS = 20,               /* the key of an insert is held */
+    ORDERSET_KEY_MISSING = 21,              /* the key of a replace, or in a basket of a remove, is not held */
+    ORDERSET_BAD_KIND = 22,                 /* the kind of a slot is neither put nor remove: the file is damaged */
+    ORDERSET_BAD_VALUE_LENGTH = 23,         /* the length of a slot is too high, or a remove has one: the file is
+                                               damaged */
+    ORDERSET_BAD_TAIL = 24,                 /* a value byte of a slot past its length is not zero: the file is
+                                               damaged */
+    ORDERSET_TOO_MANY_BROKEN = 25,          /* more than eight slots are broken or void: no power cut leaves that;
+                                               look at the memory or the disk, and whether every start made the image
+                                               durable */
+    ORDERSET_BAD_BASKET = 26,               /* the basket has no key or more than eight, or an item of a kind that
+                                               there is not */
+    ORDERSET_KEY_TWICE = 27,                /* a key comes twice in the basket */
+    ORDERSET_FULL = 28,                     /* no room: too few slots may be taken, or with the new keys no slot
+                                               would be spare */
+    ORDERSET_BAD_MESSAGE = 29,              /* the message is empty or over 384 bytes */
+    ORDERSET_BAD_LOG_LENGTH = 30,           /* the length is not 448 * K with K from 2 to 1,000: not a file of the
+                                               log, or cut short or extended */
+    ORDERSET_NO_MESSAGE = 31,               /* no message with this number can be read */
+    ORDERSET_BAD_LAYOUT = 32,               /* the layout is neither 1 nor 2 */
+    ORDERSET_BAD_LINE_LENGTH = 33,          /* a line has not 64 bytes, or the answer about it not 8 */
+    ORDERSET_NOT_FOUND = 1000,              /* the key is not held */
+    ORDERSET_ALREADY_ACKNOWLEDGED = 1001,   /* the order was acknowledged before */
+    ORDERSET_END = 1002,                    /* there is no further open order */
+    ORDERSET_ERRNO = 1010,                  /* a call of the system failed */
+    ORDERSET_LOCKED = 1011,                 /* the file is open for writing elsewhere, or is being copied */
+    ORDERSET_FILE_EXISTS = 1012,            /* there is a file of that name */
+    ORDERSET_NOT_REGULAR = 1013,            /* not a regular file */
+    ORDERSET_READ_ONLY = 1014,              /* the file was not opened for writing */
+    ORDERSET_KEY_TOO_WIDE = 1015,           /* the key is over 64 bits, and the file is of layout 1 */
+    ORDERSET_NOT_DURABLE = 1016,            /* the call could not be made durable, and is perhaps done: open the file
+                                               again and ask */
+    ORDERSET_STOPPED = 1017,                /* an earlier call could not be made durable, or its thread was cancelled
+                                               in it: open the file again */
+    ORDERSET_NOT_A_LOG = 1018,              /* a mark is neither 0 nor 1: not a file of the log, or damaged */
+    ORDERSET_NO_SLOT = 1019,                /* there is no slot of that number */
+    ORDERSET_BAD_MODE = 1020,               /* the mode is none of read, write and inspect */
+};
+/* end of src/refusals.def */
+/* clang-format on */
+
+/* How a file is opened. */
+enum orderset_mode {
+    ORDERSET_READ = 0,   /* a copy, recovered; every change is refused */
+    ORDERSET_WRITE = 1,  /* the file itself */
+    ORDERSET_INSPECT = 2 /* a copy for the support desk, void slots as they are in the file; also where recovery refuses
+                            it: then each call but slot, layout, count, room, compared, errno, stat and close is
+                            refused by that number. Of a log it is ORDERSET_READ */
 };
 
-/* Makes an empty image of the bytes, in layout ORDERSET_LAYOUT or ORDERSET2_LAYOUT (orderset2.h); word 1 of the image
- * tells which. It looks at nothing that is there: all orders in the bytes are gone. Never call it at a start. answer:
- * {ORDERSET_GIVEN, N}. Refusals: 1, 32. A cut during format is not covered: format before the first use, and make the
- * image durable before it gets its name. */
-ORDERSET_CALL uint32_t orderset_proved_format(uint8_t *image, size_t image_length, uint64_t layout,
-                                       uint64_t answer[ORDERSET_FORMAT_ANSWER]);
+/* How a call becomes durable. */
+enum orderset_flush_kind {
+    ORDERSET_FLUSH_NONE = 0,    /* a copy: nothing does */
+    ORDERSET_FLUSH_MSYNC = 1,   /* the fallback; also where blocks of the file are shared (above) */
+    ORDERSET_FLUSH_CLFLUSH = 2, /* this and those below: MAP_SYNC, a line flush of this kind and one fence */
+    ORDERSET_FLUSH_CLFLUSHOPT = 3,
+    ORDERSET_FLUSH_CLWB = 4
+};
 
-/* Rebuilds heads, next, state and version from the image, whatever they held. The image is only read; if it may hold
- * stores that are not durable, make it durable first (above). Refusals: 1, 2, 3, 4, 5; then 6, 22, 23, 24; 7, 25, 8.
- *
- * count[0] is the number of stores that are to be made, flushed and fenced before any other call (above), 0 to
- * ORDERSET_INVALIDATIONS: store i sets the word at[i], counted from the start of the image, to value[i]. Each opens
- * line A of a void slot; they are by rising slot, each in a line of its own. The entries from count[0] on are zero and no
- * stores: made, they would clear the header. Of a refused recovery count, at and value stay as they were.
- *
- * Returns 0, or the refusal + 2^32 * the slot that it names. 6, 22, 23 and 24 name the lowest slot at fault, and of
- * what is wrong in it the first in that order; the other refusals name none.
- *
- * Its scratch is on the stack. Measured: 140 KB for N below 4,096, 664 KB below 16,384, and 2.24 MB from there on. Give
- * the thread 3 MiB, or 1 MiB where N is below 16,384. A Rust thread has 2 MiB unless it is told otherwise, and so has a
- * thread of glibc where the stack is unlimited (ulimit -s): too little for N from 16,384 on. */
-ORDERSET_CALL uint64_t orderset_proved_recover(const uint8_t *image, size_t image_length, uint32_t *heads, size_t heads_length,
-                                        uint32_t *next, size_t next_length, uint32_t state[ORDERSET_STATE],
-                                        uint64_t version[1], uint32_t count[1], uint32_t at[ORDERSET_INVALIDATIONS],
-                                        uint64_t value[ORDERSET_INVALIDATIONS]);
+/* What a slot holds. */
+enum orderset_slot_class {
+    ORDERSET_SLOT_LIVE = 0,
+    ORDERSET_SLOT_HIDDEN = 1, /* a value that a later record of its key hides */
+    ORDERSET_SLOT_REMOVE = 2,
+    ORDERSET_SLOT_VOID = 3,   /* of a basket that a cut struck; only in ORDERSET_INSPECT: opened, it is broken */
+    ORDERSET_SLOT_BROKEN = 4, /* a cut struck the call that wrote it: no error */
+    ORDERSET_SLOT_EMPTY = 5,
+    ORDERSET_SLOT_UNKNOWN = 6 /* a whole record of a file that recovery refuses */
+};
 
-/* Counts the slots of an image that recovery accepts, by what they hold. counts: {live slots, hidden puts, remove
- * records, void slots, broken slots, empty slots}; they add up to N. A live slot has the value of a held key, a hidden
- * put one that a later record of its key hides; a remove record is counted whether it hides anything or not. A record
- * that is void is counted as void alone: to know how many a cut left, count before recovery's stores are made. The
- * image is only read. heads and next become those of orderset_proved_recover, while no state is written, and the chains of a
- * set in use go in another order: lend it heads and next of its own, or call orderset_proved_recover before any other call.
- * Returns what orderset_proved_recover returns, with the same stack; of a refused image counts, heads and next stay as they
- * were. Refusals: those of orderset_proved_recover. */
-ORDERSET_CALL uint64_t orderset_proved_count_slots(const uint8_t *image, size_t image_length, uint32_t *heads,
-                                            size_t heads_length, uint32_t *next, size_t next_length,
-                                            uint64_t counts[ORDERSET_COUNTS]);
+/* Structs: key, item and order stay as they are in every version 1. The others have reserved room, which is zero: a
+ * later version may give it a name, and the struct keeps its size. */
 
-/* Gives the key, which is not held, the value. answer: {ORDERSET_GIVEN, slot, version, slots compared}; the stores are
- * at[i], a word number counted from the start of the image, and value[i]. Refusals: 1, 2, 3, 4, 10, 11 (chain), and
- * with the slots compared 20, 11 (reuse), 28, 9. */
-ORDERSET_CALL uint64_t orderset_proved_insert(const uint8_t *image, size_t image_length, uint32_t *heads, size_t heads_length,
-                                       uint32_t *next, size_t next_length, uint32_t state[ORDERSET_STATE],
-                                       uint64_t version[1], uint64_t key, const uint8_t *bytes, size_t bytes_length,
-                                       uint32_t at[ORDERSET_STORES], uint64_t value[ORDERSET_STORES],
-                                       uint64_t answer[ORDERSET_CHANGE_ANSWER]);
+/* In layout 2 put the part that varies most into low: keys that share it share a chain. */
+struct orderset_key {
+    uint64_t low, high;
+};
 
-/* Gives the key, which is held, the value in the place of the one that it has. answer and stores as in insert.
- * Refusals: 1, 2, 3, 4, 10, 11 (chain), and with the slots compared 21, 11 (reuse), 28, 9. */
-ORDERSET_CALL uint64_t orderset_proved_replace(const uint8_t *image, size_t image_length, uint32_t *heads, size_t heads_length,
-                                        uint32_t *next, size_t next_length, uint32_t state[ORDERSET_STATE],
-                                        uint64_t version[1], uint64_t key, const uint8_t *bytes, size_t bytes_length,
-                                        uint32_t at[ORDERSET_STORES], uint64_t value[ORDERSET_STORES],
-                                        uint64_t answer[ORDERSET_CHANGE_ANSWER]);
+/* One key of a basket. kind is ORDERSET_INSERT, ORDERSET_REPLACE or ORDERSET_REMOVE; a remove has no value. */
+struct orderset_item {
+    uint32_t kind;
+    struct orderset_key key;
+    const void *value;
+    size_t length;
+};
 
-/* Drops the key. answer and stores as in insert; or {ORDERSET_ABSENT, 0, 0, slots compared} where the key is not held,
- * and then nothing is to be stored: at and value stay as they were. Refusals: 1, 2, 3, 4, 11 (chain), and for a held
- * key, with the slots compared, 11 (reuse, or a live count of zero), 28, 9. */
-ORDERSET_CALL uint64_t orderset_proved_remove(const uint8_t *image, size_t image_length, uint32_t *heads, size_t heads_length,
-                                       uint32_t *next, size_t next_length, uint32_t state[ORDERSET_STATE],
-                                       uint64_t version[1], uint64_t key, uint32_t at[ORDERSET_STORES],
-                                       uint64_t value[ORDERSET_STORES], uint64_t answer[ORDERSET_CHANGE_ANSWER]);
+/* An open order, or what a slot holds. All zeros begin an iteration. */
+struct orderset_record {
+    uint32_t slot;
+    uint32_t slot_class; /* enum orderset_slot_class */
+    uint32_t fault;      /* what recovery refuses of this slot by itself: 5, 6, 22, 23 or 24; else 0 */
+    uint32_t records;    /* of the basket that wrote it, 2 to 8; 0: it was written alone; or what stands there, of a
+                            slot with a fault or that is broken */
+    struct orderset_key key;
+    uint64_t version;                  /* of line A */
+    uint64_t length;                   /* at most 80, in layout 2 72; of fault 23 cut down to that */
+    uint8_t value[ORDERSET_VALUE_MAX]; /* zeros from length on */
+    uint64_t reserved[4];
+};
 
-/* Changes count keys, 1 to ORDERSET_BASKET_MAX, all or none. Item i is kinds[i] (ORDERSET_INSERT, ORDERSET_REPLACE or
- * ORDERSET_REMOVE), keys[i] and, where it is not removed, the first lengths[i] of bytes from byte 80 * i on. All
- * eight places of these arrays are lent, and what stands from place count on does not matter. answer: {version, slots}:
- * answer[ORDERSET_BASKET_SLOTS + i] is the slot of item i, and zeros follow. The stores, ORDERSET_BASKET_STORES(count),
- * are at[i] and value[i], sixteen for each item in order; the entries past them stay as they were. They are made in
- * order within each line, each of the 2 * count lines is flushed and one fence is passed (orderset_persist_list), or
- * orderset_proved_play_list makes them.
- *
- * Refusals: 26 where count is 0 or above 8 or one of the first count kinds is none of the three; 27; 13 where at or
- * value has fewer than ORDERSET_BASKET_STORES(count) entries; 1, 2, 3, 4; 10 of an insert or a replace; 11 (chain); 20
- * of an insert or 21 of a replace or a remove, whichever comes first; 11 (reuse, or a live count below the number of
- * removes), 28, 9. Each is tested for all keys before the next. */
-ORDERSET_CALL uint32_t orderset_proved_basket(const uint8_t *image, size_t image_length, uint32_t *heads, size_t heads_length,
-                                       uint32_t *next, size_t next_length, uint32_t state[ORDERSET_STATE],
-                                       uint64_t version[1], size_t count, const uint32_t kinds[ORDERSET_BASKET_MAX],
-                                       const uint64_t keys[ORDERSET_BASKET_MAX],
-                                       const size_t lengths[ORDERSET_BASKET_MAX],
-                                       const uint8_t bytes[ORDERSET_BASKET_BYTES], uint32_t *at, size_t at_length,
-                                       uint64_t *value, size_t value_length, uint64_t answer[ORDERSET_BASKET_ANSWER]);
+/* An order of the book. */
+struct orderset_order {
+    uint64_t state; /* ORDERSET_SENT or ORDERSET_ACKNOWLEDGED */
+    uint64_t ordered, filled;
+};
 
-/* Copies the key's value to the front of the output; the bytes after it stay as they were. answer: {ORDERSET_GIVEN,
- * length, slots compared} or {ORDERSET_ABSENT, 0, slots compared}. An output of ORDERSET_VALUE_MAX bytes is always long
- * enough. Refusals: 1, 2, 3, 4, 11 (chain), and for a held key, with the slots compared, 23, 13. */
-ORDERSET_CALL uint64_t orderset_proved_get(const uint8_t *image, size_t image_length, const uint32_t *heads,
-                                    size_t heads_length, const uint32_t *next, size_t next_length, uint64_t key,
-                                    uint8_t *output, size_t output_length, uint64_t answer[ORDERSET_ANSWER]);
+struct orderset_statistics {
+    uint32_t mode, flush;         /* enum orderset_mode, enum orderset_flush_kind */
+    uint32_t layout;              /* 1 or 2; 0 where the header says neither */
+    uint32_t slots, heads;        /* N and B; 0 where the length is of no set */
+    uint32_t live, spare;         /* open orders, and N less these; of a refused file 0 */
+    uint32_t compared;            /* as orderset_compared */
+    uint32_t opened;              /* void slots that recovery found, and that the open opened unless in INSPECT */
+    uint32_t refusal, fault_slot; /* of recovery, in INSPECT; fault_slot is 0 where it names none */
+    int32_t error;                /* errno of ORDERSET_NOT_DURABLE, ECANCELED of a change that was cancelled, else 0 */
+    uint64_t next_version, bytes;
+    uint64_t count[ORDERSET_COUNTS]; /* slots by orderset_slot_class, as they are now; of a refused file a whole record
+                                        is in none of them */
+    uint64_t reserved[8];
+};
 
-/* Tells where the key stands. answer: {ORDERSET_GIVEN, slot, version of its line A, slots compared} or
- * {ORDERSET_ABSENT, 0, 0, slots compared}. Refusals: 1, 2, 3, 4, 11 (chain). */
-ORDERSET_CALL uint64_t orderset_proved_locate(const uint8_t *image, size_t image_length, const uint32_t *heads,
-                                       size_t heads_length, const uint32_t *next, size_t next_length, uint64_t key,
-                                       uint64_t answer[ORDERSET_CHANGE_ANSWER]);
+struct orderset_log_statistics {
+    uint32_t mode, flush; /* as above */
+    uint32_t cells;       /* K */
+    int32_t error;        /* as above */
+    uint64_t bytes;
+    uint64_t first, last; /* as orderset_log_range */
+    uint64_t reserved[8];
+};
 
-/* Gives the key, which is not held, a sent order of the quantity, nothing of it filled. answer: {ORDERSET_GIVEN, slot,
- * version}; stores as in insert. Refusals: 1, 2, 3, 4, 11 (chain), 17, 19, 11 (reuse), 28, 9. */
-ORDERSET_CALL uint32_t orderset_proved_book_new(const uint8_t *image, size_t image_length, uint32_t *heads,
-                                         size_t heads_length, uint32_t *next, size_t next_length,
-                                         uint32_t state[ORDERSET_STATE], uint64_t version[1], uint64_t key,
-                                         uint64_t quantity, uint32_t at[ORDERSET_STORES],
-                                         uint64_t value[ORDERSET_STORES], uint64_t answer[ORDERSET_STEP_ANSWER]);
+struct orderset;
+struct orderset_log;
 
-/* Makes the key's sent order an acknowledged one. answer and stores as in new. If it is acknowledged already, answer is
- * {ORDERSET_ALREADY, slot, version of its line A} and nothing is to be stored: all but answer stays as it was.
- * Refusals: 1, 2, 3, 4, 11 (chain), 18, and for a sent order 11 (reuse), 28, 9. */
-ORDERSET_CALL uint32_t orderset_proved_book_acknowledge(const uint8_t *image, size_t image_length, uint32_t *heads,
-                                                 size_t heads_length, uint32_t *next, size_t next_length,
-                                                 uint32_t state[ORDERSET_STATE], uint64_t version[1], uint64_t key,
-                                                 uint32_t at[ORDERSET_STORES], uint64_t value[ORDERSET_STORES],
-                                                 uint64_t answer[ORDERSET_STEP_ANSWER]);
+/* Refusals are named below without ORDERSET_ and in the order in which they are tested. 1 to 4 of a call on an open
+ * file: the mapped header was overwritten. */
 
-/* Adds the quantity to what is filled of the key's order, sent or acknowledged, and keeps its state. What is open is
- * ordered less filled; a fill of all of it removes the order. answer and stores as in new. Refusals: 1, 2, 3, 4,
- * 11 (chain), 18, 19, 11 (reuse, or a live count of zero where the order is removed), 28, 9. */
-ORDERSET_CALL uint32_t orderset_proved_book_fill(const uint8_t *image, size_t image_length, uint32_t *heads,
-                                          size_t heads_length, uint32_t *next, size_t next_length,
-                                          uint32_t state[ORDERSET_STATE], uint64_t version[1], uint64_t key,
-                                          uint64_t quantity, uint32_t at[ORDERSET_STORES],
-                                          uint64_t value[ORDERSET_STORES], uint64_t answer[ORDERSET_STEP_ANSWER]);
+/* ---- for both */
 
-/* Withdraws all that is open of the key's order, sent or acknowledged: the order is removed. answer and stores as in
- * new. Refusals: 1, 2, 3, 4, 11 (chain), 18, 11 (reuse, or a live count of zero), 28, 9. */
-ORDERSET_CALL uint32_t orderset_proved_book_withdraw(const uint8_t *image, size_t image_length, uint32_t *heads,
-                                              size_t heads_length, uint32_t *next, size_t next_length,
-                                              uint32_t state[ORDERSET_STATE], uint64_t version[1], uint64_t key,
-                                              uint32_t at[ORDERSET_STORES], uint64_t value[ORDERSET_STORES],
-                                              uint64_t answer[ORDERSET_STEP_ANSWER]);
+/* The number in words, of the set and of the log; never null. */
+const char *orderset_strerror(uint32_t number);
 
-/* For the owner of the index (above): as the calls without own_, parameters, answers and the order of the refusals too.
- * They are no calls of document 01. */
-ORDERSET_CALL uint64_t orderset_proved_own_insert(const uint8_t *image, size_t image_length, uint32_t *heads,
-                                           size_t heads_length, uint32_t *next, size_t next_length,
-                                           uint32_t state[ORDERSET_STATE], uint64_t version[1], uint64_t key,
-                                           const uint8_t *bytes, size_t bytes_length, uint32_t at[ORDERSET_STORES],
-                                           uint64_t value[ORDERSET_STORES], uint64_t answer[ORDERSET_CHANGE_ANSWER]);
+/* The version of the library that runs, as ORDERSET_VERSION_STRING is that of the header. */
+const char *orderset_version(void);
 
-ORDERSET_CALL uint64_t orderset_proved_own_replace(const uint8_t *image, size_t image_length, uint32_t *heads,
-                                            size_t heads_length, uint32_t *next, size_t next_length,
-                                            uint32_t state[ORDERSET_STATE], uint64_t version[1], uint64_t key,
-                                            const uint8_t *bytes, size_t bytes_length, uint32_t at[ORDERSET_STORES],
-                                            uint64_t value[ORDERSET_STORES], uint64_t answer[ORDERSET_CHANGE_ANSWER]);
+/* ---- the set */
 
-ORDERSET_CALL uint64_t orderset_proved_own_remove(const uint8_t *image, size_t image_length, uint32_t *heads,
-                                           size_t heads_length, uint32_t *next, size_t next_length,
-                                           uint32_t state[ORDERSET_STATE], uint64_t version[1], uint64_t key,
-                                           uint32_t at[ORDERSET_STORES], uint64_t value[ORDERSET_STORES],
-                                           uint64_t answer[ORDERSET_CHANGE_ANSWER]);
+/* Makes a file of an empty set with so many slots, 2 to 65,535, in layout 1 or 2. It is readable and writable by its
+ * owner. Refusals: BAD_IMAGE_LENGTH, BAD_LAYOUT, FILE_EXISTS, ERRNO (nothing was made, or the file is there, whole, and
+ * its name perhaps not durable; an open for writing makes it so). */
+ORDERSET_CALL uint32_t orderset_create(const char *path, uint32_t slots, uint32_t layout);
 
-ORDERSET_CALL uint32_t orderset_proved_own_basket(const uint8_t *image, size_t image_length, uint32_t *heads,
-                                           size_t heads_length, uint32_t *next, size_t next_length,
-                                           uint32_t state[ORDERSET_STATE], uint64_t version[1], size_t count,
-                                           const uint32_t kinds[ORDERSET_BASKET_MAX],
-                                           const uint64_t keys[ORDERSET_BASKET_MAX],
-                                           const size_t lengths[ORDERSET_BASKET_MAX],
-                                           const uint8_t bytes[ORDERSET_BASKET_BYTES], uint32_t *at, size_t at_length,
-                                           uint64_t *value, size_t value_length,
-                                           uint64_t answer[ORDERSET_BASKET_ANSWER]);
+/* Opens a file in a mode of enum orderset_mode; *set is null where it is not 0. Refusals: BAD_MODE, ERRNO (an open
+ * perhaps made part of what recovery hands out, which changes no order: the next one does the rest), NOT_REGULAR,
+ * LOCKED and those of recovery: BAD_IMAGE_LENGTH, NOT_FORMATTED and BAD_HEADER mean that the file is no set, or was cut
+ * short or extended; BAD_MARK; BAD_KIND_BITS, BAD_KIND, BAD_VALUE_LENGTH and BAD_TAIL, which name a slot (INSPECT tells
+ * it); VERSION_SHARED, TOO_MANY_BROKEN, NO_SPARE_SLOT. B is the largest prime up to N. */
+ORDERSET_CALL uint32_t orderset_open(const char *path, uint32_t mode, struct orderset **set);
 
-ORDERSET_CALL uint32_t orderset_proved_own_book_new(const uint8_t *image, size_t image_length, uint32_t *heads,
-                                             size_t heads_length, uint32_t *next, size_t next_length,
-                                             uint32_t state[ORDERSET_STATE], uint64_t version[1], uint64_t key,
-                                             uint64_t quantity, uint32_t at[ORDERSET_STORES],
-                                             uint64_t value[ORDERSET_STORES], uint64_t answer[ORDERSET_STEP_ANSWER]);
+/* Ends the handle, which may be null. There is nothing to make durable. */
+void orderset_close(struct orderset *set);
 
-ORDERSET_CALL uint32_t orderset_proved_own_book_acknowledge(const uint8_t *image, size_t image_length, uint32_t *heads,
-                                                     size_t heads_length, uint32_t *next, size_t next_length,
-                                                     uint32_t state[ORDERSET_STATE], uint64_t version[1], uint64_t key,
-                                                     uint32_t at[ORDERSET_STORES], uint64_t value[ORDERSET_STORES],
-                                                     uint64_t answer[ORDERSET_STEP_ANSWER]);
+/* insert gives a key that is not held a value, replace gives one that is held another value, and each refuses the other
+ * kind, so that a key that is used again by mistake overwrites nothing. remove drops a key; of one that is not held it
+ * gives NOT_FOUND. Refusals: READ_ONLY, STOPPED, KEY_TOO_WIDE, VALUE_TOO_LONG, INDEX_MISMATCH of the
+ * key's chain, KEY_EXISTS of insert or KEY_MISSING of replace, INDEX_MISMATCH of the spare slots' chain or, in a
+ * remove, of the live count, FULL, EXHAUSTED; NOT_DURABLE. In a set that was made by create only an insert is FULL, and
+ * only where the room is 0. */
+ORDERSET_CALL uint32_t orderset_insert(struct orderset *set, struct orderset_key key, const void *value, size_t length);
+ORDERSET_CALL uint32_t orderset_replace(struct orderset *set, struct orderset_key key, const void *value,
+                                        size_t length);
+ORDERSET_CALL uint32_t orderset_remove(struct orderset *set, struct orderset_key key);
 
-ORDERSET_CALL uint32_t orderset_proved_own_book_fill(const uint8_t *image, size_t image_length, uint32_t *heads,
-                                              size_t heads_length, uint32_t *next, size_t next_length,
-                                              uint32_t state[ORDERSET_STATE], uint64_t version[1], uint64_t key,
-                                              uint64_t quantity, uint32_t at[ORDERSET_STORES],
-                                              uint64_t value[ORDERSET_STORES], uint64_t answer[ORDERSET_STEP_ANSWER]);
+/* Changes 1 to 8 distinct keys, all or none, also after a power cut, with one fence. Refusals: READ_ONLY, STOPPED,
+ * BAD_BASKET of the count, KEY_TOO_WIDE, BAD_BASKET of a kind, KEY_TWICE, and then as in insert, KEY_MISSING of a
+ * remove too. It can be FULL where as many slots are spare as it has keys, or more: some of them may not be taken yet.
+ */
+ORDERSET_CALL uint32_t orderset_basket(struct orderset *set, const struct orderset_item *items, size_t count);
 
-ORDERSET_CALL uint32_t orderset_proved_own_book_withdraw(const uint8_t *image, size_t image_length, uint32_t *heads,
-                                                  size_t heads_length, uint32_t *next, size_t next_length,
-                                                  uint32_t state[ORDERSET_STATE], uint64_t version[1], uint64_t key,
-                                                  uint32_t at[ORDERSET_STORES], uint64_t value[ORDERSET_STORES],
-                                                  uint64_t answer[ORDERSET_STEP_ANSWER]);
+/* Copies the value to the front of the output, which has room bytes; 80 are always enough. *length is the value's; of
+ * NOT_FOUND and of a refusal it is 0. Refusals: STOPPED, KEY_TOO_WIDE, INDEX_MISMATCH, BAD_VALUE_LENGTH,
+ * BUFFER_TOO_SHORT. */
+ORDERSET_CALL uint32_t orderset_get(struct orderset *set, struct orderset_key key, void *output, size_t room,
+                                    size_t *length);
 
-/* Makes the first a stores of the first half and the first b of the second: with 8 and 8 a whole call, with less what a
- * cut leaves of it. Plain writes: nothing is flushed. Refusals: 1, 14, 15. */
-ORDERSET_CALL uint32_t orderset_proved_play(uint8_t *image, size_t image_length, const uint32_t at[ORDERSET_STORES],
-                                     const uint64_t value[ORDERSET_STORES], size_t a, size_t b);
+/* Tells where the key stands; NOT_FOUND and a refusal leave zeros. slot and version may be null. Refusals: STOPPED,
+ * KEY_TOO_WIDE, INDEX_MISMATCH. */
+ORDERSET_CALL uint32_t orderset_locate(struct orderset *set, struct orderset_key key, uint32_t *slot,
+                                       uint64_t *version);
 
-/* Makes all stores of a list, in order, on bytes of any length. Refusals: 15. */
-ORDERSET_CALL uint32_t orderset_proved_play_list(uint8_t *bytes, size_t bytes_length, const uint32_t *at, size_t at_length,
-                                          const uint64_t *value, size_t value_length);
+/* The slots that the last insert, replace, remove, get or locate (not a step of the book or a basket) compared: one or
+ * two, unless the keys step by a multiple of B. */
+uint32_t orderset_compared(const struct orderset *set);
 
-/* Is the line whole? The answer is 1, or 0 where it is open. Refusals: 33. */
-ORDERSET_CALL uint32_t orderset_proved_line_whole(const uint8_t *line, size_t line_length, uint8_t *answer,
-                                           size_t answer_length);
+/* The steps of the book: an order is sent, acknowledged, filled in parts and perhaps withdrawn. When it is filled in
+ * full or withdrawn, it is gone. A second acknowledge gives ALREADY_ACKNOWLEDGED. Refusals: READ_ONLY, STOPPED,
+ * KEY_TOO_WIDE, INDEX_MISMATCH of the key's chain, NEW_KEY_EXISTS of new or NO_ORDER of the others, BAD_QUANTITY of new
+ * and fill, INDEX_MISMATCH of the spare slots' chain or of the live count, FULL, EXHAUSTED; NOT_DURABLE. */
+ORDERSET_CALL uint32_t orderset_book_new(struct orderset *set, struct orderset_key key, uint64_t quantity);
+ORDERSET_CALL uint32_t orderset_book_acknowledge(struct orderset *set, struct orderset_key key);
+ORDERSET_CALL uint32_t orderset_book_fill(struct orderset *set, struct orderset_key key, uint64_t quantity);
+ORDERSET_CALL uint32_t orderset_book_withdraw(struct orderset *set, struct orderset_key key);
 
-/* The version in the line's stamp. The stamp is stored last: of a line that is open because a call is writing it, it is
- * the version from before that call. Refusals: 33. */
-ORDERSET_CALL uint32_t orderset_proved_line_version(const uint8_t *line, size_t line_length, uint8_t *answer,
-                                             size_t answer_length);
+/* Whether the value is an order: 1, and *order is it; else 0, and *order is zeros. */
+int orderset_order_of(const void *value, size_t length, struct orderset_order *order);
 
-/* The first word that a call which writes this version stores into the line: its mark, against the close bit that
- * stands there. Refusals: 33, 9. */
-ORDERSET_CALL uint32_t orderset_proved_line_first(const uint8_t *line, size_t line_length, uint64_t version, uint8_t *answer,
-                                           size_t answer_length);
+/* The next open order by rising slot, from all zeros on; END after the last one, and then the record is all zeros. Of
+ * it only the slot is read: it says where to go on. Changes may come between two steps. A key that is held throughout
+ * and is not changed comes once; one that is inserted, replaced or removed meanwhile may come, with the value it has
+ * then, once, twice or not at all. Refusals: STOPPED, INDEX_MISMATCH. */
+ORDERSET_CALL uint32_t orderset_next(struct orderset *set, struct orderset_record *record);
 
-/* The last word that it stores: the stamp, version * 2 + the first word. Refusals: 33, 9. */
-ORDERSET_CALL uint32_t orderset_proved_line_last(const uint8_t *line, size_t line_length, uint64_t version, uint8_t *answer,
-                                          size_t answer_length);
+/* What slot 1 to N holds, whatever its class; of one that is broken or empty, what stands in its words. Refusals:
+ * STOPPED, NO_SLOT. */
+ORDERSET_CALL uint32_t orderset_slot(struct orderset *set, uint32_t slot, struct orderset_record *record);
+
+/* The layout of the file, the open orders, and for how many more there is room. None looks at a slot: they take the
+ * same time whatever N is. Also of a handle that is stopped; count and room are 0 of a refused file, and layout where
+ * the header says neither 1 nor 2. */
+uint32_t orderset_layout(const struct orderset *set);
+uint32_t orderset_count(const struct orderset *set);
+uint32_t orderset_room(const struct orderset *set);
+
+/* Also of a handle that is stopped. It looks at every slot. */
+void orderset_stat(struct orderset *set, struct orderset_statistics *statistics);
+
+/* errno of the call that gave NOT_DURABLE, ECANCELED of a change that was cancelled; else 0. */
+int orderset_errno(const struct orderset *set);
+
+/* ---- the message log, with the modes, locks and promises above */
+
+/* Makes a file of an empty log with so many cells, 2 to 1,000: the last cells - 1 messages can be read. Refusals:
+ * BAD_LOG_LENGTH, FILE_EXISTS, ERRNO as in orderset_create. */
+ORDERSET_CALL uint32_t orderset_log_create(const char *path, uint32_t cells);
+
+/* As orderset_open. Refusals: BAD_MODE, ERRNO, NOT_REGULAR, LOCKED, BAD_LOG_LENGTH, NOT_A_LOG (a set is none). */
+ORDERSET_CALL uint32_t orderset_log_open(const char *path, uint32_t mode, struct orderset_log **log);
+
+void orderset_log_close(struct orderset_log *log);
+
+/* Appends a message of 1 to 384 bytes; *number is its number, from 1 on, 0 where it is refused, and number may be null.
+ * Refusals: READ_ONLY, STOPPED, BAD_MESSAGE, EXHAUSTED; NOT_DURABLE. */
+ORDERSET_CALL uint32_t orderset_log_append(struct orderset_log *log, const void *message, size_t length,
+                                           uint64_t *number);
+
+/* Copies the message to the front of the output, which has room bytes; 384 are always enough. *length is the
+ * message's; of a refusal it is 0. Refusals: STOPPED, NO_MESSAGE, BUFFER_TOO_SHORT. */
+ORDERSET_CALL uint32_t orderset_log_read(struct orderset_log *log, uint64_t number, void *output, size_t room,
+                                         size_t *length);
+
+/* The numbers that can be read: *first to *last; of an empty log 1 and 0. Refusals: STOPPED. */
+ORDERSET_CALL uint32_t orderset_log_range(struct orderset_log *log, uint64_t *first, uint64_t *last);
+
+/* Also of a handle that is stopped. */
+void orderset_log_stat(struct orderset_log *log, struct orderset_log_statistics *statistics);
+
+int orderset_log_errno(const struct orderset_log *log);
 
 #ifdef __cplusplus
 }

@@ -1,13 +1,13 @@
 // orderset.hpp: the order set and the message log in files for C++17, without exceptions or run-time types. What the
-// calls do, their numbers, locks and threads are those of orderset_file.h: orderset_file_insert(set, ...) is
-// orderset::file::insert(...), orderset_log_file_read(log, ...) is orderset::log_file::read(...), and so on.
+// calls do, their numbers, locks and threads are those of orderset.h: orderset_insert(set, ...) is
+// order_set::set::insert(...), orderset_log_read(log, ...) is order_set::log::read(...), and so on.
 //
-//     auto made = orderset::file::create("orders.img", 1000, 1);           // once
-//     auto set = orderset::file::open("orders.img", orderset::mode::write);
-//     if (!set) { std::fprintf(stderr, "%s\n", set.text()); return 1; }
-//     if (auto done = set->book_new(7, 100); !done) ...done.number(), done.text()
-//     auto all = set->orders();
-//     for (const orderset::record &order : all) ...order.key.low, order.value
+//     auto made = order_set::set::create("orders.img", 1000, 1);           // once
+//     auto orders = order_set::set::open("orders.img", order_set::mode::write);
+//     if (!orders) { std::fprintf(stderr, "%s\n", orders.text()); return 1; }
+//     if (auto done = orders->book_new(7, 100); !done) ...done.number(), done.text()
+//     auto all = orders->orders();
+//     for (const order_set::record &order : all) ...order.key.low, order.value
 //     if (!all.result()) ...the iteration was refused: all.result().text()
 //
 // const does not mean that two threads may call it at once: one thread at a time for each file, as for each handle.
@@ -15,6 +15,10 @@
 // (by assignment), is_open and the destructor.
 #ifndef ORDERSET_HPP
 #define ORDERSET_HPP
+
+#if __cplusplus < 201703L
+#error "orderset.hpp needs C++17 or later; orderset.h is for any C++"
+#endif
 
 #include <cassert>
 #include <cerrno>
@@ -29,9 +33,9 @@
 #include <type_traits>
 #include <utility>
 
-#include "orderset_file.h"
+#include "orderset.h"
 
-namespace orderset {
+namespace order_set {
 
 // ---- what calls take and give
 
@@ -69,18 +73,17 @@ inline bytes bytes_of(std::string_view text) {
 // The number of a call: 0 where it is done, and durable.
 class [[nodiscard]] result {
   public:
-    result(std::uint32_t number = ORDERSET_FILE_OK)
-        : number_(number),
-          error_(number == ORDERSET_FILE_SYSTEM || number == ORDERSET_FILE_NOT_DURABLE ? errno : 0) {}
+    result(std::uint32_t number = ORDERSET_OK)
+        : number_(number), error_(number == ORDERSET_ERRNO || number == ORDERSET_NOT_DURABLE ? errno : 0) {}
 
-    explicit operator bool() const { return number_ == ORDERSET_FILE_OK; }
+    explicit operator bool() const { return number_ == ORDERSET_OK; }
     std::uint32_t number() const { return number_; }
-    const char *text() const { return orderset_file_text(number_); }
-    // A refusal or an error: not done, and none of the answers ABSENT, ALREADY and END.
+    const char *text() const { return orderset_strerror(number_); }
+    // A refusal or an error: not done, and none of the answers NOT_FOUND, ALREADY_ACKNOWLEDGED and END.
     bool is_error() const {
-        return number_ != ORDERSET_FILE_OK && (number_ < ORDERSET_FILE_ABSENT || number_ >= ORDERSET_FILE_SYSTEM);
+        return number_ != ORDERSET_OK && (number_ < ORDERSET_NOT_FOUND || number_ >= ORDERSET_ERRNO);
     }
-    // errno of SYSTEM and of NOT_DURABLE, else 0
+    // errno of ERRNO and of NOT_DURABLE, else 0
     int system_error() const { return error_; }
 
     friend bool operator==(const result &a, std::uint32_t number) { return a.number_ == number; }
@@ -151,9 +154,9 @@ using message = held<ORDERSET_LOG_MESSAGE_MAX>;
 // An open order, or what a slot holds: struct orderset_record.
 struct record {
     std::uint32_t slot = 0, slot_class = 0, fault = 0, records = 0;
-    orderset::key key;
+    order_set::key key;
     std::uint64_t version = 0;
-    orderset::value value;
+    order_set::value value;
 
     record() = default;
     record(const orderset_record &r)
@@ -164,20 +167,20 @@ struct record {
 // A message and its number.
 struct numbered {
     std::uint64_t number = 0;
-    orderset::message message;
+    order_set::message message;
 };
 
 // One key of a basket. The value is lent until the basket is done.
 struct item {
     std::uint32_t kind;
-    orderset::key key;
+    order_set::key key;
     bytes value;
 
-    static item insert(orderset::key k, bytes v) { return {ORDERSET_INSERT, k, v}; }
-    static item insert(orderset::key k, std::string_view v) { return insert(k, bytes_of(v)); }
-    static item replace(orderset::key k, bytes v) { return {ORDERSET_REPLACE, k, v}; }
-    static item replace(orderset::key k, std::string_view v) { return replace(k, bytes_of(v)); }
-    static item remove(orderset::key k) { return {ORDERSET_REMOVE, k, {}}; }
+    static item insert(order_set::key k, bytes v) { return {ORDERSET_INSERT, k, v}; }
+    static item insert(order_set::key k, std::string_view v) { return insert(k, bytes_of(v)); }
+    static item replace(order_set::key k, bytes v) { return {ORDERSET_REPLACE, k, v}; }
+    static item replace(order_set::key k, std::string_view v) { return replace(k, bytes_of(v)); }
+    static item remove(order_set::key k) { return {ORDERSET_REMOVE, k, {}}; }
 };
 
 struct place {
@@ -190,16 +193,12 @@ struct numbers {
     std::uint64_t first = 1, last = 0;
 };
 
-enum class mode : std::uint32_t {
-    read = ORDERSET_FILE_READ,
-    write = ORDERSET_FILE_WRITE,
-    inspect = ORDERSET_FILE_INSPECT
-};
+enum class mode : std::uint32_t { read = ORDERSET_READ, write = ORDERSET_WRITE, inspect = ORDERSET_INSPECT };
 
 // The order that a value is, if it is one.
 inline std::optional<orderset_order> order_of(bytes v) {
     orderset_order order;
-    if (orderset_file_order(v.data(), v.size(), &order))
+    if (orderset_order_of(v.data(), v.size(), &order))
         return order;
     return std::nullopt;
 }
@@ -254,7 +253,7 @@ class steps {
         return iterator(this);
     }
     iterator end() const { return {}; }
-    orderset::result result() const { return told_ == ORDERSET_FILE_END ? orderset::result() : told_; }
+    order_set::result result() const { return told_ == ORDERSET_END ? order_set::result() : told_; }
 
   private:
     bool step() {
@@ -264,112 +263,117 @@ class steps {
 
     Source *source_;
     T at_;
-    orderset::result told_;
+    order_set::result told_;
 };
 
 // ---- the set
 
-class file {
+class set {
   public:
-    file() = default;
+    set() = default;
 
     static result create(const char *path, std::uint32_t slots, std::uint32_t layout) {
-        return orderset_file_create(path, slots, layout);
+        return orderset_create(path, slots, layout);
     }
-    static answer<file> open(const char *path, orderset::mode how) {
-        orderset_file *opened = nullptr;
-        result told = orderset_file_open(path, static_cast<std::uint32_t>(how), &opened);
-        return {told, file(opened)};
+    static answer<set> open(const char *path, order_set::mode how) {
+        orderset *opened = nullptr;
+        result told = orderset_open(path, static_cast<std::uint32_t>(how), &opened);
+        return {told, set(opened)};
     }
     void close() { set_.reset(); }
     bool is_open() const { return set_ != nullptr; }
-    // for the calls of orderset_file.h; still owned here
-    orderset_file *handle() const {
+    // for the calls of orderset.h; still owned here
+    orderset *handle() const {
         assert(set_);
         return set_.get();
     }
 
-    result insert(key k, bytes v) { return orderset_file_insert(handle(), k, v.data(), v.size()); }
+    result insert(key k, bytes v) { return orderset_insert(handle(), k, v.data(), v.size()); }
     result insert(key k, std::string_view v) { return insert(k, bytes_of(v)); }
-    result replace(key k, bytes v) { return orderset_file_replace(handle(), k, v.data(), v.size()); }
+    result replace(key k, bytes v) { return orderset_replace(handle(), k, v.data(), v.size()); }
     result replace(key k, std::string_view v) { return replace(k, bytes_of(v)); }
-    result remove(key k) { return orderset_file_remove(handle(), k); }
+    result remove(key k) { return orderset_remove(handle(), k); }
 
     result basket(span<const item> items) {
         orderset_item given[ORDERSET_BASKET_MAX] = {};
         for (std::size_t i = 0; i < items.size() && i < ORDERSET_BASKET_MAX; i++)
             given[i] = {items[i].kind, items[i].key, items[i].value.data(), items[i].value.size()};
-        return orderset_file_basket(handle(), given, items.size());
+        return orderset_basket(handle(), given, items.size());
     }
     result basket(std::initializer_list<item> items) { return basket(span<const item>(items.begin(), items.size())); }
 
-    answer<orderset::value> get(key k) const {
+    answer<order_set::value> get(key k) const {
         std::uint8_t output[ORDERSET_VALUE_MAX];
         std::size_t length = 0;
-        result told = orderset_file_get(handle(), k, output, sizeof output, &length);
-        return {told, orderset::value(output, length)};
+        result told = orderset_get(handle(), k, output, sizeof output, &length);
+        return {told, order_set::value(output, length)};
     }
     answer<place> locate(key k) const {
         place found;
-        result told = orderset_file_locate(handle(), k, &found.slot, &found.version);
+        result told = orderset_locate(handle(), k, &found.slot, &found.version);
         return {told, found};
     }
 
-    result book_new(key k, std::uint64_t quantity) { return orderset_file_book_new(handle(), k, quantity); }
-    result book_acknowledge(key k) { return orderset_file_book_acknowledge(handle(), k); }
-    result book_fill(key k, std::uint64_t quantity) { return orderset_file_book_fill(handle(), k, quantity); }
-    result book_withdraw(key k) { return orderset_file_book_withdraw(handle(), k); }
+    result book_new(key k, std::uint64_t quantity) { return orderset_book_new(handle(), k, quantity); }
+    result book_acknowledge(key k) { return orderset_book_acknowledge(handle(), k); }
+    result book_fill(key k, std::uint64_t quantity) { return orderset_book_fill(handle(), k, quantity); }
+    result book_withdraw(key k) { return orderset_book_withdraw(handle(), k); }
 
     // The next open order after the record's slot; END after the last one.
     result next(record &r) const {
         orderset_record found = {};
         found.slot = r.slot;
-        result told = orderset_file_next(handle(), &found);
-        if (told || told == ORDERSET_FILE_END)
+        result told = orderset_next(handle(), &found);
+        if (told || told == ORDERSET_END)
             r = found;
         return told;
     }
     // The open orders by rising slot, each step as next. The file outlives it and is not moved meanwhile.
-    steps<const file, record> orders() const { return steps<const file, record>(*this); }
+    steps<const set, record> orders() const { return steps<const set, record>(*this); }
 
     answer<record> slot(std::uint32_t number) const {
         orderset_record found = {};
-        result told = orderset_file_slot(handle(), number, &found);
+        result told = orderset_slot(handle(), number, &found);
         return {told, found};
     }
     // the slots that the last insert, replace, remove, get or locate compared
-    std::uint32_t compared() const { return orderset_file_compared(handle()); }
+    std::uint32_t compared() const { return orderset_compared(handle()); }
     orderset_statistics statistics() const {
         orderset_statistics told;
-        orderset_file_statistics(handle(), &told);
+        orderset_stat(handle(), &told);
         return told;
     }
+    // 1 or 2; 0 where the header says neither
+    std::uint32_t layout() const { return orderset_layout(handle()); }
+    // the open orders, and for how many more there is room; neither looks at a slot
+    std::uint32_t count() const { return orderset_count(handle()); }
+    std::uint32_t room() const { return orderset_room(handle()); }
     // errno of the call that gave NOT_DURABLE, else 0
-    int system_error() const { return orderset_file_errno(handle()); }
+    int system_error() const { return orderset_errno(handle()); }
 
   private:
     struct closer {
-        void operator()(orderset_file *set) const { orderset_file_close(set); }
+        void operator()(orderset *set) const { orderset_close(set); }
     };
-    explicit file(orderset_file *set) : set_(set) {}
-    std::unique_ptr<orderset_file, closer> set_;
+    explicit set(orderset *handle) : set_(handle) {}
+    std::unique_ptr<orderset, closer> set_;
 };
 
 // ---- the message log
 
-class log_file {
+class log {
   public:
-    log_file() = default;
+    log() = default;
 
-    static result create(const char *path, std::uint32_t cells) { return orderset_log_file_create(path, cells); }
-    static answer<log_file> open(const char *path, orderset::mode how) {
-        orderset_log_file *opened = nullptr;
-        result told = orderset_log_file_open(path, static_cast<std::uint32_t>(how), &opened);
-        return {told, log_file(opened)};
+    static result create(const char *path, std::uint32_t cells) { return orderset_log_create(path, cells); }
+    static answer<log> open(const char *path, order_set::mode how) {
+        orderset_log *opened = nullptr;
+        result told = orderset_log_open(path, static_cast<std::uint32_t>(how), &opened);
+        return {told, log(opened)};
     }
     void close() { log_.reset(); }
     bool is_open() const { return log_ != nullptr; }
-    orderset_log_file *handle() const {
+    orderset_log *handle() const {
         assert(log_);
         return log_.get();
     }
@@ -377,20 +381,20 @@ class log_file {
     // the number of the message
     answer<std::uint64_t> append(bytes m) {
         std::uint64_t number = 0;
-        result told = orderset_log_file_append(handle(), m.data(), m.size(), &number);
+        result told = orderset_log_append(handle(), m.data(), m.size(), &number);
         return {told, number};
     }
     answer<std::uint64_t> append(std::string_view m) { return append(bytes_of(m)); }
 
-    answer<orderset::message> read(std::uint64_t number) const {
+    answer<order_set::message> read(std::uint64_t number) const {
         std::uint8_t output[ORDERSET_LOG_MESSAGE_MAX];
         std::size_t length = 0;
-        result told = orderset_log_file_read(handle(), number, output, sizeof output, &length);
-        return {told, orderset::message(output, length)};
+        result told = orderset_log_read(handle(), number, output, sizeof output, &length);
+        return {told, order_set::message(output, length)};
     }
     answer<numbers> range() const {
         numbers shown;
-        result told = orderset_log_file_range(handle(), &shown.first, &shown.last);
+        result told = orderset_log_range(handle(), &shown.first, &shown.last);
         return {told, shown};
     }
 
@@ -401,33 +405,33 @@ class log_file {
             return shown;
         for (std::uint64_t number = m.number < shown->first ? shown->first : m.number + 1; number <= shown->last;
              number++) {
-            const answer<orderset::message> found = read(number);
+            const answer<order_set::message> found = read(number);
             if (found)
                 m = {number, *found};
-            if (found != ORDERSET_LOG_NOT_SHOWN)
+            if (found != ORDERSET_NO_MESSAGE)
                 return found;
         }
         m = {};
-        return ORDERSET_FILE_END;
+        return ORDERSET_END;
     }
     // The messages that can be read, by rising number. The log outlives it and is not moved meanwhile.
-    steps<const log_file, numbered> messages() const { return steps<const log_file, numbered>(*this); }
+    steps<const log, numbered> messages() const { return steps<const log, numbered>(*this); }
 
     orderset_log_statistics statistics() const {
         orderset_log_statistics told;
-        orderset_log_file_statistics(handle(), &told);
+        orderset_log_stat(handle(), &told);
         return told;
     }
-    int system_error() const { return orderset_log_file_errno(handle()); }
+    int system_error() const { return orderset_log_errno(handle()); }
 
   private:
     struct closer {
-        void operator()(orderset_log_file *log) const { orderset_log_file_close(log); }
+        void operator()(orderset_log *log) const { orderset_log_close(log); }
     };
-    explicit log_file(orderset_log_file *log) : log_(log) {}
-    std::unique_ptr<orderset_log_file, closer> log_;
+    explicit log(orderset_log *handle) : log_(handle) {}
+    std::unique_ptr<orderset_log, closer> log_;
 };
 
-} // namespace orderset
+} // namespace order_set
 
 #endif

@@ -1,25 +1,25 @@
 /* orderset_persist.h: makes an image durable. orderset_persist makes the 16 stores that a call handed out on mapped
  * memory, flushes both lines and fences once; orderset_persist_list does the same with a list of any length, as a
- * basket, recovery and the message log (orderset_log.h) hand it out; orderset_persist_image makes a whole image, or a
+ * basket, recovery and the message log (orderset_raw.h) hand it out; orderset_persist_image makes a whole image, or a
  * log's area, durable at a start. C11 and C++11, GCC or Clang, x86-64. No part of the proved archives: nothing here is
  * proved, and what it relies on is said here.
  *
  *     flush = orderset_best_flush();                                                  once
  *     if (orderset_persist_image(image, length, flush)) ...stop                       every start, before recovery
- *     if (orderset_proved_recover(image, length, ..., count, open_at, open_value)) ...stop
- *     if (orderset_persist_list(image, length, open_at, open_value, count[0], flush)) ...stop
- *     if (orderset_proved_insert(image, length, ..., at, value, answer) == ORDERSET_OK &&
- *         orderset_persist(image, length, at, value, flush) == 0)
+ *     if (orderset_raw_recover(&set, &found)) ...stop
+ *     if (orderset_persist_list(image, length, found.at, found.value, found.count, flush)) ...stop
+ *     if (orderset_raw_insert(&set, key, value, size, &change) == ORDERSET_OK &&
+ *         orderset_persist(image, length, change.at, change.value, flush) == 0)
  *         ...answer the client
- *     if (orderset_proved_basket(image, length, ..., items, kinds, keys, ..., answer) == ORDERSET_OK &&
- *         orderset_persist_list(image, length, at, value, ORDERSET_BASKET_STORES(items), flush) == 0)
+ *     if (orderset_raw_basket(&set, &items) == ORDERSET_OK &&
+ *         orderset_persist_list(image, length, items.at, items.value, ORDERSET_BASKET_STORES(items.count), flush) == 0)
  *         ...answer the client
  *
  * A file is mapped with MAP_SHARED_VALIDATE | MAP_SYNC. Where that mmap fails, the calls with flush make nothing
  * durable although they return 0: use those that end in _file. The calls with flush are not enough either on xfs where
  * the file shares a block with another (cp --reflink, or plain cp of coreutils 9): a store there takes a new block,
  * whose place is not durable. A start writes and syncs the whole file once, and then asks whether a block is still
- * shared (FIEMAP), as the handle of orderset_file.h does.
+ * shared (FIEMAP), as the handle of orderset.h does.
  *
  * The image is mapped from non-volatile memory and 64-byte aligned, so that the eight words of a line are one cache
  * line. What mmap gives is; of other memory orderset_aligned tells it, and orderset_persist_image tests it. at and
@@ -55,11 +55,15 @@
 #include <sys/mman.h>
 #include <unistd.h>
 
-#include "orderset.h"
+#include "orderset_raw.h"
 
-/* How a line is flushed. Define ORDERSET_FLUSH as one of these before the header to fix it; otherwise it is asked of
- * the processor. */
-enum orderset_flush { ORDERSET_CLFLUSH, ORDERSET_CLFLUSHOPT, ORDERSET_CLWB };
+/* How a line is flushed, with the numbers of enum orderset_flush_kind, which also has those without a line flush.
+ * Define ORDERSET_FLUSH as one of these before the header to fix it; otherwise it is asked of the processor. */
+enum orderset_flush {
+    ORDERSET_CLFLUSH = ORDERSET_FLUSH_CLFLUSH,
+    ORDERSET_CLFLUSHOPT = ORDERSET_FLUSH_CLFLUSHOPT,
+    ORDERSET_CLWB = ORDERSET_FLUSH_CLWB
+};
 
 /* Hooks that count or delay: run after each line flush and after the fence. */
 #ifndef ORDERSET_FLUSHED
@@ -86,7 +90,7 @@ static inline enum orderset_flush orderset_best_flush(void) {
 }
 
 /* 1 if a line of the image is one cache line, else 0. Ask once, at the start: orderset_persist does not. */
-ORDERSET_CALL static inline int orderset_aligned(const void *image) {
+ORDERSET_RAW_CALL static inline int orderset_aligned(const void *image) {
     return (uintptr_t)image % ORDERSET_LINE_BYTES == 0;
 }
 
@@ -139,8 +143,9 @@ static inline int orderset_two_lines(size_t image_length, uint32_t a, uint32_t b
 
 /* Makes the stores that a call handed out durable: 16 stores, two line flushes, one fence. Returns 0; or -1 with
  * errno EINVAL where at does not begin two different whole lines of the image, and then nothing is stored. */
-ORDERSET_CALL static inline int orderset_persist(void *image, size_t image_length, const uint32_t at[ORDERSET_STORES],
-                                                 const uint64_t value[ORDERSET_STORES], enum orderset_flush flush) {
+ORDERSET_RAW_CALL static inline int orderset_persist(void *image, size_t image_length,
+                                                     const uint32_t at[ORDERSET_STORES],
+                                                     const uint64_t value[ORDERSET_STORES], enum orderset_flush flush) {
     const uint32_t first = at[0], second = at[ORDERSET_LINE_STORES];
     if (__builtin_expect(!orderset_two_lines(image_length, first, second), 0)) {
         errno = EINVAL;
@@ -175,8 +180,9 @@ static inline int orderset_inside(size_t bytes_length, const uint32_t *at, size_
  * once; else once for each group of them. Returns 0; or -1 with errno EINVAL where a word is not in a whole line of the
  * bytes, and then nothing is stored. Nothing else is tested: a count above that of the call's answer stores what the
  * lists held before. */
-ORDERSET_CALL static inline int orderset_persist_list(void *bytes, size_t bytes_length, const uint32_t *at,
-                                                      const uint64_t *value, size_t count, enum orderset_flush flush) {
+ORDERSET_RAW_CALL static inline int orderset_persist_list(void *bytes, size_t bytes_length, const uint32_t *at,
+                                                          const uint64_t *value, size_t count,
+                                                          enum orderset_flush flush) {
     if (__builtin_expect(!orderset_inside(bytes_length, at, count), 0)) {
         errno = EINVAL;
         return -1;
@@ -196,7 +202,8 @@ ORDERSET_CALL static inline int orderset_persist_list(void *bytes, size_t bytes_
 /* Makes the whole image durable as it is: flushes every line and fences once. Every start that will write calls it
  * before recovery. Returns 0; or -1 with errno EINVAL where the image is not 64-byte aligned, and then nothing is
  * flushed. */
-ORDERSET_CALL static inline int orderset_persist_image(void *image, size_t image_length, enum orderset_flush flush) {
+ORDERSET_RAW_CALL static inline int orderset_persist_image(void *image, size_t image_length,
+                                                           enum orderset_flush flush) {
     if (!orderset_aligned(image)) {
         errno = EINVAL;
         return -1;
@@ -220,9 +227,9 @@ ORDERSET_CALL static inline int orderset_persist_image(void *image, size_t image
 
 /* Makes the stores that a call handed out durable in the file. Returns 0, or -1 with errno: EINVAL as in
  * orderset_persist, with nothing stored; any other is msync's. */
-ORDERSET_CALL static inline int orderset_persist_file(void *image, size_t image_length,
-                                                      const uint32_t at[ORDERSET_STORES],
-                                                      const uint64_t value[ORDERSET_STORES]) {
+ORDERSET_RAW_CALL static inline int orderset_persist_file(void *image, size_t image_length,
+                                                          const uint32_t at[ORDERSET_STORES],
+                                                          const uint64_t value[ORDERSET_STORES]) {
     const uintptr_t page = (uintptr_t)sysconf(_SC_PAGESIZE);
     const uint32_t first = at[0], second = at[ORDERSET_LINE_STORES];
     if (!orderset_two_lines(image_length, first, second)) {
@@ -239,8 +246,8 @@ ORDERSET_CALL static inline int orderset_persist_file(void *image, size_t image_
 /* Makes a list of stores durable in the file, as orderset_persist_list does. Each page that has any is synced, once
  * where its stores stand together in the list. Returns 0, or -1 with errno: EINVAL as in orderset_persist_list, with
  * nothing stored; any other is msync's. */
-ORDERSET_CALL static inline int orderset_persist_list_file(void *bytes, size_t bytes_length, const uint32_t *at,
-                                                           const uint64_t *value, size_t count) {
+ORDERSET_RAW_CALL static inline int orderset_persist_list_file(void *bytes, size_t bytes_length, const uint32_t *at,
+                                                               const uint64_t *value, size_t count) {
     const uintptr_t page = (uintptr_t)sysconf(_SC_PAGESIZE);
     uintptr_t synced = 0;
     if (!orderset_inside(bytes_length, at, count)) {
@@ -261,7 +268,7 @@ ORDERSET_CALL static inline int orderset_persist_list_file(void *bytes, size_t b
  * kernel has to write the page, and syncs them all. Every start that will write calls it before recovery, while
  * nobody else writes the image. Returns 0, or -1 with errno: EINVAL where the image does not begin a page, any other is
  * msync's. */
-ORDERSET_CALL static inline int orderset_persist_image_file(void *image, size_t image_length) {
+ORDERSET_RAW_CALL static inline int orderset_persist_image_file(void *image, size_t image_length) {
     const uintptr_t page = (uintptr_t)sysconf(_SC_PAGESIZE);
     if ((uintptr_t)image % page) {
         errno = EINVAL;

@@ -61,7 +61,7 @@ static void print_slot(const struct tool *d, const struct orderset_record *recor
 /* The header against the length of the file. */
 static void say_header(const struct tool *d) {
     uint64_t words[WORDS];
-    if (d->is.refusal == ORDERSET_NO_IMAGE_LENGTH) {
+    if (d->is.refusal == ORDERSET_BAD_IMAGE_LENGTH) {
         printf("  it has %" PRIu64 " bytes; a set has 384 to %zu, a multiple of 128\n", d->is.bytes,
                ORDERSET_IMAGE_BYTES(ORDERSET_SLOTS_MAX));
         return;
@@ -79,7 +79,7 @@ static void say_slots(struct tool *d) {
     tool_step(tool, "slots looked at", d->is.slots);
     for (uint32_t slot = 1; slot <= d->is.slots; slot++) {
         tool_slot(d, slot, &record);
-        const int broken = d->is.refusal == ORDERSET_BROKEN_SLOTS && record.slot_class == ORDERSET_SLOT_BROKEN;
+        const int broken = d->is.refusal == ORDERSET_TOO_MANY_BROKEN && record.slot_class == ORDERSET_SLOT_BROKEN;
         if ((record.fault || broken) && ++found <= SHOWN)
             print_slot(d, &record);
     }
@@ -181,12 +181,15 @@ static void say_void(struct tool *d) {
 
 static void say_where(struct tool *d) {
     switch (d->is.refusal) {
-    case ORDERSET_NO_IMAGE_LENGTH:
-    case ORDERSET_NO_FORMAT:
-    case ORDERSET_NO_HEADER: say_header(d); break;
-    case ORDERSET_SHARED_VERSION: say_shared(d); break;
-    case ORDERSET_BROKEN_SLOTS: say_void(d); say_slots(d); break;
-    case ORDERSET_ALL_LIVE: printf("  all %" PRIu32 " slots are live\n", d->is.slots); break;
+    case ORDERSET_BAD_IMAGE_LENGTH:
+    case ORDERSET_NOT_FORMATTED:
+    case ORDERSET_BAD_HEADER: say_header(d); break;
+    case ORDERSET_VERSION_SHARED: say_shared(d); break;
+    case ORDERSET_TOO_MANY_BROKEN:
+        say_void(d);
+        say_slots(d);
+        break;
+    case ORDERSET_NO_SPARE_SLOT: printf("  all %" PRIu32 " slots are live\n", d->is.slots); break;
     default: say_slots(d); break;
     }
 }
@@ -202,18 +205,18 @@ static const char other_file[] =
     "as it is, and go on with a copy from before, or with a new file, and ask the exchange for the open orders. Do\n"
     "not make a new set of that name before the file is kept elsewhere.\n";
 static const char start_too[] =
-    "See also whether each start made the file durable before it recovered: those by orderset_file_open do.\n";
+    "See also whether each start made the file durable before it recovered: those by orderset_open do.\n";
 
 static int refused(struct tool *d) {
     printf("%s: refused, no %" PRIu32, d->path, d->is.refusal);
     if (d->is.fault_slot)
         printf(" of slot %" PRIu32, d->is.fault_slot);
-    printf("\n%s\n", orderset_file_text(d->is.refusal));
+    printf("\n%s\n", orderset_strerror(d->is.refusal));
     say_where(d);
-    if (d->is.refusal <= ORDERSET_NO_HEADER)
+    if (d->is.refusal <= ORDERSET_BAD_HEADER)
         tool_print_log(stdout, d);
-    fputs(d->is.refusal <= ORDERSET_NO_HEADER ? other_file : keep_it, stdout);
-    if (d->is.refusal == ORDERSET_BROKEN_SLOTS)
+    fputs(d->is.refusal <= ORDERSET_BAD_HEADER ? other_file : keep_it, stdout);
+    if (d->is.refusal == ORDERSET_TOO_MANY_BROKEN)
         fputs(start_too, stdout);
     return TOOL_REFUSED;
 }
@@ -271,6 +274,6 @@ int main(int count, char **word) {
     tool_open(&d, tool, path_of(count, word));
     const int status = d.is.refusal ? refused(&d) : accepted(&d);
     tool_printed(&d, stdout, "standard output");
-    orderset_file_close(d.set);
+    orderset_close(d.set);
     return status;
 }

@@ -1,4 +1,5 @@
-/* orderset-show: the open orders of a set in a file, its slots, or a picture of them. The file is only read. */
+/* orderset-show: the open orders of a set in a file, its slots, how many there are of each class, a picture of them, or
+ * how many slots a call compares. The file is only read. */
 #define _GNU_SOURCE
 #include <errno.h>
 #include <fcntl.h>
@@ -9,25 +10,39 @@
 #include <sys/stat.h>
 #include <unistd.h>
 
-#include "tool.h"
+#include "orderset_raw.h"
 #include "picture.h"
+#include "tool.h"
 
 static const char tool[] = "orderset-show";
 static const char help[] =
-    "usage: orderset-show [--slots] [--svg OUT.svg] FILE\n"
+    "usage: orderset-show [--slots | --count | --heads[=B] | --svg OUT.svg] FILE\n"
     "Shows the open orders of a set, one on a line, by slot. The file is only read.\n"
     "  --slots        each slot instead: what it holds, its key, version and value\n"
+    "  --count        how many slots are live, hidden, removed, void, broken and empty instead\n"
+    "  --heads[=B]    how many held keys are found with each count of slots compared instead, their average and the\n"
+    "                 longest: with B heads, 1 to 65536, or as many as an open takes for the file\n"
     "  --svg OUT.svg  a picture of the slots instead, a square for each; - is standard output\n"
     "  --help, --version\n"
     "Status: 0 shown; 1 recovery refuses the file (slots and picture are shown); 2 it could not be read.\n";
 
+/* What is to be shown: one of the four, or the open orders. */
 struct asked {
     const char *path, *svg;
-    int slots;
+    int slots, count, heads;
+    uint32_t heads_number; /* 0: as many as an open takes */
 };
 
 static _Noreturn void usage(const char *words, const char *word) {
     tool_fail(tool, "%s%s%s (orderset-show --help tells more)", words, *word ? ": " : "", word);
+}
+
+static uint32_t heads_of(const char *word) {
+    char *end;
+    const unsigned long heads = strtoul(word, &end, 10);
+    if (*word < '0' || *word > '9' || *end || heads == 0 || heads > ORDERSET_HEADS_MAX)
+        usage("a number of heads is from 1 to 65536", word);
+    return (uint32_t)heads;
 }
 
 static struct asked ask(int count, char **word) {
@@ -38,6 +53,11 @@ static struct asked ask(int count, char **word) {
             options = 0;
         } else if (options && !strcmp(word[i], "--slots")) {
             a.slots = 1;
+        } else if (options && !strcmp(word[i], "--count")) {
+            a.count = 1;
+        } else if (options && (!strcmp(word[i], "--heads") || !strncmp(word[i], "--heads=", 8))) {
+            a.heads = 1;
+            a.heads_number = word[i][7] ? heads_of(word[i] + 8) : 0;
         } else if (options && !strcmp(word[i], "--svg")) {
             if (++i == count)
                 usage("--svg needs the name of the picture", "");
@@ -52,8 +72,8 @@ static struct asked ask(int count, char **word) {
     }
     if (!a.path)
         usage("which file?", "");
-    if (a.svg && a.slots)
-        usage("--slots or --svg, not both", "");
+    if ((a.svg != NULL) + a.slots + a.count + a.heads > 1)
+        usage("--slots, --count, --heads or --svg, and no two of them", "");
     return a;
 }
 
@@ -72,9 +92,9 @@ static int is_picture(const char *path, const struct stat *found) {
     char bytes[100];
     struct stat opened;
     const int file = open(path, O_RDONLY | O_NOFOLLOW | O_NONBLOCK | O_CLOEXEC);
-    const int same = file >= 0 && fstat(file, &opened) == 0 && opened.st_dev == found->st_dev &&
-                     opened.st_ino == found->st_ino && read(file, bytes, length) == (ssize_t)length &&
-                     !memcmp(bytes, picture_begins, length);
+    const int same = file >= 0 && fstat(file, &opened) == 0 && opened.st_dev == found->st_dev
+                     && opened.st_ino == found->st_ino && read(file, bytes, length) == (ssize_t)length
+                     && !memcmp(bytes, picture_begins, length);
     if (file >= 0)
         close(file);
     return same;
@@ -104,7 +124,7 @@ static void test_place(const struct asked *a) {
 
 /* The picture gets its name, which no other file has, or that of a picture which it replaces. Answers why not, or NULL.
  * Some file systems cannot rename so: there it has two names for a moment, and the second stays where it cannot be
- * removed. The model is give_name of src/orderset_file.c. */
+ * removed. The model is give_name of src/area.c. */
 static const char *give_name(const char *fresh, const struct asked *a) {
     int there, failed;
     const char *why = why_not(a, &there);
@@ -193,7 +213,7 @@ static void show_orders(struct tool *d) {
     if (!d->is.live && !d->is.refusal)
         fprintf(stderr, "%s: %s: no open orders\n", tool, d->path);
     tool_step(tool, "slots looked at", d->is.slots);
-    while ((number = orderset_file_next(d->set, &order)) == ORDERSET_FILE_OK) {
+    while ((number = orderset_next(d->set, &order)) == ORDERSET_OK) {
         tool_done = order.slot;
         tool_print_key(stdout, d->is.layout, order.key);
         fputs(": ", stdout);
@@ -201,8 +221,56 @@ static void show_orders(struct tool *d) {
         putchar('\n');
     }
     tool_rest();
-    if (number != ORDERSET_FILE_END && number != d->is.refusal)
-        tool_fail(tool, "%s: no %" PRIu32 ": %s", d->path, number, orderset_file_text(number));
+    if (number != ORDERSET_END && number != d->is.refusal)
+        tool_fail(tool, "%s: no %" PRIu32 ": %s", d->path, number, orderset_strerror(number));
+}
+
+static void show_count(const struct tool *d) {
+    for (int i = 0; i < ORDERSET_SLOT_UNKNOWN; i++)
+        printf("%s%" PRIu64 " %s", i ? ", " : "", d->is.count[i], tool_class[i]);
+    if (d->unknown)
+        printf(", %" PRIu64 " %s", d->unknown, tool_class[ORDERSET_SLOT_UNKNOWN]);
+    putchar('\n');
+}
+
+/* With which count of slots compared a held key is found: asked by a locate, or, with another number of heads, counted,
+ * as the j-th key of a head is found with j. */
+static uint32_t compared_of(struct tool *d, struct orderset_key key, uint32_t *sharing, uint32_t heads) {
+    uint32_t slot;
+    if (heads)
+        return ++sharing[key.low % heads];
+    const uint32_t number = orderset_locate(d->set, key, &slot, NULL);
+    if (number)
+        tool_fail(tool, "%s: no %" PRIu32 ": %s", d->path, number, orderset_strerror(number));
+    return orderset_compared(d->set);
+}
+
+static void show_heads(struct tool *d, uint32_t heads) {
+    struct orderset_record order = {0};
+    uint64_t held = 0, sum = 0;
+    uint32_t number, longest = 0, *found = calloc((size_t)d->is.slots + 1, sizeof *found),
+                     *sharing = calloc((size_t)heads + 1, sizeof *sharing);
+    if (!found || !sharing)
+        tool_fail(tool, "memory: %s", strerror(errno));
+    tool_step(tool, "slots looked at", d->is.slots);
+    for (; (number = orderset_next(d->set, &order)) == ORDERSET_OK; held++) {
+        const uint32_t compared = compared_of(d, order.key, sharing, heads);
+        found[compared]++;
+        sum += compared;
+        longest = compared > longest ? compared : longest;
+        tool_done = order.slot;
+    }
+    tool_rest();
+    if (number == ORDERSET_END) {
+        printf("%" PRIu32 " heads\n", heads ? heads : d->is.heads);
+        for (uint32_t compared = 1; compared <= longest; compared++)
+            printf("%" PRIu32 " compared: %" PRIu32 " held keys\n", compared, found[compared]);
+        printf("average %.2f, longest %" PRIu32 "\n", held ? (double)sum / (double)held : 0, longest);
+    } else if (number != d->is.refusal) {
+        tool_fail(tool, "%s: no %" PRIu32 ": %s", d->path, number, orderset_strerror(number));
+    }
+    free(found);
+    free(sharing);
 }
 
 /* Says on standard error that recovery refuses the file. */
@@ -210,8 +278,8 @@ static void say_refused(const struct tool *d) {
     fprintf(stderr, "%s: %s: refused, no %" PRIu32, tool, d->path, d->is.refusal);
     if (d->is.fault_slot)
         fprintf(stderr, " of slot %" PRIu32, d->is.fault_slot);
-    fprintf(stderr, ": %s\n", orderset_file_text(d->is.refusal));
-    if (d->is.refusal <= ORDERSET_NO_HEADER)
+    fprintf(stderr, ": %s\n", orderset_strerror(d->is.refusal));
+    if (d->is.refusal <= ORDERSET_BAD_HEADER)
         tool_print_log(stderr, d);
     fprintf(stderr, "%s: orderset-check %s tells what to do\n", tool, d->path);
 }
@@ -231,9 +299,13 @@ int main(int count, char **word) {
         show_picture(&d, &a);
     else if (a.slots)
         show_slots(&d);
+    else if (a.count)
+        show_count(&d);
+    else if (a.heads)
+        show_heads(&d, a.heads_number);
     else
         show_orders(&d);
     tool_printed(&d, stdout, "standard output");
-    orderset_file_close(d.set);
+    orderset_close(d.set);
     return d.is.refusal ? TOOL_REFUSED : TOOL_GOOD;
 }

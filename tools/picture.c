@@ -7,7 +7,8 @@
 
 enum { MARGIN = 24, LABELS = 52, LINE = 20, WIDTH = 720, TITLED = 4096, LETTERED = 16, NUMBERED = 40, RINGS = 9 };
 
-const char picture_begins[] = "<?xml version=\"1.0\" encoding=\"UTF-8\"?>\n<!-- orderset-show: the slots of a set -->\n";
+const char picture_begins[] =
+    "<?xml version=\"1.0\" encoding=\"UTF-8\"?>\n<!-- orderset-show: the slots of a set -->\n";
 
 /* Told apart with each kind of colour blindness (a distance of 30 or more in CIE L*a*b*), and most of them in grey. */
 static const struct look {
@@ -67,11 +68,12 @@ static uint32_t draw_numbers(const struct tool *d, FILE *out) {
                  d->is.next_version);
     put_text(out, MARGIN, y += 24, " xml:space=\"preserve\"", line);
     if (d->is.refusal) {
-        snprintf(line, sizeof line, d->is.fault_slot ? "Recovery refuses it: no %" PRIu32 ", slot %" PRIu32 ":"
-                                                     : "Recovery refuses it: no %" PRIu32 ":",
+        snprintf(line, sizeof line,
+                 d->is.fault_slot ? "Recovery refuses it: no %" PRIu32 ", slot %" PRIu32 ":"
+                                  : "Recovery refuses it: no %" PRIu32 ":",
                  d->is.refusal, d->is.fault_slot);
         put_text(out, MARGIN, y += 24, " font-weight=\"bold\"", line);
-        put_text(out, MARGIN, y += LINE, "", orderset_file_text(d->is.refusal));
+        put_text(out, MARGIN, y += LINE, "", orderset_strerror(d->is.refusal));
     }
     return y;
 }
@@ -131,8 +133,9 @@ static void draw_slot(const struct tool *d, FILE *out, const struct grid *grid, 
     const uint32_t x = grid->left + (r->slot - 1) % grid->columns * grid->pitch;
     const uint32_t y = grid->top + (r->slot - 1) / grid->columns * grid->pitch;
     const uint32_t gap = grid->pitch >= NUMBERED ? 3 : grid->pitch > 4 ? 1 : 0, side = grid->pitch - gap;
-    fprintf(out, "<rect class=\"%s\" x=\"%" PRIu32 "\" y=\"%" PRIu32 "\" width=\"%" PRIu32 "\" height=\"%" PRIu32
-                 "\" fill=\"%s\"",
+    fprintf(out,
+            "<rect class=\"%s\" x=\"%" PRIu32 "\" y=\"%" PRIu32 "\" width=\"%" PRIu32 "\" height=\"%" PRIu32
+            "\" fill=\"%s\"",
             tool_class[r->slot_class], x, y, side, side, look[r->slot_class].fill);
     if (r->fault || r->slot == d->is.fault_slot)
         fputs(" stroke=\"#ff00ff\" stroke-width=\"2\"", out);
@@ -170,9 +173,10 @@ static int is_ringed(const struct tool *d, const struct grid *grid, const struct
 static void draw_ring(FILE *out, const struct grid *grid, const struct orderset_record *r) {
     const uint32_t x = grid->left + (r->slot - 1) % grid->columns * grid->pitch + grid->pitch / 2;
     const uint32_t y = grid->top + (r->slot - 1) / grid->columns * grid->pitch + grid->pitch / 2;
-    fprintf(out, "<circle cx=\"%" PRIu32 "\" cy=\"%" PRIu32 "\" r=\"9\" fill=\"none\" stroke=\"#ffffff\" "
-                 "stroke-width=\"5\"/>\n<circle cx=\"%" PRIu32 "\" cy=\"%" PRIu32 "\" r=\"9\" fill=\"none\" "
-                 "stroke=\"%s\" stroke-width=\"3\"/>\n",
+    fprintf(out,
+            "<circle cx=\"%" PRIu32 "\" cy=\"%" PRIu32 "\" r=\"9\" fill=\"none\" stroke=\"#ffffff\" "
+            "stroke-width=\"5\"/>\n<circle cx=\"%" PRIu32 "\" cy=\"%" PRIu32 "\" r=\"9\" fill=\"none\" "
+            "stroke=\"%s\" stroke-width=\"3\"/>\n",
             x, y, x, y, look[r->slot_class].fill);
 }
 

@@ -16,9 +16,6 @@
 #include <time.h>
 #include <unistd.h>
 
-#ifndef VERSION
-#define VERSION "of no release"
-#endif
 #ifndef MFD_NOEXEC_SEAL
 #define MFD_NOEXEC_SEAL 8u
 #endif
@@ -48,7 +45,7 @@ void tool_options(const char *tool, const char *help, int count, char **word) {
         if (!strcmp(word[i], "--help"))
             fputs(help, stdout);
         else if (!strcmp(word[i], "--version"))
-            printf("%s %s\n", tool, VERSION);
+            printf("%s %s\n", tool, orderset_version());
         else
             continue;
         tool_printed(&d, stdout, "standard output");
@@ -117,7 +114,7 @@ void tool_rest(void) {
     each_second(0);
 }
 
-/* ---- the file. The model of lock, open_locked and read_all is src/orderset_file.c, with lock, open_locked and read_at.
+/* ---- the file. The model of lock, open_locked and read_all is src/area.c, with lock, open_locked and read_at.
  * They are not shared: the library has no global names but those of its headers. */
 
 enum { TRIES = 20, PAUSE = 10000000 /* nanoseconds */ };
@@ -127,13 +124,13 @@ static uint32_t lock(int file, int *tries) {
     while (flock(file, LOCK_SH | LOCK_NB)) {
         struct timespec rest = {0, PAUSE};
         if (errno != EWOULDBLOCK && errno != EINTR)
-            return ORDERSET_FILE_SYSTEM;
+            return ORDERSET_ERRNO;
         if (--*tries < 0)
-            return ORDERSET_FILE_LOCKED;
+            return ORDERSET_LOCKED;
         while (nanosleep(&rest, &rest) && errno == EINTR)
             ;
     }
-    return ORDERSET_FILE_OK;
+    return ORDERSET_OK;
 }
 
 /* The file that has the name when it is locked. */
@@ -142,20 +139,20 @@ static uint32_t open_locked(const char *path, int *file, struct stat *found) {
     for (int tries = TRIES; tries >= 0; tries--) {
         *file = open(path, O_RDONLY | O_CLOEXEC | O_NONBLOCK);
         if (*file < 0 || fstat(*file, found))
-            return ORDERSET_FILE_SYSTEM;
+            return ORDERSET_ERRNO;
         if (!S_ISREG(found->st_mode))
-            return ORDERSET_FILE_NOT_REGULAR;
+            return ORDERSET_NOT_REGULAR;
         const uint32_t number = lock(*file, &tries);
         if (number)
             return number;
         if (fstat(*file, found) || stat(path, &named))
-            return ORDERSET_FILE_SYSTEM;
+            return ORDERSET_ERRNO;
         if (named.st_dev == found->st_dev && named.st_ino == found->st_ino)
-            return ORDERSET_FILE_OK;
+            return ORDERSET_OK;
         close(*file);
         *file = -1;
     }
-    return ORDERSET_FILE_LOCKED;
+    return ORDERSET_LOCKED;
 }
 
 static int read_all(int file, uint8_t *bytes, size_t length) {
@@ -182,7 +179,7 @@ static uint32_t read_file(struct tool *d, size_t *length) {
     if (!number && *length <= ORDERSET_IMAGE_BYTES(ORDERSET_SLOTS_MAX)) {
         d->bytes = malloc(*length + 1);
         if (!d->bytes || read_all(file, d->bytes, *length))
-            number = ORDERSET_FILE_SYSTEM;
+            number = ORDERSET_ERRNO;
     }
     const int error = errno;
     if (file >= 0)
@@ -191,8 +188,7 @@ static uint32_t read_file(struct tool *d, size_t *length) {
     return number;
 }
 
-/* A standard stream that is closed must not become the copy: what is said would be written to it. As in the gateway,
- * which is the model. */
+/* A standard stream that is closed must not become the copy: what is said would be written to it. */
 static void hold_streams(const char *tool) {
     int file;
     do
@@ -243,15 +239,15 @@ void tool_open(struct tool *d, const char *tool, const char *path) {
     signal(SIGXFSZ, SIG_IGN); /* a limit of a file's size is a failed write */
     tool_step(tool, "reading and recovering the file", 0);
     uint32_t number = read_file(d, &length);
-    if (number == ORDERSET_FILE_SYSTEM)
+    if (number == ORDERSET_ERRNO)
         tool_fail(tool, "%s: %s", path, strerror(errno));
-    if (!number && (name_copy(d, length) || (number = orderset_file_open(d->copy, ORDERSET_FILE_INSPECT, &d->set)) ==
-                                                ORDERSET_FILE_SYSTEM))
+    if (!number
+        && (name_copy(d, length) || (number = orderset_open(d->copy, ORDERSET_INSPECT, &d->set)) == ORDERSET_ERRNO))
         tool_fail(tool, "%s: its copy in memory: %s", path, strerror(errno));
     if (number)
-        tool_fail(tool, "%s: no %" PRIu32 ": %s", path, number, orderset_file_text(number));
+        tool_fail(tool, "%s: no %" PRIu32 ": %s", path, number, orderset_strerror(number));
     tool_step(tool, "counting the slots", 0);
-    orderset_file_statistics(d->set, &d->is);
+    orderset_stat(d->set, &d->is);
     tool_rest();
     d->unknown = d->is.slots;
     for (int i = 0; i < ORDERSET_SLOT_UNKNOWN; i++)
@@ -259,20 +255,20 @@ void tool_open(struct tool *d, const char *tool, const char *path) {
 }
 
 void tool_slot(struct tool *d, uint32_t slot, struct orderset_record *record) {
-    uint32_t number = orderset_file_slot(d->set, slot, record);
+    uint32_t number = orderset_slot(d->set, slot, record);
     if (number)
         tool_fail(d->tool, "%s: slot %" PRIu32 ": no %" PRIu32 ": %s", d->path, slot, number,
-                  orderset_file_text(number));
+                  orderset_strerror(number));
     tool_done = slot;
 }
 
 void tool_print_log(FILE *out, const struct tool *d) {
     struct orderset_log_statistics is;
-    struct orderset_log_file *log;
-    if (orderset_log_file_open(d->copy, ORDERSET_FILE_INSPECT, &log))
+    struct orderset_log *log;
+    if (orderset_log_open(d->copy, ORDERSET_INSPECT, &log))
         return;
-    orderset_log_file_statistics(log, &is);
-    orderset_log_file_close(log);
+    orderset_log_stat(log, &is);
+    orderset_log_close(log);
     fprintf(out, "%s: it can be read as a message log of %" PRIu32 " cells", d->path, is.cells);
     if (is.last)
         fprintf(out, ", with messages %" PRIu64 " to %" PRIu64, is.first, is.last);
@@ -282,7 +278,7 @@ void tool_print_log(FILE *out, const struct tool *d) {
 /* ---- keys, values and slots in words */
 
 void tool_print_key(FILE *out, uint32_t layout, struct orderset_key key) {
-    if (layout == ORDERSET2_LAYOUT)
+    if (layout == ORDERSET_LAYOUT_2)
         fprintf(out, "0x%016" PRIx64 "%016" PRIx64, key.high, key.low);
     else
         fprintf(out, "%" PRIu64, key.low);
@@ -290,9 +286,9 @@ void tool_print_key(FILE *out, uint32_t layout, struct orderset_key key) {
 
 void tool_print_value(FILE *out, const struct orderset_record *record) {
     struct orderset_order order;
-    if (orderset_file_order(record->value, record->length, &order)) {
-        fprintf(out, "%s, ordered %" PRIu64 ", filled %" PRIu64,
-                order.state == ORDERSET_SENT ? "sent" : "acknowledged", order.ordered, order.filled);
+    if (orderset_order_of(record->value, record->length, &order)) {
+        fprintf(out, "%s, ordered %" PRIu64 ", filled %" PRIu64, order.state == ORDERSET_SENT ? "sent" : "acknowledged",
+                order.ordered, order.filled);
         return;
     }
     fprintf(out, "%" PRIu64 " byte%s", record->length, record->length == 1 ? "" : "s");
@@ -314,5 +310,5 @@ void tool_print_slot(FILE *out, uint32_t layout, const struct orderset_record *r
         }
     }
     if (record->fault)
-        fprintf(out, "; no %" PRIu32 ": %s", record->fault, orderset_file_text(record->fault));
+        fprintf(out, "; no %" PRIu32 ": %s", record->fault, orderset_strerror(record->fault));
 }

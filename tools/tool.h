@@ -4,7 +4,7 @@
 
 #include <stdio.h>
 
-#include "orderset_file.h"
+#include "orderset.h"
 
 /* exit status */
 enum { TOOL_GOOD = 0, TOOL_REFUSED = 1, TOOL_FAILED = 2 };
@@ -18,7 +18,7 @@ struct tool {
     const char *tool, *path;
     uint8_t *bytes; /* null where there are more than a set or a log can have */
     char copy[32];  /* the name of the copy, for the handles */
-    struct orderset_file *set;
+    struct orderset *set;
     struct orderset_statistics is;
     uint64_t unknown; /* whole records of a refused file */
 };

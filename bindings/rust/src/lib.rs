@@ -1,5 +1,5 @@
 //! A persistent order set and a message log, each in a file: what a call has returned is there after a power cut or a
-//! kill, and a call that is struck is there wholly or not at all. The calls below are those of `orderset_file.h`, which
+//! kill, and a call that is struck is there wholly or not at all. The calls below are those of `orderset.h`, which
 //! says more of files, locks and restarts; the library behind it is proved, its handle and this crate are not.
 //!
 //! ```
@@ -55,7 +55,8 @@
 //! refused: open the file again, and ask whether the call was done.
 //!
 //! `cargo build` links `liborderset.a` from the folder that the environment variable `ORDERSET_LIB` names, or else from
-//! `target/lib` of the repository, where `make lib` leaves it.
+//! `target/lib` of the repository, where `make lib` leaves it. `cargo doc` needs no library.
+#![deny(missing_docs)]
 #![warn(missing_debug_implementations, unsafe_op_in_unsafe_fn)]
 
 mod error;
@@ -76,6 +77,12 @@ use std::ffi::CString;
 use std::io;
 use std::os::unix::ffi::OsStrExt;
 use std::path::Path;
+
+/// The version of the library that is linked.
+pub fn version() -> &'static str {
+    // SAFETY: it is never null, and a constant of the library that ends with a zero.
+    unsafe { std::ffi::CStr::from_ptr(sys::orderset_version()) }.to_str().unwrap_or("")
+}
 
 /// A path for C; one with a zero byte is of no file.
 fn c_path(path: &Path) -> Result<CString> {

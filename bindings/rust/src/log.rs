@@ -10,7 +10,7 @@ use std::ptr::{self, NonNull};
 /// A message log in a file: messages of 1 to 384 bytes, numbered from 1, of which the last can be read. As with a set,
 /// what an append returned is durable, a drop closes the file, and one thread uses it at a time.
 pub struct Log {
-    handle: NonNull<sys::LogFile>,
+    handle: NonNull<sys::Log>,
 }
 
 // SAFETY: as of Set.
@@ -21,7 +21,7 @@ impl Log {
     pub fn create(path: impl AsRef<Path>, cells: u32) -> Result<()> {
         let path = c_path(path.as_ref())?;
         // SAFETY: a string that ends with a zero.
-        done(unsafe { sys::orderset_log_file_create(path.as_ptr(), cells) })
+        done(unsafe { sys::orderset_log_create(path.as_ptr(), cells) })
     }
 
     /// Opens a file and recovers it.
@@ -29,7 +29,7 @@ impl Log {
         let path = c_path(path.as_ref())?;
         let mut log = ptr::null_mut();
         // SAFETY: a string that ends with a zero, and the handle is written.
-        done(unsafe { sys::orderset_log_file_open(path.as_ptr(), mode as u32, &mut log) })?;
+        done(unsafe { sys::orderset_log_open(path.as_ptr(), mode as u32, &mut log) })?;
         let handle = NonNull::new(log).expect("a file that was opened has a handle");
         Ok(Log { handle })
     }
@@ -41,17 +41,17 @@ impl Log {
         let mut number = 0;
         done(unsafe {
             let bytes = message.as_ptr().cast();
-            sys::orderset_log_file_append(self.handle.as_ptr(), bytes, message.len(), &mut number)
+            sys::orderset_log_append(self.handle.as_ptr(), bytes, message.len(), &mut number)
         })?;
         Ok(number)
     }
 
-    /// The message with this number; [`crate::Kind::NotShown`] where it cannot be read.
+    /// The message with this number; [`crate::Kind::NoMessage`] where it cannot be read.
     pub fn read(&self, number: u64) -> Result<Message> {
         let mut message = Message::NONE;
         done(unsafe {
             let output = message.bytes.as_mut_ptr().cast();
-            sys::orderset_log_file_read(self.handle.as_ptr(), number, output, sys::MESSAGE_MAX, &mut message.length)
+            sys::orderset_log_read(self.handle.as_ptr(), number, output, sys::MESSAGE_MAX, &mut message.length)
         })?;
         let Bytes { bytes, length } = message;
         Ok(Bytes { bytes, length: length.min(sys::MESSAGE_MAX) })
@@ -60,7 +60,7 @@ impl Log {
     /// The numbers that can be read; an empty range of an empty log.
     pub fn range(&self) -> Result<RangeInclusive<u64>> {
         let (mut first, mut last) = (1, 0);
-        done(unsafe { sys::orderset_log_file_range(self.handle.as_ptr(), &mut first, &mut last) })?;
+        done(unsafe { sys::orderset_log_range(self.handle.as_ptr(), &mut first, &mut last) })?;
         Ok(first..=last)
     }
 
@@ -69,9 +69,10 @@ impl Log {
         Ok(Messages { log: self, numbers: self.range()? })
     }
 
+    /// How the log stands.
     pub fn statistics(&self) -> LogStatistics {
         let mut statistics = sys::LogStatistics::default();
-        unsafe { sys::orderset_log_file_statistics(self.handle.as_ptr(), &mut statistics) };
+        unsafe { sys::orderset_log_stat(self.handle.as_ptr(), &mut statistics) };
         LogStatistics::of(&statistics)
     }
 }
@@ -79,7 +80,7 @@ impl Log {
 impl Drop for Log {
     fn drop(&mut self) {
         // SAFETY: no call follows.
-        unsafe { sys::orderset_log_file_close(self.handle.as_ptr()) }
+        unsafe { sys::orderset_log_close(self.handle.as_ptr()) }
     }
 }
 

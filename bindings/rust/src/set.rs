@@ -14,7 +14,8 @@ use std::ptr::{self, NonNull};
 /// shared::<orderset::Set>();
 /// ```
 pub struct Set {
-    handle: NonNull<sys::File>,
+    handle: NonNull<sys::Set>,
+    wide: bool, // of layout 2
 }
 
 // SAFETY: a handle is bound to no thread. It is not Sync: also a get writes to it.
@@ -26,7 +27,7 @@ impl Set {
     pub fn create(path: impl AsRef<Path>, slots: u32, layout: Layout) -> Result<()> {
         let path = c_path(path.as_ref())?;
         // SAFETY: a string that ends with a zero.
-        done(unsafe { sys::orderset_file_create(path.as_ptr(), slots, layout as u32) })
+        done(unsafe { sys::orderset_create(path.as_ptr(), slots, layout as u32) })
     }
 
     /// Opens a file and recovers it.
@@ -34,9 +35,11 @@ impl Set {
         let path = c_path(path.as_ref())?;
         let mut set = ptr::null_mut();
         // SAFETY: a string that ends with a zero, and the handle is written.
-        done(unsafe { sys::orderset_file_open(path.as_ptr(), mode as u32, &mut set) })?;
+        done(unsafe { sys::orderset_open(path.as_ptr(), mode as u32, &mut set) })?;
         let handle = NonNull::new(set).expect("a file that was opened has a handle");
-        Ok(Set { handle })
+        // SAFETY: the handle is open.
+        let wide = unsafe { sys::orderset_layout(set) } == Layout::Two as u32;
+        Ok(Set { handle, wide })
     }
 
     // SAFETY of all calls below: the handle is open until the drop, &mut self or a Set that is not Sync keeps two calls
@@ -45,31 +48,31 @@ impl Set {
     /// Gives the key, which is not held, the value.
     pub fn insert(&mut self, key: impl Into<Key>, value: &[u8]) -> Result<()> {
         let key = key.into().words();
-        done(unsafe { sys::orderset_file_insert(self.handle.as_ptr(), key, value.as_ptr().cast(), value.len()) })
+        done(unsafe { sys::orderset_insert(self.handle.as_ptr(), key, value.as_ptr().cast(), value.len()) })
     }
 
     /// Gives the key, which is held, the value in the place of the one that it has.
     pub fn replace(&mut self, key: impl Into<Key>, value: &[u8]) -> Result<()> {
         let key = key.into().words();
-        done(unsafe { sys::orderset_file_replace(self.handle.as_ptr(), key, value.as_ptr().cast(), value.len()) })
+        done(unsafe { sys::orderset_replace(self.handle.as_ptr(), key, value.as_ptr().cast(), value.len()) })
     }
 
     /// Drops the key; false where it was not held.
     pub fn remove(&mut self, key: impl Into<Key>) -> Result<bool> {
         let key = key.into().words();
-        done_or(unsafe { sys::orderset_file_remove(self.handle.as_ptr(), key) }, sys::ABSENT)
+        done_or(unsafe { sys::orderset_remove(self.handle.as_ptr(), key) }, sys::NOT_FOUND)
     }
 
     /// Changes 1 to 8 distinct keys, all or none.
     pub fn basket(&mut self, items: &[Item<'_>]) -> Result<()> {
-        let none = sys::Item { kind: 0, key: Key(0).words(), value: ptr::null(), length: 0 };
+        let none = sys::Item { kind: 0, key: Key::from(0u64).words(), value: ptr::null(), length: 0 };
         let mut lent = [none; sys::BASKET_MAX];
         for (place, item) in lent.iter_mut().zip(items) {
             *place = item.lent();
         }
         // more than there is room for is refused as none is
         let count = if items.len() > lent.len() { 0 } else { items.len() };
-        done(unsafe { sys::orderset_file_basket(self.handle.as_ptr(), lent.as_ptr(), count) })
+        done(unsafe { sys::orderset_basket(self.handle.as_ptr(), lent.as_ptr(), count) })
     }
 
     /// What the key holds.
@@ -78,41 +81,41 @@ impl Set {
         let (mut bytes, mut length) = ([0; sys::VALUE_MAX], 0);
         let number = unsafe {
             let output = bytes.as_mut_ptr().cast();
-            sys::orderset_file_get(self.handle.as_ptr(), key, output, bytes.len(), &mut length)
+            sys::orderset_get(self.handle.as_ptr(), key, output, bytes.len(), &mut length)
         };
-        Ok(done_or(number, sys::ABSENT)?.then_some(Bytes { bytes, length: length.min(sys::VALUE_MAX) }))
+        Ok(done_or(number, sys::NOT_FOUND)?.then_some(Bytes { bytes, length: length.min(sys::VALUE_MAX) }))
     }
 
     /// Where the key stands.
     pub fn locate(&self, key: impl Into<Key>) -> Result<Option<Place>> {
         let key = key.into().words();
         let (mut slot, mut version) = (0, 0);
-        let number = unsafe { sys::orderset_file_locate(self.handle.as_ptr(), key, &mut slot, &mut version) };
-        Ok(done_or(number, sys::ABSENT)?.then_some(Place { slot, version }))
+        let number = unsafe { sys::orderset_locate(self.handle.as_ptr(), key, &mut slot, &mut version) };
+        Ok(done_or(number, sys::NOT_FOUND)?.then_some(Place { slot, version }))
     }
 
     /// Gives the key, which is not held, a sent order of the quantity.
     pub fn book_new(&mut self, key: impl Into<Key>, quantity: u64) -> Result<()> {
         let key = key.into().words();
-        done(unsafe { sys::orderset_file_book_new(self.handle.as_ptr(), key, quantity) })
+        done(unsafe { sys::orderset_book_new(self.handle.as_ptr(), key, quantity) })
     }
 
     /// Makes the key's sent order an acknowledged one; false where it was that before.
     pub fn book_acknowledge(&mut self, key: impl Into<Key>) -> Result<bool> {
         let key = key.into().words();
-        done_or(unsafe { sys::orderset_file_book_acknowledge(self.handle.as_ptr(), key) }, sys::ALREADY)
+        done_or(unsafe { sys::orderset_book_acknowledge(self.handle.as_ptr(), key) }, sys::ALREADY_ACKNOWLEDGED)
     }
 
     /// Adds the quantity to what is filled of the key's order; a fill of all that is open removes it.
     pub fn book_fill(&mut self, key: impl Into<Key>, quantity: u64) -> Result<()> {
         let key = key.into().words();
-        done(unsafe { sys::orderset_file_book_fill(self.handle.as_ptr(), key, quantity) })
+        done(unsafe { sys::orderset_book_fill(self.handle.as_ptr(), key, quantity) })
     }
 
     /// Removes the key's order.
     pub fn book_withdraw(&mut self, key: impl Into<Key>) -> Result<()> {
         let key = key.into().words();
-        done(unsafe { sys::orderset_file_book_withdraw(self.handle.as_ptr(), key) })
+        done(unsafe { sys::orderset_book_withdraw(self.handle.as_ptr(), key) })
     }
 
     /// The open orders by rising slot. The set is borrowed, so that nothing changes between two steps:
@@ -133,19 +136,35 @@ impl Set {
     /// What slot 1 to N holds, whatever its class.
     pub fn slot(&self, slot: u32) -> Result<Record> {
         let mut record = sys::Record::NONE;
-        done(unsafe { sys::orderset_file_slot(self.handle.as_ptr(), slot, &mut record) })?;
-        Ok(Record::of(&record))
+        done(unsafe { sys::orderset_slot(self.handle.as_ptr(), slot, &mut record) })?;
+        Ok(Record::of(&record, self.wide))
     }
 
     /// The slots that the last insert, replace, remove, get or locate compared.
     pub fn compared(&self) -> u32 {
-        unsafe { sys::orderset_file_compared(self.handle.as_ptr()) }
+        unsafe { sys::orderset_compared(self.handle.as_ptr()) }
     }
 
-    /// It looks at every slot.
+    /// The layout of the file; none where its header says neither.
+    pub fn layout(&self) -> Option<Layout> {
+        let layout = unsafe { sys::orderset_layout(self.handle.as_ptr()) };
+        (layout != 0).then(|| Layout::of(layout))
+    }
+
+    /// The open orders. No slot is looked at.
+    pub fn count(&self) -> u32 {
+        unsafe { sys::orderset_count(self.handle.as_ptr()) }
+    }
+
+    /// For how many more orders there is room. No slot is looked at.
+    pub fn room(&self) -> u32 {
+        unsafe { sys::orderset_room(self.handle.as_ptr()) }
+    }
+
+    /// How the set stands. It looks at every slot.
     pub fn statistics(&self) -> Statistics {
         let mut statistics = sys::Statistics::default();
-        unsafe { sys::orderset_file_statistics(self.handle.as_ptr(), &mut statistics) };
+        unsafe { sys::orderset_stat(self.handle.as_ptr(), &mut statistics) };
         Statistics::of(&statistics)
     }
 }
@@ -153,7 +172,7 @@ impl Set {
 impl Drop for Set {
     fn drop(&mut self) {
         // SAFETY: no call follows.
-        unsafe { sys::orderset_file_close(self.handle.as_ptr()) }
+        unsafe { sys::orderset_close(self.handle.as_ptr()) }
     }
 }
 
@@ -179,7 +198,7 @@ impl Orders<'_> {
 
     fn step(&mut self) -> Result<bool> {
         // SAFETY: as in the calls of the set.
-        done_or(unsafe { sys::orderset_file_next(self.set.handle.as_ptr(), &mut self.at) }, sys::END)
+        done_or(unsafe { sys::orderset_next(self.set.handle.as_ptr(), &mut self.at) }, sys::END)
     }
 }
 
@@ -190,7 +209,7 @@ impl Iterator for Orders<'_> {
         if self.at.slot == 0 {
             return None;
         }
-        let given = Record::of(&self.at);
+        let given = Record::of(&self.at, self.set.wide);
         if let Err(error) = self.step() {
             self.at = sys::Record::NONE;
             self.refused = Some(error);

@@ -1,10 +1,10 @@
-//! include/orderset_file.h as it is. A test below holds what stands here against the header.
+//! include/orderset.h as it is. A test below holds what stands here against the header.
 use std::os::raw::{c_char, c_int, c_void};
 
-pub const ABSENT: u32 = 1000;
-pub const ALREADY: u32 = 1001;
+pub const NOT_FOUND: u32 = 1000;
+pub const ALREADY_ACKNOWLEDGED: u32 = 1001;
 pub const END: u32 = 1002;
-pub const SYSTEM: u32 = 1010;
+pub const ERRNO: u32 = 1010;
 pub const NOT_DURABLE: u32 = 1016;
 
 pub const INSERT: u32 = 1;
@@ -43,6 +43,7 @@ pub struct Record {
     pub version: u64,
     pub length: u64,
     pub value: [u8; VALUE_MAX],
+    pub reserved: [u64; 4],
 }
 
 impl Record {
@@ -56,6 +57,7 @@ impl Record {
         version: 0,
         length: 0,
         value: [0; VALUE_MAX],
+        reserved: [0; 4],
     };
 }
 
@@ -85,6 +87,7 @@ pub struct Statistics {
     pub next_version: u64,
     pub bytes: u64,
     pub count: [u64; COUNTS],
+    pub reserved: [u64; 8],
 }
 
 #[repr(C)]
@@ -97,53 +100,58 @@ pub struct LogStatistics {
     pub bytes: u64,
     pub first: u64,
     pub last: u64,
+    pub reserved: [u64; 8],
 }
 
 #[repr(C)]
-pub struct File {
+pub struct Set {
     opaque: [u8; 0],
 }
 
 #[repr(C)]
-pub struct LogFile {
+pub struct Log {
     opaque: [u8; 0],
 }
 
 extern "C" {
-    pub fn orderset_file_text(number: u32) -> *const c_char;
+    pub fn orderset_strerror(number: u32) -> *const c_char;
+    pub fn orderset_version() -> *const c_char;
 
-    pub fn orderset_file_create(path: *const c_char, slots: u32, layout: u32) -> u32;
-    pub fn orderset_file_open(path: *const c_char, mode: u32, set: *mut *mut File) -> u32;
-    pub fn orderset_file_close(set: *mut File);
-    pub fn orderset_file_insert(set: *mut File, key: Key, value: *const c_void, length: usize) -> u32;
-    pub fn orderset_file_replace(set: *mut File, key: Key, value: *const c_void, length: usize) -> u32;
-    pub fn orderset_file_remove(set: *mut File, key: Key) -> u32;
-    pub fn orderset_file_basket(set: *mut File, items: *const Item, count: usize) -> u32;
-    pub fn orderset_file_get(set: *mut File, key: Key, output: *mut c_void, room: usize, length: *mut usize) -> u32;
-    pub fn orderset_file_locate(set: *mut File, key: Key, slot: *mut u32, version: *mut u64) -> u32;
-    pub fn orderset_file_book_new(set: *mut File, key: Key, quantity: u64) -> u32;
-    pub fn orderset_file_book_acknowledge(set: *mut File, key: Key) -> u32;
-    pub fn orderset_file_book_fill(set: *mut File, key: Key, quantity: u64) -> u32;
-    pub fn orderset_file_book_withdraw(set: *mut File, key: Key) -> u32;
-    pub fn orderset_file_order(value: *const c_void, length: usize, order: *mut Order) -> c_int;
-    pub fn orderset_file_next(set: *mut File, record: *mut Record) -> u32;
-    pub fn orderset_file_slot(set: *mut File, slot: u32, record: *mut Record) -> u32;
-    pub fn orderset_file_compared(set: *const File) -> u32;
-    pub fn orderset_file_statistics(set: *mut File, statistics: *mut Statistics);
+    pub fn orderset_create(path: *const c_char, slots: u32, layout: u32) -> u32;
+    pub fn orderset_open(path: *const c_char, mode: u32, set: *mut *mut Set) -> u32;
+    pub fn orderset_close(set: *mut Set);
+    pub fn orderset_insert(set: *mut Set, key: Key, value: *const c_void, length: usize) -> u32;
+    pub fn orderset_replace(set: *mut Set, key: Key, value: *const c_void, length: usize) -> u32;
+    pub fn orderset_remove(set: *mut Set, key: Key) -> u32;
+    pub fn orderset_basket(set: *mut Set, items: *const Item, count: usize) -> u32;
+    pub fn orderset_get(set: *mut Set, key: Key, output: *mut c_void, room: usize, length: *mut usize) -> u32;
+    pub fn orderset_locate(set: *mut Set, key: Key, slot: *mut u32, version: *mut u64) -> u32;
+    pub fn orderset_book_new(set: *mut Set, key: Key, quantity: u64) -> u32;
+    pub fn orderset_book_acknowledge(set: *mut Set, key: Key) -> u32;
+    pub fn orderset_book_fill(set: *mut Set, key: Key, quantity: u64) -> u32;
+    pub fn orderset_book_withdraw(set: *mut Set, key: Key) -> u32;
+    pub fn orderset_order_of(value: *const c_void, length: usize, order: *mut Order) -> c_int;
+    pub fn orderset_next(set: *mut Set, record: *mut Record) -> u32;
+    pub fn orderset_slot(set: *mut Set, slot: u32, record: *mut Record) -> u32;
+    pub fn orderset_compared(set: *const Set) -> u32;
+    pub fn orderset_layout(set: *const Set) -> u32;
+    pub fn orderset_count(set: *const Set) -> u32;
+    pub fn orderset_room(set: *const Set) -> u32;
+    pub fn orderset_stat(set: *mut Set, statistics: *mut Statistics);
 
-    pub fn orderset_log_file_create(path: *const c_char, cells: u32) -> u32;
-    pub fn orderset_log_file_open(path: *const c_char, mode: u32, log: *mut *mut LogFile) -> u32;
-    pub fn orderset_log_file_close(log: *mut LogFile);
-    pub fn orderset_log_file_append(log: *mut LogFile, message: *const c_void, length: usize, number: *mut u64) -> u32;
-    pub fn orderset_log_file_read(
-        log: *mut LogFile,
+    pub fn orderset_log_create(path: *const c_char, cells: u32) -> u32;
+    pub fn orderset_log_open(path: *const c_char, mode: u32, log: *mut *mut Log) -> u32;
+    pub fn orderset_log_close(log: *mut Log);
+    pub fn orderset_log_append(log: *mut Log, message: *const c_void, length: usize, number: *mut u64) -> u32;
+    pub fn orderset_log_read(
+        log: *mut Log,
         number: u64,
         output: *mut c_void,
         room: usize,
         length: *mut usize,
     ) -> u32;
-    pub fn orderset_log_file_range(log: *mut LogFile, first: *mut u64, last: *mut u64) -> u32;
-    pub fn orderset_log_file_statistics(log: *mut LogFile, statistics: *mut LogStatistics);
+    pub fn orderset_log_range(log: *mut Log, first: *mut u64, last: *mut u64) -> u32;
+    pub fn orderset_log_stat(log: *mut Log, statistics: *mut LogStatistics);
 }
 
 /// The C compiler is asked whether the header says the same: sizes, offsets, numbers and the types of the functions.
@@ -156,35 +164,39 @@ mod tests {
     use std::process::{Command, Stdio};
 
     const PROTOTYPES: &str = "
-        const char *orderset_file_text(uint32_t);
-        uint32_t orderset_file_create(const char *, uint32_t, uint32_t);
-        uint32_t orderset_file_open(const char *, uint32_t, struct orderset_file **);
-        void orderset_file_close(struct orderset_file *);
-        uint32_t orderset_file_insert(struct orderset_file *, struct orderset_key, const void *, size_t);
-        uint32_t orderset_file_replace(struct orderset_file *, struct orderset_key, const void *, size_t);
-        uint32_t orderset_file_remove(struct orderset_file *, struct orderset_key);
-        uint32_t orderset_file_basket(struct orderset_file *, const struct orderset_item *, size_t);
-        uint32_t orderset_file_get(struct orderset_file *, struct orderset_key, void *, size_t, size_t *);
-        uint32_t orderset_file_locate(struct orderset_file *, struct orderset_key, uint32_t *, uint64_t *);
-        uint32_t orderset_file_book_new(struct orderset_file *, struct orderset_key, uint64_t);
-        uint32_t orderset_file_book_acknowledge(struct orderset_file *, struct orderset_key);
-        uint32_t orderset_file_book_fill(struct orderset_file *, struct orderset_key, uint64_t);
-        uint32_t orderset_file_book_withdraw(struct orderset_file *, struct orderset_key);
-        int orderset_file_order(const void *, size_t, struct orderset_order *);
-        uint32_t orderset_file_next(struct orderset_file *, struct orderset_record *);
-        uint32_t orderset_file_slot(struct orderset_file *, uint32_t, struct orderset_record *);
-        uint32_t orderset_file_compared(const struct orderset_file *);
-        void orderset_file_statistics(struct orderset_file *, struct orderset_statistics *);
-        uint32_t orderset_log_file_create(const char *, uint32_t);
-        uint32_t orderset_log_file_open(const char *, uint32_t, struct orderset_log_file **);
-        void orderset_log_file_close(struct orderset_log_file *);
-        uint32_t orderset_log_file_append(struct orderset_log_file *, const void *, size_t, uint64_t *);
-        uint32_t orderset_log_file_read(struct orderset_log_file *, uint64_t, void *, size_t, size_t *);
-        uint32_t orderset_log_file_range(struct orderset_log_file *, uint64_t *, uint64_t *);
-        void orderset_log_file_statistics(struct orderset_log_file *, struct orderset_log_statistics *);
+        const char *orderset_strerror(uint32_t);
+        const char *orderset_version(void);
+        uint32_t orderset_create(const char *, uint32_t, uint32_t);
+        uint32_t orderset_open(const char *, uint32_t, struct orderset **);
+        void orderset_close(struct orderset *);
+        uint32_t orderset_insert(struct orderset *, struct orderset_key, const void *, size_t);
+        uint32_t orderset_replace(struct orderset *, struct orderset_key, const void *, size_t);
+        uint32_t orderset_remove(struct orderset *, struct orderset_key);
+        uint32_t orderset_basket(struct orderset *, const struct orderset_item *, size_t);
+        uint32_t orderset_get(struct orderset *, struct orderset_key, void *, size_t, size_t *);
+        uint32_t orderset_locate(struct orderset *, struct orderset_key, uint32_t *, uint64_t *);
+        uint32_t orderset_book_new(struct orderset *, struct orderset_key, uint64_t);
+        uint32_t orderset_book_acknowledge(struct orderset *, struct orderset_key);
+        uint32_t orderset_book_fill(struct orderset *, struct orderset_key, uint64_t);
+        uint32_t orderset_book_withdraw(struct orderset *, struct orderset_key);
+        int orderset_order_of(const void *, size_t, struct orderset_order *);
+        uint32_t orderset_next(struct orderset *, struct orderset_record *);
+        uint32_t orderset_slot(struct orderset *, uint32_t, struct orderset_record *);
+        uint32_t orderset_compared(const struct orderset *);
+        uint32_t orderset_layout(const struct orderset *);
+        uint32_t orderset_count(const struct orderset *);
+        uint32_t orderset_room(const struct orderset *);
+        void orderset_stat(struct orderset *, struct orderset_statistics *);
+        uint32_t orderset_log_create(const char *, uint32_t);
+        uint32_t orderset_log_open(const char *, uint32_t, struct orderset_log **);
+        void orderset_log_close(struct orderset_log *);
+        uint32_t orderset_log_append(struct orderset_log *, const void *, size_t, uint64_t *);
+        uint32_t orderset_log_read(struct orderset_log *, uint64_t, void *, size_t, size_t *);
+        uint32_t orderset_log_range(struct orderset_log *, uint64_t *, uint64_t *);
+        void orderset_log_stat(struct orderset_log *, struct orderset_log_statistics *);
     ";
 
-    /// NoImageLength is NO_IMAGE_LENGTH.
+    /// BadImageLength is BAD_IMAGE_LENGTH.
     fn c_name(name: &str) -> String {
         let mut c = String::new();
         for letter in name.chars() {
@@ -198,12 +210,7 @@ mod tests {
 
     fn kinds(c: &mut String) {
         for kind in Kind::ALL {
-            let prefix = match *kind as u32 {
-                1000.. => "ORDERSET_FILE",
-                29..=31 => "ORDERSET_LOG",
-                _ => "ORDERSET",
-            };
-            let _ = writeln!(c, "IS({prefix}_{}, {});", c_name(&format!("{kind:?}")), *kind as u32);
+            let _ = writeln!(c, "IS(ORDERSET_{}, {});", c_name(&format!("{kind:?}")), *kind as u32);
         }
     }
 
@@ -217,20 +224,20 @@ mod tests {
         }
         holds!(Key, "orderset_key", low high);
         holds!(Item, "orderset_item", kind key value length);
-        holds!(Record, "orderset_record", slot slot_class fault records key version length value);
+        holds!(Record, "orderset_record", slot slot_class fault records key version length value reserved);
         holds!(Order, "orderset_order", state ordered filled);
         holds!(Statistics, "orderset_statistics", mode flush layout slots heads live spare compared opened refusal
-            fault_slot error next_version bytes count);
-        holds!(LogStatistics, "orderset_log_statistics", mode flush cells error bytes first last);
+            fault_slot error next_version bytes count reserved);
+        holds!(LogStatistics, "orderset_log_statistics", mode flush cells error bytes first last reserved);
     }
 
     fn numbers(c: &mut String) {
         for (name, number) in [
-            ("ORDERSET_FILE_ABSENT", ABSENT),
-            ("ORDERSET_FILE_ALREADY", ALREADY),
-            ("ORDERSET_FILE_END", END),
-            ("ORDERSET_FILE_SYSTEM", SYSTEM),
-            ("ORDERSET_FILE_NOT_DURABLE", NOT_DURABLE),
+            ("ORDERSET_NOT_FOUND", NOT_FOUND),
+            ("ORDERSET_ALREADY_ACKNOWLEDGED", ALREADY_ACKNOWLEDGED),
+            ("ORDERSET_END", END),
+            ("ORDERSET_ERRNO", ERRNO),
+            ("ORDERSET_NOT_DURABLE", NOT_DURABLE),
             ("ORDERSET_INSERT", INSERT),
             ("ORDERSET_REPLACE", REPLACE),
             ("ORDERSET_REMOVE", REMOVE),
@@ -240,14 +247,14 @@ mod tests {
             ("ORDERSET_COUNTS", COUNTS as u32),
             ("1", Layout::One as u32),
             ("2", Layout::Two as u32),
-            ("ORDERSET_FILE_READ", Mode::Read as u32),
-            ("ORDERSET_FILE_WRITE", Mode::Write as u32),
-            ("ORDERSET_FILE_INSPECT", Mode::Inspect as u32),
-            ("ORDERSET_FILE_NO_FLUSH", Flush::None as u32),
-            ("ORDERSET_FILE_MSYNC", Flush::Msync as u32),
-            ("ORDERSET_FILE_CLFLUSH", Flush::Clflush as u32),
-            ("ORDERSET_FILE_CLFLUSHOPT", Flush::Clflushopt as u32),
-            ("ORDERSET_FILE_CLWB", Flush::Clwb as u32),
+            ("ORDERSET_READ", Mode::Read as u32),
+            ("ORDERSET_WRITE", Mode::Write as u32),
+            ("ORDERSET_INSPECT", Mode::Inspect as u32),
+            ("ORDERSET_FLUSH_NONE", Flush::None as u32),
+            ("ORDERSET_FLUSH_MSYNC", Flush::Msync as u32),
+            ("ORDERSET_FLUSH_CLFLUSH", Flush::Clflush as u32),
+            ("ORDERSET_FLUSH_CLFLUSHOPT", Flush::Clflushopt as u32),
+            ("ORDERSET_FLUSH_CLWB", Flush::Clwb as u32),
             ("ORDERSET_SLOT_LIVE", SlotClass::Live as u32),
             ("ORDERSET_SLOT_HIDDEN", SlotClass::Hidden as u32),
             ("ORDERSET_SLOT_REMOVE", SlotClass::Remove as u32),
@@ -264,7 +271,7 @@ mod tests {
 
     #[test]
     fn the_header_says_the_same() {
-        let mut c = String::from("#include \"orderset_file.h\"\n#define IS(a, b) _Static_assert((a) == (b), #a)\n");
+        let mut c = String::from("#include \"orderset.h\"\n#define IS(a, b) _Static_assert((a) == (b), #a)\n");
         c.push_str(PROTOTYPES);
         kinds(&mut c);
         structs(&mut c);

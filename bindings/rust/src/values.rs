@@ -1,36 +1,109 @@
 use crate::sys;
+use std::cmp::Ordering;
 use std::fmt;
+use std::hash::{Hash, Hasher};
 use std::ops::Deref;
 
-/// A key: up to 64 bits in layout 1, up to 128 in layout 2.
-#[derive(Clone, Copy, Debug, PartialEq, Eq, PartialOrd, Ord, Hash)]
-pub struct Key(pub u128);
+/// A key: up to 64 bits in layout 1, up to 128 in layout 2. It is printed as the tools print it: one of layout 1, or that
+/// was made from a `u32` or a `u64`, in decimal digits; one of layout 2, or that was made from a `u128`, as 0x and 32
+/// hexadecimal digits. Keys of one number are equal.
+///
+/// It is made from a `u32`, a `u64` or a `u128`, so write `set.get(7u64)`. A literal without its type, as in `set.get(7)`, is
+/// an `i32` to Rust, which may be negative: from one a key is made by `Key::try_from(7)?`, which refuses a negative number.
+#[derive(Clone, Copy)]
+pub struct Key {
+    number: u128,
+    wide: bool,
+}
 
 impl Key {
-    pub(crate) fn words(self) -> sys::Key {
-        sys::Key { low: self.0 as u64, high: (self.0 >> 64) as u64 }
+    /// The number that it is.
+    pub fn number(self) -> u128 {
+        self.number
     }
 
-    fn of(words: sys::Key) -> Key {
-        Key(u128::from(words.high) << 64 | u128::from(words.low))
+    pub(crate) fn words(self) -> sys::Key {
+        sys::Key { low: self.number as u64, high: (self.number >> 64) as u64 }
+    }
+
+    fn of(words: sys::Key, wide: bool) -> Key {
+        Key { number: u128::from(words.high) << 64 | u128::from(words.low), wide }
+    }
+}
+
+impl From<u32> for Key {
+    fn from(key: u32) -> Key {
+        Key { number: key.into(), wide: false }
     }
 }
 
 impl From<u64> for Key {
     fn from(key: u64) -> Key {
-        Key(key.into())
+        Key { number: key.into(), wide: false }
     }
 }
 
 impl From<u128> for Key {
     fn from(key: u128) -> Key {
-        Key(key)
+        Key { number: key, wide: true }
+    }
+}
+
+impl TryFrom<i32> for Key {
+    type Error = std::num::TryFromIntError;
+
+    fn try_from(key: i32) -> Result<Key, Self::Error> {
+        u32::try_from(key).map(Key::from)
+    }
+}
+
+impl TryFrom<i64> for Key {
+    type Error = std::num::TryFromIntError;
+
+    fn try_from(key: i64) -> Result<Key, Self::Error> {
+        u64::try_from(key).map(Key::from)
+    }
+}
+
+impl PartialEq for Key {
+    fn eq(&self, other: &Key) -> bool {
+        self.number == other.number
+    }
+}
+
+impl Eq for Key {}
+
+impl PartialOrd for Key {
+    fn partial_cmp(&self, other: &Key) -> Option<Ordering> {
+        Some(self.cmp(other))
+    }
+}
+
+impl Ord for Key {
+    fn cmp(&self, other: &Key) -> Ordering {
+        self.number.cmp(&other.number)
+    }
+}
+
+impl Hash for Key {
+    fn hash<H: Hasher>(&self, state: &mut H) {
+        self.number.hash(state);
     }
 }
 
 impl fmt::Display for Key {
     fn fmt(&self, f: &mut fmt::Formatter<'_>) -> fmt::Result {
-        self.0.fmt(f)
+        if self.wide {
+            write!(f, "{:#034x}", self.number)
+        } else {
+            write!(f, "{}", self.number)
+        }
+    }
+}
+
+impl fmt::Debug for Key {
+    fn fmt(&self, f: &mut fmt::Formatter<'_>) -> fmt::Result {
+        write!(f, "Key({self})")
     }
 }
 
@@ -97,7 +170,9 @@ macro_rules! numbered {
 numbered! {
     /// Which keys and values a set has: [`Key`], [`Value`].
     Layout {
+        /// Keys of 64 bits and values of up to 80 bytes.
         One = 1,
+        /// Keys of 128 bits and values of up to 72 bytes.
         Two = 2,
     }
 
@@ -117,22 +192,29 @@ numbered! {
     Flush {
         /// A copy: nothing does.
         None = 0,
+        /// The fallback.
         Msync = 1,
+        /// clflush and mfence.
         Clflush = 2,
+        /// clflushopt and sfence.
         Clflushopt = 3,
+        /// clwb and sfence.
         Clwb = 4,
     }
 
     /// What a slot holds.
     SlotClass {
+        /// The value of a held key.
         Live = 0,
         /// A value that a later record of its key hides.
         Hidden = 1,
+        /// A record that its key was removed.
         Remove = 2,
         /// Of a basket that a cut struck; only in [`Mode::Inspect`].
         Void = 3,
         /// A cut struck the call that wrote it: no error.
         Broken = 4,
+        /// Not used yet.
         Empty = 5,
         /// A whole record of a file that recovery refuses.
         Unknown = 6,
@@ -140,7 +222,9 @@ numbered! {
 
     /// The state of an order.
     State {
+        /// The order is with the exchange.
         Sent = 1,
+        /// The exchange has acknowledged it.
         Acknowledged = 2,
     }
 }
@@ -148,8 +232,11 @@ numbered! {
 /// An order of the book: a value of 24 bytes.
 #[derive(Clone, Copy, Debug, PartialEq, Eq)]
 pub struct Order {
+    /// Sent or acknowledged.
     pub state: State,
+    /// The quantity.
     pub ordered: u64,
+    /// What is filled of it.
     pub filled: u64,
 }
 
@@ -158,7 +245,7 @@ impl Order {
     pub fn of(value: &[u8]) -> Option<Order> {
         let mut order = sys::Order::default();
         // SAFETY: the value has so many bytes, and the order is written.
-        let is_order = unsafe { sys::orderset_file_order(value.as_ptr().cast(), value.len(), &mut order) };
+        let is_order = unsafe { sys::orderset_order_of(value.as_ptr().cast(), value.len(), &mut order) };
         (is_order != 0).then(|| Order {
             state: State::of(order.state as u32),
             ordered: order.ordered,
@@ -175,26 +262,31 @@ impl Order {
 /// An open order, or what a slot holds.
 #[derive(Clone, Debug, PartialEq, Eq)]
 pub struct Record {
+    /// Its slot, from 1.
     pub slot: u32,
+    /// What the slot holds.
     pub class: SlotClass,
     /// What recovery refuses of this slot by itself: 5, 6, 22, 23 or 24; else 0.
     pub fault: u32,
     /// Of the basket that wrote it, 2 to 8; 0: it was written alone.
     pub records: u32,
+    /// The key.
     pub key: Key,
+    /// The version of the call that wrote it.
     pub version: u64,
+    /// The value.
     pub value: Value,
 }
 
 impl Record {
-    pub(crate) fn of(record: &sys::Record) -> Record {
+    pub(crate) fn of(record: &sys::Record, wide: bool) -> Record {
         let length = (record.length as usize).min(sys::VALUE_MAX);
         Record {
             slot: record.slot,
             class: SlotClass::of(record.slot_class),
             fault: record.fault,
             records: record.records,
-            key: Key::of(record.key),
+            key: Key::of(record.key, wide),
             version: record.version,
             value: Bytes { bytes: record.value, length },
         }
@@ -209,27 +301,35 @@ impl Record {
 /// Where a key stands.
 #[derive(Clone, Copy, Debug, PartialEq, Eq)]
 pub struct Place {
+    /// Its slot, from 1.
     pub slot: u32,
+    /// The version of the call that wrote it.
     pub version: u64,
 }
 
 /// One key of a basket.
 #[derive(Clone, Copy, Debug, PartialEq, Eq)]
 pub enum Item<'a> {
+    /// Gives the key, which is not held, the value.
     Insert(Key, &'a [u8]),
+    /// Gives the key, which is held, another value.
     Replace(Key, &'a [u8]),
+    /// Drops the key, which is held.
     Remove(Key),
 }
 
 impl<'a> Item<'a> {
+    /// [`Item::Insert`].
     pub fn insert(key: impl Into<Key>, value: &'a [u8]) -> Item<'a> {
         Item::Insert(key.into(), value)
     }
 
+    /// [`Item::Replace`].
     pub fn replace(key: impl Into<Key>, value: &'a [u8]) -> Item<'a> {
         Item::Replace(key.into(), value)
     }
 
+    /// [`Item::Remove`].
     pub fn remove(key: impl Into<Key>) -> Item<'a> {
         Item::Remove(key.into())
     }
@@ -248,26 +348,33 @@ impl<'a> Item<'a> {
 /// What [`crate::Set::statistics`] tells.
 #[derive(Clone, Debug, PartialEq, Eq)]
 pub struct Statistics {
+    /// How it was opened.
     pub mode: Mode,
+    /// How a call becomes durable.
     pub flush: Flush,
     /// None where the header says neither.
     pub layout: Option<Layout>,
-    /// N and B; 0 where the length is of no set.
+    /// N; 0 where the length is of no set.
     pub slots: u32,
+    /// B; 0 where the length is of no set.
     pub heads: u32,
-    /// Open orders, and N less these; of a refused file 0.
+    /// Open orders; of a refused file 0.
     pub live: u32,
+    /// N less the open orders; of a refused file 0.
     pub spare: u32,
     /// As [`crate::Set::compared`].
     pub compared: u32,
     /// Void slots that recovery found, and that the open opened unless in [`Mode::Inspect`].
     pub opened: u32,
-    /// Of recovery, in [`Mode::Inspect`], and the slot that it names; 0 where there is none.
+    /// Of recovery, in [`Mode::Inspect`]; 0 where there is none.
     pub refusal: u32,
+    /// The slot that it names; 0 where there is none.
     pub fault_slot: u32,
     /// errno of [`crate::Kind::NotDurable`], 0 where there was none.
     pub error: i32,
+    /// The version of the next call that stores.
     pub next_version: u64,
+    /// The length of the file.
     pub bytes: u64,
     count: [u64; sys::COUNTS],
 }
@@ -302,15 +409,19 @@ impl Statistics {
 /// What [`crate::Log::statistics`] tells.
 #[derive(Clone, Debug, PartialEq, Eq)]
 pub struct LogStatistics {
+    /// How it was opened.
     pub mode: Mode,
+    /// How a call becomes durable.
     pub flush: Flush,
     /// K.
     pub cells: u32,
     /// errno of [`crate::Kind::NotDurable`], 0 where there was none.
     pub error: i32,
+    /// The length of the file.
     pub bytes: u64,
-    /// The numbers that can be read; of an empty log 1 and 0.
+    /// The first number that can be read; of an empty log 1.
     pub first: u64,
+    /// The last one; of an empty log 0.
     pub last: u64,
 }
 

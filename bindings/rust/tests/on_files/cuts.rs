@@ -55,7 +55,7 @@ fn some_counts(chance: &mut Chance, lines: usize) -> Vec<usize> {
 fn map_of(set: &Set) -> Map {
     let mut map = Map::new();
     for record in set.orders().unwrap() {
-        let held = map.insert(record.key.0, record.value.to_vec());
+        let held = map.insert(record.key.number(), record.value.to_vec());
         assert_eq!(held, None, "NOT SO: each key comes once");
     }
     map
@@ -384,7 +384,7 @@ fn a_record_has_its_order() {
     let place = set.locate(wide).unwrap().unwrap();
     assert!(matches!(set.compared(), 1 | 2), "NOT SO: of two keys one or two slots are compared: {}", set.compared());
     let record = set.slot(place.slot).unwrap();
-    assert_eq!((record.key, record.version), (Key(wide), place.version), "NOT SO: the slot is the key's");
+    assert_eq!((record.key, record.version), (Key::from(wide), place.version), "NOT SO: the slot is the key's");
     assert!(records.contains(&record), "NOT SO: the slot is as the iteration gives it");
     assert_eq!(set.book_fill(wide, 8).unwrap_err().kind(), Kind::BadQuantity, "NOT SO: no more than is open");
 }
