@@ -10,16 +10,16 @@
 
 enum { MEMORY = 448 * 1000 };
 
-extern size_t length;                               /* of the memory, in whole lines */
-extern _Alignas(4096) uint8_t visible[MEMORY];        /* what a process sees */
-extern int calling;                                 /* set by the program: 1 in a call, 0 in a start */
-extern unsigned stores_made;                        /* since the program set it to 0 */
-extern int fenced;                                  /* a fence was passed in a call since then */
+extern size_t length;                          /* of the memory, in whole lines */
+extern _Alignas(4096) uint8_t visible[MEMORY]; /* what a process sees */
+extern int calling;                            /* set by the program: 1 in a call, 0 in a start */
+extern unsigned stores_made;                   /* since the program set it to 0 */
+extern int fenced;                             /* a fence was passed in a call since then */
 
 /* What is visible becomes durable: the memory of a new program. */
 void all_durable(void);
 
-extern void (*after_store)(size_t place);           /* null, or told of each store */
+extern void (*after_store)(size_t place); /* null, or told of each store */
 
 /* Something strikes: the program goes to `struck` at a point, which counts the fuse down. Every store, flush and fence
  * is a point. */

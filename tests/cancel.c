@@ -1,4 +1,4 @@
-/* A thread that is cancelled in a call of orderset_file.h: at every cancellation point of every call, before the system
+/* A thread that is cancelled in a call of orderset.h: at every cancellation point of every call, before the system
  * call there and after it. Each system call that POSIX names as a cancellation point, or as one that may be, is linked
  * with --wrap.
  *
@@ -33,8 +33,17 @@
 #include "child.h"
 #include "file_model.h"
 
-enum { SETS = 24, LOGS = 12, CANCELS = 20, MOST_SLOTS = 90, CELLS = 20, ODD_CELLS = 21, NAME = 1024, BYTES = 128 * (MOST_SLOTS + 1) };
-enum { READ = ORDERSET_FILE_READ, WRITE = ORDERSET_FILE_WRITE, INSPECT = ORDERSET_FILE_INSPECT };
+enum {
+    SETS = 24,
+    LOGS = 12,
+    CANCELS = 20,
+    MOST_SLOTS = 90,
+    CELLS = 20,
+    ODD_CELLS = 21,
+    NAME = 1024,
+    BYTES = 128 * (MOST_SLOTS + 1)
+};
+enum { READ = ORDERSET_READ, WRITE = ORDERSET_WRITE, INSPECT = ORDERSET_INSPECT };
 
 static const char *path;
 static uint64_t cancelled, held_back, cuts, done_unanswered, answered;
@@ -58,14 +67,14 @@ static uint8_t *image; /* where the file is mapped */
 static size_t length;
 static int on_lines; /* as on non-volatile memory */
 
-#define WRAP(result, name, parameters, arguments) \
-    result __real_##name parameters; \
-    result __wrap_##name parameters; \
-    result __wrap_##name parameters { \
-        point(); \
-        result given = __real_##name arguments; \
-        point(); \
-        return given; \
+#define WRAP(result, name, parameters, arguments)                                                                      \
+    result __real_##name parameters;                                                                                   \
+    result __wrap_##name parameters;                                                                                   \
+    result __wrap_##name parameters {                                                                                  \
+        point();                                                                                                       \
+        result given = __real_##name arguments;                                                                        \
+        point();                                                                                                       \
+        return given;                                                                                                  \
     }
 
 WRAP(int, close, (int file), (file))
@@ -205,8 +214,8 @@ static int run(void (*make)(void), unsigned at) {
 
 /* ---- changes of a set */
 
-static struct orderset_file *set;
-static struct orderset_log_file *log_file;
+static struct orderset *set;
+static struct orderset_log *log_file;
 static struct plain now, after;
 static struct call change;
 
@@ -215,8 +224,8 @@ static void make_change(void) {
 }
 
 static void open_writer(void) {
-    const uint32_t number = orderset_file_open(path, WRITE, &set);
-    expect(number == 0, "an open gives %" PRIu32 ": %s", number, orderset_file_text(number));
+    const uint32_t number = orderset_open(path, WRITE, &set);
+    expect(number == 0, "an open gives %" PRIu32 ": %s", number, orderset_strerror(number));
 }
 
 /* What is answered from here on must not be taken by a cut. */
@@ -227,16 +236,15 @@ static void refuses_all(void) {
     size_t size;
     for (int i = 0; i < 8; i++) {
         any_call(&now, &other);
-        expect(carry_out(set, &now, &other) == ORDERSET_FILE_STOPPED
+        expect(carry_out(set, &now, &other) == ORDERSET_STOPPED
                    || (other.kind == BASKET && (other.count == 0 || other.count > ORDERSET_BASKET_MAX)),
                "a handle with a change that was cancelled refuses every change");
     }
-    expect(orderset_file_get(set, now.key[0], bytes, sizeof bytes, &size) == ORDERSET_FILE_STOPPED
-               && orderset_file_locate(set, now.key[0], NULL, NULL) == ORDERSET_FILE_STOPPED
-               && orderset_file_next(set, &r) == ORDERSET_FILE_STOPPED
-               && orderset_file_slot(set, 1, &r) == ORDERSET_FILE_STOPPED,
+    expect(orderset_get(set, now.key[0], bytes, sizeof bytes, &size) == ORDERSET_STOPPED
+               && orderset_locate(set, now.key[0], NULL, NULL) == ORDERSET_STOPPED
+               && orderset_next(set, &r) == ORDERSET_STOPPED && orderset_slot(set, 1, &r) == ORDERSET_STOPPED,
            "a handle with a change that was cancelled refuses every question");
-    expect(orderset_file_errno(set) == ECANCELED, "errno of a change that was cancelled is ECANCELED");
+    expect(orderset_errno(set) == ECANCELED, "errno of a change that was cancelled is ECANCELED");
 }
 
 /* A change that is cancelled at each of its points; and one that is not. */
@@ -244,7 +252,7 @@ static void cancel_changes(uint32_t layout) {
     make_plain(&now, 20 + (uint32_t)below(MOST_SLOTS - 20), layout);
     length = ORDERSET_IMAGE_BYTES(now.slots);
     unlink(path);
-    expect(orderset_file_create(path, now.slots, layout) == 0, "create");
+    expect(orderset_create(path, now.slots, layout) == 0, "create");
     open_writer();
     for (int i = 0; i < CANCELS;) {
         any_call(&now, &change);
@@ -259,18 +267,19 @@ static void cancel_changes(uint32_t layout) {
             continue;
         }
         refuses_all();
-        orderset_file_close(set);
+        orderset_close(set);
         if (below(4))
             power_cut();
         open_writer();
         const int done = wanted == 0 && shows(set, &after);
-        expect(done || shows(set, &now), "after a change that was cancelled all that was answered is there, and no more");
+        expect(done || shows(set, &now),
+               "after a change that was cancelled all that was answered is there, and no more");
         if (done)
             now = after;
         done_unanswered += (uint64_t)done;
         i++;
     }
-    orderset_file_close(set);
+    orderset_close(set);
 }
 
 /* With line flushes nothing is asked of the system. */
@@ -284,7 +293,7 @@ static void no_points(void) {
         if (call.number == 0)
             now = after;
     }
-    orderset_file_close(set);
+    orderset_close(set);
     on_lines = 0;
 }
 
@@ -295,22 +304,22 @@ static size_t message_size, last_size;
 static uint64_t count;
 
 static void append_message(void) {
-    call.number = orderset_log_file_append(log_file, message, message_size, NULL);
+    call.number = orderset_log_append(log_file, message, message_size, NULL);
 }
 
 static void open_log_writer(void) {
-    const uint32_t number = orderset_log_file_open(path, WRITE, &log_file);
-    expect(number == 0, "an open gives %" PRIu32 ": %s", number, orderset_file_text(number));
+    const uint32_t number = orderset_log_open(path, WRITE, &log_file);
+    expect(number == 0, "an open gives %" PRIu32 ": %s", number, orderset_strerror(number));
 }
 
 static int shows_log(uint64_t wanted, const uint8_t *bytes, size_t size) {
     uint8_t found[ORDERSET_LOG_MESSAGE_MAX];
     uint64_t first, last;
     size_t found_size = 0;
-    if (orderset_log_file_range(log_file, &first, &last) || last != wanted)
+    if (orderset_log_range(log_file, &first, &last) || last != wanted)
         return 0;
     return wanted == 0
-           || (orderset_log_file_read(log_file, last, found, sizeof found, &found_size) == 0 && found_size == size
+           || (orderset_log_read(log_file, last, found, sizeof found, &found_size) == 0 && found_size == size
                && memcmp(found, bytes, size) == 0);
 }
 
@@ -326,7 +335,7 @@ static void cancel_appends(void) {
     length = ORDERSET_LOG_BYTES(ODD_CELLS);
     count = 0;
     unlink(path);
-    expect(orderset_log_file_create(path, ODD_CELLS) == 0, "create of a log");
+    expect(orderset_log_create(path, ODD_CELLS) == 0, "create of a log");
     open_log_writer();
     for (int i = 0; i < CANCELS;) {
         message_size = 1 + below(sizeof message);
@@ -337,12 +346,12 @@ static void cancel_appends(void) {
             answered++;
             continue;
         }
-        expect(orderset_log_file_append(log_file, "x", 1, NULL) == ORDERSET_FILE_STOPPED
-                   && orderset_log_file_read(log_file, 1, NULL, 0, &size) == ORDERSET_FILE_STOPPED
-                   && orderset_log_file_range(log_file, &first, &last) == ORDERSET_FILE_STOPPED
-                   && orderset_log_file_errno(log_file) == ECANCELED,
+        expect(orderset_log_append(log_file, "x", 1, NULL) == ORDERSET_STOPPED
+                   && orderset_log_read(log_file, 1, NULL, 0, &size) == ORDERSET_STOPPED
+                   && orderset_log_range(log_file, &first, &last) == ORDERSET_STOPPED
+                   && orderset_log_errno(log_file) == ECANCELED,
                "a log with an append that was cancelled refuses every call");
-        orderset_log_file_close(log_file);
+        orderset_log_close(log_file);
         if (below(4))
             power_cut();
         open_log_writer();
@@ -354,7 +363,7 @@ static void cancel_appends(void) {
         done_unanswered += (uint64_t)done;
         i++;
     }
-    orderset_log_file_close(log_file);
+    orderset_log_close(log_file);
 }
 
 /* ---- open, create and close */
@@ -362,28 +371,28 @@ static void cancel_appends(void) {
 static uint32_t mode, slots, layout_made;
 
 static void do_create(void) {
-    call.number = orderset_file_create(path, slots, layout_made);
+    call.number = orderset_create(path, slots, layout_made);
 }
 
 static void do_create_log(void) {
-    call.number = orderset_log_file_create(path, CELLS);
+    call.number = orderset_log_create(path, CELLS);
 }
 
 static void do_open(void) {
-    call.number = orderset_file_open(path, mode, &set);
+    call.number = orderset_open(path, mode, &set);
 }
 
 static void do_open_log(void) {
-    call.number = orderset_log_file_open(path, mode, &log_file);
+    call.number = orderset_log_open(path, mode, &log_file);
 }
 
 static void do_close(void) {
-    orderset_file_close(set);
+    orderset_close(set);
     set = NULL;
 }
 
 static void do_close_log(void) {
-    orderset_log_file_close(log_file);
+    orderset_log_close(log_file);
     log_file = NULL;
 }
 
@@ -412,14 +421,13 @@ static int count_left(void) {
 }
 
 static void end_handles(void) {
-    orderset_file_close(set);
-    orderset_log_file_close(log_file);
+    orderset_close(set);
+    orderset_log_close(log_file);
     set = NULL;
     log_file = NULL;
 }
 
-static void no_preparation(void) {
-}
+static void no_preparation(void) {}
 
 static void remove_file(void) {
     unlink(path);
@@ -434,7 +442,7 @@ static void at_every_point(const char *what, void (*prepare)(void), void (*make)
         call.number = wanted;
         expect(run(make, at), "%s is not left where its thread is cancelled, at point %u", what, at);
         expect(call.number == wanted, "%s gives %" PRIu32 ": %" PRIu32 " (%s)", what, wanted, call.number,
-               orderset_file_text(call.number));
+               orderset_strerror(call.number));
         end_handles();
         const int left = count_left() - (access(path, F_OK) == 0);
         expect(left <= before, "%s leaves no descriptor, mapping or other name: %d and %d", what, before, left);
@@ -445,11 +453,11 @@ static void at_every_point(const char *what, void (*prepare)(void), void (*make)
 }
 
 static void open_then_close(void) {
-    expect(orderset_file_open(path, mode, &set) == 0, "an open");
+    expect(orderset_open(path, mode, &set) == 0, "an open");
 }
 
 static void open_log_then_close(void) {
-    expect(orderset_log_file_open(path, mode, &log_file) == 0, "an open of a log");
+    expect(orderset_log_open(path, mode, &log_file) == 0, "an open of a log");
 }
 
 static void calls_on_files(void) {
@@ -467,10 +475,10 @@ static void calls_on_files(void) {
         for (mode = READ; mode <= INSPECT; mode++)
             at_every_point("an open", no_preparation, do_open, 0);
         mode = WRITE;
-        at_every_point("an open of a set as a log", no_preparation, do_open_log, ORDERSET_LOG_NO_AREA);
+        at_every_point("an open of a set as a log", no_preparation, do_open_log, ORDERSET_BAD_LOG_LENGTH);
         const int held = __real_open(path, O_RDONLY | O_CLOEXEC);
         expect(flock(held, LOCK_SH) == 0, "a lock");
-        at_every_point("an open of a locked file", no_preparation, do_open, ORDERSET_FILE_LOCKED);
+        at_every_point("an open of a locked file", no_preparation, do_open, ORDERSET_LOCKED);
         __real_close(held);
     }
     length = ORDERSET_LOG_BYTES(CELLS);
@@ -479,7 +487,7 @@ static void calls_on_files(void) {
         at_every_point("an open of a log", no_preparation, do_open_log, 0);
     mode = WRITE;
     at_every_point("close of a log", open_log_then_close, do_close_log, 0);
-    at_every_point("an open of a log as a set", no_preparation, do_open, ORDERSET_NO_FORMAT);
+    at_every_point("an open of a log as a set", no_preparation, do_open, ORDERSET_NOT_FORMATTED);
 }
 
 /* Half a basket: an open has stores of recovery to make. */
@@ -489,9 +497,9 @@ static void half_basket(void) {
     static uint8_t bytes[BYTES];
     unlink(path);
     length = ORDERSET_IMAGE_BYTES(slots);
-    expect(orderset_file_create(path, slots, 1) == 0, "create");
+    expect(orderset_create(path, slots, 1) == 0, "create");
     open_writer();
-    expect(orderset_file_basket(set, item, 2) == 0, "a basket");
+    expect(orderset_basket(set, item, 2) == 0, "a basket");
     end_handles();
     int file = __real_open(path, O_RDWR | O_CLOEXEC);
     expect(__real_pread(file, bytes, length, 0) == (ssize_t)length, "the file is read");

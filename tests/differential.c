@@ -1,20 +1,20 @@
-/* The archive against the model of document 01 and of the order book, call by call, in the layout that the test is built
- * for (layout.h): every return code, answer, count of slots compared, state, store, index number, output and image byte is compared, and after a cut the recovered set is
- * compared with a plain map. The answers about single lines are compared too: of random and damaged lines, and of every
- * line of the images in histories; and what they say will be stored first and last with what each call hands out. There
- * the counts are those of a chain for each head: the held keys of a head have the counts from 1 to their number, each
- * once, and any other key of that head has their number. In histories that are book steps only, total ordered is total
- * filled plus total withdrawn plus what is open. In the other histories there are baskets too, whose stores are made, all
- * of them or as a cut leaves them: recovery must give all of the basket or nothing of it, also after cuts among the
- * stores that open void slots. Beside each recovery the slots are counted. With an index that is not the image's own,
- * the slots of a basket and the index that it leaves are free, and of a single call whose slot is not the reuse chain's
- * first all but the refusal.
+/* The archive against the model of document 01 and of the order book, call by call, in the layout that the test is
+ * built for (layout.h): every return code, answer, count of slots compared, state, store, index number, output and
+ * image byte is compared, and after a cut the recovered set is compared with a plain map. The answers about single
+ * lines are compared too: of random and damaged lines, and of every line of the images in histories; and what they say
+ * will be stored first and last with what each call hands out. There the counts are those of a chain for each head: the
+ * held keys of a head have the counts from 1 to their number, each once, and any other key of that head has their
+ * number. In histories that are book steps only, total ordered is total filled plus total withdrawn plus what is open.
+ * In the other histories there are baskets too, whose stores are made, all of them or as a cut leaves them: recovery
+ * must give all of the basket or nothing of it, also after cuts among the stores that open void slots. Beside each
+ * recovery the slots are counted. With an index that is not the image's own, the slots of a basket and the index that
+ * it leaves are free, and of a single call whose slot is not the reuse chain's first all but the refusal.
  *
- * Each call that writes is made by one of the two families (orderset.h), by chance. With an index that is the image's own
- * both are held to the model of document 01, and beside the one the other is called on copies, in a large set now and
- * then: code, answer, stores, index and state must be the same. With any other index, or where the state does not name
- * the newest slot, the owner's call is held to the model of its own definition, and nothing of it is free. Ends with
- * status 1 at the first difference and prints the case.
+ * Each call that writes is made by one of the two families (orderset_raw.h), by chance. With an index that is the
+ * image's own both are held to the model of document 01, and beside the one the other is called on copies, in a large
+ * set now and then: code, answer, stores, index and state must be the same. With any other index, or where the state
+ * does not name the newest slot, the owner's call is held to the model of its own definition, and nothing of it is
+ * free. Ends with status 1 at the first difference and prints the case.
  *
  *     differential [SEED [CALLS]]
  *     differential SEED CALLS damaged    recovers damaged images alone, one a call
@@ -70,26 +70,43 @@ struct set {
     uint32_t *count, *open_at; /* what recovery hands out */
     uint64_t *open_value;
     struct m_basket basket; /* what the last basket hands out */
-    int own;        /* the index is the image's own */
-    int named;      /* and its state names a slot of the highest version among the valid ones */
-    uint64_t since; /* calls since everything was compared */
+    int own;                /* the index is the image's own */
+    int named;              /* and its state names a slot of the highest version among the valid ones */
+    uint64_t since;         /* calls since everything was compared */
 };
 
 enum which {
-    FORMAT, RECOVER, INSERT, REPLACE, REMOVE, GET, LOCATE, NEW, ACKNOWLEDGE, FILL, WITHDRAW, PLAY, PLAY_LIST, BASKET,
-    LINE_WHOLE, LINE_VERSION, LINE_FIRST, LINE_LAST, WHICH
+    FORMAT,
+    RECOVER,
+    INSERT,
+    REPLACE,
+    REMOVE,
+    GET,
+    LOCATE,
+    NEW,
+    ACKNOWLEDGE,
+    FILL,
+    WITHDRAW,
+    PLAY,
+    PLAY_LIST,
+    BASKET,
+    LINE_WHOLE,
+    LINE_VERSION,
+    LINE_FIRST,
+    LINE_LAST,
+    WHICH
 };
-static const char *const name[WHICH] = {"format",    "recover", "insert",      "replace",      "remove",     "get",
-                                        "locate",    "new",     "acknowledge", "fill",         "withdraw",   "play",
-                                        "play_list", "basket",  "line_whole",  "line_version", "line_first", "line_last"};
+static const char *const name[WHICH] = {
+    "format", "recover",  "insert", "replace",   "remove", "get",        "locate",       "new",        "acknowledge",
+    "fill",   "withdraw", "play",   "play_list", "basket", "line_whole", "line_version", "line_first", "line_last"};
 
-enum { DONE = 0, ABSENT = 100, ALREADY = 101, ANSWERS };  /* answers that are no refusal */
-static uint64_t baskets, half_baskets, openings; /* whole, struck by a cut, stores that open void slots */
+enum { DONE = 0, ABSENT = 100, ALREADY = 101, ANSWERS };      /* answers that are no refusal */
+static uint64_t baskets, half_baskets, openings;              /* whole, struck by a cut, stores that open void slots */
 static uint64_t calls, strikes, queries, met[WHICH][ANSWERS]; /* queries: of lines; met: by the answer */
-static uint64_t compared, longest, far_met[WHICH][ANSWERS]; /* slots: of the last call, the most; with 2 or more */
-static uint64_t own_calls, both, own_met[WHICH][ANSWERS]; /* by the owner's calls; both: beside the other family */
-static uint32_t named; /* the slot that the last recovery named */
-static uint64_t counted; /* accepted images whose slots were counted */
+static uint64_t compared, longest, far_met[WHICH][ANSWERS];   /* slots: of the last call, the most; with 2 or more */
+static uint64_t own_calls, both, own_met[WHICH][ANSWERS];     /* by the owner's calls; both: beside the other family */
+static uint32_t named;                                        /* the slot that the last recovery named */
+static uint64_t counted;                                      /* accepted images whose slots were counted */
 static const char *phase = "";
 static enum which call;
 static int owner; /* the call is the one for the owner of its index */
@@ -100,8 +117,8 @@ static size_t call_size, call_a, call_b;
 static void show_case(void) {
     printf("layout %d, seed %" PRIu64 ", call %" PRIu64 ", %s\n", LAYOUT, seed, calls, phase);
     printf("%s%s: N %u, length %zu, B %zu, next %zu, key " KEY_FORM ", size, room or quantity %zu, counts %zu %zu\n",
-           owner ? "own " : "", name[call], now->n, now->length, now->model.heads_length, now->model.next_length, KEY_WORDS(call_key),
-           call_size, call_a, call_b);
+           owner ? "own " : "", name[call], now->n, now->length, now->model.heads_length, now->model.next_length,
+           KEY_WORDS(call_key), call_size, call_a, call_b);
     printf("state: archive %u %u %u %u %" PRIu64 ", model %u %u %u %u %" PRIu64 "\n", now->state[0], now->state[1],
            now->state[2], now->state[3], now->version[0], now->model.state.first, now->model.state.last,
            now->model.state.live, now->model.state.newest, now->model.state.version);
@@ -166,11 +183,11 @@ static unsigned same_code(uint32_t archive, int model, unsigned done) {
 
 /* The same for a call that reports the slots compared: in that word of its answer, or in the code if it is refused. */
 static unsigned same_report(uint64_t archive, int model, unsigned done, uint64_t word, uint32_t model_compared) {
-    unsigned answer = same_code(ORDERSET_REFUSAL(archive), model, done);
-    compared = model ? ORDERSET_REFUSED_COMPARED(archive) : word;
+    unsigned answer = same_code(ORDERSET_PROVED_REFUSAL(archive), model, done);
+    compared = model ? ORDERSET_PROVED_REFUSED_COMPARED(archive) : word;
     same_number("the slots compared", compared, model_compared);
     if (!model)
-        same_number("the count of a call that is not refused", ORDERSET_REFUSED_COMPARED(archive), 0);
+        same_number("the count of a call that is not refused", ORDERSET_PROVED_REFUSED_COMPARED(archive), 0);
     far_met[call][answer] += compared > 1;
     longest = compared > longest ? compared : longest;
     return answer;
@@ -183,18 +200,18 @@ static void compare_all(struct set *s) {
     same_bytes("heads", s->heads, s->model.heads, 4 * s->model.heads_length);
     same_bytes("next", s->next, s->model.next, 4 * s->model.next_length);
     if (!guarded(s->image, s->length) || !guarded(s->heads, 4 * s->model.heads_length)
-        || !guarded(s->next, 4 * s->model.next_length) || !guarded(s->state, 4 * ORDERSET_STATE) || !guarded(s->version, 8)
-        || !guarded(s->at, 64) || !guarded(s->value, 128) || !guarded(s->count, 4)
+        || !guarded(s->next, 4 * s->model.next_length) || !guarded(s->state, 4 * ORDERSET_RAW_STATE)
+        || !guarded(s->version, 8) || !guarded(s->at, 64) || !guarded(s->value, 128) || !guarded(s->count, 4)
         || !guarded(s->open_at, 4 * ORDERSET_INVALIDATIONS) || !guarded(s->open_value, 8 * ORDERSET_INVALIDATIONS))
         differ("outside the lent memory");
 }
 
 /* The state always; the rest always in a small set, and every 500 calls in a large one. */
 static void compare(struct set *s) {
-    same_number("the first slot", s->state[ORDERSET_FIRST], s->model.state.first);
-    same_number("the last slot", s->state[ORDERSET_LAST], s->model.state.last);
-    same_number("the live count", s->state[ORDERSET_LIVE], s->model.state.live);
-    same_number("the newest slot", s->state[ORDERSET_NEWEST], s->model.state.newest);
+    same_number("the first slot", s->state[ORDERSET_RAW_FIRST], s->model.state.first);
+    same_number("the last slot", s->state[ORDERSET_RAW_LAST], s->model.state.last);
+    same_number("the live count", s->state[ORDERSET_RAW_LIVE], s->model.state.live);
+    same_number("the newest slot", s->state[ORDERSET_RAW_NEWEST], s->model.state.newest);
     same_number("the next version", s->version[0], s->model.state.version);
     if ((s->n <= SMALL && s->model.heads_length <= 4 * SMALL) || ++s->since >= 500)
         compare_all(s);
@@ -208,7 +225,7 @@ static struct set *open_set(size_t length, size_t heads, size_t next) {
     s->model_image = lend(length);
     s->heads = lend(4 * heads);
     s->next = lend(4 * next);
-    s->state = lend(4 * ORDERSET_STATE);
+    s->state = lend(4 * ORDERSET_RAW_STATE);
     s->version = lend(8);
     s->at = lend(4 * ORDERSET_STORES);
     s->value = lend(8 * ORDERSET_STORES);
@@ -220,8 +237,8 @@ static struct set *open_set(size_t length, size_t heads, size_t next) {
 }
 
 static void close_set(struct set *s) {
-    void *lent[] = {s->image,   s->model_image, s->heads, s->next,        s->state,      s->version,   s->at,
-                    s->value,   s->count,       s->open_at, s->open_value, s->model.heads, s->model.next};
+    void *lent[] = {s->image, s->model_image, s->heads,   s->next,       s->state,       s->version,   s->at,
+                    s->value, s->count,       s->open_at, s->open_value, s->model.heads, s->model.next};
     for (size_t i = 0; i < sizeof lent / sizeof *lent; i++)
         give_back(lent[i]);
     free(s);
@@ -232,10 +249,10 @@ static void lend_same(struct set *s) {
     memcpy(s->image, s->model_image, s->length);
     memcpy(s->heads, s->model.heads, 4 * s->model.heads_length);
     memcpy(s->next, s->model.next, 4 * s->model.next_length);
-    s->state[ORDERSET_FIRST] = s->model.state.first;
-    s->state[ORDERSET_LAST] = s->model.state.last;
-    s->state[ORDERSET_LIVE] = s->model.state.live;
-    s->state[ORDERSET_NEWEST] = s->model.state.newest;
+    s->state[ORDERSET_RAW_FIRST] = s->model.state.first;
+    s->state[ORDERSET_RAW_LAST] = s->model.state.last;
+    s->state[ORDERSET_RAW_LIVE] = s->model.state.live;
+    s->state[ORDERSET_RAW_NEWEST] = s->model.state.newest;
     s->version[0] = s->model.state.version;
     s->own = 0;
 }
@@ -244,8 +261,8 @@ static void lend_same(struct set *s) {
 static void take_over(struct set *s) {
     memcpy(s->model.heads, s->heads, 4 * s->model.heads_length);
     memcpy(s->model.next, s->next, 4 * s->model.next_length);
-    s->model.state = (struct m_state){s->state[ORDERSET_FIRST], s->state[ORDERSET_LAST], s->state[ORDERSET_LIVE],
-                                      s->state[ORDERSET_NEWEST], s->version[0]};
+    s->model.state = (struct m_state){s->state[ORDERSET_RAW_FIRST], s->state[ORDERSET_RAW_LAST],
+                                      s->state[ORDERSET_RAW_LIVE], s->state[ORDERSET_RAW_NEWEST], s->version[0]};
 }
 
 /* ---- what is asked of a line, on both sides */
@@ -262,7 +279,8 @@ static uint32_t archive_line(enum which which, const uint8_t *line, size_t lengt
 
 enum { ROOM = 24 };
 
-/* The word that is answered, or the refusal. In a case that is shown the version is the key, the room the first count. */
+/* The word that is answered, or the refusal. In a case that is shown the version is the key, the room the first count.
+ */
 static uint64_t try_line(const struct set *s, enum which which, const uint8_t *line, size_t length, uint64_t version,
                          size_t room) {
     uint8_t answer[ROOM], expected[ROOM];
@@ -284,7 +302,7 @@ static uint64_t any_version(void) {
 
 static void ask_all(const struct set *s, const uint8_t *line) {
     for (unsigned which = LINE_WHOLE; which <= LINE_LAST; which++)
-        try_line(s, (enum which)which, line, ORDERSET_LINE_BYTES, any_version(), ORDERSET_LINE_ANSWER);
+        try_line(s, (enum which)which, line, ORDERSET_LINE_BYTES, any_version(), ORDERSET_PROVED_LINE_ANSWER);
 }
 
 /* Every line of the image, the header's too. */
@@ -299,8 +317,8 @@ static void framed(const struct set *s, uint32_t slot, uint64_t version) {
         const uint8_t *line = s->image + ORDERSET_SLOT_BYTES * (size_t)slot + 8 * i;
         const enum which asked = call;
         const int by = owner;
-        const uint64_t first = try_line(s, LINE_FIRST, line, ORDERSET_LINE_BYTES, version, ORDERSET_LINE_ANSWER),
-                       last = try_line(s, LINE_LAST, line, ORDERSET_LINE_BYTES, version, ORDERSET_LINE_ANSWER);
+        const uint64_t first = try_line(s, LINE_FIRST, line, ORDERSET_LINE_BYTES, version, ORDERSET_PROVED_LINE_ANSWER),
+                       last = try_line(s, LINE_LAST, line, ORDERSET_LINE_BYTES, version, ORDERSET_PROVED_LINE_ANSWER);
         call = asked;
         owner = by;
         same_number("the first store of a line", s->value[i], first);
@@ -311,7 +329,7 @@ static void framed(const struct set *s, uint32_t slot, uint64_t version) {
 /* ---- the calls, each on both sides */
 
 static int try_format(struct set *s, uint64_t layout) {
-    uint64_t answer[ORDERSET_FORMAT_ANSWER], expected[ORDERSET_FORMAT_ANSWER];
+    uint64_t answer[ORDERSET_PROVED_FORMAT_ANSWER], expected[ORDERSET_PROVED_FORMAT_ANSWER];
     fill(answer, sizeof answer);
     memcpy(expected, answer, sizeof answer);
     begin(s, FORMAT, 0, (size_t)layout, 0, 0);
@@ -334,7 +352,8 @@ static void compare_openings(const struct set *s, const struct m_recovered *reco
     for (uint32_t i = 0; i < ORDERSET_INVALIDATIONS; i++) {
         const struct m_store *store = &recovered->opening[i]; /* zero past the count */
         same_number("an invalidating store's word", s->open_at[i], recovered->refusal ? at_lent[i] : store->at);
-        same_number("an invalidating store's value", s->open_value[i], recovered->refusal ? value_lent[i] : store->value);
+        same_number("an invalidating store's value", s->open_value[i],
+                    recovered->refusal ? value_lent[i] : store->value);
     }
     openings += recovered->count;
 }
@@ -353,8 +372,8 @@ static void compare_counts(const struct set *s, const struct m_recovered *recove
     memcpy(counts, expected, sizeof expected);
     memcpy(heads_lent, heads, heads_bytes);
     memcpy(next_lent, next, next_bytes);
-    uint64_t code = SET(count_slots)(s->image, s->length, heads, s->model.heads_length, next, s->model.next_length,
-                                     counts);
+    uint64_t code =
+        SET(count_slots)(s->image, s->length, heads, s->model.heads_length, next, s->model.next_length, counts);
     same_number("what counting returned", code, recovery_code);
     if (!recovered->refusal) {
         m_count(s->model_image, s->length, recovered, expected);
@@ -384,11 +403,11 @@ static int try_recover(struct set *s) {
     memcpy(s->open_at, at_lent, sizeof at_lent);
     memcpy(s->open_value, value_lent, sizeof value_lent);
     begin(s, RECOVER, 0, 0, 0, 0);
-    uint64_t code = SET(recover)(s->image, s->length, s->heads, s->model.heads_length, s->next,
-                                     s->model.next_length, s->state, s->version, s->count, s->open_at, s->open_value);
+    uint64_t code = SET(recover)(s->image, s->length, s->heads, s->model.heads_length, s->next, s->model.next_length,
+                                 s->state, s->version, s->count, s->open_at, s->open_value);
     struct m_recovered recovered = m_recover(s->model_image, s->length, &s->model);
-    named = ORDERSET_FAULT_SLOT(code);
-    same_code(ORDERSET_REFUSAL(code), recovered.refusal, DONE);
+    named = ORDERSET_PROVED_FAULT_SLOT(code);
+    same_code(ORDERSET_PROVED_REFUSAL(code), recovered.refusal, DONE);
     same_number("the slot named", named, recovered.slot);
     compare_openings(s, &recovered, count_lent, at_lent, value_lent);
     compare_counts(s, &recovered, code);
@@ -409,30 +428,31 @@ struct request {
     size_t size;
 };
 
-static uint64_t archive_change(const struct set *s, const struct request *r, uint64_t answer[ORDERSET_CHANGE_ANSWER]) {
+static uint64_t archive_change(const struct set *s, const struct request *r,
+                               uint64_t answer[ORDERSET_PROVED_CHANGE_ANSWER]) {
     const size_t heads = s->model.heads_length, next = s->model.next_length;
     switch (r->which) {
     case INSERT:
-        return SET_BY(owner, insert)(s->image, s->length, s->heads, heads, s->next, next, s->state, s->version, KEY(r->key),
-                               r->bytes, r->size, s->at, s->value, answer);
+        return SET_BY(owner, insert)(s->image, s->length, s->heads, heads, s->next, next, s->state, s->version,
+                                     KEY(r->key), r->bytes, r->size, s->at, s->value, answer);
     case REPLACE:
-        return SET_BY(owner, replace)(s->image, s->length, s->heads, heads, s->next, next, s->state, s->version, KEY(r->key),
-                                r->bytes, r->size, s->at, s->value, answer);
+        return SET_BY(owner, replace)(s->image, s->length, s->heads, heads, s->next, next, s->state, s->version,
+                                      KEY(r->key), r->bytes, r->size, s->at, s->value, answer);
     case REMOVE:
-        return SET_BY(owner, remove)(s->image, s->length, s->heads, heads, s->next, next, s->state, s->version, KEY(r->key), s->at,
-                               s->value, answer);
+        return SET_BY(owner, remove)(s->image, s->length, s->heads, heads, s->next, next, s->state, s->version,
+                                     KEY(r->key), s->at, s->value, answer);
     case NEW:
-        return SET_BY(owner, book_new)(s->image, s->length, s->heads, heads, s->next, next, s->state, s->version, KEY(r->key),
-                                 r->quantity, s->at, s->value, answer);
+        return SET_BY(owner, book_new)(s->image, s->length, s->heads, heads, s->next, next, s->state, s->version,
+                                       KEY(r->key), r->quantity, s->at, s->value, answer);
     case ACKNOWLEDGE:
-        return SET_BY(owner, book_acknowledge)(s->image, s->length, s->heads, heads, s->next, next, s->state, s->version,
-                                         KEY(r->key), s->at, s->value, answer);
+        return SET_BY(owner, book_acknowledge)(s->image, s->length, s->heads, heads, s->next, next, s->state,
+                                               s->version, KEY(r->key), s->at, s->value, answer);
     case FILL:
-        return SET_BY(owner, book_fill)(s->image, s->length, s->heads, heads, s->next, next, s->state, s->version, KEY(r->key),
-                                  r->quantity, s->at, s->value, answer);
+        return SET_BY(owner, book_fill)(s->image, s->length, s->heads, heads, s->next, next, s->state, s->version,
+                                        KEY(r->key), r->quantity, s->at, s->value, answer);
     default:
-        return SET_BY(owner, book_withdraw)(s->image, s->length, s->heads, heads, s->next, next, s->state, s->version, KEY(r->key),
-                                      s->at, s->value, answer);
+        return SET_BY(owner, book_withdraw)(s->image, s->length, s->heads, heads, s->next, next, s->state, s->version,
+                                            KEY(r->key), s->at, s->value, answer);
     }
 }
 
@@ -465,11 +485,13 @@ static struct m_change model_change(struct set *s, const struct request *r) {
 static unsigned compare_answer(uint64_t code, const uint64_t *answer, const uint64_t *lent, const struct m_change *c) {
     const int reports = call == INSERT || call == REPLACE || call == REMOVE;
     const unsigned done = c->absent ? ABSENT : c->already ? ALREADY : DONE;
-    const uint64_t first = c->absent ? ORDERSET_ABSENT : c->already ? ORDERSET_ALREADY : ORDERSET_GIVEN,
-                   last = reports ? c->compared : lent[ORDERSET_COMPARED],
-                   expected[ORDERSET_CHANGE_ANSWER] = {first, c->slot, c->version, last};
-    unsigned answered = reports ? same_report(code, c->refusal, done, answer[ORDERSET_COMPARED], c->compared)
-                                : same_code(ORDERSET_REFUSAL(code), c->refusal, done);
+    const uint64_t first = c->absent    ? ORDERSET_RAW_ABSENT
+                           : c->already ? ORDERSET_RAW_ALREADY
+                                        : ORDERSET_RAW_DONE,
+                   last = reports ? c->compared : lent[ORDERSET_PROVED_COMPARED],
+                   expected[ORDERSET_PROVED_CHANGE_ANSWER] = {first, c->slot, c->version, last};
+    unsigned answered = reports ? same_report(code, c->refusal, done, answer[ORDERSET_PROVED_COMPARED], c->compared)
+                                : same_code(ORDERSET_PROVED_REFUSAL(code), c->refusal, done);
     same_bytes("the answer", answer, c->refusal ? lent : expected, sizeof expected);
     return answered;
 }
@@ -478,11 +500,12 @@ static unsigned compare_answer(uint64_t code, const uint64_t *answer, const uint
 static unsigned compare_free(struct set *s, uint64_t code, const uint64_t *answer, const struct m_change *c) {
     const int reports = call == INSERT || call == REPLACE || call == REMOVE;
     if (s->own || owner)
-        differ("in the slot taken: with the image's own index, or by the owner's call, it is not the reuse chain's first");
-    same_number("the answer's kind", answer[0], ORDERSET_GIVEN);
+        differ(
+            "in the slot taken: with the image's own index, or by the owner's call, it is not the reuse chain's first");
+    same_number("the answer's kind", answer[0], ORDERSET_RAW_DONE);
     take_over(s);
-    return reports ? same_report(code, 0, DONE, answer[ORDERSET_COMPARED], c->compared)
-                   : same_code(ORDERSET_REFUSAL(code), 0, DONE);
+    return reports ? same_report(code, 0, DONE, answer[ORDERSET_PROVED_COMPARED], c->compared)
+                   : same_code(ORDERSET_PROVED_REFUSAL(code), 0, DONE);
 }
 
 /* What it left. Returns the answer: DONE if there are stores. */
@@ -511,7 +534,7 @@ static struct set *twin_of(const struct set *s) {
     memcpy(t->model_image, s->image, s->length);
     memcpy(t->heads, s->heads, 4 * s->model.heads_length);
     memcpy(t->next, s->next, 4 * s->model.next_length);
-    memcpy(t->state, s->state, 4 * ORDERSET_STATE);
+    memcpy(t->state, s->state, 4 * ORDERSET_RAW_STATE);
     memcpy(t->version, s->version, 8);
     take_over(t);
     lend_same(t);
@@ -530,7 +553,7 @@ static void same_left(struct set *s, struct set *twin) {
     same_bytes("the image, after the other family", twin->image, s->image, s->length);
     same_bytes("heads, after the other family", twin->heads, s->heads, 4 * s->model.heads_length);
     same_bytes("next, after the other family", twin->next, s->next, 4 * s->model.next_length);
-    same_bytes("the state, after the other family", twin->state, s->state, 4 * ORDERSET_STATE);
+    same_bytes("the state, after the other family", twin->state, s->state, 4 * ORDERSET_RAW_STATE);
     same_number("the version, after the other family", twin->version[0], s->version[0]);
     compare_all(twin);
     both++;
@@ -552,7 +575,7 @@ static void change_too(struct set *s, struct set *twin, const struct request *r,
                        uint64_t *answer_lent) {
     owner = !owner;
     same_number("what the other family returned", archive_change(twin, r, answer_lent), code);
-    same_bytes("the other family's answer", answer_lent, answer, 8 * ORDERSET_CHANGE_ANSWER);
+    same_bytes("the other family's answer", answer_lent, answer, 8 * ORDERSET_PROVED_CHANGE_ANSWER);
     same_bytes("the other family's word numbers", twin->at, s->at, 4 * ORDERSET_STORES);
     same_bytes("the other family's values", twin->value, s->value, 8 * ORDERSET_STORES);
     same_left(s, twin);
@@ -560,7 +583,8 @@ static void change_too(struct set *s, struct set *twin, const struct request *r,
 
 static unsigned try_change(struct set *s, const struct request *r) {
     struct set *twin = perhaps_twin(s);
-    uint64_t answer[ORDERSET_CHANGE_ANSWER], answer_lent[ORDERSET_CHANGE_ANSWER], value_lent[ORDERSET_STORES];
+    uint64_t answer[ORDERSET_PROVED_CHANGE_ANSWER], answer_lent[ORDERSET_PROVED_CHANGE_ANSWER],
+        value_lent[ORDERSET_STORES];
     uint32_t at_lent[ORDERSET_STORES];
     fill(answer_lent, sizeof answer_lent);
     memcpy(answer, answer_lent, sizeof answer);
@@ -592,7 +616,7 @@ struct basket {
 };
 
 static uint32_t archive_basket(const struct set *s, const struct basket *b, uint32_t *at, uint64_t *value,
-                               uint64_t answer[ORDERSET_BASKET_ANSWER]) {
+                               uint64_t answer[ORDERSET_PROVED_BASKET_ANSWER]) {
     uint32_t kinds[ORDERSET_BASKET_MAX];
     uint64_t lows[ORDERSET_BASKET_MAX], highs[ORDERSET_BASKET_MAX];
     size_t lengths[ORDERSET_BASKET_MAX];
@@ -636,9 +660,9 @@ static void compare_lists(const struct set *s, const struct basket *b, const uin
 /* With an index that is not the image's own "only refusals are fixed": the model goes on with the archive's slots. */
 static void take_slots(struct set *s, const struct basket *b, const uint64_t *answer) {
     for (size_t i = 0; i < b->count; i++) {
-        if (answer[ORDERSET_BASKET_SLOTS + i] - 1 >= s->n)
-            differ("in the slots of a basket: slot %" PRIu64, answer[ORDERSET_BASKET_SLOTS + i]);
-        s->basket.slot[i] = (uint32_t)answer[ORDERSET_BASKET_SLOTS + i];
+        if (answer[ORDERSET_PROVED_BASKET_SLOTS + i] - 1 >= s->n)
+            differ("in the slots of a basket: slot %" PRIu64, answer[ORDERSET_PROVED_BASKET_SLOTS + i]);
+        s->basket.slot[i] = (uint32_t)answer[ORDERSET_PROVED_BASKET_SLOTS + i];
     }
     m_basket_stores(s->model_image, b->item, b->count, &s->basket);
 }
@@ -646,13 +670,13 @@ static void take_slots(struct set *s, const struct basket *b, const uint64_t *an
 /* Its answer, and the index that it left. */
 static unsigned compare_basket(struct set *s, const struct basket *b, uint32_t code, const uint64_t *answer,
                                const uint64_t *lent) {
-    uint64_t expected[ORDERSET_BASKET_ANSWER] = {s->basket.version};
+    uint64_t expected[ORDERSET_PROVED_BASKET_ANSWER] = {s->basket.version};
     const unsigned answered = same_code(code, s->basket.refusal, DONE);
     const int is_free = !owner && !s->own;
     if (answered == DONE && is_free)
         take_slots(s, b, answer);
     for (size_t i = 0; i < ORDERSET_BASKET_MAX; i++)
-        expected[ORDERSET_BASKET_SLOTS + i] = s->basket.slot[i];
+        expected[ORDERSET_PROVED_BASKET_SLOTS + i] = s->basket.slot[i];
     same_bytes("the answer", answer, s->basket.refusal ? lent : expected, sizeof expected);
     if (answered == DONE && !is_free)
         m_basket_index(s->model_image, s->length, &s->model, b->item, (uint32_t)b->count, &s->basket);
@@ -672,7 +696,7 @@ static void basket_too(struct set *s, struct set *twin, const struct basket *b, 
                        uint64_t *value_lent) {
     owner = !owner;
     same_number("what the other family returned", archive_basket(twin, b, at_lent, value_lent, answer_lent), code);
-    same_bytes("the other family's answer", answer_lent, answer, 8 * ORDERSET_BASKET_ANSWER);
+    same_bytes("the other family's answer", answer_lent, answer, 8 * ORDERSET_PROVED_BASKET_ANSWER);
     same_bytes("the other family's word numbers", at_lent, at, 4 * b->places);
     same_bytes("the other family's values", value_lent, value, 8 * b->values);
     if (!guarded(at_lent, 4 * b->places) || !guarded(value_lent, 8 * b->values))
@@ -682,7 +706,7 @@ static void basket_too(struct set *s, struct set *twin, const struct basket *b, 
 
 static unsigned try_basket(struct set *s, const struct basket *b) {
     struct set *twin = perhaps_twin(s);
-    uint64_t answer[ORDERSET_BASKET_ANSWER], answer_lent[ORDERSET_BASKET_ANSWER];
+    uint64_t answer[ORDERSET_PROVED_BASKET_ANSWER], answer_lent[ORDERSET_PROVED_BASKET_ANSWER];
     uint32_t *at = lend(4 * b->places), *at_lent = lend(4 * b->places);
     uint64_t *value = lend(8 * b->values), *value_lent = lend(8 * b->values);
     fill(answer_lent, sizeof answer_lent);
@@ -694,7 +718,8 @@ static unsigned try_basket(struct set *s, const struct basket *b) {
     begin(s, BASKET, b->item[0].key, b->item[0].size, b->count, b->places);
     owner = any_family();
     uint32_t code = archive_basket(s, b, at, value, answer);
-    s->basket = m_basket(!by_document(s), s->model_image, s->length, &s->model, b->item, b->count, b->places, b->values);
+    s->basket =
+        m_basket(!by_document(s), s->model_image, s->length, &s->model, b->item, b->count, b->places, b->values);
     unsigned answered = compare_basket(s, b, code, answer, answer_lent);
     compare_lists(s, b, at, value, at_lent, value_lent);
     after_change(s, answered);
@@ -708,7 +733,7 @@ static unsigned try_basket(struct set *s, const struct basket *b) {
 }
 
 static unsigned try_locate(struct set *s, m_key key) {
-    uint64_t answer[ORDERSET_CHANGE_ANSWER], expected[ORDERSET_CHANGE_ANSWER];
+    uint64_t answer[ORDERSET_PROVED_CHANGE_ANSWER], expected[ORDERSET_PROVED_CHANGE_ANSWER];
     fill(answer, sizeof answer);
     memcpy(expected, answer, sizeof answer);
     begin(s, LOCATE, key, 0, 0, 0);
@@ -716,12 +741,12 @@ static unsigned try_locate(struct set *s, m_key key) {
                                 KEY(key), answer);
     struct m_place place = m_locate(s->model_image, s->length, &s->model, key);
     if (!place.refusal) {
-        expected[0] = place.absent ? ORDERSET_ABSENT : ORDERSET_GIVEN;
-        expected[ORDERSET_SLOT] = place.slot;
-        expected[ORDERSET_VERSION] = place.version;
-        expected[ORDERSET_COMPARED] = place.compared;
+        expected[0] = place.absent ? ORDERSET_RAW_ABSENT : ORDERSET_RAW_DONE;
+        expected[ORDERSET_PROVED_SLOT] = place.slot;
+        expected[ORDERSET_PROVED_VERSION] = place.version;
+        expected[ORDERSET_PROVED_COMPARED] = place.compared;
     }
-    unsigned answered = same_report(code, place.refusal, place.absent ? ABSENT : DONE, answer[ORDERSET_COMPARED],
+    unsigned answered = same_report(code, place.refusal, place.absent ? ABSENT : DONE, answer[ORDERSET_PROVED_COMPARED],
                                     place.compared);
     same_bytes("the answer", answer, expected, sizeof answer);
     compare(s);
@@ -730,7 +755,7 @@ static unsigned try_locate(struct set *s, m_key key) {
 
 /* The answer of the archive's get, after it was compared: the refusal's number, ABSENT, or 200 and the length. */
 static unsigned try_get(struct set *s, m_key key, uint8_t *out, size_t room) {
-    uint64_t answer[ORDERSET_ANSWER], expected[ORDERSET_ANSWER];
+    uint64_t answer[ORDERSET_PROVED_GET_ANSWER], expected[ORDERSET_PROVED_GET_ANSWER];
     uint8_t *lent = lend(room), *model_out = lend(room);
     fill(answer, sizeof answer);
     memcpy(expected, answer, sizeof answer);
@@ -742,10 +767,10 @@ static unsigned try_get(struct set *s, m_key key, uint8_t *out, size_t room) {
     struct m_got got = m_get(s->model_image, s->length, &s->model, key, model_out, room);
     if (!got.refusal) {
         expected[0] = !got.absent;
-        expected[ORDERSET_LENGTH] = got.length;
-        expected[ORDERSET_GET_COMPARED] = got.compared;
+        expected[ORDERSET_PROVED_LENGTH] = got.length;
+        expected[ORDERSET_PROVED_GET_COMPARED] = got.compared;
     }
-    same_report(code, got.refusal, got.absent ? ABSENT : DONE, answer[ORDERSET_GET_COMPARED], got.compared);
+    same_report(code, got.refusal, got.absent ? ABSENT : DONE, answer[ORDERSET_PROVED_GET_COMPARED], got.compared);
     same_bytes("the answer", answer, expected, sizeof answer);
     same_bytes("the output", lent, model_out, room);
     if (!guarded(lent, room))
@@ -754,7 +779,7 @@ static unsigned try_get(struct set *s, m_key key, uint8_t *out, size_t room) {
     give_back(lent);
     give_back(model_out);
     compare(s);
-    return code ? ORDERSET_REFUSAL(code) : answer[0] ? 200 + (unsigned)answer[ORDERSET_LENGTH] : ABSENT;
+    return code ? ORDERSET_PROVED_REFUSAL(code) : answer[0] ? 200 + (unsigned)answer[ORDERSET_PROVED_LENGTH] : ABSENT;
 }
 
 static int try_play(struct set *s, size_t a, size_t b) {
@@ -792,7 +817,7 @@ static void try_play_list(struct set *s, const uint32_t *at, size_t places, cons
 
 /* ---- the plain map: a value, or none, for each key of a small universe */
 
-typedef unsigned __int128 total;
+__extension__ typedef unsigned __int128 total;
 
 struct plain {
     uint32_t keys;
@@ -800,8 +825,8 @@ struct plain {
     uint8_t (*bytes)[VALUE_MAX];
     int16_t *size; /* -1: absent */
     uint32_t held;
-    int grown;                       /* from a formatted image */
-    int book_only;                   /* nothing but book steps since it was empty */
+    int grown;                        /* from a formatted image */
+    int book_only;                    /* nothing but book steps since it was empty */
     total ordered, filled, withdrawn; /* by the accepted steps that no cut made absent */
 };
 
@@ -904,7 +929,7 @@ static void same_map(struct set *s, const struct plain *p) {
     uint8_t out[VALUE_MAX];
     total open = 0;
     struct sharers sharers = open_sharers(p, s->model.heads_length);
-    same_number("the plain map's count", s->state[ORDERSET_LIVE], p->held);
+    same_number("the plain map's count", s->state[ORDERSET_RAW_LIVE], p->held);
     for (uint32_t i = 0; i < p->keys; i++) {
         unsigned got = try_get(s, p->key[i], out, sizeof out);
         same_place(&sharers, m_head(p->key[i], s->model.heads_length), p->size[i] >= 0);
@@ -951,8 +976,8 @@ static unsigned plain_write(const struct request *r, int held) {
     if (r->size > VALUE_MAX)
         return ORDERSET_VALUE_TOO_LONG;
     if (r->which == INSERT)
-        return held ? ORDERSET_INSERT_HELD : DONE;
-    return held ? DONE : ORDERSET_NOT_HELD;
+        return held ? ORDERSET_KEY_EXISTS : DONE;
+    return held ? DONE : ORDERSET_KEY_MISSING;
 }
 
 /* The rules' answer by the plain map alone, and what the call does if it is done. */
@@ -969,15 +994,15 @@ static unsigned plain_answer(const struct set *s, const struct plain *p, const s
     } else if (r->which == NEW) {
         order_later(e, ORDERSET_SENT, r->quantity, 0);
         e->ordered = r->quantity;
-        answer = size >= 0 ? ORDERSET_KEY_HELD : r->quantity == 0 ? ORDERSET_BAD_QUANTITY : DONE;
+        answer = size >= 0 ? ORDERSET_NEW_KEY_EXISTS : r->quantity == 0 ? ORDERSET_BAD_QUANTITY : DONE;
     } else {
         answer = open == 0 ? ORDERSET_NO_ORDER : plain_step(p->bytes[e->i], open, r, e);
     }
     if (answer)
         return answer;
     if (e->holds && size < 0 && p->held + 1 >= s->n)
-        return ORDERSET_NO_ROOM;
-    return s->version[0] >> 63 ? ORDERSET_NO_VERSION : DONE;
+        return ORDERSET_FULL;
+    return s->version[0] >> 63 ? ORDERSET_EXHAUSTED : DONE;
 }
 
 /* ---- phases */
@@ -1102,7 +1127,8 @@ static struct basket any_basket(const struct plain *p, struct effect *e) {
             continue;
         e[b.count] = (struct effect){.i = i, .holds = kind != ORDERSET_REMOVE, .size = below(VALUE_MAX + 1)};
         fill(e[b.count].bytes, e[b.count].size);
-        b.item[b.count] = (struct m_item){kind, p->key[i], e[b.count].bytes, below(200) ? e[b.count].size : VALUE_MAX + 1};
+        b.item[b.count] =
+            (struct m_item){kind, p->key[i], e[b.count].bytes, below(200) ? e[b.count].size : VALUE_MAX + 1};
         b.count++;
     }
     b.places = any_places(b.count);
@@ -1111,23 +1137,24 @@ static struct basket any_basket(const struct plain *p, struct effect *e) {
 }
 
 /* The rules' answer by the plain map alone. */
-static unsigned plain_basket(const struct set *s, const struct plain *p, const struct basket *b, const struct effect *e) {
+static unsigned plain_basket(const struct set *s, const struct plain *p, const struct basket *b,
+                             const struct effect *e) {
     const size_t stores = ORDERSET_STORES * b->count;
     uint32_t held = p->held;
     if (b->count == 0)
-        return ORDERSET_NO_BASKET;
+        return ORDERSET_BAD_BASKET;
     if (b->places < stores || b->values < stores)
-        return ORDERSET_OUTPUT_TOO_SHORT;
+        return ORDERSET_BUFFER_TOO_SHORT;
     for (size_t i = 0; i < b->count; i++)
         if (b->item[i].kind != ORDERSET_REMOVE && b->item[i].size > VALUE_MAX)
             return ORDERSET_VALUE_TOO_LONG;
     for (size_t i = 0; i < b->count; i++) {
         const int is_held = p->size[e[i].i] >= 0;
         if (is_held == (b->item[i].kind == ORDERSET_INSERT))
-            return is_held ? ORDERSET_INSERT_HELD : ORDERSET_NOT_HELD;
+            return is_held ? ORDERSET_KEY_EXISTS : ORDERSET_KEY_MISSING;
         held += (uint32_t)(b->item[i].kind == ORDERSET_INSERT) - (uint32_t)(b->item[i].kind == ORDERSET_REMOVE);
     }
-    return held >= s->n ? ORDERSET_NO_ROOM : s->version[0] >> 63 ? ORDERSET_NO_VERSION : DONE;
+    return held >= s->n ? ORDERSET_FULL : s->version[0] >> 63 ? ORDERSET_EXHAUSTED : DONE;
 }
 
 /* Makes the stores of the basket: all, or so many on each line as a cut leaves. Answers whether all were made. */
@@ -1144,14 +1171,14 @@ static int make_basket(struct set *s, size_t count, int struck) {
     return whole;
 }
 
-/* A basket: refused exactly where the rules refuse it, but for 28 by the slots that may be taken, which the model tells.
- * All of it is there, or after a cut perhaps nothing. */
+/* A basket: refused exactly where the rules refuse it, but for 28 by the slots that may be taken, which the model
+ * tells. All of it is there, or after a cut perhaps nothing. */
 static struct set *basket(struct set *s, struct plain *p, unsigned cuts) {
     struct effect e[ORDERSET_BASKET_MAX];
     const struct basket b = any_basket(p, e);
     const int struck = cuts && below(s->n > 3000 ? 200 : 4) == 0;
     unsigned want = plain_basket(s, p, &b, e), got = try_basket(s, &b);
-    if (got == ORDERSET_NO_ROOM && (want == DONE || want == ORDERSET_NO_VERSION))
+    if (got == ORDERSET_FULL && (want == DONE || want == ORDERSET_EXHAUSTED))
         want = got;
     same_number("a basket's answer by the plain map", got, want);
     if (got != DONE)
@@ -1213,7 +1240,7 @@ static struct set *step(struct set *s, struct plain *p, unsigned cuts) {
         order_bytes(e.bytes);
     }
     unsigned want = plain_answer(s, p, &r, &e), got = try_change(s, &r);
-    if (got == ORDERSET_NO_ROOM && !p->grown && (want == DONE || want == ORDERSET_NO_VERSION))
+    if (got == ORDERSET_FULL && !p->grown && (want == DONE || want == ORDERSET_EXHAUSTED))
         want = got;
     same_number("the answer by the plain map", got, want);
     if ((r.which == INSERT || r.which == REPLACE || r.which == REMOVE) && want != ORDERSET_VALUE_TOO_LONG)
@@ -1281,7 +1308,9 @@ static void play_some(struct set *s) {
 
 /* A key of the image, or near one. */
 static m_key key_near(const struct set *s, uint64_t keys) {
-    return below(4) ? any_key(keys) : s->n ? m_key_in(s->model_image, 1 + (uint32_t)below(s->n)) : m_word(s->model_image, 0);
+    return below(4) ? any_key(keys)
+           : s->n   ? m_key_in(s->model_image, 1 + (uint32_t)below(s->n))
+                    : m_word(s->model_image, 0);
 }
 
 /* What is asked of a key, mostly what it asks for by the image and the index; seldom a kind that there is not. */
@@ -1321,7 +1350,7 @@ static void play_basket(struct set *s, size_t count) {
 /* The state names any slot as the newest, or none. */
 static void name_any(struct set *s) {
     s->model.state.newest = below(4) ? (uint32_t)below(s->n + 2ul) : (uint32_t)chance();
-    s->state[ORDERSET_NEWEST] = s->model.state.newest;
+    s->state[ORDERSET_RAW_NEWEST] = s->model.state.newest;
     s->named = 0;
 }
 
@@ -1444,7 +1473,7 @@ static void lines(void) {
         m_set_word(bytes, 0, below(4) ? below(4) : chance());
         m_set_word(bytes, 7, chance() >> below(64));
         try_line(s, LINE_WHOLE + (unsigned)below(4), bytes, below(4) ? ORDERSET_LINE_BYTES : below(sizeof bytes + 1),
-                 any_version(), below(4) ? ORDERSET_LINE_ANSWER : below(ROOM + 1));
+                 any_version(), below(4) ? ORDERSET_PROVED_LINE_ANSWER : below(ROOM + 1));
     }
     close_set(s);
 }
@@ -1471,13 +1500,69 @@ static void large_history(unsigned k) {
 /* ---- directed cases: each answer of the rules is met, whatever the seed */
 
 enum fault {
-    SOUND, BAD_LENGTH, UNFORMATTED, BAD_HEADER, NO_HEADS, MANY_HEADS, BAD_NEXT, BAD_MARK, BAD_KIND, SAME_VERSION,
-    ALL_LIVE, ABOVE_N, ROUND, FULL, LAST_VERSION, NO_FIRST, NO_LAST, FIRST_NEXT, NO_LIVE, LONG_RECORD, OUT_OF_ORDER,
-    OUTSIDE, ONE_LINE, TWO_LENGTHS, OTHER_STATE, ALL_FILLED, OTHER_SIZE, LARGE_ORDER, ALL_SLOTS, ALL_BUT_ONE, LONG_LAST,
-    BAD_BITS, BAD_TAIL, REMOVE_LENGTH, BITS_AND_KIND, KIND_AND_LENGTH, LENGTH_AND_TAIL, TAIL_THEN_BITS, ONE_BROKEN,
-    TWO_BROKEN, SAME_AND_BROKEN, NONE_TO_TAKE, KEPT_REMOVE, LATER_LINK, ROUND_REUSE, NONE_AND_VERSION, FULL_AND_VERSION,
-    NONE_AND_NO_LIVE, LIVE_N, LIVE_ABOVE, ONE_LIVE, LAST_LINK, OTHER_LAYOUT, OTHER_HIGH, SPARE_RECORDS, UNNAMED,
-    NAMED_ABOVE, NAMED_OLDER, KEPT_NAMED, OLDER_FIRST, OLDER_LAST, NEWEST_FIRST, FAULTS
+    SOUND,
+    BAD_LENGTH,
+    UNFORMATTED,
+    BAD_HEADER,
+    NO_HEADS,
+    MANY_HEADS,
+    BAD_NEXT,
+    BAD_MARK,
+    BAD_KIND,
+    SAME_VERSION,
+    ALL_LIVE,
+    ABOVE_N,
+    ROUND,
+    FULL,
+    LAST_VERSION,
+    NO_FIRST,
+    NO_LAST,
+    FIRST_NEXT,
+    NO_LIVE,
+    LONG_RECORD,
+    OUT_OF_ORDER,
+    OUTSIDE,
+    ONE_LINE,
+    TWO_LENGTHS,
+    OTHER_STATE,
+    ALL_FILLED,
+    OTHER_SIZE,
+    LARGE_ORDER,
+    ALL_SLOTS,
+    ALL_BUT_ONE,
+    LONG_LAST,
+    BAD_BITS,
+    BAD_TAIL,
+    REMOVE_LENGTH,
+    BITS_AND_KIND,
+    KIND_AND_LENGTH,
+    LENGTH_AND_TAIL,
+    TAIL_THEN_BITS,
+    ONE_BROKEN,
+    TWO_BROKEN,
+    SAME_AND_BROKEN,
+    NONE_TO_TAKE,
+    KEPT_REMOVE,
+    LATER_LINK,
+    ROUND_REUSE,
+    NONE_AND_VERSION,
+    FULL_AND_VERSION,
+    NONE_AND_NO_LIVE,
+    LIVE_N,
+    LIVE_ABOVE,
+    ONE_LIVE,
+    LAST_LINK,
+    OTHER_LAYOUT,
+    OTHER_HIGH,
+    SPARE_RECORDS,
+    UNNAMED,
+    NAMED_ABOVE,
+    NAMED_OLDER,
+    KEPT_NAMED,
+    OLDER_FIRST,
+    OLDER_LAST,
+    NEWEST_FIRST,
+    FAULTS
 };
 
 /* the slot that recovery names */
@@ -1496,10 +1581,11 @@ enum { IN_STEP = IN_ACKNOWLEDGE | IN_FILL | IN_WITHDRAW };
 enum { IN_OWN = IN_WRITE | IN_REMOVE | IN_NEW | IN_STEP | 1 << BASKET }; /* of two families */
 enum { IN_WALK = IN_WRITE | IN_REMOVE | IN_GET | IN_LOCATE | IN_NEW | IN_STEP, IN_ALL = IN_WALK | IN_RECOVER };
 
-/* Six slots: key 7 in slot 1 with 20 bytes, key 8 in slot 2 with as many as there may be; in slot 3 key 11 with a sent order and in slot 4
- * key 12 with an acknowledged one, of each 100 ordered and 40 filled; three heads, so that the chains are 12, 7, and 8
- * with 11; keys 9, 10 and 14 are not held and have the heads of 12, 7 and 8. size: of a value, room of a get, both
- * counts of a play, quantity of a new order or a fill, layout of a format. Of layout 2 the high word of these keys is 5. */
+/* Six slots: key 7 in slot 1 with 20 bytes, key 8 in slot 2 with as many as there may be; in slot 3 key 11 with a sent
+ * order and in slot 4 key 12 with an acknowledged one, of each 100 ordered and 40 filled; three heads, so that the
+ * chains are 12, 7, and 8 with 11; keys 9, 10 and 14 are not held and have the heads of 12, 7 and 8. size: of a value,
+ * room of a get, both counts of a play, quantity of a new order or a fill, layout of a format. Of layout 2 the high
+ * word of these keys is 5. */
 static const struct directed {
     unsigned calls, answer;
     enum fault fault;
@@ -1776,7 +1862,8 @@ static void spare_records(struct set *s, uint32_t newest) {
     s->model.state.version = 7;
 }
 
-/* Slot 5 has a put of key 9 and slot 6 a later remove of it; slot 4 is above them. The reuse chain begins with `first`. */
+/* Slot 5 has a put of key 9 and slot 6 a later remove of it; slot 4 is above them. The reuse chain begins with `first`.
+ */
 static void older_records(struct set *s, uint32_t first) {
     set_record(s->model_image, 4, 1, directed_key(12), 7, ORDERSET_ORDER_BYTES);
     set_record(s->model_image, 5, 1, directed_key(9), 5, 5);
@@ -1801,7 +1888,9 @@ static void plant(struct set *s, enum fault fault) {
     case BAD_KIND: set_record(image, 5, 3, directed_key(9), 5, 0); break;
     case LONG_RECORD: set_length(image); break;
     case SAME_VERSION: set_record(image, 5, 1, directed_key(9), 2, 5); break;
-    case ALL_LIVE: set_record(image, 5, 1, directed_key(9), 5, 5), set_record(image, 6, 1, directed_key(10), 6, 5); break;
+    case ALL_LIVE:
+        set_record(image, 5, 1, directed_key(9), 5, 5), set_record(image, 6, 1, directed_key(10), 6, 5);
+        break;
     case ABOVE_N: index->heads[7 % 3] = 7 + (uint32_t)below(1000); break;
     case ROUND: index->next[1] = 1; break;
     case FULL: index->state.live = 5; break;
@@ -1815,7 +1904,9 @@ static void plant(struct set *s, enum fault fault) {
     case ONE_LINE: memcpy(s->at + 8, s->at, 8 * sizeof *s->at); break;
     case OTHER_STATE: set_order(image, 3, below(2) ? 3 * below(2) : below(3) + (4ull << below(62)), 100, 40); break;
     case ALL_FILLED: set_order(image, 3, 1 + below(2), 100, 100 + below(2) * below(1000)); break;
-    case OTHER_SIZE: image[3 * 128 + 8 * KIND_WORD + 1] = (uint8_t)(below(2) ? 23 - below(24) : 25 + below(VALUE_MAX - 24)); break;
+    case OTHER_SIZE:
+        image[3 * 128 + 8 * KIND_WORD + 1] = (uint8_t)(below(2) ? 23 - below(24) : 25 + below(VALUE_MAX - 24));
+        break;
     case LARGE_ORDER: set_order(image, 3, 1, UINT64_MAX, UINT64_MAX - 1); break;
     case ALL_SLOTS: chain_all(index, 5); break;
     case ALL_BUT_ONE: chain_all(index, 6); break;
@@ -1881,7 +1972,11 @@ static uint64_t slots_due(const struct directed *c) {
     static const uint8_t place[] = {[7] = 1, [8] = 1, [9] = 1, [10] = 1, [11] = 2, [12] = 1, [14] = 2};
     const int by_chain = c->fault == ABOVE_N || c->fault == ROUND || c->fault == ALL_SLOTS;
     switch (c->answer) {
-    case 1: case 2: case 3: case 4: case 10: return 0;
+    case 1:
+    case 2:
+    case 3:
+    case 4:
+    case 10: return 0;
     case 11: return by_chain ? 0 : place[c->key];
     default: return c->fault == ALL_SLOTS || c->fault == LONG_LAST ? 6 : c->fault == ALL_BUT_ONE ? 5 : place[c->key];
     }
@@ -1964,7 +2059,11 @@ static const struct basket_case {
     {26, BAD_LENGTH, 2, {1, 1}, {{R, 7, 5}, {257, 8, 5}}},
     {27, SOUND, 2, {0, 0}, {{R, 7, 5}, {D, 7, 5}}},
     {27, SOUND, 3, {0, 0}, {{I, 7, VALUE_MAX + 1}, {R, 10, 5}, {I, 10, 5}}},
-    {27, BAD_LENGTH, 8, {1, 1}, {{I, 1, 5}, {I, 2, 5}, {I, 3, 5}, {I, 4, 5}, {I, 5, 5}, {I, 6, 5}, {I, 7, 5}, {I, 1, 5}}},
+    {27,
+     BAD_LENGTH,
+     8,
+     {1, 1},
+     {{I, 1, 5}, {I, 2, 5}, {I, 3, 5}, {I, 4, 5}, {I, 5, 5}, {I, 6, 5}, {I, 7, 5}, {I, 1, 5}}},
     {13, SOUND, 1, {1, 0}, {{R, 7, 5}}},
     {13, SOUND, 2, {0, 1}, {{R, 7, 5}, {D, 8, 0}}},
     {13, BAD_LENGTH, 2, {32, 32}, {{R, 7, 5}, {D, 8, 0}}},
@@ -2086,7 +2185,8 @@ static void directed_lengths(const struct set *s) {
     for (unsigned which = LINE_WHOLE; which <= LINE_LAST; which++) {
         for (size_t i = 0; i < sizeof wrong / sizeof *wrong; i++)
             for (uint64_t k = 0; k < 2; k++)
-                same_number("a length that is not due", try_line(s, which, line, wrong[i][0], k << 63, wrong[i][1]), 33);
+                same_number("a length that is not due", try_line(s, which, line, wrong[i][0], k << 63, wrong[i][1]),
+                            33);
         if (which >= LINE_FIRST)
             same_number("a version that cannot be written", try_line(s, which, line, 64, 1ull << 63, 8), 9);
     }
@@ -2107,7 +2207,8 @@ struct group {
     uint32_t number, records;
 };
 
-/* The records take the slots from 1 on, each a put of a key of its own, and broken slots follow; voids: invalidating stores. */
+/* The records take the slots from 1 on, each a put of a key of its own, and broken slots follow; voids: invalidating
+ * stores. */
 static const struct group_case {
     struct group group[3];
     uint32_t broken, answer, voids, live;
@@ -2163,7 +2264,7 @@ static void directed_group(const struct group_case *c) {
     same_number("a directed case of recovery", (uint64_t)try_recover(s), c->answer);
     if (c->answer == DONE) {
         same_number("a directed case's invalidating stores", s->count[0], c->voids);
-        same_number("a directed case's live count", s->state[ORDERSET_LIVE], c->live);
+        same_number("a directed case's live count", s->state[ORDERSET_RAW_LIVE], c->live);
     }
     close_set(s);
 }
@@ -2286,9 +2387,10 @@ int main(int count, char **word) {
     far_least = least_met(far_met, far_answers, UINT_MAX);
     printf("%" PRIu64 " calls, %" PRIu64 " of them struck with all 81 pairs of counts, %" PRIu64
            " questions about lines, %" PRIu64 " baskets and %" PRIu64 " that a cut struck, %" PRIu64
-           " invalidating stores, %" PRIu64 " images counted, each answer of the rules at least %" PRIu64 " times, %" PRIu64
-           " with 2 or more slots compared, up to %" PRIu64 "; %" PRIu64 " calls by the owner, each answer at least %" PRIu64
-           " times, %" PRIu64 " by both families: no difference (%.0f s)\n",
+           " invalidating stores, %" PRIu64 " images counted, each answer of the rules at least %" PRIu64
+           " times, %" PRIu64 " with 2 or more slots compared, up to %" PRIu64 "; %" PRIu64
+           " calls by the owner, each answer at least %" PRIu64 " times, %" PRIu64
+           " by both families: no difference (%.0f s)\n",
            calls, strikes, queries, baskets, half_baskets, openings, counted, least, far_least, longest, own_calls,
            own_least, both, seconds());
     return least == 0 || own_least == 0 || far_least == 0 || baskets == 0 || half_baskets == 0 || openings == 0

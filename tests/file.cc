@@ -33,8 +33,8 @@ extern "C" int msync(void *address, size_t length, int flags) {
 
 namespace {
 
-using orderset::key;
-using orderset::mode;
+using order_set::key;
+using order_set::mode;
 using text = std::vector<std::uint8_t>;
 
 const int FILES = 6, CALLS = 60, LOGS = 3, APPENDS = 40;
@@ -53,7 +53,7 @@ std::uint64_t calls, restarts;
     std::exit(1);
 }
 
-void same_number(const orderset::result &got, std::uint32_t due, const char *call) {
+void same_number(const order_set::result &got, std::uint32_t due, const char *call) {
     calls++;
     expect(got == due, "%s gives %u: %u, %s", call, due, got.number(), got.text());
     expect(bool(got) == (due == 0) && got.is_error() == (due != 0 && (due < 1000 || due > 1002)),
@@ -111,9 +111,9 @@ text some_value(const plain &p) {
 
 // ---- calls, each with the number that the plain map gives it
 
-void write(orderset::file &set, plain &p, key k, bool insert) {
+void write(order_set::set &set, plain &p, key k, bool insert) {
     const text value = some_value(p);
-    const std::uint32_t due = p.too_wide(k)             ? ORDERSET_FILE_WIDE_KEY
+    const std::uint32_t due = p.too_wide(k)             ? ORDERSET_KEY_TOO_WIDE
                               : value.size() > p.most() ? 10
                               : insert && p.holds(k)    ? 20
                               : !insert && !p.holds(k)  ? 21
@@ -124,16 +124,16 @@ void write(orderset::file &set, plain &p, key k, bool insert) {
         p.map[k] = value;
 }
 
-void remove(orderset::file &set, plain &p, key k) {
-    const std::uint32_t due = p.too_wide(k) ? ORDERSET_FILE_WIDE_KEY : p.holds(k) ? 0 : ORDERSET_FILE_ABSENT;
+void remove(order_set::set &set, plain &p, key k) {
+    const std::uint32_t due = p.too_wide(k) ? ORDERSET_KEY_TOO_WIDE : p.holds(k) ? 0 : ORDERSET_NOT_FOUND;
     same_number(set.remove(k), due, "remove");
     if (!due)
         p.map.erase(k);
 }
 
-void new_order(orderset::file &set, plain &p, key k) {
+void new_order(order_set::set &set, plain &p, key k) {
     plain_order o = {{1, below(5), 0}};
-    const std::uint32_t due = p.too_wide(k)    ? ORDERSET_FILE_WIDE_KEY
+    const std::uint32_t due = p.too_wide(k)    ? ORDERSET_KEY_TOO_WIDE
                               : p.holds(k)     ? 17
                               : o.word[1] == 0 ? 19
                               : !p.has_room()  ? 28
@@ -143,12 +143,12 @@ void new_order(orderset::file &set, plain &p, key k) {
         p.map[k] = o.bytes();
 }
 
-void acknowledge(orderset::file &set, plain &p, key k) {
+void acknowledge(order_set::set &set, plain &p, key k) {
     plain_order o;
     const bool is_order = o.read(p, k);
-    const std::uint32_t due = p.too_wide(k)    ? ORDERSET_FILE_WIDE_KEY
+    const std::uint32_t due = p.too_wide(k)    ? ORDERSET_KEY_TOO_WIDE
                               : !is_order      ? 18
-                              : o.word[0] == 2 ? ORDERSET_FILE_ALREADY
+                              : o.word[0] == 2 ? ORDERSET_ALREADY_ACKNOWLEDGED
                                                : 0;
     same_number(set.book_acknowledge(k), due, "book_acknowledge");
     o.word[0] = 2;
@@ -156,14 +156,14 @@ void acknowledge(orderset::file &set, plain &p, key k) {
         p.map[k] = o.bytes();
 }
 
-void fill_order(orderset::file &set, plain &p, key k) {
+void fill_order(order_set::set &set, plain &p, key k) {
     plain_order o;
     const bool is_order = o.read(p, k);
     const std::uint64_t quantity = below(4), open = o.word[1] - o.word[2];
-    const std::uint32_t due = p.too_wide(k)                     ? ORDERSET_FILE_WIDE_KEY
-                              : !is_order                       ? 18
-                              : !quantity || quantity > open    ? 19
-                                                                : 0;
+    const std::uint32_t due = p.too_wide(k)                  ? ORDERSET_KEY_TOO_WIDE
+                              : !is_order                    ? 18
+                              : !quantity || quantity > open ? 19
+                                                             : 0;
     same_number(set.book_fill(k, quantity), due, "book_fill");
     o.word[2] += quantity;
     if (!due && quantity < open)
@@ -172,21 +172,21 @@ void fill_order(orderset::file &set, plain &p, key k) {
         p.map.erase(k);
 }
 
-void withdraw(orderset::file &set, plain &p, key k) {
+void withdraw(order_set::set &set, plain &p, key k) {
     plain_order o;
     const bool is_order = o.read(p, k);
-    const std::uint32_t due = p.too_wide(k) ? ORDERSET_FILE_WIDE_KEY : is_order ? 0 : 18;
+    const std::uint32_t due = p.too_wide(k) ? ORDERSET_KEY_TOO_WIDE : is_order ? 0 : 18;
     same_number(set.book_withdraw(k), due, "book_withdraw");
     if (!due)
         p.map.erase(k);
 }
 
-std::uint32_t basket_due(const plain &p, const std::vector<orderset::item> &items) {
+std::uint32_t basket_due(const plain &p, const std::vector<order_set::item> &items) {
     std::set<key> seen;
     std::uint32_t wide = 0, kind = 0, twice = 0, longer = 0, held = 0, fresh = 0;
     if (items.empty() || items.size() > 8)
         return 26;
-    for (const orderset::item &i : items) {
+    for (const order_set::item &i : items) {
         const bool insert = i.kind == ORDERSET_INSERT;
         wide |= p.too_wide(i.key);
         kind |= i.kind > 3;
@@ -196,30 +196,30 @@ std::uint32_t basket_due(const plain &p, const std::vector<orderset::item> &item
             held = insert ? 20 : 21;
         fresh += insert;
     }
-    return wide                                ? std::uint32_t(ORDERSET_FILE_WIDE_KEY)
-           : kind                              ? 26
-           : twice                             ? 27
-           : longer                            ? 10
-           : held                              ? held
-           : p.map.size() + fresh >= p.slots   ? 28
-                                               : 0;
+    return wide                              ? std::uint32_t(ORDERSET_KEY_TOO_WIDE)
+           : kind                            ? 26
+           : twice                           ? 27
+           : longer                          ? 10
+           : held                            ? held
+           : p.map.size() + fresh >= p.slots ? 28
+                                             : 0;
 }
 
-void basket(orderset::file &set, plain &p) {
+void basket(order_set::set &set, plain &p) {
     const std::size_t count = below(20) == 0 ? below(10) : 1 + below(8);
     std::vector<text> values;
-    std::vector<orderset::item> items;
+    std::vector<order_set::item> items;
     values.reserve(count);
     for (std::size_t i = 0; i < count; i++) {
         const key k = below(8) ? key(1 + i) : some_key(p);
         values.push_back(below(30) ? some_bytes(below(p.most() + 1)) : some_value(p));
         const bool usual = below(12) != 0;
         if (p.holds(k) == usual && below(2))
-            items.push_back(orderset::item::remove(k));
+            items.push_back(order_set::item::remove(k));
         else if (p.holds(k) == usual)
-            items.push_back(orderset::item::replace(k, values.back()));
+            items.push_back(order_set::item::replace(k, values.back()));
         else
-            items.push_back(orderset::item::insert(k, values.back()));
+            items.push_back(order_set::item::insert(k, values.back()));
         items.back().kind = below(100) ? items.back().kind : 4;
     }
     std::uint32_t due = basket_due(p, items);
@@ -234,10 +234,10 @@ void basket(orderset::file &set, plain &p) {
             p.map[items[i].key] = values[i];
 }
 
-void look(const orderset::file &set, const plain &p, key k) {
+void look(const order_set::set &set, const plain &p, key k) {
     const auto got = set.get(k);
     const auto found = set.locate(k);
-    const std::uint32_t due = p.too_wide(k) ? ORDERSET_FILE_WIDE_KEY : p.holds(k) ? 0 : ORDERSET_FILE_ABSENT;
+    const std::uint32_t due = p.too_wide(k) ? ORDERSET_KEY_TOO_WIDE : p.holds(k) ? 0 : ORDERSET_NOT_FOUND;
     same_number(got, due, "get");
     same_number(found, due, "locate");
     expect(p.too_wide(k)
@@ -254,17 +254,17 @@ void look(const orderset::file &set, const plain &p, key k) {
                && same_bytes(slot->value, p.map.at(k)),
            "slot %u holds the key that locate finds there", found->slot);
     plain_order o;
-    const auto order = orderset::order_of(got->view());
+    const auto order = order_set::order_of(got->view());
     expect(order.has_value() == o.read(p, k), "order_of knows an order");
     expect(!order || (order->state == o.word[0] && order->ordered == o.word[1] && order->filled == o.word[2]),
            "order_of gives the order");
 }
 
-void same_map(const orderset::file &set, const plain &p) {
+void same_map(const order_set::set &set, const plain &p) {
     std::map<key, text> found;
     std::uint32_t slot = 0;
     auto orders = set.orders();
-    for (const orderset::record &r : orders) {
+    for (const order_set::record &r : orders) {
         expect(r.slot > slot && r.slot <= p.slots, "the slots rise: %u after %u", r.slot, slot);
         slot = r.slot;
         expect(found.emplace(r.key, text(r.value.begin(), r.value.end())).second, "each key comes once");
@@ -272,7 +272,7 @@ void same_map(const orderset::file &set, const plain &p) {
     same_number(orders.result(), 0, "orders");
     std::size_t steps = 0;
     for (auto step = orders.begin(); step != orders.end(); steps++) {
-        const orderset::record before = *step, passed = *step++;
+        const order_set::record before = *step, passed = *step++;
         expect(passed.slot == before.slot && passed.key == before.key && passed.value.text() == before.value.text(),
                "a postfix step gives what it passes: slot %u, due %u", passed.slot, before.slot);
     }
@@ -284,7 +284,7 @@ void same_map(const orderset::file &set, const plain &p) {
            "statistics: %u live of %u in layout %u", told.live, told.slots, told.layout);
 }
 
-void call(orderset::file &set, plain &p) {
+void call(order_set::set &set, plain &p) {
     const key k = some_key(p);
     switch (below(10)) {
     case 0:
@@ -301,9 +301,9 @@ void call(orderset::file &set, plain &p) {
 }
 
 // The handle is closed before the file is opened again: a lock is of one handle.
-orderset::file open_again(orderset::file set, mode how) {
+order_set::set open_again(order_set::set set, mode how) {
     set.close();
-    auto opened = orderset::file::open(path.c_str(), how);
+    auto opened = order_set::set::open(path.c_str(), how);
     same_number(opened, 0, "open");
     restarts++;
     return std::move(*opened);
@@ -313,14 +313,14 @@ void histories(std::uint32_t layout) {
     for (int files = 0; files < FILES; files++) {
         plain p{below(2) ? 64 : 2 + std::uint32_t(below(12)), layout, {}};
         std::remove(path.c_str());
-        same_number(orderset::file::create(path.c_str(), p.slots, layout), 0, "create");
+        same_number(order_set::set::create(path.c_str(), p.slots, layout), 0, "create");
         auto set = open_again({}, mode::write);
         for (int i = 0; i < CALLS; i++) {
             call(set, p);
             if (below(20) == 0) {
                 set = open_again(std::move(set), below(3) ? mode::read : mode::inspect);
                 same_map(set, p);
-                same_number(set.remove(7), ORDERSET_FILE_READ_ONLY, "remove");
+                same_number(set.remove(7), ORDERSET_READ_ONLY, "remove");
                 set = open_again(std::move(set), mode::write);
                 same_map(set, p);
             }
@@ -331,14 +331,14 @@ void histories(std::uint32_t layout) {
 
 // ---- the log
 
-void same_log(const orderset::log_file &log, std::uint32_t cells, const std::vector<text> &all) {
+void same_log(const order_set::log &log, std::uint32_t cells, const std::vector<text> &all) {
     const std::uint64_t last = all.size(), first = last < cells ? 1 : last - cells + 2;
     const auto shown = log.range();
     same_number(shown, 0, "range");
     expect(shown->first == first && shown->last == last, "the numbers are %" PRIu64 " to %" PRIu64, first, last);
     std::uint64_t number = first;
     auto messages = log.messages();
-    for (const orderset::numbered &m : messages) {
+    for (const order_set::numbered &m : messages) {
         expect(m.number == number, "message %" PRIu64 " is the next: %" PRIu64, number, m.number);
         expect(same_bytes(m.message, all[number - 1]), "message %" PRIu64 " is as it was appended", number);
         number++;
@@ -356,12 +356,12 @@ void logs() {
         const std::uint32_t cells = 2 + std::uint32_t(below(6));
         std::vector<text> all;
         std::remove(path.c_str());
-        same_number(orderset::log_file::create(path.c_str(), cells), 0, "create");
-        orderset::log_file log;
+        same_number(order_set::log::create(path.c_str(), cells), 0, "create");
+        order_set::log log;
         for (int i = 0; i < APPENDS; i++) {
             if (!log.is_open() || below(8) == 0) {
                 log.close();
-                auto opened = orderset::log_file::open(path.c_str(), mode::write);
+                auto opened = order_set::log::open(path.c_str(), mode::write);
                 same_number(opened, 0, "open");
                 log = std::move(*opened);
                 restarts++;
@@ -381,8 +381,8 @@ void logs() {
 // A message that is not complete, as no cut leaves it behind a later one, is left out.
 void damaged_log() {
     std::remove(path.c_str());
-    same_number(orderset::log_file::create(path.c_str(), 4), 0, "create");
-    auto log = orderset::log_file::open(path.c_str(), mode::write);
+    same_number(order_set::log::create(path.c_str(), 4), 0, "create");
+    auto log = order_set::log::open(path.c_str(), mode::write);
     for (const char *message : {"one", "two", "three"})
         same_number(log->append(message), 0, "append");
     log->close();
@@ -391,10 +391,10 @@ void damaged_log() {
         std::fputc(0, damaged);
         std::fclose(damaged);
     }
-    log = orderset::log_file::open(path.c_str(), mode::read);
+    log = order_set::log::open(path.c_str(), mode::read);
     std::string given;
     auto messages = log->messages();
-    for (const orderset::numbered &m : messages)
+    for (const order_set::numbered &m : messages)
         given += m.message.text();
     same_number(messages.result(), 0, "messages");
     expect(given == "onethree", "the other messages are given: %s", given.c_str());
@@ -405,60 +405,60 @@ void damaged_log() {
 void refusals() {
     const char *file = path.c_str();
     std::remove(file);
-    const auto none = orderset::file::open(file, mode::write);
-    same_number(none, ORDERSET_FILE_SYSTEM, "open of no file");
+    const auto none = order_set::set::open(file, mode::write);
+    same_number(none, ORDERSET_ERRNO, "open of no file");
     expect(none.system_error() == ENOENT && !none->is_open(), "errno is ENOENT, and the file is not open");
-    same_number(orderset::file::create(file, 1, 1), 1, "create of one slot");
-    same_number(orderset::file::create(file, 4, 3), 32, "create of layout 3");
-    same_number(orderset::file::create(file, 4, 1), 0, "create");
-    same_number(orderset::file::create(file, 4, 1), ORDERSET_FILE_EXISTS, "create of a file that is there");
-    same_number(orderset::log_file::create(file, 4), ORDERSET_FILE_EXISTS, "create of a file that is there");
+    same_number(order_set::set::create(file, 1, 1), 1, "create of one slot");
+    same_number(order_set::set::create(file, 4, 3), 32, "create of layout 3");
+    same_number(order_set::set::create(file, 4, 1), 0, "create");
+    same_number(order_set::set::create(file, 4, 1), ORDERSET_FILE_EXISTS, "create of a file that is there");
+    same_number(order_set::log::create(file, 4), ORDERSET_FILE_EXISTS, "create of a file that is there");
 
-    auto set = orderset::file::open(file, mode::write);
+    auto set = order_set::set::open(file, mode::write);
     same_number(set, 0, "open");
-    same_number(orderset::file::open(file, mode::write), ORDERSET_FILE_LOCKED, "a second open");
-    orderset::file moved = std::move(*set);
+    same_number(order_set::set::open(file, mode::write), ORDERSET_LOCKED, "a second open");
+    order_set::set moved = std::move(*set);
     expect(!set->is_open() && moved.is_open(), "a file that was moved from is not open");
-    same_number(moved.insert({7, 1}, "wide"), ORDERSET_FILE_WIDE_KEY, "insert of a wide key");
+    same_number(moved.insert({7, 1}, "wide"), ORDERSET_KEY_TOO_WIDE, "insert of a wide key");
     same_number(moved.insert(7, "narrow"), 0, "insert");
     same_number(moved.insert(7, "narrow"), 20, "insert of a held key");
-    same_number(moved.slot(0), ORDERSET_FILE_NO_SLOT, "slot 0");
-    same_number(moved.slot(5), ORDERSET_FILE_NO_SLOT, "slot 5 of 4");
-    same_number(moved.basket({orderset::item::insert(8, "a"), orderset::item::replace(7, "b")}), 0, "basket");
+    same_number(moved.slot(0), ORDERSET_NO_SLOT, "slot 0");
+    same_number(moved.slot(5), ORDERSET_NO_SLOT, "slot 5 of 4");
+    same_number(moved.basket({order_set::item::insert(8, "a"), order_set::item::replace(7, "b")}), 0, "basket");
     expect(moved.get(7)->text() == "b" && moved.get(8)->text() == "a", "the basket is done");
-    expect(moved.get(9) == ORDERSET_FILE_ABSENT && moved.get(9).text() == std::string_view("the key is not held"),
+    expect(moved.get(9) == ORDERSET_NOT_FOUND && moved.get(9).text() == std::string_view("the key is not held"),
            "absent is said in words: %s", moved.get(9).text());
-    expect(orderset_file_errno(moved.handle()) == 0 && moved.system_error() == 0, "nothing failed");
+    expect(orderset_errno(moved.handle()) == 0 && moved.system_error() == 0, "nothing failed");
     moved.close();
 
-    set = orderset::file::open(file, mode::read);
+    set = order_set::set::open(file, mode::read);
     same_number(set, 0, "open for reading");
-    same_number(set->book_withdraw(7), ORDERSET_FILE_READ_ONLY, "a change of a file that is read");
-    auto writer = orderset::file::open(file, mode::write);
+    same_number(set->book_withdraw(7), ORDERSET_READ_ONLY, "a change of a file that is read");
+    auto writer = order_set::set::open(file, mode::write);
     same_number(writer, 0, "a writer beside a reader");
     same_number(writer->remove(7), 0, "remove");
     expect(set->get(7)->text() == "b", "a reader sees the file as it was");
     writer->close();
 
-    same_number(orderset::log_file::open(file, mode::write), 30, "a set of 640 bytes as a log");
+    same_number(order_set::log::open(file, mode::write), 30, "a set of 640 bytes as a log");
     std::remove(file);
-    same_number(orderset::log_file::create(file, 2), 0, "create of a log");
-    same_number(orderset::file::open(file, mode::write), 2, "a log of 896 bytes as a set");
+    same_number(order_set::log::create(file, 2), 0, "create of a log");
+    same_number(order_set::set::open(file, mode::write), 2, "a log of 896 bytes as a set");
     std::remove(file);
-    same_number(orderset::file::create(file, 6, 2), 0, "create");
-    same_number(orderset::log_file::open(file, mode::write), ORDERSET_FILE_NOT_A_LOG, "a set of 896 bytes as a log");
-    same_number(orderset::file::open("/", mode::read), ORDERSET_FILE_NOT_REGULAR, "open of a folder");
+    same_number(order_set::set::create(file, 6, 2), 0, "create");
+    same_number(order_set::log::open(file, mode::write), ORDERSET_NOT_A_LOG, "a set of 896 bytes as a log");
+    same_number(order_set::set::open("/", mode::read), ORDERSET_NOT_REGULAR, "open of a folder");
     if (std::FILE *longer = std::fopen(file, "r+")) {
         std::fseek(longer, 0, SEEK_END);
         std::fputs("another", longer);
         std::fclose(longer);
     }
-    same_number(orderset::file::open(file, mode::write), 1, "a file that was extended");
-    const auto inspected = orderset::file::open(file, mode::inspect);
+    same_number(order_set::set::open(file, mode::write), 1, "a file that was extended");
+    const auto inspected = order_set::set::open(file, mode::inspect);
     same_number(inspected, 0, "open for inspection");
     expect(inspected->statistics().refusal == 1, "the statistics have the refusal");
     auto orders = inspected->orders();
-    for (const orderset::record &r : orders)
+    for (const order_set::record &r : orders)
         expect(false, "a refused file has no order: slot %u", r.slot);
     same_number(orders.result(), 1, "orders of a refused file");
 }
@@ -467,47 +467,47 @@ void refusals() {
 
 void stopped_set() {
     std::remove(path.c_str());
-    same_number(orderset::file::create(path.c_str(), 4, 1), 0, "create");
+    same_number(order_set::set::create(path.c_str(), 4, 1), 0, "create");
     auto set = open_again({}, mode::write);
     same_number(set.insert(7, "seven"), 0, "insert");
-    if (set.statistics().flush != ORDERSET_FILE_MSYNC)
+    if (set.statistics().flush != ORDERSET_FLUSH_MSYNC)
         return; // on non-volatile memory there is no sync that fails
     failing = true;
     const auto told = set.insert(8, "eight");
     failing = false;
-    same_number(told, ORDERSET_FILE_NOT_DURABLE, "an insert whose sync fails");
+    same_number(told, ORDERSET_NOT_DURABLE, "an insert whose sync fails");
     expect(told.system_error() == EIO && set.system_error() == EIO && set.statistics().error == EIO,
            "the errno of a failed sync is told: %d", told.system_error());
-    same_number(set.get(7), ORDERSET_FILE_STOPPED, "get after a failed sync");
-    same_number(set.remove(7), ORDERSET_FILE_STOPPED, "remove after a failed sync");
+    same_number(set.get(7), ORDERSET_STOPPED, "get after a failed sync");
+    same_number(set.remove(7), ORDERSET_STOPPED, "remove after a failed sync");
     auto orders = set.orders();
     expect(orders.begin() == orders.end(), "a set that is stopped gives no order");
-    same_number(orders.result(), ORDERSET_FILE_STOPPED, "orders after a failed sync");
+    same_number(orders.result(), ORDERSET_STOPPED, "orders after a failed sync");
     set = open_again(std::move(set), mode::write);
     expect(set.get(7)->text() == "seven", "what was answered is there");
     const auto eight = set.get(8);
-    expect(eight == ORDERSET_FILE_ABSENT || eight->text() == "eight", "the insert is done or not");
+    expect(eight == ORDERSET_NOT_FOUND || eight->text() == "eight", "the insert is done or not");
 }
 
 void stopped_log() {
     std::remove(path.c_str());
-    same_number(orderset::log_file::create(path.c_str(), 4), 0, "create");
-    auto log = orderset::log_file::open(path.c_str(), mode::write);
+    same_number(order_set::log::create(path.c_str(), 4), 0, "create");
+    auto log = order_set::log::open(path.c_str(), mode::write);
     same_number(log->append("one"), 0, "append");
-    if (log->statistics().flush != ORDERSET_FILE_MSYNC)
+    if (log->statistics().flush != ORDERSET_FLUSH_MSYNC)
         return;
     failing = true;
     const auto told = log->append("two");
     failing = false;
-    same_number(told, ORDERSET_FILE_NOT_DURABLE, "an append whose sync fails");
+    same_number(told, ORDERSET_NOT_DURABLE, "an append whose sync fails");
     expect(*told == 0 && told.system_error() == EIO && log->system_error() == EIO, "it has no number");
-    same_number(log->read(1), ORDERSET_FILE_STOPPED, "read after a failed sync");
+    same_number(log->read(1), ORDERSET_STOPPED, "read after a failed sync");
     const auto shown = log->range();
-    same_number(shown, ORDERSET_FILE_STOPPED, "range after a failed sync");
+    same_number(shown, ORDERSET_STOPPED, "range after a failed sync");
     expect(shown->first == 1 && shown->last == 0, "a refused range is empty");
     auto messages = log->messages();
     expect(messages.begin() == messages.end(), "a log that is stopped gives no message");
-    same_number(messages.result(), ORDERSET_FILE_STOPPED, "messages after a failed sync");
+    same_number(messages.result(), ORDERSET_STOPPED, "messages after a failed sync");
 }
 
 } // namespace

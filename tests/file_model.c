@@ -87,26 +87,26 @@ void any_call(const struct plain *p, struct call *c) {
     }
 }
 
-static uint32_t carry_out_basket(struct orderset_file *set, const struct plain *p, const struct call *c) {
+static uint32_t carry_out_basket(struct orderset *set, const struct plain *p, const struct call *c) {
     struct orderset_item item[ORDERSET_BASKET_MAX + 1];
     for (size_t i = 0; i < c->count; i++)
         item[i] = (struct orderset_item){c->item[i].kind, p->key[c->item[i].key], c->item[i].value.bytes,
                                          c->item[i].value.length};
-    return orderset_file_basket(set, item, c->count);
+    return orderset_basket(set, item, c->count);
 }
 
-uint32_t carry_out(struct orderset_file *set, const struct plain *p, const struct call *c) {
+uint32_t carry_out(struct orderset *set, const struct plain *p, const struct call *c) {
     const struct value *v = &c->item[0].value;
     const struct orderset_key key = p->key[c->item[0].key];
     const void *bytes = v->length ? v->bytes : NULL;
     switch (c->kind) {
-    case INSERT: return orderset_file_insert(set, key, bytes, v->length);
-    case REPLACE: return orderset_file_replace(set, key, bytes, v->length);
-    case REMOVE: return orderset_file_remove(set, key);
-    case NEW: return orderset_file_book_new(set, key, c->quantity);
-    case ACKNOWLEDGE: return orderset_file_book_acknowledge(set, key);
-    case FILL: return orderset_file_book_fill(set, key, c->quantity);
-    case WITHDRAW: return orderset_file_book_withdraw(set, key);
+    case INSERT: return orderset_insert(set, key, bytes, v->length);
+    case REPLACE: return orderset_replace(set, key, bytes, v->length);
+    case REMOVE: return orderset_remove(set, key);
+    case NEW: return orderset_book_new(set, key, c->quantity);
+    case ACKNOWLEDGE: return orderset_book_acknowledge(set, key);
+    case FILL: return orderset_book_fill(set, key, c->quantity);
+    case WITHDRAW: return orderset_book_withdraw(set, key);
     default: return carry_out_basket(set, p, c);
     }
 }
@@ -118,7 +118,7 @@ static uint32_t due_of_write(const struct plain *p, enum call_kind kind, const s
     if (kind != REMOVE && given->length > value_max(p))
         return 10;
     if (kind == INSERT ? v->held : !v->held)
-        return kind == INSERT ? 20 : kind == REPLACE ? 21 : ORDERSET_FILE_ABSENT;
+        return kind == INSERT ? 20 : kind == REPLACE ? 21 : ORDERSET_NOT_FOUND;
     *v = *given;
     v->held = kind != REMOVE;
     return 0;
@@ -134,7 +134,7 @@ static uint32_t due_of_step(enum call_kind kind, uint64_t quantity, struct value
     if ((kind == NEW || kind == FILL) && (quantity == 0 || (kind == FILL && quantity > ordered - filled)))
         return 19;
     if (kind == ACKNOWLEDGE && state == ACKNOWLEDGED)
-        return ORDERSET_FILE_ALREADY;
+        return ORDERSET_ALREADY_ACKNOWLEDGED;
     if (kind == NEW)
         *v = order_of(SENT, quantity, 0);
     else if (kind == ACKNOWLEDGE)
@@ -165,7 +165,7 @@ static uint32_t due_of_basket(const struct plain *p, const struct call *c, struc
         const struct call_item *item = &c->item[i];
         uint32_t number = due_of_write(p, kind_of[item->kind], &item->value, &later->value[item->key]);
         if (number)
-            return number == ORDERSET_FILE_ABSENT ? 21 : number;
+            return number == ORDERSET_NOT_FOUND ? 21 : number;
     }
     return 0;
 }
@@ -193,15 +193,15 @@ int may_give(uint32_t due, uint32_t number, const struct call *c) {
 
 /* ---- what a handle shows */
 
-static int shows_key(struct orderset_file *set, struct orderset_key key, const struct value *v) {
+static int shows_key(struct orderset *set, struct orderset_key key, const struct value *v) {
     uint8_t bytes[ORDERSET_VALUE_MAX];
     size_t length;
     uint32_t slot;
     uint64_t version;
-    const uint32_t got = orderset_file_get(set, key, bytes, sizeof bytes, &length),
-                   located = orderset_file_locate(set, key, &slot, &version);
+    const uint32_t got = orderset_get(set, key, bytes, sizeof bytes, &length),
+                   located = orderset_locate(set, key, &slot, &version);
     if (!v->held)
-        return got == ORDERSET_FILE_ABSENT && located == ORDERSET_FILE_ABSENT && length == 0 && slot == 0;
+        return got == ORDERSET_NOT_FOUND && located == ORDERSET_NOT_FOUND && length == 0 && slot == 0;
     return got == 0 && located == 0 && slot > 0 && version > 0 && length == v->length
            && memcmp(bytes, v->bytes, length) == 0;
 }
@@ -219,27 +219,29 @@ static int is_record_of(const struct orderset_record *r, const struct plain *p) 
 }
 
 /* Rising slots, so no order comes twice; as many as are held. */
-static int iterates(struct orderset_file *set, const struct plain *p) {
+static int iterates(struct orderset *set, const struct plain *p) {
     struct orderset_record r = {0};
     uint32_t count = 0, number, before = 0;
-    while ((number = orderset_file_next(set, &r)) == 0) {
+    while ((number = orderset_next(set, &r)) == 0) {
         if (r.slot <= before || r.slot > p->slots || !is_record_of(&r, p))
             return 0;
         before = r.slot;
         count++;
     }
-    return number == ORDERSET_FILE_END && r.slot == 0 && count == count_held(p);
+    return number == ORDERSET_END && r.slot == 0 && count == count_held(p);
 }
 
-int shows(struct orderset_file *set, const struct plain *p) {
+int shows(struct orderset *set, const struct plain *p) {
     struct orderset_statistics s;
     uint64_t all = 0;
     for (int i = 0; i < KEYS; i++)
         if (!shows_key(set, p->key[i], &p->value[i]))
             return 0;
-    orderset_file_statistics(set, &s);
+    orderset_stat(set, &s);
     for (size_t i = 0; i < ORDERSET_COUNTS; i++)
         all += s.count[i];
-    return iterates(set, p) && s.live == count_held(p) && s.count[ORDERSET_SLOT_LIVE] == s.live && all == p->slots
-           && s.slots == p->slots && s.spare == s.slots - s.live && s.layout == p->layout;
+    return orderset_count(set) == count_held(p) && orderset_room(set) == p->slots - 1 - count_held(p)
+           && orderset_layout(set) == p->layout && iterates(set, p) && s.live == count_held(p)
+           && s.count[ORDERSET_SLOT_LIVE] == s.live && all == p->slots && s.slots == p->slots
+           && s.spare == s.slots - s.live && s.layout == p->layout;
 }

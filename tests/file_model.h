@@ -1,8 +1,8 @@
-/* file_model.h: random changes through a handle of orderset_file.h, and what they answer and leave by a plain map. */
+/* file_model.h: random changes through a handle of orderset.h, and what they answer and leave by a plain map. */
 #ifndef FILE_MODEL_H
 #define FILE_MODEL_H
 
-#include "orderset_file.h"
+#include "orderset.h"
 
 enum { KEYS = 24 };
 
@@ -37,7 +37,7 @@ uint32_t count_held(const struct plain *p);
 /* Mostly one that is not refused. */
 void any_call(const struct plain *p, struct call *c);
 
-uint32_t carry_out(struct orderset_file *set, const struct plain *p, const struct call *c);
+uint32_t carry_out(struct orderset *set, const struct plain *p, const struct call *c);
 
 /* The number that the call is to give, and the map after it. */
 uint32_t due(const struct plain *p, const struct call *c, struct plain *later);
@@ -46,6 +46,6 @@ uint32_t due(const struct plain *p, const struct call *c, struct plain *later);
 int may_give(uint32_t due, uint32_t number, const struct call *c);
 
 /* Whether the handle shows the map and nothing else: by get, by locate, by iteration and by its statistics. */
-int shows(struct orderset_file *set, const struct plain *p);
+int shows(struct orderset *set, const struct plain *p);
 
 #endif

@@ -1,4 +1,4 @@
-/* A storm of power cuts and kills over the handles of orderset_file.h. The source of the handles is compiled into this
+/* A storm of power cuts and kills over the handles of orderset.h. The source of the handles is compiled into this
  * test with orderset_persist.h over a simulated cache (cache.h), and what it maps is that cache's memory, as if the
  * file were on non-volatile memory: so every store, flush, fence, write and sync of an open and of a call can be the
  * last one. After each strike the file is opened again, which may be struck too; then every answered change must be
@@ -82,9 +82,9 @@ static void give_back_blocks(void) {
 
 /* ---- what the handles get from the system: memory of the cache, and what a strike leaves behind is given back */
 
-static int locked = -1;      /* the file of the handle that is open */
-static void *block[BLOCKS];  /* what it allocated */
-static void *copy;           /* what it mapped beside the file */
+static int locked = -1;     /* the file of the handle that is open */
+static void *block[BLOCKS]; /* what it allocated */
+static void *copy;          /* what it mapped beside the file */
 static size_t copy_size;
 
 static void __attribute__((noreturn, format(printf, 1, 2))) lost(const char *what, ...);
@@ -213,7 +213,10 @@ static int storm_thread(pthread_t *thread, const pthread_attr_t *attributes, voi
 #define fsync storm_fsync
 #define ioctl storm_ioctl
 #define fstatfs storm_fstatfs
-#include "../src/orderset_file.c"
+#include "../src/area.c"
+#include "../src/set.c"
+#include "../src/log.c"
+#include "../src/text.c"
 #undef mmap
 #undef munmap
 #undef free
@@ -248,7 +251,7 @@ static void __attribute__((noreturn, format(printf, 1, 2))) lost(const char *wha
 /* By msync exactly where a block may be shared. */
 static void check_flush(uint32_t flush) {
     const int by_msync = is_xfs && (!tells || copied_meanwhile);
-    if (by_msync != (flush == ORDERSET_FILE_MSYNC) || flush == ORDERSET_FILE_NO_FLUSH)
+    if (by_msync != (flush == ORDERSET_FLUSH_MSYNC) || flush == ORDERSET_FLUSH_NONE)
         lost("flushes: %" PRIu32 " where blocks are %sshared", flush, by_msync ? "" : "not ");
     (*(by_msync ? &synced : &flushed))++;
 }
@@ -256,12 +259,12 @@ static void check_flush(uint32_t flush) {
 /* ---- the set */
 
 static void run_set(void) {
-    struct orderset_file *set;
-    uint32_t number = orderset_file_open(path, ORDERSET_FILE_WRITE, &set);
+    struct orderset *set;
+    uint32_t number = orderset_open(path, ORDERSET_WRITE, &set);
     if (number)
-        lost("an open gives %" PRIu32 ": %s", number, orderset_file_text(number));
+        lost("an open gives %" PRIu32 ": %s", number, orderset_strerror(number));
     calling = 1;
-    opened += set->voids[0];
+    opened += set->found.count;
     check_flush(set->area.flush);
     if (under_way && shows(set, &after))
         now = after;
@@ -286,7 +289,7 @@ static void run_set(void) {
 }
 
 static void make_set(void) {
-    uint64_t answer[ORDERSET_FORMAT_ANSWER];
+    uint64_t answer[ORDERSET_PROVED_FORMAT_ANSWER];
     make_plain(&now, (uint32_t)(2 + below(below(2) ? 12 : 40)), 1 + (uint32_t)below(2));
     length = ORDERSET_IMAGE_BYTES(now.slots);
     if (orderset_proved_format(visible, length, now.layout, answer))
@@ -295,18 +298,18 @@ static void make_set(void) {
 
 /* ---- the log */
 
-static void check_log(struct orderset_log_file *log) {
+static void check_log(struct orderset_log *log) {
     uint8_t found[ORDERSET_LOG_MESSAGE_MAX];
     uint64_t first, last, oldest = list.count >= list.cells ? list.count - list.cells + 2 : 1;
     size_t size;
-    if (orderset_log_file_range(log, &first, &last) || first != oldest || last != list.count)
+    if (orderset_log_range(log, &first, &last) || first != oldest || last != list.count)
         lost("message: the numbers are %" PRIu64 " to %" PRIu64 ", not %" PRIu64 " to %" PRIu64, first, last, oldest,
              list.count);
     for (uint64_t s = first; s <= last; s++)
-        if (orderset_log_file_read(log, s, found, sizeof found, &size) || size != list.length[s % MOST_CELLS]
+        if (orderset_log_read(log, s, found, sizeof found, &size) || size != list.length[s % MOST_CELLS]
             || memcmp(found, list.last[s % MOST_CELLS], size))
             lost("message %" PRIu64, s);
-    if (orderset_log_file_read(log, last + 1, found, sizeof found, &size) != ORDERSET_LOG_NOT_SHOWN)
+    if (orderset_log_read(log, last + 1, found, sizeof found, &size) != ORDERSET_NO_MESSAGE)
         lost("message %" PRIu64 " was never appended", last + 1);
 }
 
@@ -317,13 +320,13 @@ static void add_message(void) {
 }
 
 static void run_log(void) {
-    struct orderset_log_file *log;
+    struct orderset_log *log;
     uint64_t given;
-    uint32_t number = orderset_log_file_open(path, ORDERSET_FILE_WRITE, &log);
+    uint32_t number = orderset_log_open(path, ORDERSET_WRITE, &log);
     if (number)
-        lost("an open gives %" PRIu32 ": %s", number, orderset_file_text(number));
+        lost("an open gives %" PRIu32 ": %s", number, orderset_strerror(number));
     calling = 1;
-    opened += log->answer[ORDERSET_LOG_COUNT];
+    opened += log->stores.count;
     check_flush(log->area.flush);
     if (under_way && log->last == list.count + 1)
         add_message();
@@ -333,7 +336,7 @@ static void run_log(void) {
         list.size = 1 + below(below(2) ? ORDERSET_LOG_MESSAGE_MAX : 64);
         fill(message, list.size);
         under_way = 1;
-        number = orderset_log_file_append(log, message, list.size, &given);
+        number = orderset_log_append(log, message, list.size, &given);
         if (number || given != list.count + 1)
             lost("an append gives %" PRIu32 ", message %" PRIu64, number, given);
         add_message();
@@ -417,8 +420,9 @@ int main(int count, char **word) {
         }
     }
     printf("%" PRIu64 " histories, %" PRIu64 " of them of the restart machine, with %" PRIu64 " cuts and %" PRIu64
-           " kills, %" PRIu64 " of them in an open and %" PRIu64 " in a call, %" PRIu64 " lines opened, %" PRIu64 " changes, %" PRIu64 " of them baskets, and %" PRIu64
-           " messages answered; %" PRIu64 " opens with flushes and %" PRIu64 " with msync: nothing lost (%.0f s)\n",
+           " kills, %" PRIu64 " of them in an open and %" PRIu64 " in a call, %" PRIu64 " lines opened, %" PRIu64
+           " changes, %" PRIu64 " of them baskets, and %" PRIu64 " messages answered; %" PRIu64
+           " opens with flushes and %" PRIu64 " with msync: nothing lost (%.0f s)\n",
            histories, of_lines, cuts, kills, in_open, in_call, opened, answered, baskets, messages_answered, flushed,
            synced, seconds());
     return in_open == 0 || in_call == 0 || opened == 0 || baskets == 0 || messages_answered == 0 || synced == 0;

@@ -1,7 +1,7 @@
 /* Calls of the layout that the test is built for (layout.h), on lent memory that begins or ends at a page which nobody
  * may touch (pieces.h). What a refused call was lent is
- * compared with what it was. Images and indexes are sound, damaged and garbage; lengths are right and wrong. Each call that
- * writes is made by one of the two families (orderset.h), by chance.
+ * compared with what it was. Images and indexes are sound, damaged and garbage; lengths are right and wrong. Each call
+ * that writes is made by one of the two families (orderset_raw.h), by chance.
  *
  *     guard [SEED [CALLS]]
  */
@@ -16,16 +16,34 @@
 
 enum { CALLS = 5000000 };
 enum which {
-    FORMAT, RECOVER, INSERT, REPLACE, REMOVE, NEW, ACKNOWLEDGE, FILL, WITHDRAW, GET, LOCATE, PLAY, PLAY_LIST, BASKET,
-    LINE_WHOLE, LINE_VERSION, LINE_FIRST, LINE_LAST, COUNT_SLOTS, WHICH
+    FORMAT,
+    RECOVER,
+    INSERT,
+    REPLACE,
+    REMOVE,
+    NEW,
+    ACKNOWLEDGE,
+    FILL,
+    WITHDRAW,
+    GET,
+    LOCATE,
+    PLAY,
+    PLAY_LIST,
+    BASKET,
+    LINE_WHOLE,
+    LINE_VERSION,
+    LINE_FIRST,
+    LINE_LAST,
+    COUNT_SLOTS,
+    WHICH
 };
-static const char *const name[WHICH] = {"format",      "recover", "insert",     "replace",      "remove",     "new",
-                                        "acknowledge", "fill",    "withdraw",   "get",          "locate",     "play",
-                                        "play_list",   "basket",  "line_whole", "line_version", "line_first", "line_last",
-                                        "count_slots"};
+static const char *const name[WHICH] = {"format",       "recover",     "insert",    "replace",    "remove",
+                                        "new",          "acknowledge", "fill",      "withdraw",   "get",
+                                        "locate",       "play",        "play_list", "basket",     "line_whole",
+                                        "line_version", "line_first",  "line_last", "count_slots"};
 
-static uint64_t already, opened;   /* second acknowledges, stores that open void slots */
-static uint64_t answers[WHICH][2]; /* [0] not refused, [1] refused */
+static uint64_t already, opened;       /* second acknowledges, stores that open void slots */
+static uint64_t answers[WHICH][2];     /* [0] not refused, [1] refused */
 static uint64_t own_answers[WHICH][2]; /* the same of the calls for the owner of the index */
 static enum which call;
 static int owner; /* the call is one of these */
@@ -33,8 +51,26 @@ static int owner; /* the call is one of these */
 /* ---- pieces of memory */
 
 enum what {
-    IMAGE, HEADS, NEXT, STATE, VERSION, BYTES, OUTPUT, AT, VALUE, ANSWER, COUNT, OPEN_AT, OPEN_VALUE, KINDS, LOWS, HIGHS,
-    LENGTHS, VALUES, COUNTS, PIECES
+    IMAGE,
+    HEADS,
+    NEXT,
+    STATE,
+    VERSION,
+    BYTES,
+    OUTPUT,
+    AT,
+    VALUE,
+    ANSWER,
+    COUNT,
+    OPEN_AT,
+    OPEN_VALUE,
+    KINDS,
+    LOWS,
+    HIGHS,
+    LENGTHS,
+    VALUES,
+    COUNTS,
+    PIECES
 };
 
 struct piece piece[PIECES] = {
@@ -76,7 +112,7 @@ static void begin(enum which which, const int *writable) {
 
 /* Answers the number of the refusal. What stands above it, the slots compared or recovery's slot, is at most N. */
 static uint32_t end(uint64_t code, const int *writable) {
-    const uint32_t number = ORDERSET_REFUSAL(code), above = ORDERSET_REFUSED_COMPARED(code);
+    const uint32_t number = ORDERSET_PROVED_REFUSAL(code), above = ORDERSET_PROVED_REFUSED_COMPARED(code);
     answers[call][code != 0]++;
     own_answers[call][code != 0] += (uint64_t)owner;
     if ((code && !number) || (above && above >= piece[IMAGE].length / ORDERSET_SLOT_BYTES)) {
@@ -116,13 +152,14 @@ static void call_recover(void) {
     static const int writable[] = {HEADS, NEXT, STATE, VERSION, COUNT, OPEN_AT, OPEN_VALUE, NONE};
     begin(RECOVER, writable);
     if (end(SET(recover)(r(IMAGE), piece[IMAGE].length, w(HEADS), heads_length, w(NEXT), next_length, w(STATE),
-                             w(VERSION), w(COUNT), w(OPEN_AT), w(OPEN_VALUE)),
+                         w(VERSION), w(COUNT), w(OPEN_AT), w(OPEN_VALUE)),
             writable))
         return;
     openings_are_sound();
     opened += *(uint32_t *)w(COUNT);
-    if (below(8) && orderset_proved_play_list(w(IMAGE), piece[IMAGE].length, r(OPEN_AT), *(uint32_t *)w(COUNT), r(OPEN_VALUE),
-                                       *(uint32_t *)w(COUNT))) {
+    if (below(8)
+        && orderset_proved_play_list(w(IMAGE), piece[IMAGE].length, r(OPEN_AT), *(uint32_t *)w(COUNT), r(OPEN_VALUE),
+                                     *(uint32_t *)w(COUNT))) {
         show("the invalidating stores are not played");
         exit(1);
     }
@@ -154,26 +191,26 @@ static uint64_t change(m_key key, uint64_t quantity) {
     const size_t length = piece[IMAGE].length;
     switch (call) {
     case INSERT:
-        return SET_BY(owner, insert)(r(IMAGE), length, w(HEADS), heads_length, w(NEXT), next_length, w(STATE), w(VERSION),
-                               KEY(key), r(BYTES), piece[BYTES].length, w(AT), w(VALUE), w(ANSWER));
+        return SET_BY(owner, insert)(r(IMAGE), length, w(HEADS), heads_length, w(NEXT), next_length, w(STATE),
+                                     w(VERSION), KEY(key), r(BYTES), piece[BYTES].length, w(AT), w(VALUE), w(ANSWER));
     case REPLACE:
-        return SET_BY(owner, replace)(r(IMAGE), length, w(HEADS), heads_length, w(NEXT), next_length, w(STATE), w(VERSION),
-                                KEY(key), r(BYTES), piece[BYTES].length, w(AT), w(VALUE), w(ANSWER));
+        return SET_BY(owner, replace)(r(IMAGE), length, w(HEADS), heads_length, w(NEXT), next_length, w(STATE),
+                                      w(VERSION), KEY(key), r(BYTES), piece[BYTES].length, w(AT), w(VALUE), w(ANSWER));
     case REMOVE:
-        return SET_BY(owner, remove)(r(IMAGE), length, w(HEADS), heads_length, w(NEXT), next_length, w(STATE), w(VERSION),
-                               KEY(key), w(AT), w(VALUE), w(ANSWER));
+        return SET_BY(owner, remove)(r(IMAGE), length, w(HEADS), heads_length, w(NEXT), next_length, w(STATE),
+                                     w(VERSION), KEY(key), w(AT), w(VALUE), w(ANSWER));
     case NEW:
-        return SET_BY(owner, book_new)(r(IMAGE), length, w(HEADS), heads_length, w(NEXT), next_length, w(STATE), w(VERSION),
-                                 KEY(key), quantity, w(AT), w(VALUE), w(ANSWER));
+        return SET_BY(owner, book_new)(r(IMAGE), length, w(HEADS), heads_length, w(NEXT), next_length, w(STATE),
+                                       w(VERSION), KEY(key), quantity, w(AT), w(VALUE), w(ANSWER));
     case ACKNOWLEDGE:
         return SET_BY(owner, book_acknowledge)(r(IMAGE), length, w(HEADS), heads_length, w(NEXT), next_length, w(STATE),
-                                         w(VERSION), KEY(key), w(AT), w(VALUE), w(ANSWER));
+                                               w(VERSION), KEY(key), w(AT), w(VALUE), w(ANSWER));
     case FILL:
-        return SET_BY(owner, book_fill)(r(IMAGE), length, w(HEADS), heads_length, w(NEXT), next_length, w(STATE), w(VERSION),
-                                  KEY(key), quantity, w(AT), w(VALUE), w(ANSWER));
+        return SET_BY(owner, book_fill)(r(IMAGE), length, w(HEADS), heads_length, w(NEXT), next_length, w(STATE),
+                                        w(VERSION), KEY(key), quantity, w(AT), w(VALUE), w(ANSWER));
     default:
         return SET_BY(owner, book_withdraw)(r(IMAGE), length, w(HEADS), heads_length, w(NEXT), next_length, w(STATE),
-                                      w(VERSION), KEY(key), w(AT), w(VALUE), w(ANSWER));
+                                            w(VERSION), KEY(key), w(AT), w(VALUE), w(ANSWER));
     }
 }
 
@@ -184,11 +221,11 @@ static int call_change(m_key key) {
     begin(call, writable);
     uint32_t code = end(change(key, any_quantity()), writable);
     memcpy(&answer, w(ANSWER), sizeof answer);
-    if (code == 0 && answer != ORDERSET_GIVEN)
+    if (code == 0 && answer != ORDERSET_RAW_DONE)
         for (const int *p = writable; *p != ANSWER; p++)
             same(&piece[*p], piece[*p].at, piece[*p].at + piece[*p].length, "by a call that stores nothing");
-    already += code == 0 && answer == ORDERSET_ALREADY;
-    return code == 0 && answer == ORDERSET_GIVEN;
+    already += code == 0 && answer == ORDERSET_RAW_ALREADY;
+    return code == 0 && answer == ORDERSET_RAW_DONE;
 }
 
 static m_key key_of_image(uint64_t keys) {
@@ -209,11 +246,12 @@ static void place_items(uint64_t keys, size_t count) {
         uint32_t kind = i < count && below(100) ? 1 + (uint32_t)below(3) : (uint32_t)chance();
         const m_key key = key_of_image(keys);
         const uint64_t low = low_word(key), high = high_word(key);
-        uint64_t answer[ORDERSET_CHANGE_ANSWER] = {0};
+        uint64_t answer[ORDERSET_PROVED_CHANGE_ANSWER] = {0};
         size_t length = below(100) ? below(VALUE_MAX + 1) : (size_t)chance();
         if (i < count && below(8)
-            && !SET(locate)(r(IMAGE), piece[IMAGE].length, r(HEADS), heads_length, r(NEXT), next_length, KEY(key), answer))
-            kind = answer[0] == ORDERSET_ABSENT ? ORDERSET_INSERT : ORDERSET_REPLACE + (uint32_t)below(2);
+            && !SET(locate)(r(IMAGE), piece[IMAGE].length, r(HEADS), heads_length, r(NEXT), next_length, KEY(key),
+                            answer))
+            kind = answer[0] == ORDERSET_RAW_ABSENT ? ORDERSET_INSERT : ORDERSET_REPLACE + (uint32_t)below(2);
         memcpy((uint8_t *)w(KINDS) + 4 * i, &kind, sizeof kind);
         memcpy((uint8_t *)w(LOWS) + 8 * i, &low, sizeof low);
         memcpy((uint8_t *)w(HIGHS) + 8 * i, &high, sizeof high);
@@ -224,7 +262,9 @@ static void place_items(uint64_t keys, size_t count) {
 /* A basket, whose lists are as long as its stores, or longer, or shorter. Entries past the stores are kept. */
 static void call_basket(uint64_t keys) {
     static const int writable[] = {HEADS, NEXT, STATE, VERSION, AT, VALUE, ANSWER, NONE};
-    const size_t count = below(20) ? 1 + below(below(2) ? 2 : 8) : below(2) ? below(12) : (size_t)chance(),
+    const size_t count = below(20)  ? 1 + below(below(2) ? 2 : 8)
+                         : below(2) ? below(12)
+                                    : (size_t)chance(),
                  stores = ORDERSET_BASKET_STORES(count > 9 ? 9 : count);
     place_items(keys, count);
     place(AT, 4 * (below(20) ? stores + below(2) * below(9) : below(stores + 1)));
@@ -233,8 +273,8 @@ static void call_basket(uint64_t keys) {
     fill(w(VALUE), piece[VALUE].length);
     begin(BASKET, writable);
     if (end(SET_BY(owner, basket)(r(IMAGE), piece[IMAGE].length, w(HEADS), heads_length, w(NEXT), next_length, w(STATE),
-                        w(VERSION), count, r(KINDS), BASKET_KEYS(r(LOWS), r(HIGHS)), r(LENGTHS), r(VALUES), w(AT),
-                        piece[AT].length / 4, w(VALUE), piece[VALUE].length / 8, w(ANSWER)),
+                                  w(VERSION), count, r(KINDS), BASKET_KEYS(r(LOWS), r(HIGHS)), r(LENGTHS), r(VALUES),
+                                  w(AT), piece[AT].length / 4, w(VALUE), piece[VALUE].length / 8, w(ANSWER)),
             writable))
         return;
     same(&piece[AT], piece[AT].at + 4 * stores, piece[AT].at + piece[AT].length, "past the stores");
@@ -248,14 +288,14 @@ static void call_basket(uint64_t keys) {
 static void call_get(m_key key) {
     static const int writable[] = {OUTPUT, ANSWER, NONE};
     const struct piece *out = &piece[OUTPUT];
-    uint64_t answer[ORDERSET_ANSWER];
+    uint64_t answer[ORDERSET_PROVED_GET_ANSWER];
     begin(GET, writable);
     uint32_t code = end(SET(get)(r(IMAGE), piece[IMAGE].length, r(HEADS), heads_length, r(NEXT), next_length, KEY(key),
                                  w(OUTPUT), out->length, w(ANSWER)),
                         writable);
     memcpy(answer, w(ANSWER), sizeof answer);
     if (code == 0)
-        same(out, out->at + answer[ORDERSET_LENGTH], out->at + out->length, "past the value");
+        same(out, out->at + answer[ORDERSET_PROVED_LENGTH], out->at + out->length, "past the value");
 }
 
 static void call_locate(m_key key) {
@@ -309,7 +349,7 @@ static void any_index(void) {
     struct m_index index = {w(HEADS), heads_length, w(NEXT), next_length, {0, 0, 0, 0, 0}};
     garbage_index(&index, slots);
     memcpy(w(STATE), (const uint32_t[]){index.state.first, index.state.last, index.state.live, index.state.newest},
-           4 * ORDERSET_STATE);
+           4 * ORDERSET_RAW_STATE);
     memcpy(w(VERSION), &index.state.version, 8);
 }
 
@@ -325,7 +365,7 @@ static uint64_t make_set(void) {
     next_length = n + 1 - (below(60) == 0) + (below(60) == 0);
     place(HEADS, 4 * heads_length);
     place(NEXT, 4 * next_length);
-    place(STATE, 4 * ORDERSET_STATE);
+    place(STATE, 4 * ORDERSET_RAW_STATE);
     place(VERSION, 8);
     if (slots == 0 || below(12) == 0)
         fill(w(IMAGE), piece[IMAGE].length);
@@ -347,18 +387,21 @@ static void any_stores(void) {
 
 static size_t answer_length(void) {
     switch (call) {
-    case FORMAT: return ORDERSET_FORMAT_ANSWER;
-    case GET: return ORDERSET_ANSWER;
-    case NEW: case ACKNOWLEDGE: case FILL: case WITHDRAW: return ORDERSET_STEP_ANSWER;
-    case BASKET: return ORDERSET_BASKET_ANSWER;
-    default: return ORDERSET_CHANGE_ANSWER;
+    case FORMAT: return ORDERSET_PROVED_FORMAT_ANSWER;
+    case GET: return ORDERSET_PROVED_GET_ANSWER;
+    case NEW:
+    case ACKNOWLEDGE:
+    case FILL:
+    case WITHDRAW: return ORDERSET_PROVED_STEP_ANSWER;
+    case BASKET: return ORDERSET_PROVED_BASKET_ANSWER;
+    default: return ORDERSET_PROVED_CHANGE_ANSWER;
     }
 }
 
 /* A line and the answer about it, mostly of their lengths. */
 static void place_line(void) {
     place(BYTES, below(4) ? ORDERSET_LINE_BYTES : any_size());
-    place(ANSWER, below(4) ? ORDERSET_LINE_ANSWER : below(2 * ORDERSET_LINE_ANSWER));
+    place(ANSWER, below(4) ? ORDERSET_PROVED_LINE_ANSWER : below(2 * ORDERSET_PROVED_LINE_ANSWER));
 }
 
 static void lend_for_one_call(void) {
@@ -385,11 +428,11 @@ static void lend_for_one_call(void) {
 }
 
 static void any_call(uint64_t keys) {
-    static const enum which often[] = {RECOVER, RECOVER, INSERT,      INSERT,      INSERT, REPLACE, REPLACE, REPLACE,
-                                       REMOVE,  REMOVE,  NEW,         NEW,         FILL,   FILL,    FILL,    WITHDRAW,
-                                       GET,     GET,     ACKNOWLEDGE, ACKNOWLEDGE, GET,    LOCATE,  PLAY,    PLAY_LIST,
-                                       LINE_WHOLE, LINE_VERSION, LINE_FIRST, LINE_LAST, BASKET, BASKET, BASKET, BASKET,
-                                       COUNT_SLOTS};
+    static const enum which often[] = {RECOVER, RECOVER,  INSERT,    INSERT,     INSERT,       REPLACE,     REPLACE,
+                                       REPLACE, REMOVE,   REMOVE,    NEW,        NEW,          FILL,        FILL,
+                                       FILL,    WITHDRAW, GET,       GET,        ACKNOWLEDGE,  ACKNOWLEDGE, GET,
+                                       LOCATE,  PLAY,     PLAY_LIST, LINE_WHOLE, LINE_VERSION, LINE_FIRST,  LINE_LAST,
+                                       BASKET,  BASKET,   BASKET,    BASKET,     COUNT_SLOTS};
     call = below(40) ? often[below(sizeof often / sizeof *often)] : FORMAT;
     lend_for_one_call();
     switch (call) {
@@ -401,7 +444,10 @@ static void any_call(uint64_t keys) {
     case PLAY: any_stores(), call_play(below(10), below(10)); break;
     case PLAY_LIST: call_play_list(); break;
     case BASKET: call_basket(keys); break;
-    case LINE_WHOLE: case LINE_VERSION: case LINE_FIRST: case LINE_LAST: call_line(); break;
+    case LINE_WHOLE:
+    case LINE_VERSION:
+    case LINE_FIRST:
+    case LINE_LAST: call_line(); break;
     default:
         if (call_change(key_of_image(keys)) && below(4))
             call_play(below(4) ? 8 : below(10), below(4) ? 8 : below(10));

@@ -1,9 +1,9 @@
-/* What `gateway FILE heads [B]` prints, against a plain count of the keys by their heads: of the keys that share a head
- * one is found with 1 slot compared, one with 2, and so on. The files hold any number of keys, from none to as many as
- * there is room for; the keys are small, random, or step by B, and some were replaced or removed. The file stays as it
- * is. Ends with status 1 at the first thing that is otherwise.
+/* What `orderset-show --heads[=B] FILE` prints, against a plain count of the keys by their heads: of the keys that
+ * share a head one is found with 1 slot compared, one with 2, and so on. The files hold any number of keys, from none
+ * to as many as there is room for; the keys are small, random, or step by B, and some were replaced or removed. The
+ * file stays as it is. Ends with status 1 at the first thing that is otherwise.
  *
- *     heads GATEWAY FILE [SEED]
+ *     heads SHOW FILE [SEED]
  */
 #define _GNU_SOURCE
 #include <fcntl.h>
@@ -15,40 +15,42 @@
 
 #include "chance.h"
 #include "child.h"
-#include "orderset.h"
+#include "orderset_raw.h"
 
 enum { FILES = 60, MAX_N = 1000, OWN_HEADS = 97 };
 
-static const char *gateway, *file;
+static const char *show, *file;
 static uint64_t runs;
 
 /* ---- a file */
 
 static uint8_t image[ORDERSET_IMAGE_BYTES(MAX_N)];
 static size_t length;
-static uint32_t n, heads[OWN_HEADS], next[MAX_N + 1], state[ORDERSET_STATE], at[ORDERSET_STORES];
-static uint64_t version[1], value[ORDERSET_STORES], answer[ORDERSET_CHANGE_ANSWER];
+static uint32_t n, heads[OWN_HEADS], next[MAX_N + 1], state[ORDERSET_RAW_STATE], at[ORDERSET_STORES];
+static uint64_t version[1], value[ORDERSET_STORES], answer[ORDERSET_PROVED_CHANGE_ANSWER];
 static uint8_t bytes[ORDERSET_VALUE_MAX];
 static uint64_t held[MAX_N];
 static uint32_t count; /* of held keys */
 
 static void play(uint64_t returned) {
-    expect(returned == 0 && orderset_proved_play(image, length, at, value, 8, 8) == ORDERSET_OK, "a call of an own index");
+    expect(returned == 0 && orderset_proved_play(image, length, at, value, 8, 8) == ORDERSET_OK,
+           "a call of an own index");
 }
 
 static void insert(uint64_t key) {
-    play(orderset_proved_insert(image, length, heads, OWN_HEADS, next, n + 1, state, version, key, bytes, below(81), at, value,
-                         answer));
+    play(orderset_proved_insert(image, length, heads, OWN_HEADS, next, n + 1, state, version, key, bytes, below(81), at,
+                                value, answer));
     held[count++] = key;
 }
 
 static void replace(uint32_t i) {
-    play(orderset_proved_replace(image, length, heads, OWN_HEADS, next, n + 1, state, version, held[i], bytes, below(81), at,
-                          value, answer));
+    play(orderset_proved_replace(image, length, heads, OWN_HEADS, next, n + 1, state, version, held[i], bytes,
+                                 below(81), at, value, answer));
 }
 
 static void drop(uint32_t i) {
-    play(orderset_proved_remove(image, length, heads, OWN_HEADS, next, n + 1, state, version, held[i], at, value, answer));
+    play(orderset_proved_remove(image, length, heads, OWN_HEADS, next, n + 1, state, version, held[i], at, value,
+                                answer));
     held[i] = held[--count];
 }
 
@@ -64,8 +66,9 @@ static void make_image(uint64_t step) {
     length = ORDERSET_IMAGE_BYTES(n);
     count = 0;
     fill(bytes, sizeof bytes);
-    expect(orderset_proved_format(image, length, ORDERSET_LAYOUT, answer) == ORDERSET_OK, "format");
-    expect(orderset_proved_recover(image, length, heads, OWN_HEADS, next, n + 1, state, version, voids, open_at, open_value)
+    expect(orderset_proved_format(image, length, ORDERSET_LAYOUT_1, answer) == ORDERSET_OK, "format");
+    expect(orderset_proved_recover(image, length, heads, OWN_HEADS, next, n + 1, state, version, voids, open_at,
+                                   open_value)
                    == ORDERSET_OK
                && voids[0] == 0,
            "recover");
@@ -124,13 +127,10 @@ static void says_counts(struct child *child, size_t b) {
     says(child, wanted);
 }
 
-/* b: the heads that it is to take; word: the B that it is given, or NULL. */
-static void counts(size_t b, const char *word) {
-    char line[LINE], wanted[LINE];
-    struct child child = start_child((const char *const[]){gateway, file, "heads", word, NULL});
-    snprintf(wanted, sizeof wanted, "recovered %" PRIu32 " held keys; ", count);
-    expect(hear(&child, line) && !strncmp(line, wanted, strlen(wanted)) && strstr(line, "reading only"),
-           "it recovers %" PRIu32 " keys and reads only: '%s'", count, line);
+/* b: the heads that it is to take; option: --heads with the B that it is given, or without one. */
+static void counts(size_t b, const char *option) {
+    char line[LINE];
+    struct child child = start_child((const char *const[]){show, option, file, NULL});
     says_counts(&child, b);
     expect(!hear(&child, line), "that is all: '%s'", line);
     expect(end_of(&child) == 0, "heads ends with status 0");
@@ -139,8 +139,8 @@ static void counts(size_t b, const char *word) {
 }
 
 static void counts_with(size_t b) {
-    char word[24];
-    snprintf(word, sizeof word, "%zu", b);
+    char word[32];
+    snprintf(word, sizeof word, "--heads=%zu", b);
     counts(b, word);
 }
 
@@ -151,18 +151,18 @@ static int is_prime(uint32_t x) {
     return divisor == x;
 }
 
-static void refuses(const char *a, const char *b) {
+static void refuses(const char *option) {
     char line[LINE];
-    struct child child = start_child((const char *const[]){gateway, file, "heads", a, b, NULL});
-    expect(hear(&child, line) && !strcmp(line, "gateway: heads: a number of heads may follow, from 1 to 65536"),
-           "heads %s %s is refused: '%s'", a, b ? b : "", line);
+    struct child child = start_child((const char *const[]){show, option, file, NULL});
+    expect(hear(&child, line) && strstr(line, "a number of heads is from 1 to 65536"), "%s is refused: '%s'", option,
+           line);
     expect(end_of(&child) == 2 && file_is_image(), "then its status is 2 and the file is as it was");
 }
 
 int main(int words, char **word) {
     begin_chance("heads", words > 3 ? word[3] : NULL);
-    expect(words > 2, "heads GATEWAY FILE [SEED]");
-    gateway = word[1];
+    expect(words > 2, "heads SHOW FILE [SEED]");
+    show = word[1];
     file = word[2];
     for (int i = 0; i < FILES; i++) {
         size_t step = (size_t)spread(1, ORDERSET_HEADS_MAX);
@@ -171,16 +171,16 @@ int main(int words, char **word) {
         write_image();
         for (own = n; !is_prime(own); own--)
             ;
-        counts(own, NULL);
+        counts(own, "--heads");
         counts_with(step);
         counts_with(step > 1 ? step - 1 : ORDERSET_HEADS_MAX);
         counts_with((size_t)spread(1, 2 * n));
     }
     counts_with(1);
-    refuses("0", NULL);
-    refuses("65537", NULL);
-    refuses("-1", NULL);
-    refuses("7", "7");
+    refuses("--heads=0");
+    refuses("--heads=65537");
+    refuses("--heads=-1");
+    refuses("--heads=");
     printf("%d files, %" PRIu64 " times their keys by the slots compared: as a plain count has them (%.0f s)\n", FILES,
            runs, seconds());
     return 0;

@@ -67,7 +67,8 @@ static uint32_t newest_single(const uint8_t *image, uint32_t n, const uint8_t *i
     return newest;
 }
 
-/* A basket in some slots, whole or with records missing, with the version of one of them: mostly the highest that no basket has. Mostly its keys differ. */
+/* A basket in some slots, whole or with records missing, with the version of one of them: mostly the highest that no
+ * basket has. Mostly its keys differ. */
 static void add_basket(uint8_t *image, uint32_t n, uint64_t keys, uint8_t *in_basket) {
     uint32_t number = 2 + (uint32_t)below(7), count = below(2) ? number : 1 + (uint32_t)below(number),
              slot = below(4) ? newest_single(image, n, in_basket) : 1 + (uint32_t)below(n);

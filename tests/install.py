@@ -1,7 +1,7 @@
 #!/usr/bin/env python3
 """tests/install.py installs into a temporary folder and compares what is there with what the headers, the manual pages
 and README say: the names that the library gives, README's first programs, compiled and run as printed, also statically,
-and that uninstall leaves nothing. Every global name begins with orderset, and a program that has functions of its own by
+and that uninstall leaves nothing, and done again is no error. Every global name begins with orderset, and a program that has functions of its own by
 other names stores by the handle all the same. It ends with status 1 at the first thing that is not so."""
 import glob
 import os
@@ -41,18 +41,16 @@ def files_of(folder):
 
 # ---- what is installed
 
-def declared():
-    """The functions that the headers declare; those of orderset_persist.h are in the header itself."""
-    names = set()
-    for path in set(glob.glob("include/*.h")) - {"include/orderset_persist.h"}:
-        text = re.sub(r"/\*.*?\*/", "", open(path).read(), flags=re.S)
-        names |= set(re.findall(r"^[\w *]+?\b(\w+)\([^;{]*?\);", text, re.M | re.S))
-    return names
+def declared(header):
+    """The functions that a header declares, as a compiler sees it, and does not define."""
+    text = run("gcc", "-std=c11", "-E", "-P", "-Iinclude", f"include/{header}")
+    text = re.sub(r"\bstatic inline [^;{]*;", "", re.sub(r"\b__attribute__\s*\(\(.*?\)\)", "", text))
+    return set(re.findall(r"\b(orderset2?_\w+)\([^(){};]*\);", text))
 
 
 def names_in(path, *options):
     lines = run("nm", "--defined-only", "--extern-only", *options, path).splitlines()
-    return sorted(line.split()[2] for line in lines if len(line.split()) == 3)
+    return sorted(line.split()[2].partition("@")[0] for line in lines if len(line.split()) == 3)
 
 
 def prefixed(place):
@@ -60,7 +58,7 @@ def prefixed(place):
     archives = sorted(glob.glob("target/staticlib/*.a"))
     so(set(ARCHIVES) <= set(archives), "the archives are there", archives)
     for path, *options in *([a] for a in archives), [f"{place}/lib/liborderset.a"], [f"{place}/lib/liborderset.so", "-D"]:
-        names = names_in(path, *options)
+        names = [name for name in names_in(path, *options) if name not in ("ORDERSET_1", "ORDERSET_PROVED_1")]
         so(names and all(name.startswith("orderset") for name in names),
            f"every global name of {os.path.basename(path)} begins with orderset",
            [name for name in names if not name.startswith("orderset")])
@@ -68,10 +66,12 @@ def prefixed(place):
 
 def library(place):
     prefixed(place)
-    due = sorted(declared())
-    so(len(due) > 50, "the headers declare functions", due)
-    so(names_in(f"{place}/lib/liborderset.so", "-D") == due, "the shared library gives the names of the headers",
-       set(names_in(f"{place}/lib/liborderset.so", "-D")) ^ set(due))
+    due = sorted(declared("orderset_raw.h"))
+    so(len(due) > 70, "the headers declare functions", due)
+    nodes = {"ORDERSET_1", "ORDERSET_PROVED_1"}
+    shared = [name for name in names_in(f"{place}/lib/liborderset.so", "-D") if name not in nodes]
+    so(shared == due, "the shared library gives the names of the headers",
+       set(shared) ^ set(due))
     so(names_in(f"{place}/lib/liborderset.a") == due, "the archive gives the names of the headers, each once",
        set(names_in(f"{place}/lib/liborderset.a")) ^ set(due))
     told = run("readelf", "-dW", f"{place}/lib/liborderset.so")
@@ -79,6 +79,12 @@ def library(place):
     moved = run("readelf", "-rW", f"{place}/lib/liborderset.so")
     so(not [name for name in due if re.search(rf"\s{name}(@|\s|$)", moved)],
        "within the shared library no program's own function takes the place of one of its own", moved)
+    flags = re.search(r"FLAGS_1\)\s+Flags:(.*)", told)
+    so(flags and "NOW" in flags[1], "every name is looked up when the library is loaded", told)
+    named = run("nm", "-D", "--with-symbol-versions", "--defined-only", f"{place}/lib/liborderset.so")
+    for name in due:
+        node = "ORDERSET_PROVED_1" if "_proved_" in name else "ORDERSET_1"
+        so(re.search(rf"\s{name}@@{node}$", named, re.M), f"{name} is of version {node}", named)
     so("GNU_STACK" in (p := run("readelf", "-lW", f"{place}/lib/liborderset.so")) and "RWE" not in p,
        "no stack is to be executable", p)
 
@@ -90,7 +96,7 @@ def installed(folder):
     due |= {f"share/man/man{p[-1]}/{os.path.basename(p)}" for p in glob.glob("man/*.[13]")}
     due |= {f"bin/{os.path.basename(p)[:-2]}" for p in glob.glob("tools/orderset-*.c")}
     due |= {f"lib/{n}" for n in ("liborderset.a", "liborderset.so", "liborderset.so.1", "pkgconfig/orderset.pc")}
-    due |= {"share/doc/orderset/OPERATIONS.md"}
+    due |= {f"share/doc/orderset/{name}" for name in ("OPERATIONS.md", "HEADS.md", "picture.svg")}
     found = files_of(place)
     versions = {f for f in found if re.fullmatch(r"lib/liborderset\.so\.\d+\.\d+\.\d+", f)}
     so(found - versions == due and len(versions) == 1, "what is installed is what is there", found ^ due)
@@ -98,6 +104,10 @@ def installed(folder):
     said = {path: open(path).read() for path in glob.glob("man/*.[13]")}
     so(all(f'"orderset {version}"' in text for text in said.values()), f"each manual page is of version {version}")
     so(f'\nversion = "{version}"\n' in open("bindings/rust/Cargo.toml").read(), f"the crate is of version {version}")
+    for path in glob.glob(f"{place}/share/doc/orderset/*.md"):
+        links = [link for link in re.findall(r"\]\(([^)#]+)", open(path).read()) if "://" not in link]
+        so(all(os.path.exists(os.path.join(os.path.dirname(path), link)) for link in links),
+           f"what {os.path.basename(path)} links to is installed", links)
     told = open(f"{place}/lib/pkgconfig/orderset.pc").read()
     so(f"prefix={PREFIX}\n" in told and folder not in told, "the .pc file says the prefix", told)
     library(place)
@@ -126,37 +136,37 @@ OWN = "log_append", "log_recover", "log_read", "insert", "recover"
 OWN_C = """#include <signal.h>
 #include <stdio.h>
 #include <string.h>
-#include <orderset_file.h>
+#include <orderset.h>
 
 """ + "".join(f"uint32_t {name}(void);\nuint32_t {name}(void) {{\n    return 0;\n}}\n\n" for name in OWN) + """
 static void done(uint32_t number) {
     if (number)
-        printf("%s\\n", orderset_file_text(number));
+        printf("%s\\n", orderset_strerror(number));
 }
 
 static void store(void) {
-    struct orderset_file *set;
-    struct orderset_log_file *log;
-    done(orderset_file_create("own.img", 9, 1));
-    done(orderset_log_file_create("own.log", 9));
-    done(orderset_file_open("own.img", ORDERSET_FILE_WRITE, &set));
-    done(orderset_log_file_open("own.log", ORDERSET_FILE_WRITE, &log));
-    done(orderset_file_insert(set, (struct orderset_key){7, 0}, "seven", 5));
-    done(orderset_log_file_append(log, "a message", 9, NULL));
+    struct orderset *set;
+    struct orderset_log *log;
+    done(orderset_create("own.img", 9, 1));
+    done(orderset_log_create("own.log", 9));
+    done(orderset_open("own.img", ORDERSET_WRITE, &set));
+    done(orderset_log_open("own.log", ORDERSET_WRITE, &log));
+    done(orderset_insert(set, (struct orderset_key){7, 0}, "seven", 5));
+    done(orderset_log_append(log, "a message", 9, NULL));
     raise(SIGKILL);
 }
 
 int main(int count, char **word) {
-    struct orderset_log_file *log;
+    struct orderset_log *log;
     uint64_t first, last;
     size_t length;
     char text[ORDERSET_LOG_MESSAGE_MAX];
     if (count > 1 && !strcmp(word[1], "store"))
         store();
-    done(orderset_log_file_open("own.log", ORDERSET_FILE_READ, &log));
-    done(orderset_log_file_range(log, &first, &last));
+    done(orderset_log_open("own.log", ORDERSET_READ, &log));
+    done(orderset_log_range(log, &first, &last));
     for (uint64_t i = first; i <= last; i++) {
-        done(orderset_log_file_read(log, i, text, sizeof text, &length));
+        done(orderset_log_read(log, i, text, sizeof text, &length));
         printf("%d: %.*s\\n", (int)i, (int)length, text);
     }
     return (int)(""" + " + ".join(f"{name}()" for name in OWN) + """);
@@ -275,25 +285,15 @@ def manuals():
         if shutil.which("groff"):
             done = subprocess.run(["groff", "-man", "-Tutf8", "-ww", page], capture_output=True, text=True)
             so(done.stderr == "" and done.stdout, f"groff reads {page} without a warning", done.stderr)
-    page = open("man/orderset_file.3").read()
-    handle = {n for n in declared() if re.match("orderset_(log_)?file_", n)}
-    so(set(re.findall(r"\b(orderset_(?:log_)?file_\w+)\(", page)) == handle, "orderset_file.3 has every call",
-       set(re.findall(r"\b(orderset_(?:log_)?file_\w+)\(", page)) ^ handle)
-    header = open("include/orderset_file.h").read()
-    numbers = set(re.findall(r"\b(ORDERSET_FILE_\w+) = (1\d{3})", header))
-    so({(n, v) for v, n in re.findall(r"^\.B (1\d{3}) (\w+)$", page, re.M)} == numbers,
-       "orderset_file.3 has every number")
-    page = open("man/orderset.3").read()
-    lower = {n for n in declared() - handle if not n.startswith("orderset2_")}
-    so(lower <= set(re.findall(r"\borderset_\w+", page)), "orderset.3 has every call",
-       lower - set(re.findall(r"\borderset_\w+", page)))
-    due = {int(n) for _, n in numbers}
-    for path in "include/orderset.h", "include/orderset_log.h":
-        for body in re.findall(r"enum orderset_\w*refusal \{(.*?)\};", open(path).read(), re.S):
-            due |= {int(n) for n in re.findall(r"^    \w+ = (\d+)", body, re.M)} - {0}
-    rows = re.findall(r"^\| ([\d, ]+) \| .* \| .* \|$", open("docs/OPERATIONS.md").read(), re.M)
-    told = [int(n) for row in rows for n in row.split(",")]
-    so(sorted(told) == sorted(due), "OPERATIONS says of each number, once, what to do", set(told) ^ due)
+    page, handle = open("man/orderset.3").read(), declared("orderset.h")
+    said = set(re.findall(r"^\.BI .*?\b(orderset_\w+)\(", page, re.M))
+    so(said == handle, "orderset.3 has every call", said ^ handle)
+    page, header = open("man/orderset_raw.3").read(), open("include/orderset_raw.h").read()
+    raw = set(re.findall(r"\b(orderset_raw_\w+)\(", re.sub(r"/\*.*?\*/", "", header, flags=re.S)))
+    raw -= {f"orderset_raw_{part}" for part in ("changed", "highs", "misfit", "stepped")}  # parts of the calls
+    so(len(raw) > 20 and raw <= set(re.findall(r"\borderset_raw_\w+", page)), "orderset_raw.3 has every call",
+       raw - set(re.findall(r"\borderset_raw_\w+", page)))
+    run("src/refusals.py", "--check")
 
 
 def main():
@@ -302,6 +302,7 @@ def main():
     with tempfile.TemporaryDirectory() as folder:
         installed(folder)
         first, rust = (dict(reversed(blocks()))[language] for language in ("c", "rust"))
+        so(first == open("examples/first.c").read(), "README's program in C is examples/first.c")
         example = open("bindings/rust/examples/first.rs").read()
         so(rust == example.partition("\n")[2], "README's program in Rust is the crate's example")
         printed = next(text for language, text in blocks() if language == "text")
@@ -309,8 +310,11 @@ def main():
         own_functions(folder)
         as_printed(folder)
         own_functions_in_rust(folder)
-        make("uninstall", f"DESTDIR={folder}", f"PREFIX={PREFIX}")
-        so(files_of(folder + PREFIX) == set(), "uninstall leaves nothing", files_of(folder + PREFIX))
+        for time in "uninstall", "a second uninstall":
+            make("uninstall", f"DESTDIR={folder}", f"PREFIX={PREFIX}")
+            left = files_of(folder + PREFIX) | set(glob.glob(f"{folder}{PREFIX}/share/doc/*"))
+            so(left == set(), f"{time} leaves nothing", left)
+        make("uninstall", f"DESTDIR={folder}/none", f"PREFIX={PREFIX}")
     print(f"install: {count} comparisons")
 
 

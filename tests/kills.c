@@ -4,7 +4,8 @@
  * and power cuts strike too. A cut leaves in the file what was synced, and of what was not each line keeps some number
  * of its words, counted from the first. Some commands are baskets of orders: all of one is there, or nothing. Between
  * two runs the test writes some stores of a basket to the file, as a cut leaves them: nothing of it may ever be there.
- * The file has the layout that the test is built for (layout.h).
+ * The file has the layout that the test is built for (layout.h). In layout 1 processes that have handles are killed
+ * too, of both layouts and of the log (kills_handles.c).
  *
  *     kills GATEWAY GATEWAY_ON_DISK FILE [SEED]
  */
@@ -18,6 +19,7 @@
 
 #include "chance.h"
 #include "child.h"
+#include "kills.h"
 #include "layout.h"
 
 enum { KILLS = 200, STRIKES = 400, SLOTS = 12, KEYS = 15, BATCH = 40, TEXT = 80, WORD = 40, PATH = 1024, BASKET = 4 };
@@ -25,7 +27,8 @@ enum { KILLS = 200, STRIKES = 400, SLOTS = 12, KEYS = 15, BATCH = 40, TEXT = 80,
 static const char *gateway, *file;
 static char shadow[PATH], log_file[PATH];
 static uint64_t stored, cuts, kills, failures, unanswered, in_start; /* stored: changes that were answered */
-static uint64_t baskets, struck_baskets, half_baskets; /* answered; not answered; made by this test, as a cut leaves them */
+static uint64_t baskets, struck_baskets,
+    half_baskets;   /* answered; not answered; made by this test, as a cut leaves them */
 static int failing; /* the syncs of this run will fail */
 
 /* ---- the orders by what was answered, and the commands of one run */
@@ -99,15 +102,18 @@ static int carry_out(const struct item *c, struct order *o) {
 /* The orders after the command. Answers its refusal, or 0; a basket can also be refused with 28 by the slots. */
 static int carry_out_all(const struct command *c, struct order later[KEYS]) {
     memcpy(later, map, sizeof map);
+    for (int i = 0; i < c->count; i++) {
+        struct order before = map[c->item[i].key]; /* the book's rules of each item come before those of the set */
+        int refusal = carry_out(&c->item[i], &before);
+        if (refusal)
+            return refusal;
+    }
     for (int i = 0; i < c->count; i++)
         for (int j = 0; j < i; j++)
             if (c->item[i].key == c->item[j].key)
                 return 27;
-    for (int i = 0; i < c->count; i++) {
-        int refusal = carry_out(&c->item[i], &later[c->item[i].key]);
-        if (refusal)
-            return refusal;
-    }
+    for (int i = 0; i < c->count; i++)
+        carry_out(&c->item[i], &later[c->item[i].key]);
     return held(later) >= SLOTS ? 28 : 0;
 }
 
@@ -122,9 +128,9 @@ static void answer_due(const struct command *c, int refusal, const struct order 
     else if (refusal)
         snprintf(wanted, LINE, "no %d: ", refusal);
     else if (c->kind == BASKETS)
-        snprintf(wanted, LINE, "basket %d: slots ", c->count);
+        snprintf(wanted, LINE, "basket %d: done", c->count);
     else
-        snprintf(wanted, LINE, "%s %s: slot ", name[c->kind], key);
+        snprintf(wanted, LINE, "%s %s: done", name[c->kind], key);
 }
 
 /* A command is answered as the map asks for, and the map takes its step. */
@@ -164,8 +170,10 @@ static char *write_item(char *end, const struct item *c) {
 static void any_basket(struct command *c) {
     c->count = 1 + (int)below(BASKET);
     for (int i = 0, key = (int)below(KEYS); i < c->count; i++, key = (key + 1 + (int)below(3)) % KEYS)
-        c->item[i] = (struct item){below(20) ? map[key].state ? WITHDRAW : NEW : below(2) ? WITHDRAW : NEW, key,
-                                   below(20) ? 1 + below(5) : any_quantity()};
+        c->item[i] = (struct item){below(20)  ? map[key].state ? WITHDRAW : NEW
+                                   : below(2) ? WITHDRAW
+                                              : NEW,
+                                   key, below(20) ? 1 + below(5) : any_quantity()};
 }
 
 static void any_command(struct command *c) {
@@ -308,34 +316,41 @@ static int finish(void) {
 }
 
 static void make(void) {
-    char fresh[PATH + 4], slots[8], line[LINE];
-    snprintf(fresh, sizeof fresh, "%s.new", file);
+    char slots[8], line[LINE];
     snprintf(slots, sizeof slots, "%d", SLOTS);
     unlink(file);
-    unlink(fresh);
     memset(map, 0, sizeof map);
     sent = done = 0;
-    struct child child = start_child((const char *const[]){gateway, file, "make", slots, LAYOUT == 1 ? NULL : "2", NULL});
+    struct child child =
+        start_child((const char *const[]){gateway, file, "make", slots, LAYOUT == 1 ? NULL : "2", NULL});
     expect(hear(&child, line) && !strncmp(line, "made ", 5), "a file is made: '%s'", line);
     expect(end_of(&child) == 0, "make ends with status 0");
 }
 
-/* Keys that have not the form of this file's are no commands, and change nothing. */
+/* Words that are no keys are no commands, and change nothing; a key of 128 bits is refused in layout 1. */
 static void refuse_other_keys(void) {
-    static const char *const keys[2][3] = {
-        {"0x00000000000000000000000000000007", "0x7", "7x"},
-        {"7", "0x0000000000000000000000000000007", "0x0000000000000000000000000000000g"},
-    };
+    static const char *const keys[] = {"0x7",
+                                       "7x",
+                                       "0x0000000000000000000000000000007",
+                                       "-7",
+                                       "18446744073709551616",
+                                       "0x0000000000000000000000000000000g",
+                                       "",
+                                       " 7"};
+    const char *wide = "new 0x00000000000000010000000000000007 0\n";
     struct child child = start_child((const char *const[]){gateway, file, NULL});
     expect(recovers(&child), "the gateway recovers");
-    for (int i = 0; i < 3; i++) {
-        char line[LINE], answer[LINE], due[LINE];
-        snprintf(line, sizeof line, "new %s 5", keys[LAYOUT - 1][i]);
-        snprintf(due, sizeof due, "not a command: %.200s", line);
+    char line[LINE], answer[LINE];
+    for (size_t i = 0; i < sizeof keys / sizeof *keys; i++) {
+        snprintf(line, sizeof line, "new %s 5", keys[i]);
         say(&child, line);
         say(&child, "\n");
-        expect(hear(&child, answer) && !strcmp(answer, due), "'%s' is answered '%s'", line, answer);
+        expect(hear(&child, answer) && !strncmp(answer, "not a command: ", 15) && !strcmp(answer + 15, line),
+               "'%s' is answered '%s'", line, answer);
     }
+    say(&child, wide);
+    expect(hear(&child, answer) && !strncmp(answer, LAYOUT == 1 ? "no 1015: " : "no 19: ", 7), "a wide key: '%s'",
+           answer);
     check(&child);
     expect(end_of(&child) == 1, "a run with lines that are no commands ends with status 1");
 }
@@ -367,16 +382,16 @@ static void make_some(uint64_t *words, const uint32_t *at, const uint64_t *value
 /* What a cut leaves of a basket of orders, where the image has no void slot and the basket is not refused. */
 static void half_basket(uint64_t *words, size_t length) {
     enum { ROOM = BASKET * ORDERSET_STORES };
-    uint32_t heads[1], next[SLOTS + 1], state[ORDERSET_STATE], voids[1], open_at[ORDERSET_INVALIDATIONS], at[ROOM],
+    uint32_t heads[1], next[SLOTS + 1], state[ORDERSET_RAW_STATE], voids[1], open_at[ORDERSET_INVALIDATIONS], at[ROOM],
         kinds[ORDERSET_BASKET_MAX], count = 2 + (uint32_t)below(BASKET - 1), first = (uint32_t)below(KEYS);
     uint64_t version[1], open_value[ORDERSET_INVALIDATIONS], value[ROOM], lows[ORDERSET_BASKET_MAX],
-        highs[ORDERSET_BASKET_MAX], answer[ORDERSET_BASKET_ANSWER];
+        highs[ORDERSET_BASKET_MAX], answer[ORDERSET_PROVED_BASKET_ANSWER];
     size_t lengths[ORDERSET_BASKET_MAX];
     uint8_t values[ORDERSET_BASKET_BYTES] = {0};
     const uint8_t *image = (const uint8_t *)words;
-    uint64_t refusal = SET(recover)(image, length, heads, 1, next, SLOTS + 1, state, version, voids, open_at,
-                                    open_value);
-    expect(refusal == 0, "recovery takes the file; refusal %" PRIu32, ORDERSET_REFUSAL(refusal));
+    uint64_t refusal =
+        SET(recover)(image, length, heads, 1, next, SLOTS + 1, state, version, voids, open_at, open_value);
+    expect(refusal == 0, "recovery takes the file; refusal %" PRIu32, ORDERSET_PROVED_REFUSAL(refusal));
     for (uint32_t i = 0; i < ORDERSET_BASKET_MAX; i++) {
         const int key = (int)((first + i) % KEYS);
         kinds[i] = map[key].state ? ORDERSET_REPLACE : ORDERSET_INSERT;
@@ -386,8 +401,9 @@ static void half_basket(uint64_t *words, size_t length) {
         memcpy(values + ORDERSET_VALUE_MAX * i, (const uint64_t[]){ORDERSET_SENT, 200, 100}, ORDERSET_ORDER_BYTES);
     }
     (void)highs; /* of layout 1 there are none */
-    if (voids[0] || SET(basket)(image, length, heads, 1, next, SLOTS + 1, state, version, count, kinds,
-                                BASKET_KEYS(lows, highs), lengths, values, at, ROOM, value, ROOM, answer))
+    if (voids[0]
+        || SET(basket)(image, length, heads, 1, next, SLOTS + 1, state, version, count, kinds, BASKET_KEYS(lows, highs),
+                       lengths, values, at, ROOM, value, ROOM, answer))
         return;
     make_some(words, at, value, count);
     half_baskets++;
@@ -475,10 +491,16 @@ int main(int count, char **word) {
     }
     expect(finish() == 0, "the last run ends with status 0");
     on_simulated_disk(word[2]);
+    unsetenv("DISK_SHADOW");
+#if LAYOUT == 1
+    const int too_little = kill_handles(file);
+#else
+    const int too_little = 0;
+#endif
     printf("%" PRIu64 " kills, %" PRIu64 " cuts and %" PRIu64 " failed syncs, %" PRIu64 " in a start and %" PRIu64
            " before a command was answered, %" PRIu64 " of these baskets, %" PRIu64
            " halves of a basket in the file, %" PRIu64 " changes answered, %" PRIu64
            " of them baskets: nothing lost (%.0f s)\n",
            kills, cuts, failures, in_start, unanswered, struck_baskets, half_baskets, stored, baskets, seconds());
-    return half_baskets == 0 || struck_baskets == 0 || baskets == 0;
+    return too_little || half_baskets == 0 || struck_baskets == 0 || baskets == 0;
 }

@@ -1,133 +1,156 @@
-/* Two gateways on one file: the second says so and ends with status 1, whatever it was to do, and the first goes on.
- * When the first has ended, or was killed, the next one runs. Of several that start at once, what one answered is
- * there.
+/* Several handles on one file, each in a process of its own: while one has it open for writing, another is refused with
+ * 1011, whatever its mode, and the first goes on. When the first has ended, or was killed, the next one is opened. Of
+ * several that open at once, what one answered is there.
  *
- *     lock GATEWAY FILE [SEED]
+ *     lock FILE [SEED]
+ *     lock FILE as MODE KEY...    the other process: opens the file and sends orders of the keys, then of those of its
+ *                                 input
  */
 #define _GNU_SOURCE
 #include <inttypes.h>
 #include <stdio.h>
+#include <stdlib.h>
 #include <string.h>
 #include <unistd.h>
 
 #include "chance.h"
 #include "child.h"
+#include "orderset.h"
 
 enum { ROUNDS = 40, AT_ONCE = 4 };
 
-static const char *gateway, *file;
-static uint64_t orders; /* sent: keys 1 to 4, and one for each that won a round */
+static const char *program, *file;
+static uint64_t orders; /* that were answered */
 
-/* Its exit status; line is the last that it says. */
-static int hear_all(struct child *child, char line[LINE]) {
-    char heard[LINE];
-    *line = 0;
-    while (hear(child, heard))
-        strcpy(line, heard);
-    return end_of(child);
+/* ---- the other process: a line for the open and for each key */
+
+static uint32_t told(uint32_t number) {
+    printf("%" PRIu32 "\n", number);
+    fflush(stdout);
+    return number;
 }
 
-static int run(const char *a, const char *b, const char *c, char line[LINE]) {
-    struct child child = start_child((const char *const[]){gateway, file, a, b, c, NULL});
-    if (!a) { /* it would read its standard input, which ends at once */
-        close(child.in);
-        child.in = -1;
-    }
-    return hear_all(&child, line);
+static int other_process(int count, char **word) {
+    char line[LINE];
+    struct orderset *set;
+    if (told(orderset_open(word[1], (uint32_t)atoi(word[3]), &set)))
+        return 1;
+    for (int i = 4; i < count; i++)
+        told(orderset_book_new(set, (struct orderset_key){strtoull(word[i], NULL, 10), 0}, 100));
+    while (fgets(line, sizeof line, stdin))
+        told(orderset_book_new(set, (struct orderset_key){strtoull(line, NULL, 10), 0}, 100));
+    orderset_close(set);
+    return 0;
+}
+
+/* ---- the test */
+
+static struct child start(uint32_t mode, const char *key) {
+    char word[24];
+    snprintf(word, sizeof word, "%" PRIu32, mode);
+    return start_child((const char *const[]){program, file, "as", word, key, NULL});
+}
+
+static uint32_t hear_number(struct child *child) {
+    char line[LINE];
+    expect(hear(child, line), "a process tells a number");
+    return (uint32_t)strtoul(line, NULL, 10);
 }
 
 static void works(const char *key) {
-    char line[LINE], wanted[LINE];
-    int status = run("new", key, "100", line);
-    snprintf(wanted, sizeof wanted, "new %s: slot ", key);
-    expect(status == 0 && !strncmp(line, wanted, strlen(wanted)), "a gateway alone sends order %s; status %d, '%s'",
-           key, status, line);
+    struct child child = start(ORDERSET_WRITE, key);
+    expect(hear_number(&child) == 0 && hear_number(&child) == 0, "a handle alone takes order %s", key);
+    expect(end_of(&child) == 0, "its process ends with status 0");
     orders++;
 }
 
-static void is_refused(const char *a, const char *b, const char *c) {
-    char line[LINE];
-    int status = run(a, b, c, line);
-    expect(status == 1 && strstr(line, "another gateway has it open"),
-           "a second gateway (%s) is refused; status %d, '%s'", a ? a : "standard input", status, line);
+static void is_refused(uint32_t mode) {
+    struct child child = start(mode, NULL);
+    const uint32_t number = hear_number(&child);
+    expect(number == ORDERSET_LOCKED, "a second handle of mode %" PRIu32 " is refused: %" PRIu32, mode, number);
+    expect(end_of(&child) == 1, "its process ends with status 1");
 }
 
 static struct child first_one(void) {
-    struct child child = start_child((const char *const[]){gateway, file, NULL});
-    char line[LINE];
-    expect(hear(&child, line) && !strncmp(line, "recovered ", 10), "the first gateway recovers: '%s'", line);
+    struct child child = start(ORDERSET_WRITE, NULL);
+    expect(hear_number(&child) == 0, "the first handle is opened");
     return child;
 }
 
 static void second_is_refused(void) {
-    char line[LINE];
     struct child first = first_one();
-    is_refused("new", "100", "1");
-    is_refused("withdraw", "1", NULL);
-    is_refused("list", NULL, NULL);
-    is_refused("heads", NULL, NULL);
-    is_refused("heads", "7", NULL);
-    is_refused(NULL, NULL, NULL);
-    say(&first, "new 2 100\n");
-    expect(hear(&first, line) && !strncmp(line, "new 2: slot ", 12), "the first gateway goes on: '%s'", line);
+    for (uint32_t mode = ORDERSET_READ; mode <= ORDERSET_INSPECT; mode++)
+        is_refused(mode);
+    say(&first, "2\n");
+    expect(hear_number(&first) == 0, "the first handle goes on");
     orders++;
-    expect(end_of(&first) == 0, "the first gateway ends with status 0");
+    expect(end_of(&first) == 0, "the first process ends with status 0");
+}
+
+/* A reader has its copy: it holds nobody up. */
+static void reader_holds_no_lock(void) {
+    struct child reader = start(ORDERSET_READ, NULL), inspector = start(ORDERSET_INSPECT, NULL);
+    expect(hear_number(&reader) == 0 && hear_number(&inspector) == 0, "two readers are opened");
+    works("5");
+    expect(end_of(&reader) == 0 && end_of(&inspector) == 0, "the readers end with status 0");
 }
 
 static void killed_one_leaves_no_lock(void) {
     struct child first = first_one();
-    is_refused("new", "100", "1");
+    is_refused(ORDERSET_WRITE);
     kill_child(&first);
-    expect(end_of(&first) == -1, "the first gateway is killed");
+    expect(end_of(&first) == -1, "the first process is killed");
 }
 
-/* Several at once: one or more send their order, one after the other, and the others are refused. */
+/* Several at once: one or more take their order, one after the other, and the others are refused. */
 static void at_once(int round) {
     struct child child[AT_ONCE];
-    char key[AT_ONCE][24], line[LINE];
+    char key[24];
     int won = 0;
     for (int i = 0; i < AT_ONCE; i++) {
-        snprintf(key[i], sizeof key[i], "%d", 1000 + round * AT_ONCE + i);
+        snprintf(key, sizeof key, "%d", 1000 + round * AT_ONCE + i);
         usleep((useconds_t)below(1u << below(12)));
-        child[i] = start_child((const char *const[]){gateway, file, "new", key[i], "100", NULL});
+        child[i] = start(ORDERSET_WRITE, key);
     }
     for (int i = 0; i < AT_ONCE; i++) {
-        int status = hear_all(&child[i], line), answered = !strncmp(line, "new ", 4);
-        expect(answered ? status == 0 : status == 1 && strstr(line, "another gateway has it open"),
-               "one of several sends its order or is refused; status %d, '%s'", status, line);
-        won += answered;
+        const uint32_t number = hear_number(&child[i]);
+        expect(number == 0 || number == ORDERSET_LOCKED, "one of several is opened or refused: %" PRIu32, number);
+        expect(number || hear_number(&child[i]) == 0, "one of several that is opened takes its order");
+        expect(end_of(&child[i]) == (number ? 1 : 0), "its process ends");
+        won += number == 0;
     }
-    expect(won > 0, "one of several sends its order");
+    expect(won > 0, "one of several is opened");
     orders += (uint64_t)won;
 }
 
 static void all_there(void) {
-    char line[LINE], wanted[LINE];
-    snprintf(wanted, sizeof wanted, "%" PRIu64 " held", orders);
-    expect(run("list", NULL, NULL, line) == 0 && !strcmp(line, wanted),
-           "every order that was answered is there: %s, found '%s'", wanted, line);
+    struct orderset *set;
+    expect(orderset_open(file, ORDERSET_READ, &set) == 0, "the file is opened");
+    expect(orderset_count(set) == orders, "every order that was answered is there: %" PRIu64 ", found %" PRIu32, orders,
+           orderset_count(set));
+    orderset_close(set);
 }
 
 int main(int count, char **word) {
-    char line[LINE], fresh[LINE];
-    begin_chance("lock", count > 3 ? word[3] : NULL);
-    expect(count > 2, "lock GATEWAY FILE [SEED]");
-    gateway = word[1];
-    file = word[2];
-    snprintf(fresh, sizeof fresh, "%s.new", file);
+    if (count > 3 && !strcmp(word[2], "as"))
+        return other_process(count, word);
+    begin_chance("lock", count > 2 ? word[2] : NULL);
+    expect(count > 1, "lock FILE [SEED]");
+    program = word[0];
+    file = word[1];
     unlink(file);
-    unlink(fresh);
-    expect(run("make", "500", NULL, line) == 0, "a file is made: '%s'", line);
+    expect(orderset_create(file, 500, 1) == 0, "a file is made");
     works("1");
     second_is_refused();
     works("3");
     killed_one_leaves_no_lock();
     works("4");
+    reader_holds_no_lock();
     all_there();
     for (int round = 0; round < ROUNDS; round++)
         at_once(round);
     all_there();
-    printf("the second gateway is refused, %d times %d at once, %" PRIu64 " orders answered: all there (%.0f s)\n",
+    printf("the second handle is refused, %d times %d at once, %" PRIu64 " orders answered: all there (%.0f s)\n",
            ROUNDS, AT_ONCE, orders, seconds());
     return 0;
 }

@@ -18,7 +18,7 @@
 #include "log_areas.h"
 #include "log_model.h"
 #include "model.h"
-#include "orderset_log.h"
+#include "orderset_raw.h"
 
 enum { CALLS = 5000000, MOST = 1002, ROOM = 1100, LINES = 7, EVERY = 800, SHOWN = 4 };
 enum which { APPEND, RECOVER, READ, WHICH };
@@ -33,7 +33,8 @@ static const char *phase = "";
 static _Alignas(64) uint8_t area[M_CELL * MOST + 64], kept[sizeof area];
 static size_t length, cells; /* cells 0: no area has that length */
 static uint32_t at[ROOM], model_at[ROOM];
-static uint64_t value[ROOM], model_value[ROOM], answer[ORDERSET_LOG_ANSWER], model_answer[ORDERSET_LOG_ANSWER];
+static uint64_t value[ROOM], model_value[ROOM], answer[ORDERSET_PROVED_LOG_ANSWER],
+    model_answer[ORDERSET_PROVED_LOG_ANSWER];
 
 static enum which call;
 static size_t call_size, call_places, call_values;
@@ -141,14 +142,14 @@ static void make_store(size_t i) {
 }
 
 static void make_all(void) {
-    for (size_t i = 0; i < answer[ORDERSET_LOG_COUNT]; i++)
+    for (size_t i = 0; i < answer[ORDERSET_PROVED_LOG_COUNT]; i++)
         make_store(i);
 }
 
 /* The stores of the last append: how many there are of each line of its cell. */
 static void count_lines(unsigned stores[LINES]) {
     memset(stores, 0, LINES * sizeof *stores);
-    for (size_t i = 0; i < answer[ORDERSET_LOG_COUNT]; i++)
+    for (size_t i = 0; i < answer[ORDERSET_PROVED_LOG_COUNT]; i++)
         stores[at[i] / 8 % LINES]++;
 }
 
@@ -156,7 +157,7 @@ static void count_lines(unsigned stores[LINES]) {
 static int make_some(const unsigned made[LINES]) {
     unsigned seen[LINES] = {0};
     int all = 1;
-    for (size_t i = 0; i < answer[ORDERSET_LOG_COUNT]; i++) {
+    for (size_t i = 0; i < answer[ORDERSET_PROVED_LOG_COUNT]; i++) {
         size_t line = at[i] / 8 % LINES;
         if (seen[line]++ < made[line])
             make_store(i);
@@ -176,7 +177,7 @@ static int make_some_of(const unsigned stores[LINES]) {
 
 /* A cut among the stores of a recovery: each is in a line of its own. */
 static void make_some_openings(void) {
-    for (size_t i = 0; i < answer[ORDERSET_LOG_COUNT]; i++)
+    for (size_t i = 0; i < answer[ORDERSET_PROVED_LOG_COUNT]; i++)
         if (below(2))
             make_store(i);
 }
@@ -200,12 +201,12 @@ static void add_plain(const uint8_t *message, size_t size) {
 static void must_read(uint64_t number, const struct message *m) {
     if (read_message(number))
         differ("with the plain list: message %" PRIu64 " cannot be read", number);
-    same_number("the length by the plain list", answer[ORDERSET_LOG_LENGTH], m->size);
-    same_bytes("the message by the plain list", area + answer[ORDERSET_LOG_OFFSET], m->bytes, m->size);
+    same_number("the length by the plain list", answer[ORDERSET_PROVED_LOG_LENGTH], m->size);
+    same_bytes("the message by the plain list", area + answer[ORDERSET_PROVED_LOG_OFFSET], m->bytes, m->size);
 }
 
 static void must_not_read(uint64_t number) {
-    if (read_message(number) != ORDERSET_LOG_NOT_SHOWN)
+    if (read_message(number) != ORDERSET_NO_MESSAGE)
         differ("with the plain list: message %" PRIu64 " can be read", number);
 }
 
@@ -214,7 +215,7 @@ static void check_plain(void) {
     uint64_t first = plain_count >= cells ? plain_count - cells + 2 : 1;
     if (recover(cells, cells))
         differ("recovery is refused");
-    same_number("the highest number by the plain list", answer[ORDERSET_LOG_NUMBER], plain_count);
+    same_number("the highest number by the plain list", answer[ORDERSET_PROVED_LOG_NUMBER], plain_count);
     for (uint64_t s = first; s <= plain_count; s += cells > 20 ? 1 + below(cells / 4) : 1)
         must_read(s, &plain[s % MOST]);
     must_not_read(first - 1);
@@ -312,7 +313,7 @@ static void history(void) {
         switch (below(8)) {
         case 0:
             if (recover(any_list(cells), any_list(cells)) == 0)
-                same_number("the invalidating stores of a sound log", answer[ORDERSET_LOG_COUNT], 0);
+                same_number("the invalidating stores of a sound log", answer[ORDERSET_PROVED_LOG_COUNT], 0);
             break;
         case 1: read_message(any_number(area, cells)); break;
         case 2: check_plain(); break;
@@ -334,11 +335,11 @@ static struct view look(void) {
     struct view v = {.highest = 0};
     if (recover(cells, cells))
         differ("recovery is refused");
-    v.highest = answer[ORDERSET_LOG_NUMBER];
+    v.highest = answer[ORDERSET_PROVED_LOG_NUMBER];
     for (size_t i = 0; i < SHOWN && i < v.highest; i++) {
         v.shown[i] = read_message(v.highest - i) == 0;
-        v.message[i].size = v.shown[i] ? answer[ORDERSET_LOG_LENGTH] : 0;
-        memcpy(v.message[i].bytes, area + answer[ORDERSET_LOG_OFFSET] * (size_t)v.shown[i], v.message[i].size);
+        v.message[i].size = v.shown[i] ? answer[ORDERSET_PROVED_LOG_LENGTH] : 0;
+        memcpy(v.message[i].bytes, area + answer[ORDERSET_PROVED_LOG_OFFSET] * (size_t)v.shown[i], v.message[i].size);
     }
     return v;
 }
@@ -398,7 +399,7 @@ static void any_call(void) {
         read_message(any_number(area, cells));
     else if (kind == 1 ? recover(any_list(lists), any_list(lists)) == 0
                        : append(message, size, any_list(ORDERSET_LOG_STORES), any_list(ORDERSET_LOG_STORES)) == 0)
-        for (size_t i = 0, some = below(3); i < answer[ORDERSET_LOG_COUNT]; i++)
+        for (size_t i = 0, some = below(3); i < answer[ORDERSET_PROVED_LOG_COUNT]; i++)
             if (some == 0 || below(some + 1))
                 make_store(i);
 }
@@ -436,8 +437,8 @@ static void first_append(const uint8_t *message, size_t size, uint64_t count, ui
     const uint64_t line[8] = {1, size, pairs, 0, 0, 0, 0, 3};
     zeros(2 * M_CELL);
     expect("the code", append(message, size, ORDERSET_LOG_STORES, ORDERSET_LOG_STORES), 0);
-    expect("the number", answer[ORDERSET_LOG_NUMBER], 1);
-    expect("the count", answer[ORDERSET_LOG_COUNT], count);
+    expect("the number", answer[ORDERSET_PROVED_LOG_NUMBER], 1);
+    expect("the count", answer[ORDERSET_PROVED_LOG_COUNT], count);
     for (uint32_t i = 0; i < 8; i++) {
         expect("a word number", at[i], 56 + i);
         expect("a value", value[i], line[i]);
@@ -454,11 +455,11 @@ static void directed_stores(void) {
     first_append(ones, M_MESSAGE, 56, 0xf03c0f03c0f03c0);
     make_all();
     expect("the second append", append(ones, 1, 56, 56), 0); /* cell 0 */
-    expect("its count", answer[ORDERSET_LOG_COUNT], 9);
+    expect("its count", answer[ORDERSET_PROVED_LOG_COUNT], 9);
     make_all();
     expect("the third append", append(ones, 64, 56, 56), 0); /* a short one over a long one */
-    expect("its number", answer[ORDERSET_LOG_NUMBER], 3);
-    expect("its count", answer[ORDERSET_LOG_COUNT], 8 + 5 * 8);
+    expect("its number", answer[ORDERSET_PROVED_LOG_NUMBER], 3);
+    expect("its count", answer[ORDERSET_PROVED_LOG_COUNT], 8 + 5 * 8);
     expect("its mark", value[0], 0);
     expect("its stamp", value[7], 6);
     expect("its pairs", value[2], 0x701c0701c070200);
@@ -495,12 +496,12 @@ static void directed_refusals(void) {
     expect("13 of the values", append(message, 1, 9, 8), 13);
     expect("lists of that length", append(message, 1, 9, 9), 0);
     expect("an empty log", recover(0, 0), 0);
-    expect("its number", answer[ORDERSET_LOG_NUMBER], 0);
+    expect("its number", answer[ORDERSET_PROVED_LOG_NUMBER], 0);
     expect("31 of an empty log", read_message(1), 31);
     only_message(2, 2);
     expect("the one message", read_message(2), 0);
-    expect("its offset", answer[ORDERSET_LOG_OFFSET], 64);
-    expect("its length", answer[ORDERSET_LOG_LENGTH], 5);
+    expect("its offset", answer[ORDERSET_PROVED_LOG_OFFSET], 64);
+    expect("its length", answer[ORDERSET_PROVED_LOG_LENGTH], 5);
     expect("31 above it", read_message(4), 31);
     zeros(1000 * M_CELL);
     expect("1,000 cells", append(message, 384, 56, 56), 0);
@@ -517,7 +518,7 @@ static void directed_shown(size_t count) {
     expect("the oldest of K messages", read_message(1), 31);
     for (uint64_t s = 2; s <= count; s++) {
         expect("a shown message", read_message(s), 0);
-        expect("its first byte", area[answer[ORDERSET_LOG_OFFSET]], s & 255);
+        expect("its first byte", area[answer[ORDERSET_PROVED_LOG_OFFSET]], s & 255);
     }
 }
 
@@ -530,13 +531,13 @@ static void directed_opening(void) {
     make_some(marked_only);
     expect("13 of recovery", recover(1, 0), 13);
     expect("recovery", recover(1, 1), 0);
-    expect("its number", answer[ORDERSET_LOG_NUMBER], 0);
-    expect("its count", answer[ORDERSET_LOG_COUNT], 1);
+    expect("its number", answer[ORDERSET_PROVED_LOG_NUMBER], 0);
+    expect("its count", answer[ORDERSET_PROVED_LOG_COUNT], 1);
     expect("its word", at[0], 56);
     expect("its value", value[0], 0);
     make_all();
     expect("the next append", append((const uint8_t *)"\3XYZ", 4, 56, 56), 0);
-    expect("its number", answer[ORDERSET_LOG_NUMBER], 1);
+    expect("its number", answer[ORDERSET_PROVED_LOG_NUMBER], 1);
     make_some(payload_only);
     expect("31 after a cut", read_message(1), 31);
 }

@@ -13,7 +13,7 @@
 #include "log_areas.h"
 #include "log_model.h"
 #include "model.h"
-#include "orderset_log.h"
+#include "orderset_raw.h"
 #include "pieces.h"
 
 enum { CALLS = 2000000, WORD = 8, NUMBER = 4 };
@@ -23,10 +23,8 @@ static uint64_t answers[WHICH][2]; /* [0] not refused, [1] refused */
 enum what { AREA, MESSAGE, AT, VALUE, ANSWER, PIECES };
 
 struct piece piece[PIECES] = {
-    {"area", 110 * PAGE, NULL, NULL, NULL, 0, 0},
-    {"message", PAGE, NULL, NULL, NULL, 0, 0},
-    {"at", 2 * PAGE, NULL, NULL, NULL, 0, 0},
-    {"value", 3 * PAGE, NULL, NULL, NULL, 0, 0},
+    {"area", 110 * PAGE, NULL, NULL, NULL, 0, 0}, {"message", PAGE, NULL, NULL, NULL, 0, 0},
+    {"at", 2 * PAGE, NULL, NULL, NULL, 0, 0},     {"value", 3 * PAGE, NULL, NULL, NULL, 0, 0},
     {"answer", PAGE, NULL, NULL, NULL, 0, 0},
 };
 
@@ -38,7 +36,7 @@ static void wrong(const char *what, uint64_t number) {
 }
 
 static uint64_t answered(size_t i) {
-    uint64_t answer[ORDERSET_LOG_ANSWER];
+    uint64_t answer[ORDERSET_PROVED_LOG_ANSWER];
     memcpy(answer, w(ANSWER), sizeof answer);
     return answer[i];
 }
@@ -55,7 +53,7 @@ static const int handing[] = {AT, VALUE, ANSWER, NONE};
 
 /* The stores are to words of the area, and the entries past them are kept. */
 static void handed_out(void) {
-    uint64_t count = answered(ORDERSET_LOG_COUNT);
+    uint64_t count = answered(ORDERSET_PROVED_LOG_COUNT);
     if (count > piece[AT].length / NUMBER || count > piece[VALUE].length / WORD)
         wrong("a count above the lists:", count);
     same(&piece[AT], piece[AT].at + NUMBER * count, piece[AT].at + piece[AT].length, "past the stores");
@@ -69,7 +67,7 @@ static uint32_t call_append(void) {
     begin_call("append", handing);
     return end(APPEND,
                orderset_proved_log_append(r(AREA), piece[AREA].length, r(MESSAGE), piece[MESSAGE].length, w(AT),
-                                       piece[AT].length / NUMBER, w(VALUE), piece[VALUE].length / WORD, w(ANSWER)),
+                                          piece[AT].length / NUMBER, w(VALUE), piece[VALUE].length / WORD, w(ANSWER)),
                handing);
 }
 
@@ -77,7 +75,7 @@ static uint32_t call_recover(void) {
     begin_call("recover", handing);
     return end(RECOVER,
                orderset_proved_log_recover(r(AREA), piece[AREA].length, w(AT), piece[AT].length / NUMBER, w(VALUE),
-                                        piece[VALUE].length / WORD, w(ANSWER)),
+                                           piece[VALUE].length / WORD, w(ANSWER)),
                handing);
 }
 
@@ -86,7 +84,7 @@ static void call_read(uint64_t number) {
     begin_call("read", writable);
     if (end(READ, orderset_proved_log_read(r(AREA), piece[AREA].length, number, w(ANSWER)), writable))
         return;
-    uint64_t offset = answered(ORDERSET_LOG_OFFSET), bytes = answered(ORDERSET_LOG_LENGTH);
+    uint64_t offset = answered(ORDERSET_PROVED_LOG_OFFSET), bytes = answered(ORDERSET_PROVED_LOG_LENGTH);
     if (bytes < 1 || bytes > ORDERSET_LOG_MESSAGE_MAX || offset > piece[AREA].length - bytes)
         wrong("a part outside the area, of length", bytes);
 }
@@ -111,14 +109,14 @@ static void make_area(void) {
 static void lend_lists(size_t needed) {
     place(AT, NUMBER * (below(8) ? needed + below(3) : below(needed + 1)));
     place(VALUE, WORD * (below(8) ? needed + below(3) : below(needed + 1)));
-    place(ANSWER, WORD * ORDERSET_LOG_ANSWER);
+    place(ANSWER, WORD * ORDERSET_PROVED_LOG_ANSWER);
     fill(w(AT), piece[AT].length);
     fill(w(VALUE), piece[VALUE].length);
     fill(w(ANSWER), piece[ANSWER].length);
 }
 
 static void make_stores(void) {
-    uint64_t count = answered(ORDERSET_LOG_COUNT), some = below(3);
+    uint64_t count = answered(ORDERSET_PROVED_LOG_COUNT), some = below(3);
     for (uint64_t i = 0; i < count; i++)
         if (some == 0 || below(some + 1))
             m_set_word(w(AREA), ((const uint32_t *)r(AT))[i], ((const uint64_t *)r(VALUE))[i]);

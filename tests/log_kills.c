@@ -32,6 +32,15 @@ static void make_file(size_t bytes) {
     expect(file && ftruncate(fileno(file), (off_t)bytes) == 0 && fclose(file) == 0, "a file of %zu bytes", bytes);
 }
 
+/* By the recorder. */
+static void make_log(void) {
+    char number[24];
+    snprintf(number, sizeof number, "%zu", cells);
+    unlink(path);
+    struct child c = start_child((const char *const[]){recorder, path, "make", number, NULL});
+    expect(end_of(&c) == 0, "a log of %zu cells is made", cells);
+}
+
 static void any_line(char *line, size_t size) {
     for (size_t i = 0; i < size; i++)
         line[i] = (char)(' ' + below(95));
@@ -132,7 +141,10 @@ int main(int count, char **word) {
     for (int files = 0; files < FILES; files++) {
         cells = 2 + below(MOST - 1);
         answered = 0;
-        make_file(CELL * cells);
+        if (files % 2)
+            make_log();
+        else
+            make_file(CELL * cells);
         for (int kills = 0; kills < KILLS / FILES; kills++)
             run_and_kill();
     }

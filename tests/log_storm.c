@@ -16,7 +16,7 @@
 
 #include "cache.h"
 #include "chance.h"
-#include "orderset_log.h"
+#include "orderset_raw.h"
 
 enum { MAX_CELLS = ORDERSET_LOG_CELLS_MAX, MOST = ORDERSET_LOG_MESSAGE_MAX, STRIKES = 1000000 };
 
@@ -30,8 +30,8 @@ struct message {
 };
 
 static size_t cells;
-static uint64_t messages;                 /* how many the plain list has */
-static struct message plain[MAX_CELLS];   /* its last ones: message s at s % MAX_CELLS */
+static uint64_t messages;               /* how many the plain list has */
+static struct message plain[MAX_CELLS]; /* its last ones: message s at s % MAX_CELLS */
 
 static struct {
     int under_way;
@@ -61,7 +61,7 @@ static void add_message(void) {
 /* ---- the program */
 
 static uint32_t at[MAX_CELLS];
-static uint64_t value[MAX_CELLS], answer[ORDERSET_LOG_ANSWER];
+static uint64_t value[MAX_CELLS], answer[ORDERSET_PROVED_LOG_ANSWER];
 static enum orderset_flush flush;
 static int after_kill;
 
@@ -70,14 +70,15 @@ static void must_read(uint64_t number) {
     uint32_t code = orderset_proved_log_read(visible, length, number, answer);
     if (code)
         lost("message %" PRIu64 ": answered, and read says no %" PRIu32, number, code);
-    if (answer[ORDERSET_LOG_LENGTH] != m->size || memcmp(visible + answer[ORDERSET_LOG_OFFSET], m->bytes, m->size))
+    if (answer[ORDERSET_PROVED_LOG_LENGTH] != m->size
+        || memcmp(visible + answer[ORDERSET_PROVED_LOG_OFFSET], m->bytes, m->size))
         lost("message %" PRIu64 ": answered %zu bytes, found %" PRIu64 " bytes or others", number, m->size,
-             answer[ORDERSET_LOG_LENGTH]);
+             answer[ORDERSET_PROVED_LOG_LENGTH]);
 }
 
 static void must_not_read(uint64_t number) {
     uint32_t code = orderset_proved_log_read(visible, length, number, answer);
-    if (code != ORDERSET_LOG_NOT_SHOWN)
+    if (code != ORDERSET_NO_MESSAGE)
         lost("message %" PRIu64 ": not to be read, and read says %" PRIu32, number, code);
 }
 
@@ -114,7 +115,7 @@ static void start(void) {
     uint32_t code = orderset_proved_log_recover(visible, length, at, cells, value, cells, answer);
     if (code)
         lost("recovery refuses: %" PRIu32, code);
-    const uint64_t highest = answer[ORDERSET_LOG_NUMBER], count = answer[ORDERSET_LOG_COUNT];
+    const uint64_t highest = answer[ORDERSET_PROVED_LOG_NUMBER], count = answer[ORDERSET_PROVED_LOG_COUNT];
     settle(highest);
     check();
     stage = OPENING;
@@ -142,11 +143,11 @@ static void refused_append(void) {
     static const uint8_t longer[MOST + 1] = {1};
     uint32_t list = (uint32_t)below(8);
     if (orderset_proved_log_append(visible, length, longer, 0, at, MAX_CELLS, value, MAX_CELLS, answer)
-            != ORDERSET_LOG_BAD_MESSAGE
+            != ORDERSET_BAD_MESSAGE
         || orderset_proved_log_append(visible, length, longer, MOST + 1, at, MAX_CELLS, value, MAX_CELLS, answer)
-               != ORDERSET_LOG_BAD_MESSAGE
+               != ORDERSET_BAD_MESSAGE
         || orderset_proved_log_append(visible, length, longer, 1, at, list, value, MAX_CELLS, answer)
-               != ORDERSET_LOG_LIST_TOO_SHORT)
+               != ORDERSET_BUFFER_TOO_SHORT)
         lost("an append that is to be refused");
 }
 
@@ -154,11 +155,11 @@ static void append_one(void) {
     struct message *m = &append.message;
     m->size = below(3) ? 1 + below(MOST) : 1 + below(64);
     memcpy(m->bytes, any_bytes(m->size), m->size);
-    uint32_t code = orderset_proved_log_append(visible, length, m->bytes, m->size, at, MAX_CELLS, value, MAX_CELLS,
-                                            answer);
-    if (code || answer[ORDERSET_LOG_NUMBER] != messages + 1)
+    uint32_t code =
+        orderset_proved_log_append(visible, length, m->bytes, m->size, at, MAX_CELLS, value, MAX_CELLS, answer);
+    if (code || answer[ORDERSET_PROVED_LOG_NUMBER] != messages + 1)
         lost("an append answers %" PRIu32 " or another number", code);
-    append.stores = (unsigned)answer[ORDERSET_LOG_COUNT];
+    append.stores = (unsigned)answer[ORDERSET_PROVED_LOG_COUNT];
     stores_made = 0;
     fenced = 0;
     append.under_way = calling = 1;
@@ -174,7 +175,8 @@ static void append_one(void) {
 
 /* In a sound log there is nothing to open. */
 static void recover_again(void) {
-    if (orderset_proved_log_recover(visible, length, at, 0, value, 0, answer) || answer[ORDERSET_LOG_NUMBER] != messages)
+    if (orderset_proved_log_recover(visible, length, at, 0, value, 0, answer)
+        || answer[ORDERSET_PROVED_LOG_NUMBER] != messages)
         lost("a recovery in a run");
 }
 
@@ -250,8 +252,8 @@ int main(int count, char **word) {
         }
     }
     printf("%" PRIu64 " histories of the restart machine with %" PRIu64 " cuts and %" PRIu64 " kills, %" PRIu64
-           " of them in a start, %" PRIu64 " in a recovery's stores and %" PRIu64 " in an append, %" PRIu64 " lines opened, %" PRIu64
-           " messages answered: nothing lost (%.0f s)\n",
+           " of them in a start, %" PRIu64 " in a recovery's stores and %" PRIu64 " in an append, %" PRIu64
+           " lines opened, %" PRIu64 " messages answered: nothing lost (%.0f s)\n",
            histories, cuts, kills, in_start, in_opening, in_append, opened, answered, seconds());
     return 0;
 }

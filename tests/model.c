@@ -1,6 +1,6 @@
 /* The order set of document 01 as document 02 changes it (A.2, A.4 to A.8, A.11, A.12), and its order book (A.1), as a
- * plain program. The quotations are their sentences. A parameter `own` tells that a call is the one for the owner of its
- * index, which no sentence of theirs names: it differs in the slots that may be taken and in the slot that is. */
+ * plain program. The quotations are their sentences. A parameter `own` tells that a call is the one for the owner of
+ * its index, which no sentence of theirs names: it differs in the slots that may be taken and in the slot that is. */
 #include "model.h"
 
 #include <stdlib.h>
@@ -52,8 +52,9 @@ static uint8_t value_byte(const uint8_t *slot, size_t i) {
     return i < FRONT ? slot[8 * VALUE_WORD + i] : slot[72 + (i - FRONT)];
 }
 
-/* "Fault 6 now begins above bit 23 or at a number of 1 or over 8", "22 when the kind is neither 1 nor 2, 23 when the length is wrong for the kind or over 80, and 24 when a byte past
- * the length is nonzero; within a slot they follow 6 in that order" */
+/* "Fault 6 now begins above bit 23 or at a number of 1 or over 8", "22 when the kind is neither 1 nor 2, 23 when the
+ * length is wrong for the kind or over 80, and 24 when a byte past the length is nonzero; within a slot they follow 6
+ * in that order" */
 static int record_fault(const uint8_t *slot) {
     uint64_t word = m_word(slot, KIND_WORD);
     unsigned kind = word & 0xff;
@@ -70,7 +71,8 @@ static int record_fault(const uint8_t *slot) {
     return 0;
 }
 
-/* "A line is whole when its mark equals its close bit", "A slot is valid when both lines are whole and carry the same version, at least 1" */
+/* "A line is whole when its mark equals its close bit", "A slot is valid when both lines are whole and carry the same
+ * version, at least 1" */
 static struct slot look(const uint8_t *image, uint32_t s) {
     const uint8_t *slot = image + 128 * (size_t)s;
     struct slot seen = {.kind = BROKEN, .key = m_key_in(image, s)};
@@ -161,7 +163,8 @@ static void join(struct chain *chain, uint32_t *next, uint32_t slot) {
     chain->last = slot;
 }
 
-/* "For each key the valid slot with the greatest version decides .. Such a deciding put is live": marks the live slots and counts them. */
+/* "For each key the valid slot with the greatest version decides .. Such a deciding put is live": marks the live slots
+ * and counts them. */
 static uint32_t mark_live(const struct slot *slot, const struct entry *valid, uint32_t count, uint8_t *live) {
     struct entry *sorted = malloc((count + 1) * sizeof *sorted);
     uint32_t found = 0;
@@ -176,9 +179,10 @@ static uint32_t mark_live(const struct slot *slot, const struct entry *valid, ui
     return found;
 }
 
-/* "Recovery orders each head's chain by rising version. It orders the reuse chain: broken slots, then empty slots, each by slot number, then the rest by
- * rising version"; "A void slot stands with the broken ones, in the reuse chain" */
-static void build(const struct slot *slot, uint32_t n, const struct entry *valid, uint32_t count, const uint8_t *live, struct m_index *index) {
+/* "Recovery orders each head's chain by rising version. It orders the reuse chain: broken slots, then empty slots, each
+ * by slot number, then the rest by rising version"; "A void slot stands with the broken ones, in the reuse chain" */
+static void build(const struct slot *slot, uint32_t n, const struct entry *valid, uint32_t count, const uint8_t *live,
+                  struct m_index *index) {
     struct chain *chain = calloc(index->heads_length, sizeof *chain), reuse = {0, 0};
     index->next[0] = 0;
     for (uint32_t s = 1; s <= n; s++)
@@ -188,7 +192,8 @@ static void build(const struct slot *slot, uint32_t n, const struct entry *valid
         if (slot[s].kind == EMPTY)
             join(&reuse, index->next, s);
     for (uint32_t i = 0; i < count; i++)
-        join(live[valid[i].slot] ? &chain[m_head(valid[i].key, index->heads_length)] : &reuse, index->next, valid[i].slot);
+        join(live[valid[i].slot] ? &chain[m_head(valid[i].key, index->heads_length)] : &reuse, index->next,
+             valid[i].slot);
     for (size_t h = 0; h < index->heads_length; h++)
         index->heads[h] = chain[h].first;
     index->state.first = reuse.first;
@@ -205,7 +210,8 @@ static uint32_t said(uint32_t number) {
     return number ? number : 1;
 }
 
-/* "Fault 7 is now for sharers of a version whose numbers differ, that are more than their number (0 meaning one), or with a key twice" */
+/* "Fault 7 is now for sharers of a version whose numbers differ, that are more than their number (0 meaning one), or
+ * with a key twice" */
 static int sharers_at_fault(const struct slot *slot, const struct entry *valid, uint32_t count) {
     for (uint32_t i = 0; i < count; i++)
         for (uint32_t j = i + 1; j < count && valid[j].version == valid[i].version; j++)
@@ -215,8 +221,8 @@ static int sharers_at_fault(const struct slot *slot, const struct entry *valid, 
     return 0;
 }
 
-/* "The highest version among valid slots is judged by its number: with fewer valid records than it says, all of them are void and the next version down is
- * judged in turn". Returns how many valid slots are left. */
+/* "The highest version among valid slots is judged by its number: with fewer valid records than it says, all of them
+ * are void and the next version down is judged in turn". Returns how many valid slots are left. */
 static uint32_t judge(struct slot *slot, const struct entry *valid, uint32_t count) {
     while (count > 0) {
         uint32_t from = count - 1;
@@ -231,7 +237,8 @@ static uint32_t judge(struct slot *slot, const struct entry *valid, uint32_t cou
     return count;
 }
 
-/* The newest slot: of the valid ones the last by version and slot number; without any the last empty one, or else the last. */
+/* The newest slot: of the valid ones the last by version and slot number; without any the last empty one, or else the
+ * last. */
 static uint32_t newest_of(const struct slot *slot, uint32_t n, const struct entry *valid, uint32_t count) {
     uint32_t s = n;
     if (count)
@@ -242,7 +249,8 @@ static uint32_t newest_of(const struct slot *slot, uint32_t n, const struct entr
 }
 
 /* "Recovery shall name the lowest slot at fault and what in it" */
-static struct m_recovered recover_slots(struct slot *slot, uint32_t n, struct entry *valid, uint8_t *live, struct m_index *index) {
+static struct m_recovered recover_slots(struct slot *slot, uint32_t n, struct entry *valid, uint8_t *live,
+                                        struct m_index *index) {
     uint32_t count = 0;
     uint32_t broken = 0;
     uint64_t highest = 0;
@@ -279,8 +287,8 @@ static struct m_recovered recover_slots(struct slot *slot, uint32_t n, struct en
 static void open_voids(const uint8_t *image, const struct slot *slot, uint32_t n, struct m_recovered *recovered) {
     for (uint32_t s = 1; s <= n; s++)
         if (slot[s].kind == VOID)
-            recovered->opening[recovered->count++]
-                = (struct m_store){16 * s, 1 - (m_word(image, 16 * (size_t)s + 7) & 1)};
+            recovered->opening[recovered->count++] =
+                (struct m_store){16 * s, 1 - (m_word(image, 16 * (size_t)s + 7) & 1)};
 }
 
 struct m_recovered m_recover(const uint8_t *image, size_t length, struct m_index *index) {
@@ -336,8 +344,9 @@ void m_count(const uint8_t *image, size_t length, const struct m_recovered *reco
 
 /* ---- the key's chain */
 
-/* "following the key's chain up to the first slot with that key or the end, a link above N is met or N slots pass without the key"; "The count of slots
- * compared equals the place of the key in its chain, or the chain's whole length when it is absent", "A call refused before or by the chain check reports 0" */
+/* "following the key's chain up to the first slot with that key or the end, a link above N is met or N slots pass
+ * without the key"; "The count of slots compared equals the place of the key in its chain, or the chain's whole length
+ * when it is absent", "A call refused before or by the chain check reports 0" */
 struct walk {
     int refusal;
     uint32_t slot, before; /* slot 0: not held, and before is the chain's last slot. before 0: the head */
@@ -379,9 +388,11 @@ static uint64_t named_version(const uint8_t *image, uint32_t n, uint32_t newest)
     return newest > n ? 0 : m_word(image, 16 * (size_t)newest + 7) >> 1;
 }
 
-/* "No call, single ones included, takes a slot of the highest valid version, or a remove record while an older valid record of its key remains in the image the
- * call is given". The owner's call goes by the version of the slot that the state names, and looks for an older record in the `found` slots taken before. */
-static int may_take(int own, const uint8_t *image, uint32_t n, uint32_t s, uint32_t newest, const uint32_t *taken, uint32_t found) {
+/* "No call, single ones included, takes a slot of the highest valid version, or a remove record while an older valid
+ * record of its key remains in the image the call is given". The owner's call goes by the version of the slot that the
+ * state names, and looks for an older record in the `found` slots taken before. */
+static int may_take(int own, const uint8_t *image, uint32_t n, uint32_t s, uint32_t newest, const uint32_t *taken,
+                    uint32_t found) {
     const uint64_t version = valid_version(image, s);
     uint32_t t = 1;
     if (version == 0)
@@ -402,9 +413,11 @@ int m_may_take(const uint8_t *image, uint32_t n, uint32_t slot) {
     return may_take(0, image, n, slot, 0, NULL, 0);
 }
 
-/* "it takes the first others in the reuse chain": `wanted` of them. "11 .. covers a link above N met from the chain's first through the last slot taken, that slot's
- * own included, or a nonzero one after N slots; a slot met twice counts twice"; "28 when too few slots may be taken" */
-static int follow_reuse(int own, const uint8_t *image, uint32_t n, const struct m_index *index, uint32_t wanted, uint32_t *taken, uint32_t *before) {
+/* "it takes the first others in the reuse chain": `wanted` of them. "11 .. covers a link above N met from the chain's
+ * first through the last slot taken, that slot's own included, or a nonzero one after N slots; a slot met twice counts
+ * twice"; "28 when too few slots may be taken" */
+static int follow_reuse(int own, const uint8_t *image, uint32_t n, const struct m_index *index, uint32_t wanted,
+                        uint32_t *taken, uint32_t *before) {
     uint32_t at = index->state.first, stays = 0;
     for (uint32_t met = 1, found = 0;; met++) {
         uint32_t after = index->next[at];
@@ -423,10 +436,11 @@ static int follow_reuse(int own, const uint8_t *image, uint32_t n, const struct 
     }
 }
 
-/* "11 when the reuse chain's first or last slot is zero or above N"; "11 (reuse, or fewer live than are removed) now stands whole before 28"; "28 when too few
- * slots may be taken or, by the live count, no spare slot would be left .. before 9" */
-static int refuse_slots(int own, const uint8_t *image, uint32_t n, const struct m_index *index, uint32_t inserts, uint32_t removes, uint32_t wanted,
-                        uint32_t *taken, uint32_t *before) {
+/* "11 when the reuse chain's first or last slot is zero or above N"; "11 (reuse, or fewer live than are removed) now
+ * stands whole before 28"; "28 when too few slots may be taken or, by the live count, no spare slot would be left ..
+ * before 9" */
+static int refuse_slots(int own, const uint8_t *image, uint32_t n, const struct m_index *index, uint32_t inserts,
+                        uint32_t removes, uint32_t wanted, uint32_t *taken, uint32_t *before) {
     const struct m_state *s = &index->state;
     if (s->first == 0 || s->first > n || s->last == 0 || s->last > n)
         return 11;
@@ -476,8 +490,10 @@ struct m_record {
     size_t size;
 };
 
-/* "Let c be the close bit now in that line. The first store makes the mark 1 − c; the last makes the stamp version × 2 + (1 − c)" */
-static void write_record(const uint8_t *image, uint32_t slot, uint64_t version, const struct m_record *r, uint64_t number, struct m_store store[16]) {
+/* "Let c be the close bit now in that line. The first store makes the mark 1 − c; the last makes the stamp version × 2
+ * + (1 − c)" */
+static void write_record(const uint8_t *image, uint32_t slot, uint64_t version, const struct m_record *r,
+                         uint64_t number, struct m_store store[16]) {
     uint8_t padded[80] = {0};
     memcpy(padded, r->bytes, r->size);
     for (uint32_t i = 0; i < 16; i++) {
@@ -500,8 +516,8 @@ static void write_record(const uint8_t *image, uint32_t slot, uint64_t version, 
 
 /* ---- a basket */
 
-/* "26 when the basket has 0 or more than 8 keys, first of all; 27 when a key comes twice, next", "13 when the lent list is too short follows 27". The papers have
- * no number for a kind that is none of the three: 26 */
+/* "26 when the basket has 0 or more than 8 keys, first of all; 27 when a key comes twice, next", "13 when the lent list
+ * is too short follows 27". The papers have no number for a kind that is none of the three: 26 */
 static int refuse_given(const struct m_item *item, size_t count, size_t places, size_t values) {
     if (count == 0 || count > GROUP)
         return 26;
@@ -515,8 +531,10 @@ static int refuse_given(const struct m_item *item, size_t count, size_t places, 
     return places < 16 * count || values < 16 * count ? 13 : 0;
 }
 
-/* "Each later check goes over all keys before the next, 20 and 21 being one", "In a basket, removing an unheld key gives 21" */
-static int refuse_keys(const uint8_t *image, uint32_t n, const struct m_index *index, const struct m_item *item, size_t count) {
+/* "Each later check goes over all keys before the next, 20 and 21 being one", "In a basket, removing an unheld key
+ * gives 21" */
+static int refuse_keys(const uint8_t *image, uint32_t n, const struct m_index *index, const struct m_item *item,
+                       size_t count) {
     for (size_t i = 0; i < count; i++)
         if (item[i].kind != 3 && item[i].size > VALUE_MAX)
             return 10;
@@ -533,17 +551,19 @@ static int refuse_keys(const uint8_t *image, uint32_t n, const struct m_index *i
     return 0;
 }
 
-/* "Its records share one version, and bits 16 to 23 of the kind word hold their number; a single record, or a basket of one, has 0 there" */
+/* "Its records share one version, and bits 16 to 23 of the kind word hold their number; a single record, or a basket of
+ * one, has 0 there" */
 void m_basket_stores(const uint8_t *image, const struct m_item item[8], size_t count, struct m_basket *b) {
     for (size_t i = 0; i < count; i++) {
-        const struct m_record r = {item[i].kind == 3 ? 2 : 1, item[i].key, item[i].bytes, item[i].kind == 3 ? 0 : item[i].size};
+        const struct m_record r = {item[i].kind == 3 ? 2 : 1, item[i].key, item[i].bytes,
+                                   item[i].kind == 3 ? 0 : item[i].size};
         write_record(image, b->slot[i], b->version, &r, count > 1 ? count : 0, b->store + 16 * i);
     }
 }
 
 /* "It answers its version and slots" */
-struct m_basket m_basket(int own, const uint8_t *image, size_t length, const struct m_index *index, const struct m_item item[8], size_t count, size_t places,
-                         size_t values) {
+struct m_basket m_basket(int own, const uint8_t *image, size_t length, const struct m_index *index,
+                         const struct m_item item[8], size_t count, size_t places, size_t values) {
     const uint32_t n = m_slots(length);
     struct m_basket b = {.refusal = refuse_given(item, count, places, values)};
     uint32_t inserts = 0, removes = 0;
@@ -574,8 +594,8 @@ static void leave_reuse(struct m_index *index, uint32_t slot, uint32_t before) {
         index->state.last = before;
 }
 
-/* The slot before `slot` in the chain of the key's head, or the chain's last slot where that is 0; 0: the head. Of an index that is not the image's own the
- * search ends at a link that is 0 or above N, and after N links. */
+/* The slot before `slot` in the chain of the key's head, or the chain's last slot where that is 0; 0: the head. Of an
+ * index that is not the image's own the search ends at a link that is 0 or above N, and after N links. */
 static uint32_t before_in_chain(const struct m_index *index, uint32_t n, m_key key, uint32_t slot) {
     uint32_t before = 0, at = index->heads[m_head(key, index->heads_length)];
     for (uint32_t left = n; left > 0 && at != slot && at != 0 && at <= n; left--) {
@@ -586,7 +606,8 @@ static uint32_t before_in_chain(const struct m_index *index, uint32_t n, m_key k
 }
 
 /* "A basket takes all its slots before any other index change, then links and appends key by key" */
-void m_basket_index(const uint8_t *image, size_t length, struct m_index *index, const struct m_item item[8], uint32_t count, const struct m_basket *basket) {
+void m_basket_index(const uint8_t *image, size_t length, struct m_index *index, const struct m_item item[8],
+                    uint32_t count, const struct m_basket *basket) {
     uint32_t old[GROUP];
     for (uint32_t i = 0; i < count; i++) {
         old[i] = follow(image, m_slots(length), index, item[i].key).slot;
@@ -612,10 +633,11 @@ static struct m_change refuse(int number, uint32_t compared) {
     return (struct m_change){.refusal = number, .compared = compared};
 }
 
-/* A call that writes one record and inserts or removes so many keys: its refusals after those of its key, or its slot and stores. The slot is taken from the index
- * where it is the reuse chain's first, as it is "with an index .. the image's own"; otherwise "only refusals are fixed". The owner's call takes the first. */
-static struct m_change change(int own, const uint8_t *image, uint32_t n, struct m_index *index, const struct m_record *r, uint32_t inserts, uint32_t removes,
-                              uint32_t compared) {
+/* A call that writes one record and inserts or removes so many keys: its refusals after those of its key, or its slot
+ * and stores. The slot is taken from the index where it is the reuse chain's first, as it is "with an index .. the
+ * image's own"; otherwise "only refusals are fixed". The owner's call takes the first. */
+static struct m_change change(int own, const uint8_t *image, uint32_t n, struct m_index *index,
+                              const struct m_record *r, uint32_t inserts, uint32_t removes, uint32_t compared) {
     uint32_t slot, before;
     int refusal = refuse_slots(own, image, n, index, inserts, removes, 1, &slot, &before);
     if (refusal)
@@ -635,7 +657,8 @@ static struct m_change change(int own, const uint8_t *image, uint32_t n, struct 
 }
 
 /* "insert for a key not held, replace for one that is": what they test first, and where the key stands */
-static struct walk walk_for_value(const uint8_t *image, size_t length, const struct m_index *index, m_key key, size_t size) {
+static struct walk walk_for_value(const uint8_t *image, size_t length, const struct m_index *index, m_key key,
+                                  size_t size) {
     int refusal = refuse_lent(image, length, index->heads_length, index->next_length);
     if (refusal)
         return (struct walk){.refusal = refusal};
@@ -645,7 +668,8 @@ static struct walk walk_for_value(const uint8_t *image, size_t length, const str
 }
 
 /* "20 when insert meets a held key .. straight after the chain check" */
-struct m_change m_insert(int own, const uint8_t *image, size_t length, struct m_index *index, m_key key, const uint8_t *bytes, size_t size) {
+struct m_change m_insert(int own, const uint8_t *image, size_t length, struct m_index *index, m_key key,
+                         const uint8_t *bytes, size_t size) {
     struct walk walk = walk_for_value(image, length, index, key, size);
     uint32_t n = m_slots(length);
     if (walk.refusal)
@@ -661,13 +685,15 @@ struct m_change m_insert(int own, const uint8_t *image, size_t length, struct m_
 }
 
 /* "21 when replace meets an unheld one .. straight after the chain check" */
-struct m_change m_replace(int own, const uint8_t *image, size_t length, struct m_index *index, m_key key, const uint8_t *bytes, size_t size) {
+struct m_change m_replace(int own, const uint8_t *image, size_t length, struct m_index *index, m_key key,
+                          const uint8_t *bytes, size_t size) {
     struct walk walk = walk_for_value(image, length, index, key, size);
     if (walk.refusal)
         return refuse(walk.refusal, 0);
     if (!walk.slot)
         return refuse(21, walk.compared);
-    struct m_change c = change(own, image, m_slots(length), index, &(struct m_record){1, key, bytes, size}, 0, 0, walk.compared);
+    struct m_change c =
+        change(own, image, m_slots(length), index, &(struct m_record){1, key, bytes, size}, 0, 0, walk.compared);
     if (c.refusal || c.free)
         return c;
     index->next[c.slot] = index->next[walk.slot];
@@ -686,7 +712,8 @@ struct m_change m_remove(int own, const uint8_t *image, size_t length, struct m_
         return refuse(walk.refusal, 0);
     if (!walk.slot)
         return (struct m_change){.absent = 1, .compared = walk.compared};
-    struct m_change c = change(own, image, n, index, &(struct m_record){2, key, (const uint8_t *)"", 0}, 0, 1, walk.compared);
+    struct m_change c =
+        change(own, image, n, index, &(struct m_record){2, key, (const uint8_t *)"", 0}, 0, 1, walk.compared);
     if (c.refusal || c.free)
         return c;
     link_after(index, key, walk.before, index->next[walk.slot]);
@@ -695,7 +722,8 @@ struct m_change m_remove(int own, const uint8_t *image, size_t length, struct m_
     return c;
 }
 
-struct m_got m_get(const uint8_t *image, size_t length, const struct m_index *index, m_key key, uint8_t *out, size_t room) {
+struct m_got m_get(const uint8_t *image, size_t length, const struct m_index *index, m_key key, uint8_t *out,
+                   size_t room) {
     int refusal = refuse_lent(image, length, index->heads_length, index->next_length);
     if (refusal)
         return (struct m_got){.refusal = refusal};
@@ -724,18 +752,21 @@ struct m_place m_locate(const uint8_t *image, size_t length, const struct m_inde
         return (struct m_place){.refusal = walk.refusal};
     if (!walk.slot)
         return (struct m_place){.absent = 1, .compared = walk.compared};
-    return (struct m_place){.slot = walk.slot, .version = m_word(image, 16 * (size_t)walk.slot + 7) / 2, .compared = walk.compared};
+    return (struct m_place){
+        .slot = walk.slot, .version = m_word(image, 16 * (size_t)walk.slot + 7) / 2, .compared = walk.compared};
 }
 
 /* ---- the order book: "a layer above the set" that "knows the set only by what the set promises" */
 
-/* "Its record is 24 bytes: state (1 sent, 2 acknowledged), ordered quantity and filled quantity, a word each, filled below ordered" */
+/* "Its record is 24 bytes: state (1 sent, 2 acknowledged), ordered quantity and filled quantity, a word each, filled
+ * below ordered" */
 struct order {
     int refusal;
     uint64_t state, ordered, filled;
 };
 
-/* "18 when another step's key is not held or holds no book record"; a length over 80, which only a foreign index leads to, is no book record */
+/* "18 when another step's key is not held or holds no book record"; a length over 80, which only a foreign index leads
+ * to, is no book record */
 static struct order order_of(const uint8_t *image, size_t length, const struct m_index *index, m_key key) {
     uint8_t bytes[80];
     struct m_got got = m_get(image, length, index, key, bytes, sizeof bytes);
@@ -756,14 +787,16 @@ static void set_bytes(uint8_t bytes[24], struct order o) {
 }
 
 /* "The book's steps use the one they mean": acknowledge and fill, whose key is held, replace */
-static struct m_change replace_order(int own, const uint8_t *image, size_t length, struct m_index *index, m_key key, struct order o) {
+static struct m_change replace_order(int own, const uint8_t *image, size_t length, struct m_index *index, m_key key,
+                                     struct order o) {
     uint8_t bytes[24];
     set_bytes(bytes, o);
     return m_replace(own, image, length, index, key, bytes, sizeof bytes);
 }
 
 /* "17 when a new order's key is held", "19 when a new quantity is zero" */
-struct m_change m_new(int own, const uint8_t *image, size_t length, struct m_index *index, m_key key, uint64_t quantity) {
+struct m_change m_new(int own, const uint8_t *image, size_t length, struct m_index *index, m_key key,
+                      uint64_t quantity) {
     uint8_t bytes[24];
     struct m_place place = m_locate(image, length, index, key);
     if (place.refusal)
@@ -776,7 +809,8 @@ struct m_change m_new(int own, const uint8_t *image, size_t length, struct m_ind
     return m_insert(own, image, length, index, key, bytes, sizeof bytes);
 }
 
-/* "A second acknowledge stores nothing and, before any later check, answers the order's present slot and its line A's version" */
+/* "A second acknowledge stores nothing and, before any later check, answers the order's present slot and its line A's
+ * version" */
 struct m_change m_acknowledge(int own, const uint8_t *image, size_t length, struct m_index *index, m_key key) {
     struct order o = order_of(image, length, index, key);
     if (o.refusal)
@@ -789,8 +823,10 @@ struct m_change m_acknowledge(int own, const uint8_t *image, size_t length, stru
     return replace_order(own, image, length, index, key, o);
 }
 
-/* "19 when .. a fill is zero or more than is open", "Fill and withdraw serve either state and keep it", "A .. fully filled order is removed" */
-struct m_change m_fill(int own, const uint8_t *image, size_t length, struct m_index *index, m_key key, uint64_t quantity) {
+/* "19 when .. a fill is zero or more than is open", "Fill and withdraw serve either state and keep it", "A .. fully
+ * filled order is removed" */
+struct m_change m_fill(int own, const uint8_t *image, size_t length, struct m_index *index, m_key key,
+                       uint64_t quantity) {
     struct order o = order_of(image, length, index, key);
     if (o.refusal)
         return refuse(o.refusal, 0);
@@ -829,7 +865,8 @@ int m_play(uint8_t *image, size_t length, const uint32_t at[16], const uint64_t 
 }
 
 /* "it tests only 15, here a word outside the lent bytes, and then makes them all in order" */
-int m_play_list(uint8_t *bytes, size_t length, const uint32_t *at, size_t places, const uint64_t *value, size_t values) {
+int m_play_list(uint8_t *bytes, size_t length, const uint32_t *at, size_t places, const uint64_t *value,
+                size_t values) {
     if (places != values)
         return 15;
     for (size_t i = 0; i < places; i++)
@@ -840,10 +877,11 @@ int m_play_list(uint8_t *bytes, size_t length, const uint32_t *at, size_t places
     return 0;
 }
 
-/* ---- a single line: "C functions on 64 bytes that say whether the line is whole, its version, and the first and last word for a given next version" */
+/* ---- a single line: "C functions on 64 bytes that say whether the line is whole, its version, and the first and last
+ * word for a given next version" */
 
-/* "Each puts its answer, yes being 1, in a lent slice of 8 bytes and returns 0 or the refusal. 33 when a slice has not its length, then 9 when the next version
- * is 2^63 or more" */
+/* "Each puts its answer, yes being 1, in a lent slice of 8 bytes and returns 0 or the refusal. 33 when a slice has not
+ * its length, then 9 when the next version is 2^63 or more" */
 int m_line(enum m_query query, const uint8_t *line, size_t length, uint64_t version, uint8_t *answer, size_t room) {
     if (length != 64 || room != 8)
         return 33;

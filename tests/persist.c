@@ -2,9 +2,9 @@
  * then come the flushes of both lines and one fence, for each accepted insert, replace and remove, and none for get,
  * absent and refusals. Some calls are watched instruction by instruction, so that the flushes and the fence are those
  * that the processor executes, and not only the header's hooks. Stores that are no call's are refused. So it is with
- * lists of stores, of recovery, of baskets, of the message log and random ones, each line of which is flushed. A start flushes
- * every line and fences once. The fallback stores to every page again and syncs it, and the file is as the image. Ends
- * with status 1 at the first thing that is otherwise.
+ * lists of stores, of recovery, of baskets, of the message log and random ones, each line of which is flushed. A start
+ * flushes every line and fences once. The fallback stores to every page again and syncs it, and the file is as the
+ * image. Ends with status 1 at the first thing that is otherwise.
  *
  *     persist [SEED]
  */
@@ -52,7 +52,7 @@ static int sync_pages(void *where, size_t length, int flags) {
 #define ORDERSET_FLUSHED() happened(FLUSH, line, 0)
 #define ORDERSET_FENCED() happened(FENCE, NULL, 0)
 #define msync(where, length, flags) sync_pages(where, length, flags)
-#include "orderset_log.h"
+#include "orderset_raw.h"
 #include "orderset_persist.h"
 
 enum {
@@ -71,8 +71,8 @@ enum {
 };
 
 static uint8_t *image, played[LENGTH];
-static uint32_t heads[HEADS], next[N + 1], state[ORDERSET_STATE], at[ORDERSET_STORES];
-static uint64_t version[1], value[ORDERSET_STORES], answer[ORDERSET_CHANGE_ANSWER], stored, unstored;
+static uint32_t heads[HEADS], next[N + 1], state[ORDERSET_RAW_STATE], at[ORDERSET_STORES];
+static uint64_t version[1], value[ORDERSET_STORES], answer[ORDERSET_PROVED_CHANGE_ANSWER], stored, unstored;
 static uint32_t list_at[LIST];
 static uint64_t list_value[LIST], lists;
 
@@ -125,7 +125,10 @@ static void look(const greg_t *gregs) {
     if (!prefixed && (p[2] == MFENCE || p[2] == SFENCE))
         happened(EXECUTED_FENCE, NULL, p[2]);
     else if (in_memory && (digit == 7 || (prefixed && digit == 6)))
-        happened(EXECUTED_FLUSH + (digit == 6 ? ORDERSET_CLWB : prefixed ? ORDERSET_CLFLUSHOPT : ORDERSET_CLFLUSH),
+        happened(EXECUTED_FLUSH
+                     + (digit == 6 ? ORDERSET_CLWB
+                        : prefixed ? ORDERSET_CLFLUSHOPT
+                                   : ORDERSET_CLFLUSH),
                  operand(p + 2, rex, gregs), 0);
 }
 
@@ -216,11 +219,11 @@ enum kind { INSERT, REPLACE, REMOVE };
 static uint64_t call(enum kind kind, uint64_t key, const uint8_t *bytes, size_t size) {
     switch (kind) {
     case INSERT:
-        return orderset_proved_insert(image, LENGTH, heads, HEADS, next, N + 1, state, version, key, bytes, size, at, value,
-                               answer);
+        return orderset_proved_insert(image, LENGTH, heads, HEADS, next, N + 1, state, version, key, bytes, size, at,
+                                      value, answer);
     case REPLACE:
-        return orderset_proved_replace(image, LENGTH, heads, HEADS, next, N + 1, state, version, key, bytes, size, at, value,
-                                answer);
+        return orderset_proved_replace(image, LENGTH, heads, HEADS, next, N + 1, state, version, key, bytes, size, at,
+                                       value, answer);
     default:
         return orderset_proved_remove(image, LENGTH, heads, HEADS, next, N + 1, state, version, key, at, value, answer);
     }
@@ -231,7 +234,7 @@ static void change(enum kind kind, uint64_t key, size_t size, enum orderset_flus
     fill(bytes, sizeof bytes);
     memcpy(played, image, LENGTH);
     uint64_t code = call(kind, key, bytes, size);
-    int accepted = code == ORDERSET_OK && answer[0] == ORDERSET_GIVEN;
+    int accepted = code == ORDERSET_OK && answer[0] == ORDERSET_RAW_DONE;
     if (accepted) {
         expect(orderset_proved_play(played, LENGTH, at, value, 8, 8) == ORDERSET_OK, "play takes the stores");
         persist(flush, watching);
@@ -248,7 +251,7 @@ static enum kind any_kind(uint64_t key) {
     if (below(8) == 0)
         return below(2) ? INSERT : REPLACE;
     expect(orderset_proved_locate(image, LENGTH, heads, HEADS, next, N + 1, key, answer) == ORDERSET_OK, "locate");
-    return answer[0] == ORDERSET_ABSENT ? INSERT : REPLACE;
+    return answer[0] == ORDERSET_RAW_ABSENT ? INSERT : REPLACE;
 }
 
 static void get(uint64_t key) {
@@ -260,7 +263,7 @@ static void get(uint64_t key) {
 
 static void make(uint8_t *bytes) {
     uint32_t count[1];
-    expect(orderset_proved_format(bytes, LENGTH, ORDERSET_LAYOUT, answer) == ORDERSET_OK, "format");
+    expect(orderset_proved_format(bytes, LENGTH, ORDERSET_LAYOUT_1, answer) == ORDERSET_OK, "format");
     expect(orderset_proved_recover(bytes, LENGTH, heads, HEADS, next, N + 1, state, version, count, list_at, list_value)
                    == ORDERSET_OK
                && count[0] == 0,
@@ -343,7 +346,8 @@ static unsigned persist_list(size_t count, enum orderset_flush flush, int watchi
     unsigned i = 0, flushed = 0;
     int each = 1;
     memcpy(played, image, LENGTH);
-    expect(orderset_proved_play_list(played, LENGTH, list_at, count, list_value, count) == ORDERSET_OK, "play takes a list");
+    expect(orderset_proved_play_list(played, LENGTH, list_at, count, list_value, count) == ORDERSET_OK,
+           "play takes a list");
     events = 0;
     if (watching)
         watch(image);
@@ -376,11 +380,13 @@ static void open_voids(uint32_t voids, enum orderset_flush flush, int watching) 
         words[2] = 1 + (8 << 16);
         words[7] = words[15] = 2 * 5;
     }
-    expect(orderset_proved_recover(image, LENGTH, heads, HEADS, next, N + 1, state, version, count, list_at, list_value) == 0
+    expect(orderset_proved_recover(image, LENGTH, heads, HEADS, next, N + 1, state, version, count, list_at, list_value)
+                   == 0
                && count[0] == voids,
            "recovery hands out a store for each void slot");
     expect(persist_list(count[0], flush, watching) == voids, "each line that is opened is flushed once");
-    expect(orderset_proved_recover(image, LENGTH, heads, HEADS, next, N + 1, state, version, count, list_at, list_value) == 0
+    expect(orderset_proved_recover(image, LENGTH, heads, HEADS, next, N + 1, state, version, count, list_at, list_value)
+                   == 0
                && count[0] == 0,
            "then no slot is void");
 }
@@ -388,18 +394,19 @@ static void open_voids(uint32_t voids, enum orderset_flush flush, int watching) 
 /* A basket of 1 to 8 keys: sixteen stores for each key, two lines, each flushed once, and one fence for all. */
 static void basket(enum orderset_flush flush, int watching) {
     uint32_t kinds[ORDERSET_BASKET_MAX] = {0};
-    uint64_t keys[ORDERSET_BASKET_MAX] = {0}, given[ORDERSET_BASKET_ANSWER];
+    uint64_t keys[ORDERSET_BASKET_MAX] = {0}, given[ORDERSET_PROVED_BASKET_ANSWER];
     size_t lengths[ORDERSET_BASKET_MAX] = {0}, count = 1 + below(ORDERSET_BASKET_MAX), first = below(N);
     uint8_t values[ORDERSET_BASKET_BYTES];
     fill(values, sizeof values);
     for (size_t i = 0; i < count; i++) {
         keys[i] = (first + i) % (N / 2);
         lengths[i] = below(ORDERSET_VALUE_MAX + 1);
-        expect(orderset_proved_locate(image, LENGTH, heads, HEADS, next, N + 1, keys[i], answer) == ORDERSET_OK, "locate");
-        kinds[i] = answer[0] == ORDERSET_ABSENT ? ORDERSET_INSERT : ORDERSET_REPLACE + (uint32_t)below(2);
+        expect(orderset_proved_locate(image, LENGTH, heads, HEADS, next, N + 1, keys[i], answer) == ORDERSET_OK,
+               "locate");
+        kinds[i] = answer[0] == ORDERSET_RAW_ABSENT ? ORDERSET_INSERT : ORDERSET_REPLACE + (uint32_t)below(2);
     }
-    expect(orderset_proved_basket(image, LENGTH, heads, HEADS, next, N + 1, state, version, count, kinds, keys, lengths, values,
-                           list_at, LIST, list_value, LIST, given)
+    expect(orderset_proved_basket(image, LENGTH, heads, HEADS, next, N + 1, state, version, count, kinds, keys, lengths,
+                                  values, list_at, LIST, list_value, LIST, given)
                == ORDERSET_OK,
            "a basket is taken");
     expect(persist_list(ORDERSET_BASKET_STORES(count), flush, watching) == 2 * count,
@@ -417,13 +424,13 @@ static unsigned lines_of(size_t count) {
 /* A message is appended to a log: at most 56 stores, and of each of its lines one flush. */
 static void append(enum orderset_flush flush, int watching) {
     uint8_t message[ORDERSET_LOG_MESSAGE_MAX];
-    uint64_t handed[ORDERSET_LOG_ANSWER];
+    uint64_t handed[ORDERSET_PROVED_LOG_ANSWER];
     fill(message, sizeof message);
-    expect(orderset_proved_log_append(image, ORDERSET_LOG_BYTES(CELLS), message, 1 + below(sizeof message), list_at, LIST,
-                                   list_value, LIST, handed)
-               == ORDERSET_LOG_OK,
+    expect(orderset_proved_log_append(image, ORDERSET_LOG_BYTES(CELLS), message, 1 + below(sizeof message), list_at,
+                                      LIST, list_value, LIST, handed)
+               == ORDERSET_OK,
            "append");
-    const size_t count = handed[ORDERSET_LOG_COUNT];
+    const size_t count = handed[ORDERSET_PROVED_LOG_COUNT];
     expect(count <= ORDERSET_LOG_STORES && persist_list(count, flush, watching) == lines_of(count),
            "an append is at most 56 stores, and each of its lines is flushed once");
 }
@@ -431,16 +438,16 @@ static void append(enum orderset_flush flush, int watching) {
 /* Recovery opens marked lines that were left whole, as many as there are. */
 static void recover_log(enum orderset_flush flush) {
     const uint64_t stamp = 2000000;
-    uint64_t handed[ORDERSET_LOG_ANSWER];
+    uint64_t handed[ORDERSET_PROVED_LOG_ANSWER];
     for (size_t cell = 0; cell < CELLS; cell += 2) { /* whole, above every number, without a length */
         memset(image + cell * ORDERSET_LOG_CELL_BYTES, 0, 64);
         memcpy(image + cell * ORDERSET_LOG_CELL_BYTES + 56, &stamp, sizeof stamp);
     }
     expect(orderset_proved_log_recover(image, ORDERSET_LOG_BYTES(CELLS), list_at, LIST, list_value, LIST, handed)
-                   == ORDERSET_LOG_OK
-               && handed[ORDERSET_LOG_COUNT] == (CELLS + 1) / 2,
+                   == ORDERSET_OK
+               && handed[ORDERSET_PROVED_LOG_COUNT] == (CELLS + 1) / 2,
            "recovery opens the lines");
-    expect(persist_list(handed[ORDERSET_LOG_COUNT], flush, 0) == (CELLS + 1) / 2, "each line is flushed once");
+    expect(persist_list(handed[ORDERSET_PROVED_LOG_COUNT], flush, 0) == (CELLS + 1) / 2, "each line is flushed once");
 }
 
 /* One store is to a word that is not in a whole line of the bytes. */
@@ -517,8 +524,8 @@ static void insert_in_file(uint8_t *mapped, int file, uint64_t key) {
     uint8_t bytes[ORDERSET_VALUE_MAX], held[LENGTH];
     fill(bytes, sizeof bytes);
     memcpy(played, mapped, LENGTH);
-    expect(orderset_proved_insert(mapped, LENGTH, heads, HEADS, next, N + 1, state, version, key, bytes, below(81), at, value,
-                           answer)
+    expect(orderset_proved_insert(mapped, LENGTH, heads, HEADS, next, N + 1, state, version, key, bytes, below(81), at,
+                                  value, answer)
                == ORDERSET_OK,
            "insert");
     expect(orderset_proved_play(played, LENGTH, at, value, 8, 8) == ORDERSET_OK, "play takes the stores");
@@ -544,7 +551,8 @@ static void list_in_file(uint8_t *mapped, int file) {
     uint8_t held[LENGTH];
     size_t count = any_list(), pages = 0;
     memcpy(played, mapped, LENGTH);
-    expect(orderset_proved_play_list(played, LENGTH, list_at, count, list_value, count) == ORDERSET_OK, "play takes a list");
+    expect(orderset_proved_play_list(played, LENGTH, list_at, count, list_value, count) == ORDERSET_OK,
+           "play takes a list");
     events = 0;
     expect(orderset_persist_list_file(mapped, LENGTH, list_at, list_value, count) == 0, "persist_list_file");
     for (size_t i = 0; i < count; i++)
@@ -606,8 +614,8 @@ int main(int count, char **words) {
     image = mmap(NULL, LENGTH, PROT_READ | PROT_WRITE, MAP_PRIVATE | MAP_ANONYMOUS, -1, 0);
     expect(image != MAP_FAILED && sysconf(_SC_PAGESIZE) == PAGE, "memory in pages of 4,096 bytes");
     set_handlers();
-    unsigned kinds = (unsigned)orderset_best_flush() + 1;
-    for (unsigned flush = 0; flush < kinds; flush++) {
+    const unsigned best = (unsigned)orderset_best_flush(), kinds = best - ORDERSET_CLFLUSH + 1;
+    for (unsigned flush = ORDERSET_CLFLUSH; flush <= best; flush++) {
         calls((enum orderset_flush)flush);
         no_calls_stores((enum orderset_flush)flush);
         whole_image((enum orderset_flush)flush, 0);

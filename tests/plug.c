@@ -15,7 +15,15 @@
 #include "child.h"
 #include "model.h"
 
-enum { TRACES = 1000, LONG = 60, CALLS = 50, LINES = LONG * (CALLS + 1) + 80, BUFFER = 4096, MOST = 511, SIZE = 128 * (MOST + 1) };
+enum {
+    TRACES = 1000,
+    LONG = 60,
+    CALLS = 50,
+    LINES = LONG * (CALLS + 1) + 80,
+    BUFFER = 4096,
+    MOST = 511,
+    SIZE = 128 * (MOST + 1)
+};
 
 static const char *plug, *file;
 static uint64_t lines, changed, unchanged; /* lines read; calls whose later map is another, and the same */
@@ -32,8 +40,29 @@ static void add(const char *text) {
     length += size;
 }
 
-static const char *const odd[] = {"", " ", "c 0 0", "c 8 8", "c 9 1", "p 1", "p 1 2 3", "p  1 2", "p 1 2 ", "r", "r 1 2", "g x", "P 1 2", "q 1",
-                                  "p 18446744073709551616 1", "p 1 18446744073709551616", "n", "n 1", "n 512", "n 2x", "r -1", "p 1\t2", "p 1 2\r"};
+static const char *const odd[] = {"",
+                                  " ",
+                                  "c 0 0",
+                                  "c 8 8",
+                                  "c 9 1",
+                                  "p 1",
+                                  "p 1 2 3",
+                                  "p  1 2",
+                                  "p 1 2 ",
+                                  "r",
+                                  "r 1 2",
+                                  "g x",
+                                  "P 1 2",
+                                  "q 1",
+                                  "p 18446744073709551616 1",
+                                  "p 1 18446744073709551616",
+                                  "n",
+                                  "n 1",
+                                  "n 512",
+                                  "n 2x",
+                                  "r -1",
+                                  "p 1\t2",
+                                  "p 1 2\r"};
 
 /* Small keys and words, so that keys are held and values are equal; now and then any key. */
 static uint64_t a_key(uint64_t keys) {
@@ -45,7 +74,10 @@ static void add_line(uint64_t keys) {
     switch (below(20)) {
     case 0: snprintf(text, sizeof text, "%s", odd[below(sizeof odd / sizeof *odd)]); break;
     case 1: snprintf(text, sizeof text, "g %" PRIu64, a_key(keys)); break;
-    case 2: case 3: case 4: case 5: snprintf(text, sizeof text, "r %" PRIu64, a_key(keys)); break;
+    case 2:
+    case 3:
+    case 4:
+    case 5: snprintf(text, sizeof text, "r %" PRIu64, a_key(keys)); break;
     case 6: snprintf(text, sizeof text, "p 000%" PRIu64 " 0%" PRIu64, a_key(keys), below(2)); break;
     case 7: snprintf(text, sizeof text, "p %" PRIu64 " %" PRIu64, a_key(keys), chance()); break;
     default: snprintf(text, sizeof text, "p %" PRIu64 " %" PRIu64, a_key(keys), below(3)); break;
@@ -62,8 +94,8 @@ static void add_set(uint64_t n, uint64_t calls) {
         add_line(1 + below(n));
 }
 
-/* One set or two, mostly of a few slots; one trace in a hundred has sixty more sets, and then neither it nor what is due fits in plug's buffers. The end of
- * the last line may be missing. */
+/* One set or two, mostly of a few slots; one trace in a hundred has sixty more sets, and then neither it nor what is
+ * due fits in plug's buffers. The end of the last line may be missing. */
 static void make_trace(uint64_t number) {
     length = 0;
     if (below(10) == 0)
@@ -150,7 +182,8 @@ static int a_number(const char **text, uint64_t *number) {
     if (*s < '0' || *s > '9')
         return 0;
     for (*number = 0; *s >= '0' && *s <= '9'; s++)
-        if (__builtin_mul_overflow(*number, 10, number) || __builtin_add_overflow(*number, (uint64_t)(*s - '0'), number))
+        if (__builtin_mul_overflow(*number, 10, number)
+            || __builtin_add_overflow(*number, (uint64_t)(*s - '0'), number))
             return 0;
     *text = s;
     return 1;
@@ -180,7 +213,7 @@ static void due_of_line(const char *line) {
         for (int i = 0; i < 8; i++)
             word[i] = (uint8_t)(a[1] >> 8 * i);
         change = m_locate(image, size, &index_of, a[0]).absent ? m_insert(0, image, size, &index_of, a[0], word, 8)
-                                                                : m_replace(0, image, size, &index_of, a[0], word, 8);
+                                                               : m_replace(0, image, size, &index_of, a[0], word, 8);
     } else if (size && of_form(line, 'r', 1, a)) {
         change = m_remove(0, image, size, &index_of, a[0]);
     }
@@ -218,8 +251,9 @@ static void prints_due(const char *how) {
     char line[LINE];
     while (hear(&child, line)) {
         size_t n = strlen(line);
-        expect(at + n < due_length && !memcmp(due + at, line, n) && due[at + n] == '\n', "of the trace %s it prints '%.*s' and not '%s' at byte %zu", file,
-               (int)strcspn(due + at, "\n"), due + at, line, at);
+        expect(at + n < due_length && !memcmp(due + at, line, n) && due[at + n] == '\n',
+               "of the trace %s it prints '%.*s' and not '%s' at byte %zu", file, (int)strcspn(due + at, "\n"),
+               due + at, line, at);
         at += n + 1;
     }
     expect(at == due_length, "of the trace %s it prints all that is due: %zu bytes of %zu", file, at, due_length);
@@ -240,8 +274,8 @@ int main(int count, char **word) {
         write_trace();
         prints_due(below(2) ? "exec \"$0\" <\"$1\" 2>/dev/null" : "cat \"$1\" 2>/dev/null | \"$0\" 2>/dev/null");
     }
-    printf("%" PRIu64 " traces of %" PRIu64 " lines, %" PRIu64 " with over %d bytes due, %" PRIu64 " calls that change the map and %" PRIu64
-           " that do not: each line as it should be (%.0f s)\n",
+    printf("%" PRIu64 " traces of %" PRIu64 " lines, %" PRIu64 " with over %d bytes due, %" PRIu64
+           " calls that change the map and %" PRIu64 " that do not: each line as it should be (%.0f s)\n",
            wanted, lines, streamed, BUFFER, changed, unchanged, seconds());
     return changed == 0 || unchanged == 0 || (wanted >= 100 && streamed == 0);
 }

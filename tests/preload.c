@@ -7,14 +7,18 @@
  *     PRELOAD_NO_LOCK=1                       the file system has no locks (ENOLCK)
  *     PRELOAD_NO_UNLINK=1                     no name can be removed (EPERM)
  *     PRELOAD_MEMORY=1                        files are mapped as if they were on non-volatile memory (MAP_SYNC)
- *     PRELOAD_XFS=1                           the file system is xfs, and who maps a file with MAP_SYNC is aborted
+ *     PRELOAD_XFS=1                           as PRELOAD_MEMORY, on xfs, which does not tell whether blocks are shared
  */
 #define _GNU_SOURCE
 #include <errno.h>
+#include <linux/fiemap.h>
+#include <linux/fs.h>
+#include <stdarg.h>
 #include <stdio.h>
 #include <stdlib.h>
 #include <string.h>
 #include <sys/file.h>
+#include <sys/ioctl.h>
 #include <sys/mman.h>
 #include <sys/stat.h>
 #include <sys/syscall.h>
@@ -24,7 +28,7 @@
 static void swap(const char *what, const char *path) {
     char other[4096];
     snprintf(other, sizeof other, "%s.other", path);
-    if (strcmp(what, "other") == 0 ? rename(other, path)
+    if (strcmp(what, "other") == 0   ? rename(other, path)
         : strcmp(what, "short") == 0 ? truncate(path, 200)
                                      : unlink(path) || mkfifo(path, 0600))
         abort();
@@ -35,8 +39,8 @@ static int is_due(int file, int cut) {
     static int done;
     const char *what = getenv("PRELOAD_SWAP"), *path = getenv("PRELOAD_FILE");
     struct stat opened, named;
-    const int due = what && path && !done && cut == !strcmp(what, "cut") && fstat(file, &opened) == 0 &&
-                    stat(path, &named) == 0 && opened.st_dev == named.st_dev && opened.st_ino == named.st_ino;
+    const int due = what && path && !done && cut == !strcmp(what, "cut") && fstat(file, &opened) == 0
+                    && stat(path, &named) == 0 && opened.st_dev == named.st_dev && opened.st_ino == named.st_ino;
     done |= due;
     return due;
 }
@@ -91,11 +95,21 @@ int fstatfs(int file, struct statfs *found) {
     return failed;
 }
 
+int ioctl(int file, unsigned long request, ...) {
+    va_list list;
+    va_start(list, request);
+    void *argument = va_arg(list, void *);
+    va_end(list);
+    if (getenv("PRELOAD_XFS") && request == FS_IOC_FIEMAP) {
+        errno = EOPNOTSUPP;
+        return -1;
+    }
+    return (int)syscall(SYS_ioctl, file, request, argument);
+}
+
 void *mmap(void *address, size_t size, int access, int flags, int file, off_t offset) {
     const int sync = file >= 0 && (flags & MAP_SYNC);
-    if (sync && getenv("PRELOAD_XFS"))
-        abort();
-    if (sync && getenv("PRELOAD_MEMORY"))
+    if (sync && (getenv("PRELOAD_MEMORY") || getenv("PRELOAD_XFS")))
         flags = MAP_SHARED;
     return (void *)syscall(SYS_mmap, address, size, access, flags, file, offset);
 }

@@ -76,7 +76,7 @@ def refuses(programs, program, words, path, number, what):
     so(as_it_is(path) == before, f"{program} {words} leaves {what} as it was", seen)
 
 
-RECORDER, GATEWAY = ((), ("list",)), ((), ("new", "7", "100"), ("list",), ("heads",), ("count",))
+RECORDER, GATEWAY = ((), ("list",)), ((), ("new", "7", "100"), ("list",))
 
 
 def sets(programs):
@@ -126,7 +126,8 @@ def others(programs):
         for words in GATEWAY:
             refuses(programs, "gateway", words, programs.sparse("sparse", length), 2, f"{length} bytes of zeros")
     os.mkfifo(programs.path("fifo"))
-    refuses(programs, "recorder", ("list",), programs.path("fifo"), 1013, "a pipe")
+    for program in "recorder", "gateway":
+        refuses(programs, program, ("list",), programs.path("fifo"), 1013, "a pipe")
 
 
 # ---- what a machine may lack
@@ -136,19 +137,22 @@ def little_stack(programs):
     limit = resource.RLIMIT_STACK, (256 << 10, 256 << 10)
     for layout, key in (1, "7"), (2, "0x%032x" % 7):
         path = programs.path(f"large{layout}")
-        for words, says in (("make", "65535", str(layout)), "made"), (("new", key, "5"), "slot 1"), \
-                (("list",), "1 held"), (("heads",), "longest 1"), (("count",), "1 live"), ((), "recovered 1"):
+        for words, says in (("make", "65535", str(layout)), "made"), (("new", key, "5"), "done"), (("list",), "1 held"), \
+                ((), "recovered 1"):
             seen = programs.run("gateway", path, *words, limit=limit)
             so(seen[0] == 0 and says in seen[1], f"with 256 KB of stack gateway {words} works", seen)
+        for word, says in ("--heads", "longest 1"), ("--count", "1 live"):
+            seen = programs.run("orderset-show", word, path, limit=limit)
+            so(seen[0] == 0 and says in seen[1], f"with 256 KB of stack orderset-show {word} works", seen)
 
 
 def not_made(programs):
     path = programs.path("new")
-    for what, options in ("without locks", programs.preloaded("PRELOAD_NO_LOCK")), \
-            ("with a limit of the file's size", {"limit": (resource.RLIMIT_FSIZE, (1000, 1000))}):
+    for what, says, options in ("without locks", "No locks available", programs.preloaded("PRELOAD_NO_LOCK")), \
+            ("with a limit of the file's size", "File too large", {"limit": (resource.RLIMIT_FSIZE, (1000, 1000))}):
         seen = programs.run("gateway", path, "make", "10", **options)
         so(os.listdir(programs.folder) == [], f"a make {what} leaves no name", os.listdir(programs.folder), seen)
-        so(seen[0] == 1 and "nothing was made" in seen[1], f"{what} nothing is made", seen)
+        so(seen[0] == 1 and says in seen[1], f"{what} nothing is made", seen)
 
 
 def linked(programs):
@@ -156,22 +160,23 @@ def linked(programs):
     without = programs.preloaded("PRELOAD_NO_RENAME")
     path = programs.path("new")
     seen = programs.run("gateway", path, "make", "10", **without)
-    so(seen == (0, f"made {path}: 10 slots\n"), "a set is made by a link", seen)
+    so(seen == (0, f"made {path}: 10 slots, layout 1\n"), "a set is made by a link", seen)
     so(os.listdir(programs.folder) == ["new"], "with one name", os.listdir(programs.folder))
     so(os.stat(path).st_nlink == 1, "and one link", os.stat(path))
     seen = programs.run("gateway", path, "new", "7", "100")
     so(seen[0] == 0, "it takes orders", seen)
     seen = programs.run("gateway", path, "make", "10", **without)
-    so(seen[0] == 1 and "is there already" in seen[1], "and is not replaced", seen)
+    so(seen[0] == 1 and "no 1012" in seen[1], "and is not replaced", seen)
 
 
 def second_name(programs):
-    """Where the other name cannot be removed, the set is made and both names are told."""
+    """Where the other name cannot be removed, the set is made, and has both names."""
     path = programs.path("new")
     without = {**programs.preloaded("PRELOAD_NO_RENAME"), "PRELOAD_NO_UNLINK": "1"}
     seen = programs.run("gateway", path, "make", "10", **without)
-    so(seen[0] == 0 and f"made {path}" in seen[1] and f"{path}.new is a second name" in seen[1],
-       "a set with two names is made", seen)
+    names = sorted(os.listdir(programs.folder))
+    so(seen[0] == 0 and f"made {path}" in seen[1] and len(names) == 2 and names[1].startswith("new.new-") and
+       os.stat(path).st_nlink == 2, "a set with two names is made", seen, names)
 
 
 def long_names(programs):
@@ -196,9 +201,56 @@ def on_memory(programs):
         so(seen == (0, f"message {number + 1}\n"), f"the recorder goes by {says} with {what}", seen)
 
 
+def examples(programs):
+    """Memory of one's own; and a message log that the recorder makes, which replaces nothing."""
+    seen = programs.run("raw")
+    so(seen == (0, "durable: version 1\n7: buy 100; slots compared: 1\n"), "raw keeps an order", seen)
+    path = programs.path("log")
+    so(programs.run("recorder", path, "make", "4") == (0, ""), "a log is made")
+    so(os.path.getsize(path) == 4 * CELL, "it has four cells")
+    so(programs.run("recorder", path, text="a\nb\n")[0] == 0, "it takes messages")
+    seen = programs.run("recorder", path, "make", "4")
+    so(seen[0] == 1 and "no 1012" in seen[1], "it is not replaced", seen)
+    so(programs.run("recorder", path, "list") == (0, "1: a\n2: b\n"), "and is listed")
+    for cells in "1", "1001", "4294967300", "18446744073709551620":
+        seen = programs.run("recorder", programs.path("none"), "make", cells)
+        so(seen[0] == 1 and "no 30" in seen[1], f"recorder make {cells} makes nothing", seen)
+    for cells in "x", "4x", "", " 4", "+4", "-4294967292", "-4":
+        seen = programs.run("recorder", programs.path("none"), "make", cells)
+        so(seen[0] == 2 and "usage" in seen[1], f"recorder make {cells!r} is no number of cells", seen)
+    so(not os.path.exists(programs.path("none")), "no file is there")
+
+
+def usage(programs):
+    """Arguments that are no commands: status 2, and nothing is carried out."""
+    path = programs.make("set", 10)
+    before = as_it_is(path)
+    for words in ("make",), ("make", "x"), ("make", "1", "2", "3"), ("new",), ("new", "7"), ("new", "7", "x"), ("new", "0x7", "1"), \
+            ("sell", "7"), ("basket", "0"), ("basket", "9"), ("basket", "2", "new", "1", "1"), ("basket", "1", "show", "7"), \
+            ("new", "7", "1", "x"), ("heads",), ("count",):
+        seen = programs.run("gateway", path, *words)
+        so(seen[0] == 2 and as_it_is(path) == before, f"gateway {words} is no command", seen)
+    for words in ("make", "1"), ("make", "65536"), ("make", "4294967298"), ("make", "10", "3"), ("make", "10", "0"):
+        seen = programs.run("gateway", programs.path("none"), *words)
+        so(seen[0] == 1 and "no " in seen[1], f"gateway {words} makes nothing", seen)
+    for path, hints in (programs.path("none"), True), (os.path.join(path, "none"), False), ("", False):
+        seen = programs.run("gateway", path, "list")
+        so(seen[0] == 1 and ("make N" in seen[1]) == hints, f"gateway {path!r}: make is proposed where a file is missing", seen)
+    seen = programs.run("gateway", programs.path("none/none"), "make", "10")
+    so(seen[0] == 1 and "make N" not in seen[1], "a make in no folder proposes no make", seen)
+    key = "0x20261116000000000000000000000007"
+    seen = programs.run("gateway", path := programs.path("set"), "new", key, "1")
+    so(seen[0] == 1 and f"new {key}: no 1015" in seen[1], "a key that is too wide is shown whole", seen)
+    seen = programs.run("gateway", path, text="new 7 1 x\nsell 7\nnew 7  1\nlist")
+    so(seen[0] == 1 and "not a command: new 7 1 x\nnot a command: sell 7\nnot a command: new 7  1\nnot a command: list (the input "
+       "ended inside this line)\n" in seen[1], "a line that is no command is shown whole", seen)
+    so(programs.run("gateway")[0] == programs.run("recorder")[0] == 2, "a file is to be named")
+
+
 def main():
     tools = os.path.abspath(sys.argv[1])
-    for test in sets, logs, others, little_stack, not_made, linked, second_name, long_names, on_memory:
+    for test in sets, logs, others, little_stack, not_made, linked, second_name, long_names, \
+            on_memory, examples, usage:
         with tempfile.TemporaryDirectory(dir=tools) as folder:
             test(Programs(tools, folder))
     print(f"programs: {count} comparisons")

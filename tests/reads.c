@@ -35,8 +35,8 @@ enum { MAX_N = 65535, MANY = 1000, OPEN = 50, SMALL_SETS = 40, SMALL = 60, TRAP_
 enum { BASKET = ORDERSET_BASKET_MAX, LIST = ORDERSET_STORES * BASKET };
 enum { WAY = 20000, LINKED = MAX_N + 1, NEAR = 1, FAR = 16 };
 
-/* The constant: line A of the header and the slot of the highest version, of a get the header alone; of a basket also the
- * slots of the reuse chain that it passes over, remove records of keys whose older record it takes. */
+/* The constant: line A of the header and the slot of the highest version, of a get the header alone; of a basket also
+ * the slots of the reuse chain that it passes over, remove records of keys whose older record it takes. */
 enum { OF_GET = 1, OF_CHANGE = 2 };
 static unsigned of_basket(size_t count) {
     return OF_CHANGE + (unsigned)count - 1;
@@ -141,8 +141,8 @@ static void make_regions(void) {
 
 /* ---- the set */
 
-static uint32_t state[ORDERSET_STATE], at[LIST];
-static uint64_t version[1], value[LIST], answer[ORDERSET_BASKET_ANSWER];
+static uint32_t state[ORDERSET_RAW_STATE], at[LIST];
+static uint64_t version[1], value[LIST], answer[ORDERSET_PROVED_BASKET_ANSWER];
 static uint8_t bytes[ORDERSET_BASKET_BYTES];
 
 static uint8_t *lent(int what) {
@@ -150,7 +150,9 @@ static uint8_t *lent(int what) {
 }
 
 #define INDEX lent(IMAGE), ORDERSET_IMAGE_BYTES(n), (uint32_t *)lent(HEADS), b, (uint32_t *)lent(NEXT), (size_t)n + 1
-#define OPEN_INDEX region[IMAGE].open, ORDERSET_IMAGE_BYTES(n), (uint32_t *)region[HEADS].open, b, (uint32_t *)region[NEXT].open, (size_t)n + 1
+#define OPEN_INDEX                                                                                                     \
+    region[IMAGE].open, ORDERSET_IMAGE_BYTES(n), (uint32_t *)region[HEADS].open, b, (uint32_t *)region[NEXT].open,     \
+        (size_t)n + 1
 
 static void recover(void) {
     uint32_t count[1], open_at[ORDERSET_INVALIDATIONS];
@@ -159,9 +161,9 @@ static void recover(void) {
 }
 
 static uint64_t slots_compared(m_key key) {
-    uint64_t found[ORDERSET_CHANGE_ANSWER];
+    uint64_t found[ORDERSET_PROVED_CHANGE_ANSWER];
     expect(SET(locate)(OPEN_INDEX, KEY(key), found) == 0, "locate");
-    return found[ORDERSET_COMPARED];
+    return found[ORDERSET_PROVED_COMPARED];
 }
 
 /* ---- the keys that are held */
@@ -202,10 +204,14 @@ static void end(const char *call, size_t keys, uint64_t compared, uint64_t taken
     if (!watching)
         return;
     const uint64_t slots = compared + taken, touched = region[IMAGE].touched, links = region[NEXT].touched;
-    expect(touched <= slots + constant, "%s reads at most %u slots more than it compared and takes: %" PRIu64 " compared, %" PRIu64
-           " taken, %" PRIu64 " read", call, constant, compared, taken, touched);
-    expect(links <= slots + constant, "%s touches at most %u links more than it compared and takes: %" PRIu64 " compared, %" PRIu64
-           " taken, %" PRIu64 " touched", call, constant, compared, taken, links);
+    expect(touched <= slots + constant,
+           "%s reads at most %u slots more than it compared and takes: %" PRIu64 " compared, %" PRIu64
+           " taken, %" PRIu64 " read",
+           call, constant, compared, taken, touched);
+    expect(links <= slots + constant,
+           "%s touches at most %u links more than it compared and takes: %" PRIu64 " compared, %" PRIu64
+           " taken, %" PRIu64 " touched",
+           call, constant, compared, taken, links);
     expect(region[HEADS].touched <= keys, "%s touches one head for each key: %" PRIu32, call, region[HEADS].touched);
     const int kind = constant == OF_GET ? 0 : constant == OF_CHANGE && keys == 1 ? 1 : 2;
     if (touched > slots && touched - slots > most_over[kind])
@@ -260,22 +266,26 @@ static void end_any(const char *call, size_t keys, uint64_t compared, size_t tak
 
 static void play(uint64_t returned, size_t stores) {
     expect(returned == 0, "a call of an own index is not refused: %" PRIu64, returned & UINT32_MAX);
-    expect(orderset_proved_play_list(region[IMAGE].open, ORDERSET_IMAGE_BYTES(n), at, stores, value, stores) == ORDERSET_OK, "play");
+    expect(orderset_proved_play_list(region[IMAGE].open, ORDERSET_IMAGE_BYTES(n), at, stores, value, stores)
+               == ORDERSET_OK,
+           "play");
 }
 
 static void insert(void) {
     const m_key key = new_key();
     begin();
-    const uint64_t code = SET(own_insert)(INDEX, state, version, KEY(key), bytes, below(VALUE_MAX + 1), at, value, answer);
-    end("insert", 1, answer[ORDERSET_COMPARED], 1, OF_CHANGE);
+    const uint64_t code =
+        SET(own_insert)(INDEX, state, version, KEY(key), bytes, below(VALUE_MAX + 1), at, value, answer);
+    end("insert", 1, answer[ORDERSET_PROVED_COMPARED], 1, OF_CHANGE);
     play(code, ORDERSET_STORES);
     held[count++] = (struct held){key, VALUE};
 }
 
 static void replace(struct held *h) {
     begin();
-    const uint64_t code = SET(own_replace)(INDEX, state, version, KEY(h->key), bytes, below(VALUE_MAX + 1), at, value, answer);
-    end("replace", 1, answer[ORDERSET_COMPARED], 1, OF_CHANGE);
+    const uint64_t code =
+        SET(own_replace)(INDEX, state, version, KEY(h->key), bytes, below(VALUE_MAX + 1), at, value, answer);
+    end("replace", 1, answer[ORDERSET_PROVED_COMPARED], 1, OF_CHANGE);
     play(code, ORDERSET_STORES);
     h->what = VALUE;
 }
@@ -283,7 +293,7 @@ static void replace(struct held *h) {
 static void take_out(struct held *h) {
     begin();
     const uint64_t code = SET(own_remove)(INDEX, state, version, KEY(h->key), at, value, answer);
-    end("remove", 1, answer[ORDERSET_COMPARED], 1, OF_CHANGE);
+    end("remove", 1, answer[ORDERSET_PROVED_COMPARED], 1, OF_CHANGE);
     play(code, ORDERSET_STORES);
     drop(h);
 }
@@ -294,10 +304,12 @@ static void ask(void) {
     uint8_t output[ORDERSET_VALUE_MAX];
     begin();
     expect(SET(get)(INDEX, KEY(key), output, sizeof output, answer) == 0, "get");
-    end("get", 1, answer[ORDERSET_GET_COMPARED], 0, OF_GET);
+    end("get", 1, answer[ORDERSET_PROVED_GET_COMPARED], 0, OF_GET);
     begin();
-    expect(SET(own_remove)(INDEX, state, version, KEY(new_key()), at, value, answer) == 0 && answer[0] == ORDERSET_ABSENT, "absent");
-    end("remove of a key that is not held", 1, answer[ORDERSET_COMPARED], 0, OF_GET);
+    expect(SET(own_remove)(INDEX, state, version, KEY(new_key()), at, value, answer) == 0
+               && answer[0] == ORDERSET_RAW_ABSENT,
+           "absent");
+    end("remove of a key that is not held", 1, answer[ORDERSET_PROVED_COMPARED], 0, OF_GET);
 }
 
 static void book_new(void) {
@@ -395,8 +407,8 @@ static void basket(void) {
     const struct basket k = any_basket();
     const uint64_t compared = all_compared(&k);
     begin();
-    const uint64_t code =
-        SET(own_basket)(INDEX, state, version, k.count, k.kinds, BASKET_KEYS(k.lows, k.highs), k.lengths, bytes, at, LIST, value, LIST, answer);
+    const uint64_t code = SET(own_basket)(INDEX, state, version, k.count, k.kinds, BASKET_KEYS(k.lows, k.highs),
+                                          k.lengths, bytes, at, LIST, value, LIST, answer);
     end("a basket", k.count, compared, k.count, of_basket(k.count));
     play(code, ORDERSET_BASKET_STORES(k.count));
     settle(&k);
@@ -411,12 +423,10 @@ static uint64_t call_by(int own, uint32_t kind, const struct basket *k) {
     const m_key key = key_of_words(k->lows[0], k->highs[0]);
     const size_t length = k->lengths[0];
     switch (kind) {
-    case ORDERSET_INSERT:
-        return SET_BY(own, insert)(INDEX, state, version, KEY(key), bytes, length, at, value, answer);
+    case ORDERSET_INSERT: return SET_BY(own, insert)(INDEX, state, version, KEY(key), bytes, length, at, value, answer);
     case ORDERSET_REPLACE:
         return SET_BY(own, replace)(INDEX, state, version, KEY(key), bytes, length, at, value, answer);
-    case ORDERSET_REMOVE:
-        return SET_BY(own, remove)(INDEX, state, version, KEY(key), at, value, answer);
+    case ORDERSET_REMOVE: return SET_BY(own, remove)(INDEX, state, version, KEY(key), at, value, answer);
     default:
         return SET_BY(own, basket)(INDEX, state, version, k->count, k->kinds, BASKET_KEYS(k->lows, k->highs),
                                    k->lengths, bytes, at, LIST, value, LIST, answer);
@@ -485,7 +495,7 @@ static void go_on(uint32_t many, uint32_t every, uint32_t most) {
 }
 
 static void make(uint32_t slots, size_t heads) {
-    uint64_t made[ORDERSET_FORMAT_ANSWER];
+    uint64_t made[ORDERSET_PROVED_FORMAT_ANSWER];
     n = slots;
     b = heads;
     count = 0;
@@ -522,7 +532,7 @@ static void three_lives(uint32_t each) {
 
 /* Is the first slot of the reuse chain a remove record of this version or a later one? */
 static int first_is_remove(uint64_t since) {
-    const uint64_t *slot = (const uint64_t *)region[IMAGE].open + 16 * (size_t)state[ORDERSET_FIRST];
+    const uint64_t *slot = (const uint64_t *)region[IMAGE].open + 16 * (size_t)state[ORDERSET_RAW_FIRST];
     return (slot[KIND_WORD] & 255) == 2 && slot[7] / 2 >= since;
 }
 
@@ -531,8 +541,8 @@ static void compare_families(void) {
     for (uint32_t call = 1; call <= 4; call++) {
         const uint32_t kind = call % 4;
         const struct basket k = kind ? some_basket(1, kind) : any_basket();
-        uint32_t kept_state[ORDERSET_STATE], found_at[LIST];
-        uint64_t kept_version = version[0], found_value[LIST], found[ORDERSET_BASKET_ANSWER];
+        uint32_t kept_state[ORDERSET_RAW_STATE], found_at[LIST];
+        uint64_t kept_version = version[0], found_value[LIST], found[ORDERSET_PROVED_BASKET_ANSWER];
         memcpy(kept_state, state, sizeof state);
         for (int i = HEADS; i < REGIONS; i++)
             memcpy(kept[i], region[i].open, sizeof kept[i]);
@@ -548,9 +558,11 @@ static void compare_families(void) {
                 mprotect(region[i].watched, region[i].bytes, PROT_NONE);
             expect(own || region[IMAGE].touched > MANY, "%s for any index reads many slots there: %" PRIu32, name[kind],
                    region[IMAGE].touched);
-            expect(!own || region[IMAGE].touched < 64, "%s for the owner reads few slots there: %" PRIu32, name[kind], region[IMAGE].touched);
-            expect(!own || (memcmp(found_at, at, sizeof at) == 0 && memcmp(found_value, value, sizeof value) == 0
-                            && memcmp(found, answer, sizeof found) == 0),
+            expect(!own || region[IMAGE].touched < 64, "%s for the owner reads few slots there: %" PRIu32, name[kind],
+                   region[IMAGE].touched);
+            expect(!own
+                       || (memcmp(found_at, at, sizeof at) == 0 && memcmp(found_value, value, sizeof value) == 0
+                           && memcmp(found, answer, sizeof found) == 0),
                    "%s of both families has one answer and the same stores", name[kind]);
             memcpy(found_at, at, sizeof at);
             memcpy(found_value, value, sizeof value);
@@ -579,7 +591,8 @@ static uint32_t end_of_day(uint32_t most) {
 
 /* Orders are put, and all withdrawn; a restart; then orders come and go, `OPEN` at a time. */
 static void day(uint32_t each) {
-    const uint32_t orders = (uint32_t)(n * 45ul / 100) ? (uint32_t)(n * 45ul / 100) : 1, most = n / 2 < OPEN ? n / 2 : OPEN;
+    const uint32_t orders = (uint32_t)(n * 45ul / 100) ? (uint32_t)(n * 45ul / 100) : 1,
+                   most = n / 2 < OPEN ? n / 2 : OPEN;
     life = "after a day's end and a restart";
     for (uint32_t i = 0; i < orders; i++)
         i % 2 ? insert() : book_new();
@@ -628,7 +641,7 @@ static void lives(uint32_t slots, size_t heads, uint32_t each) {
 static void refused_basket(void) {
     const struct basket k = some_basket(BASKET, ORDERSET_REPLACE);
     const uint64_t code = call_for_any(0, &k);
-    expect(ORDERSET_REFUSAL(code) == ORDERSET_NO_ROOM, "a basket is refused where one slot is spare");
+    expect(ORDERSET_PROVED_REFUSAL(code) == ORDERSET_FULL, "a basket is refused where one slot is spare");
 }
 
 /* An insert that is refused because one slot is spare reads no more, by either family. */
@@ -641,10 +654,10 @@ static void full(void) {
         watching = FEW;
         begin();
         const uint64_t code = call_by(own, ORDERSET_INSERT, &k);
-        const uint32_t compared = ORDERSET_REFUSED_COMPARED(code);
+        const uint32_t compared = ORDERSET_PROVED_REFUSED_COMPARED(code);
         end(own ? "a refused insert" : "a refused insert for any index", 1, compared, 1, OF_CHANGE);
         watching = NOT;
-        expect(ORDERSET_REFUSAL(code) == ORDERSET_NO_ROOM, "an insert is refused where one slot is spare");
+        expect(ORDERSET_PROVED_REFUSAL(code) == ORDERSET_FULL, "an insert is refused where one slot is spare");
     }
     if (n > BASKET && n < MAX_N)
         refused_basket();
@@ -665,9 +678,9 @@ int main(int words, char **word) {
     lives(MAX_N, ORDERSET_HEADS_MAX, 800);
     full();
     expect(passes >= 50, "many calls for any index need the pass: %" PRIu64, passes);
-    printf("%" PRIu64 " of %" PRIu32 " calls in four lives; beyond the slots compared and taken a get reads %" PRIu64 ", a change %" PRIu64
-           ", a basket %" PRIu64 " at most; of %" PRIu64 " calls for any index %" PRIu64 " make a pass, to N + %" PRIu64
-           " slots at most, and look ahead to %" PRIu64 " (%.0f s)\n",
+    printf("%" PRIu64 " of %" PRIu32 " calls in four lives; beyond the slots compared and taken a get reads %" PRIu64
+           ", a change %" PRIu64 ", a basket %" PRIu64 " at most; of %" PRIu64 " calls for any index %" PRIu64
+           " make a pass, to N + %" PRIu64 " slots at most, and look ahead to %" PRIu64 " (%.0f s)\n",
            calls, counted, most_over[0], most_over[1], most_over[2], any_calls, passes, most_passed, most_ahead,
            seconds());
     return 0;

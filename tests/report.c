@@ -1,9 +1,10 @@
 /* What the program `report` prints, byte for byte, against the model: of random images one after another, accepted,
  * damaged and cut short, from a file, through a pipe and in pieces of 100 bytes; of the fewest and the most slots; and
- * of a million and more. What `gateway FILE count` prints of the first image. Built for layout 2 (layout.h), `report`
- * refuses each image and the gateway counts its slots. Ends with status 1 at the first thing that is otherwise.
+ * of a million and more. What `orderset-show --count FILE` prints of the first image. Built for layout 2 (layout.h),
+ * `report` refuses each image and orderset-show counts its slots. Ends with status 1 at the first thing that is
+ * otherwise.
  *
- *     report REPORT GATEWAY FILE [SEED [INPUTS]]
+ *     report REPORT SHOW FILE [SEED [INPUTS]]
  */
 #define _GNU_SOURCE
 #include <fcntl.h>
@@ -20,7 +21,7 @@
 
 enum { INPUTS = 1000, LEAST = 2, MOST = 511, IMAGES = 40, MILLION = 1000000, COUNTS = 6 };
 
-static const char *report, *gateway, *file;
+static const char *report, *show, *file;
 static uint64_t images, refusals, cuts; /* images read, of them refused; inputs that end in what is no image */
 
 /* ---- an input */
@@ -75,14 +76,15 @@ static void print_six(const uint64_t count[COUNTS]) {
         print(i + 1 < COUNTS ? "%" PRIu64 " " : "%" PRIu64 "\n", count[i]);
 }
 
-/* "the six in this order on a line", or "`no` and the number"; "the programs stay with layout 1" and give 3 on others */
+/* "the six in this order on a line", or "`no` and the number"; "the programs stay with layout 1" and give 3 on others
+ */
 static void due_of_image(const uint8_t *image, size_t size) {
     uint32_t head[1], next[MOST + 1];
     struct m_index index = {head, 1, next, size / 128, {0, 0, 0, 0, 0}};
     struct m_recovered recovered = m_recover(image, size, &index);
     uint64_t count[COUNTS];
-    if (LAYOUT != ORDERSET_LAYOUT)
-        recovered.refusal = ORDERSET_NO_HEADER;
+    if (LAYOUT != ORDERSET_LAYOUT_1)
+        recovered.refusal = ORDERSET_BAD_HEADER;
     images++;
     if (recovered.refusal) {
         refusals++;
@@ -149,7 +151,8 @@ static void reads_limits(void) {
 
 /* Images of two empty slots, ten thousand in the file and 101 times that in the input: a million are read. */
 static void reads_a_million(void) {
-    static const char all[] = "i=0; while [ $i -lt 101 ]; do cat \"$1\"; i=$((i + 1)); done 2>/dev/null | \"$0\" 2>/dev/null";
+    static const char all[] =
+        "i=0; while [ $i -lt 101 ]; do cat \"$1\"; i=$((i + 1)); done 2>/dev/null | \"$0\" 2>/dev/null";
     static const char each[] = "0 0 0 0 0 2", last[] = "0 0 0 0 0 2000000";
     static uint8_t many[10000 * 384];
     const char *const words[] = {"/bin/sh", "-c", all, report, file, NULL};
@@ -166,9 +169,9 @@ static void reads_a_million(void) {
     expect(end_of(&child) == 0, "it ends");
 }
 
-/* The gateway's count of the first image says what the model does. */
-static void gateway_counts(void) {
-    const char *const words[] = {gateway, file, "count", NULL};
+/* orderset-show's count of the first image says what the model does. */
+static void show_counts(void) {
+    const char *const words[] = {show, "--count", file, NULL};
     uint32_t head[1], next[MOST + 1];
     uint64_t n = m_word(input, 0), c[COUNTS];
     if (length < 8 || n < LEAST || n > MOST || length < 128 * (n + 1))
@@ -179,17 +182,19 @@ static void gateway_counts(void) {
     char line[LINE], wanted[LINE];
     write_file(input, size);
     struct child child = start_child(words);
-    expect(hear(&child, line), "the gateway counts");
+    expect(hear(&child, line), "orderset-show counts");
     if (recovered.refusal) {
-        snprintf(wanted, sizeof wanted, "recovery says no %d", recovered.refusal);
-        expect(strstr(line, wanted) != NULL, "the gateway says '%s': '%s'", wanted, line);
+        snprintf(wanted, sizeof wanted, "refused, no %d", recovered.refusal);
+        expect(strstr(line, wanted) != NULL, "orderset-show says '%s': '%s'", wanted, line);
     } else {
         m_count(input, size, &recovered, c);
-        snprintf(wanted, sizeof wanted, "%" PRIu64 " live, %" PRIu64 " hidden puts, %" PRIu64 " remove records, %" PRIu64
-                 " void, %" PRIu64 " broken, %" PRIu64 " empty", c[0], c[1], c[2], c[3], c[4], c[5]);
-        expect(!strcmp(line, wanted), "the gateway says '%s': '%s'", wanted, line);
+        snprintf(wanted, sizeof wanted,
+                 "%" PRIu64 " live, %" PRIu64 " hidden, %" PRIu64 " removed, %" PRIu64 " void, %" PRIu64
+                 " broken, %" PRIu64 " empty",
+                 c[0], c[1], c[2], c[3], c[4], c[5]);
+        expect(!strcmp(line, wanted), "orderset-show says '%s': '%s'", wanted, line);
     }
-    expect(end_of(&child) == (recovered.refusal ? 1 : 0), "the gateway's status");
+    expect(end_of(&child) == (recovered.refusal ? 1 : 0), "its status");
 }
 
 /* Whole, in the blocks of a pipe, and in pieces that do not end where a word does. */
@@ -202,7 +207,7 @@ int main(int count, char **word) {
         return 2;
     const uint64_t wanted = count > 5 ? strtoull(word[5], NULL, 10) : INPUTS;
     report = word[1];
-    gateway = word[2];
+    show = word[2];
     file = word[3];
     begin_chance(LAYOUT == 1 ? "report" : "report of layout 2", count > 4 ? word[4] : NULL);
     if (LAYOUT == 1)
@@ -213,7 +218,7 @@ int main(int count, char **word) {
         write_file(input, length);
         reads_from(ways[below(WAYS)]);
         if (below(5) == 0)
-            gateway_counts();
+            show_counts();
     }
     if (LAYOUT == 1)
         reads_a_million();

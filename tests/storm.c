@@ -1,10 +1,11 @@
-/* A storm of power cuts and kills, in the layout that the test is built for (layout.h). The program under test inserts, replaces, removes and gets with the archive, alone
- * and in baskets of up to eight keys, and makes its stores durable with orderset_persist.h, over a simulated cache: what
- * a process sees and what is durable are apart, and each line has a list of the stores that are not durable yet.
- * Whenever something strikes, the program starts again, makes the image durable, recovers and makes the stores that
- * recovery hands out, and there it may be struck again. Then every acknowledged order must be there, the call or the
- * basket that was struck must be there wholly or not at all, and nothing else may be there. Each change is made by one of
- * the two families of calls (orderset.h), by chance: the index is always the image's own.
+/* A storm of power cuts and kills, in the layout that the test is built for (layout.h). The program under test inserts,
+ * replaces, removes and gets with the archive, alone and in baskets of up to eight keys, and makes its stores durable
+ * with orderset_persist.h, over a simulated cache: what a process sees and what is durable are apart, and each line has
+ * a list of the stores that are not durable yet. Whenever something strikes, the program starts again, makes the image
+ * durable, recovers and makes the stores that recovery hands out, and there it may be struck again. Then every
+ * acknowledged order must be there, the call or the basket that was struck must be there wholly or not at all, and
+ * nothing else may be there. Each change is made by one of the two families of calls (orderset_raw.h), by chance: the
+ * index is always the image's own.
  *
  *     storm [SEED [STRIKES]]
  */
@@ -75,10 +76,10 @@ static uint32_t held(void) {
 /* ---- the program */
 
 static size_t heads_length;
-static uint32_t heads[MAX_HEADS], next[MAX_N + 1], state[ORDERSET_STATE], at[ORDERSET_STORES];
-static uint64_t version[1], value[ORDERSET_STORES], answer[ORDERSET_CHANGE_ANSWER];
+static uint32_t heads[MAX_HEADS], next[MAX_N + 1], state[ORDERSET_RAW_STATE], at[ORDERSET_STORES];
+static uint64_t version[1], value[ORDERSET_STORES], answer[ORDERSET_PROVED_CHANGE_ANSWER];
 static uint32_t voids[1], list_at[BASKET * ORDERSET_STORES];
-static uint64_t list_value[BASKET * ORDERSET_STORES], basket_answer[ORDERSET_BASKET_ANSWER];
+static uint64_t list_value[BASKET * ORDERSET_STORES], basket_answer[ORDERSET_PROVED_BASKET_ANSWER];
 static enum orderset_flush flush;
 static int after_kill, opening; /* opening: void slots are being opened */
 
@@ -98,9 +99,9 @@ static struct value get(uint32_t i) {
     uint64_t code = SET(get)(visible, length, heads, heads_length, next, n + 1, KEY(key_of[i]), found.bytes,
                              sizeof found.bytes, answer);
     if (code)
-        lost("get of key " KEY_FORM " is refused: %" PRIu32, KEY_WORDS(key_of[i]), ORDERSET_REFUSAL(code));
-    found.held = answer[0] == ORDERSET_GIVEN;
-    found.size = answer[ORDERSET_LENGTH];
+        lost("get of key " KEY_FORM " is refused: %" PRIu32, KEY_WORDS(key_of[i]), ORDERSET_PROVED_REFUSAL(code));
+    found.held = answer[0] == ORDERSET_RAW_DONE;
+    found.size = answer[ORDERSET_PROVED_LENGTH];
     return found;
 }
 
@@ -136,8 +137,8 @@ static void check(void) {
     }
     if (call.under_way)
         check_struck();
-    if (state[ORDERSET_LIVE] != held())
-        lost("a count: %" PRIu32 " orders, found %" PRIu32, held(), state[ORDERSET_LIVE]);
+    if (state[ORDERSET_RAW_LIVE] != held())
+        lost("a count: %" PRIu32 " orders, found %" PRIu32, held(), state[ORDERSET_RAW_LIVE]);
     call.under_way = 0;
 }
 
@@ -155,11 +156,12 @@ static void recover(void) {
     fill(heads, sizeof heads);
     fill(next, sizeof next);
     point(); /* recovery writes nothing to the image: a strike in it is one before or after it, with the index lost */
-    uint64_t code = SET(recover)(visible, length, heads, heads_length, next, n + 1, state, version, voids, list_at,
-                                 list_value);
+    uint64_t code =
+        SET(recover)(visible, length, heads, heads_length, next, n + 1, state, version, voids, list_at, list_value);
     point();
     if (code)
-        lost("recovery refuses: %" PRIu32 ", slot %" PRIu32, ORDERSET_REFUSAL(code), ORDERSET_FAULT_SLOT(code));
+        lost("recovery refuses: %" PRIu32 ", slot %" PRIu32, ORDERSET_PROVED_REFUSAL(code),
+             ORDERSET_PROVED_FAULT_SLOT(code));
     check();
     open_voids();
 }
@@ -183,7 +185,7 @@ static enum kind any_write(uint32_t i) {
 /* how many slots of the reuse chain may be taken */
 static uint32_t to_take(void) {
     uint32_t count = 0;
-    for (uint32_t slot = state[ORDERSET_FIRST]; slot; slot = next[slot])
+    for (uint32_t slot = state[ORDERSET_RAW_FIRST]; slot; slot = next[slot])
         count += (uint32_t)m_may_take(visible, n, slot);
     return count;
 }
@@ -191,25 +193,25 @@ static uint32_t to_take(void) {
 /* What the rules answer. The set grew from a formatted image, so there is a slot to take. */
 static uint32_t due(enum kind kind, uint32_t i) {
     if (kind == REPLACE && !map[i].held)
-        return ORDERSET_NOT_HELD;
+        return ORDERSET_KEY_MISSING;
     if (kind == INSERT && map[i].held)
-        return ORDERSET_INSERT_HELD;
+        return ORDERSET_KEY_EXISTS;
     if (kind == REMOVE && !map[i].held)
         return ORDERSET_OK;
-    return kind == INSERT && held() + 1 >= n ? ORDERSET_NO_ROOM : ORDERSET_OK;
+    return kind == INSERT && held() + 1 >= n ? ORDERSET_FULL : ORDERSET_OK;
 }
 
 static uint64_t carry_out(int own, enum kind kind, m_key key, const struct value *v) {
     switch (kind) {
     case INSERT:
-        return SET_BY(own, insert)(visible, length, heads, heads_length, next, n + 1, state, version, KEY(key), v->bytes,
-                           v->size, at, value, answer);
+        return SET_BY(own, insert)(visible, length, heads, heads_length, next, n + 1, state, version, KEY(key),
+                                   v->bytes, v->size, at, value, answer);
     case REPLACE:
-        return SET_BY(own, replace)(visible, length, heads, heads_length, next, n + 1, state, version, KEY(key), v->bytes,
-                            v->size, at, value, answer);
+        return SET_BY(own, replace)(visible, length, heads, heads_length, next, n + 1, state, version, KEY(key),
+                                    v->bytes, v->size, at, value, answer);
     default:
-        return SET_BY(own, remove)(visible, length, heads, heads_length, next, n + 1, state, version, KEY(key), at, value,
-                           answer);
+        return SET_BY(own, remove)(visible, length, heads, heads_length, next, n + 1, state, version, KEY(key), at,
+                                   value, answer);
     }
 }
 
@@ -253,10 +255,10 @@ static void change(uint32_t i, enum kind kind) {
     const int own = any_family();
     uint64_t code = carry_out(own, kind, key_of[i], later_of(0, i, kind != REMOVE));
     own_refused += (uint64_t)(own && code);
-    if (ORDERSET_REFUSAL(code) != wanted)
-        lost("a call of key " KEY_FORM " answers %" PRIu32, KEY_WORDS(key_of[i]), ORDERSET_REFUSAL(code));
-    counted(i, code ? ORDERSET_REFUSED_COMPARED(code) : answer[ORDERSET_COMPARED]);
-    if (code || answer[0] == ORDERSET_ABSENT)
+    if (ORDERSET_PROVED_REFUSAL(code) != wanted)
+        lost("a call of key " KEY_FORM " answers %" PRIu32, KEY_WORDS(key_of[i]), ORDERSET_PROVED_REFUSAL(code));
+    counted(i, code ? ORDERSET_PROVED_REFUSED_COMPARED(code) : answer[ORDERSET_PROVED_COMPARED]);
+    if (code || answer[0] == ORDERSET_RAW_ABSENT)
         return;
     call_begins(1);
     if (orderset_persist(visible, length, at, value, flush))
@@ -297,14 +299,14 @@ static void ask_basket(void) {
 static uint32_t due_of_basket(void) {
     uint32_t live = held();
     if (asked.count == 0)
-        return ORDERSET_NO_BASKET;
+        return ORDERSET_BAD_BASKET;
     for (uint32_t k = 0; k < asked.count; k++) {
         const int is_held = map[call.key[k]].held;
         if (is_held == (asked.kinds[k] == ORDERSET_INSERT))
-            return is_held ? ORDERSET_INSERT_HELD : ORDERSET_NOT_HELD;
+            return is_held ? ORDERSET_KEY_EXISTS : ORDERSET_KEY_MISSING;
         live += (uint32_t)(asked.kinds[k] == ORDERSET_INSERT) - (uint32_t)(asked.kinds[k] == ORDERSET_REMOVE);
     }
-    return to_take() < asked.count || live >= n ? ORDERSET_NO_ROOM : ORDERSET_OK;
+    return to_take() < asked.count || live >= n ? ORDERSET_FULL : ORDERSET_OK;
 }
 
 /* A basket of up to eight keys, with one fence. */
@@ -312,10 +314,10 @@ static void basket(void) {
     ask_basket();
     const uint32_t wanted = due_of_basket();
     const int own = any_family();
-    uint32_t code = SET_BY(own, basket)(visible, length, heads, heads_length, next, n + 1, state, version, asked.count,
-                                        asked.kinds, BASKET_KEYS(asked.lows, asked.highs), asked.lengths, asked.values,
-                                        list_at, BASKET * ORDERSET_STORES, list_value, BASKET * ORDERSET_STORES,
-                                        basket_answer);
+    uint32_t code =
+        SET_BY(own, basket)(visible, length, heads, heads_length, next, n + 1, state, version, asked.count, asked.kinds,
+                            BASKET_KEYS(asked.lows, asked.highs), asked.lengths, asked.values, list_at,
+                            BASKET * ORDERSET_STORES, list_value, BASKET * ORDERSET_STORES, basket_answer);
     own_refused += (uint64_t)(own && code);
     if (code != wanted)
         lost("a basket of %" PRIu32 " keys answers %" PRIu32 ", due is %" PRIu32, asked.count, code, wanted);
@@ -346,7 +348,7 @@ static void run_until_struck(void) {
         else if (found = get(i), !same(&found, &map[i]))
             lost("get of key " KEY_FORM, KEY_WORDS(key_of[i]));
         else
-            counted(i, answer[ORDERSET_GET_COMPARED]);
+            counted(i, answer[ORDERSET_PROVED_GET_COMPARED]);
         point();
     }
 }
@@ -402,10 +404,10 @@ int main(int count, char **word) {
         }
     }
     printf("%" PRIu64 " histories of the restart machine with %" PRIu64 " cuts and %" PRIu64 " kills, %" PRIu64
-           " of them in a start, %" PRIu64 " in a call, %" PRIu64 " in a basket and %" PRIu64 " while %" PRIu64 " void slots were opened, %" PRIu64 " calls and %" PRIu64
-           " baskets acknowledged, %" PRIu64 " baskets refused; %" PRIu64 " calls by the owner, %" PRIu64
-           " of them refused: nothing lost (%.0f s)\n",
-           histories, cuts, kills, in_start, in_call - in_basket, in_basket, in_opening, opened,
-           acknowledged - baskets, baskets, refused_baskets, own_calls, own_refused, seconds());
+           " of them in a start, %" PRIu64 " in a call, %" PRIu64 " in a basket and %" PRIu64 " while %" PRIu64
+           " void slots were opened, %" PRIu64 " calls and %" PRIu64 " baskets acknowledged, %" PRIu64
+           " baskets refused; %" PRIu64 " calls by the owner, %" PRIu64 " of them refused: nothing lost (%.0f s)\n",
+           histories, cuts, kills, in_start, in_call - in_basket, in_basket, in_opening, opened, acknowledged - baskets,
+           baskets, refused_baskets, own_calls, own_refused, seconds());
     return in_basket == 0 || in_opening == 0 || refused_baskets == 0 || own_calls == 0 || own_refused == 0;
 }

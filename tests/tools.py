@@ -140,6 +140,12 @@ def accepted(desk):
     desk.asked("a good file", "orderset-show", [path], 0, ORDERS)
     desk.asked("a good file", "orderset-show", ["--", path], 0, ORDERS)
     desk.asked("a good file", "orderset-show", [path, "--slots"], 0, SLOTS)
+    desk.asked("a good file", "orderset-show", [path, "--count"], 0,
+               "5 live, 2 hidden, 1 removed, 2 void, 1 broken, 9 empty\n")
+    desk.asked("a good file", "orderset-show", [path, "--heads"], 0,
+               "19 heads\n1 compared: 5 held keys\naverage 1.00, longest 1\n")
+    desk.asked("a good file", "orderset-show", ["--heads=1", path], 0, "1 heads\n" +
+               "".join(f"{i} compared: 1 held keys\n" for i in range(1, 6)) + "average 3.00, longest 5\n")
     out = desk.asked("a good file", "orderset-check", [path], 0, re.compile("^[^\n]*orders.img: accepted\n"))[1]
     for line in ["layout 1, 20 slots, 2688 bytes; 5 open orders, 15 spare slots; next version 9",
                  "slots: 5 live, 2 hidden, 1 removed, 2 void, 1 broken, 9 empty",
@@ -446,7 +452,10 @@ def arguments(desk):
             seen = desk.asked(f"arguments {words}", tool, words, 2, "", re.compile(says))
             so("--help tells more" in seen[2], "bad arguments are told where help is", seen)
     desk.asked("no picture", "orderset-show", [path, "--svg"], 2, "", re.compile("--svg needs"))
-    desk.asked("both", "orderset-show", ["--slots", "--svg", "a.svg", path], 2, "", re.compile("not both"))
+    for words in ["--slots", "--svg", "a.svg"], ["--slots", "--count"], ["--count", "--heads"], ["--heads=7", "--slots"]:
+        desk.asked("two of them", "orderset-show", [*words, path], 2, "", re.compile("no two of them"))
+    for word in "--heads=0", "--heads=65537", "--heads=x", "--heads=", "--heads=7x":
+        desk.asked("a number of heads", "orderset-show", [word, path], 2, "", re.compile("from 1 to 65536"))
 
 
 def progress(desk):

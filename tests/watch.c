@@ -1,6 +1,6 @@
-/* The example that watches a line, on a file whose image is written meanwhile. A key is replaced again and again in a set
- * of two slots; of each call first some stores of each line are made and then all. Whenever line A of the slot that is
- * watched opens or closes, the sender says so, with its version and the words that would be stored next; and nothing
+/* The example that watches a line, on a file whose image is written meanwhile. A key is replaced again and again in a
+ * set of two slots; of each call first some stores of each line are made and then all. Whenever line A of the slot that
+ * is watched opens or closes, the sender says so, with its version and the words that would be stored next; and nothing
  * while the other slot is written.
  *
  *     watch SENDER FILE [SEED]
@@ -16,24 +16,25 @@
 #include "chance.h"
 #include "child.h"
 #include "model.h"
-#include "orderset.h"
+#include "orderset_raw.h"
 
 enum { SLOTS = 2, CALLS = 1000, LENGTH = ORDERSET_SLOT_BYTES * (SLOTS + 1) };
 
 static const char *sender, *file;
 static uint8_t *image;
-static uint32_t heads[1], next[SLOTS + 1], state[ORDERSET_STATE], at[ORDERSET_STORES];
-static uint64_t version[1], value[ORDERSET_STORES], answer[ORDERSET_CHANGE_ANSWER];
+static uint32_t heads[1], next[SLOTS + 1], state[ORDERSET_RAW_STATE], at[ORDERSET_STORES];
+static uint64_t version[1], value[ORDERSET_STORES], answer[ORDERSET_PROVED_CHANGE_ANSWER];
 
 static void make_set(void) {
-    uint64_t slots[ORDERSET_FORMAT_ANSWER], open_value[ORDERSET_INVALIDATIONS];
+    uint64_t slots[ORDERSET_PROVED_FORMAT_ANSWER], open_value[ORDERSET_INVALIDATIONS];
     uint32_t count[1], open_at[ORDERSET_INVALIDATIONS];
     int there = open(file, O_RDWR | O_CREAT | O_TRUNC, 0600);
     expect(there >= 0 && ftruncate(there, LENGTH) == 0, "a file %s", file);
     image = mmap(NULL, LENGTH, PROT_READ | PROT_WRITE, MAP_SHARED, there, 0);
     close(there);
-    expect(image != MAP_FAILED && orderset_proved_format(image, LENGTH, ORDERSET_LAYOUT, slots) == 0
-               && orderset_proved_recover(image, LENGTH, heads, 1, next, SLOTS + 1, state, version, count, open_at, open_value)
+    expect(image != MAP_FAILED && orderset_proved_format(image, LENGTH, ORDERSET_LAYOUT_1, slots) == 0
+               && orderset_proved_recover(image, LENGTH, heads, 1, next, SLOTS + 1, state, version, count, open_at,
+                                          open_value)
                       == 0
                && count[0] == 0,
            "a set of two slots");
@@ -62,7 +63,7 @@ static uint64_t one_call(struct child *child, uint64_t slot, uint64_t wanted) {
     uint64_t code = (version[0] == 1 ? orderset_proved_insert : orderset_proved_replace)(
         image, LENGTH, heads, 1, next, SLOTS + 1, state, version, 7, bytes, size, at, value, answer);
     expect(code == 0, "key 7 is written");
-    const int watched = answer[ORDERSET_SLOT] == slot;
+    const int watched = answer[ORDERSET_PROVED_SLOT] == slot;
     play(1 + below(7), 1 + below(8));
     if (watched)
         hears(child, slot, wanted);
@@ -71,7 +72,7 @@ static uint64_t one_call(struct child *child, uint64_t slot, uint64_t wanted) {
         hears(child, slot, wanted);
     if (below(16) == 0) /* several looks at a line that stays */
         usleep(1000);
-    return answer[ORDERSET_SLOT];
+    return answer[ORDERSET_PROVED_SLOT];
 }
 
 static void watch(uint64_t slot) {
