@@ -141,7 +141,8 @@ MODEL := images model chance
 LOG_MODEL := log_areas log_model model chance
 persist := persist chance
 guard := guard pieces $(MODEL)
-differential := differential $(MODEL)
+differential := differential $(MODEL) \
+	$(addprefix differential_,set lines recovery calls baskets plain history images directed)
 reads := reads chance
 plug := plug model child chance
 storm := storm cache model chance

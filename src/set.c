@@ -134,18 +134,12 @@ void orderset_close(struct orderset *set) {
  * made before the next; after a failure there is no further change. So the changes are the calls for the owner of the
  * index, which do not look through the image. */
 
-static uint32_t fits(const struct orderset *s, struct orderset_key key) {
-    return key.high && s->raw.layout != ORDERSET_LAYOUT_2 ? ORDERSET_KEY_TOO_WIDE : ORDERSET_OK;
+static uint32_t refuse_read(const struct orderset *s) {
+    return s->refusal ? s->refusal : may_read(&s->area);
 }
 
-static uint32_t refuse_read(const struct orderset *s, struct orderset_key key) {
-    const uint32_t number = s->refusal ? s->refusal : may_read(&s->area);
-    return number ? number : fits(s, key);
-}
-
-static uint32_t refuse_change(const struct orderset *s, struct orderset_key key) {
-    const uint32_t number = s->refusal ? s->refusal : may_change(&s->area);
-    return number ? number : fits(s, key);
+static uint32_t refuse_change(const struct orderset *s) {
+    return s->refusal ? s->refusal : may_change(&s->area);
 }
 
 /* Its refusal, or its stores made durable. */
@@ -167,7 +161,7 @@ static uint32_t finish_counted(struct orderset *s, uint32_t refusal, const struc
 
 uint32_t orderset_insert(struct orderset *set, struct orderset_key key, const void *value, size_t length) {
     struct orderset_raw_change c;
-    const uint32_t number = refuse_change(set, key);
+    const uint32_t number = refuse_change(set);
     if (number)
         return number;
     return finish_counted(set, orderset_raw_own_insert(&set->raw, key, length ? value : orderset_nothing, length, &c),
@@ -176,7 +170,7 @@ uint32_t orderset_insert(struct orderset *set, struct orderset_key key, const vo
 
 uint32_t orderset_replace(struct orderset *set, struct orderset_key key, const void *value, size_t length) {
     struct orderset_raw_change c;
-    const uint32_t number = refuse_change(set, key);
+    const uint32_t number = refuse_change(set);
     if (number)
         return number;
     return finish_counted(set, orderset_raw_own_replace(&set->raw, key, length ? value : orderset_nothing, length, &c),
@@ -185,48 +179,46 @@ uint32_t orderset_replace(struct orderset *set, struct orderset_key key, const v
 
 uint32_t orderset_remove(struct orderset *set, struct orderset_key key) {
     struct orderset_raw_change c;
-    const uint32_t number = refuse_change(set, key);
+    const uint32_t number = refuse_change(set);
     return number ? number : finish_counted(set, orderset_raw_own_remove(&set->raw, key, &c), &c);
 }
 
 uint32_t orderset_book_new(struct orderset *set, struct orderset_key key, uint64_t quantity) {
     struct orderset_raw_change c;
-    const uint32_t number = refuse_change(set, key);
+    const uint32_t number = refuse_change(set);
     return number ? number : finish(set, orderset_raw_own_book_new(&set->raw, key, quantity, &c), &c);
 }
 
 uint32_t orderset_book_acknowledge(struct orderset *set, struct orderset_key key) {
     struct orderset_raw_change c;
-    const uint32_t number = refuse_change(set, key);
+    const uint32_t number = refuse_change(set);
     return number ? number : finish(set, orderset_raw_own_book_acknowledge(&set->raw, key, &c), &c);
 }
 
 uint32_t orderset_book_fill(struct orderset *set, struct orderset_key key, uint64_t quantity) {
     struct orderset_raw_change c;
-    const uint32_t number = refuse_change(set, key);
+    const uint32_t number = refuse_change(set);
     return number ? number : finish(set, orderset_raw_own_book_fill(&set->raw, key, quantity, &c), &c);
 }
 
 uint32_t orderset_book_withdraw(struct orderset *set, struct orderset_key key) {
     struct orderset_raw_change c;
-    const uint32_t number = refuse_change(set, key);
+    const uint32_t number = refuse_change(set);
     return number ? number : finish(set, orderset_raw_own_book_withdraw(&set->raw, key, &c), &c);
 }
 
 uint32_t orderset_basket(struct orderset *set, const struct orderset_item *items, size_t count) {
     struct orderset_raw_items b = {.count = 0};
-    uint32_t number = refuse_change(set, (struct orderset_key){0, 0});
+    uint32_t number = refuse_change(set);
     if (number)
         return number;
     if (count == 0 || count > ORDERSET_BASKET_MAX)
         return ORDERSET_BAD_BASKET;
-    for (size_t i = 0; i < count && !number; i++) {
+    for (size_t i = 0; i < count; i++) {
         const void *value = items[i].length ? items[i].value : orderset_nothing;
         orderset_raw_add(&b, items[i].kind, items[i].key, value, items[i].length);
-        number = fits(set, items[i].key);
     }
-    if (!number)
-        number = orderset_raw_own_basket(&set->raw, &b);
+    number = orderset_raw_own_basket(&set->raw, &b);
     return number ? number : orderset_area_persist(&set->area, b.at, b.value, ORDERSET_BASKET_STORES(count));
 }
 
@@ -235,7 +227,7 @@ uint32_t orderset_basket(struct orderset *set, const struct orderset_item *items
 uint32_t orderset_get(struct orderset *set, struct orderset_key key, void *output, size_t room, size_t *length) {
     struct orderset_raw_value found;
     uint8_t none[1];
-    uint32_t number = refuse_read(set, key);
+    uint32_t number = refuse_read(set);
     *length = 0;
     if (number)
         return number;
@@ -249,7 +241,7 @@ uint32_t orderset_get(struct orderset *set, struct orderset_key key, void *outpu
 
 uint32_t orderset_locate(struct orderset *set, struct orderset_key key, uint32_t *slot, uint64_t *version) {
     struct orderset_raw_place found = {0};
-    uint32_t number = refuse_read(set, key);
+    uint32_t number = refuse_read(set);
     if (!number) {
         number = orderset_raw_locate(&set->raw, key, &found);
         set->compared = (uint32_t)found.compared;
@@ -386,7 +378,7 @@ static uint32_t slots_of(const struct orderset *s) {
 }
 
 uint32_t orderset_next(struct orderset *set, struct orderset_record *record) {
-    uint32_t number = refuse_read(set, (struct orderset_key){0, 0}), slot = record->slot;
+    uint32_t number = refuse_read(set), slot = record->slot;
     int live = 0;
     if (number)
         return number;
